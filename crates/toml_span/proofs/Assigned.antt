@@ -1,10 +1,6 @@
 -- A value that is assigned to a name.
-use Rattle.std.proofs.Common.{◌≡◌, ℕ, cond, List, [], ◌∷◌, Option, Some, None, Result, Ok, Err, refl, sym, ap, ◌∙◌, subst}
-use Rattle.std.specs.BTreeMap.{insert_entry}
-use Rattle.std.specs.Map.{lookup_entry}
-use Rattle.std.specs.Str.{bytes_eq}
+use Rattle.toml_span_lex.proofs.Common.{◌≡◌, ℕ, cond, List, [], ◌∷◌, Option, Some, None, Result, Ok, Err, refl, sym, ap, ◌∙◌, subst, insert_entry, lookup_entry, bytes_eq, none-some, arith, nat_tests, common_steps}
 use Rattle.toml_span_read.proofs.EarlierTree.{key_cmp}
-use Rattle.std.proofs.lemmas.Option.{none-some}
 use Rattle.toml_span_lex.specs.declared.key.Key.{Key}
 use Rattle.toml_span_tree.specs.Path.{Path, Step, key, position}
 use Rattle.toml_span_tree.specs.Value.{view}
@@ -20,13 +16,13 @@ use Rattle.toml_span.specs.declared.branch.Branch.TheViews.{out-Branch, roll-Bra
 use Rattle.toml_span.specs.declared.branch.Branch.TheOpen.{Branch-F}
 use Rattle.toml_span.specs.Paths.{same_path, same_step}
 use Rattle.toml_span.specs.Claims.{claimed, assigned, pair_mark, value_claims}
-use Rattle.toml_span.specs.Clashes.{blame, or_else}
+use Rattle.toml_span.specs.Clashes.{or_else}
 use Rattle.toml_span.specs.code.Machine.{Cell, State, nothing, change, with_claim, Gives, met, clash_met, show_all, put_all, graft}
 use Rattle.toml_span.specs.code.Placing.{Places, IsFinished, ValueGives}
 use Rattle.toml_span.specs.code.Relative.{pair_at}
-use Rattle.toml_span.specs.code.Tree.{is_named, child_in, marks, entries, child, closed, closed_in, closed_cell, held_marks, item, cells, cell_at, counts, value_cell, value_shows, IsNamed, IsScope}
+use Rattle.toml_span.specs.code.Tree.{is_named, child_in, marks, entries, child, closed, closed_in, closed_cell, held_marks, item, cells, cell_at, counts, value_cell, value_shows, IsScope}
 use Rattle.toml_span.proofs.Grafts.{fun_ext, graft-itself, told-under, put_all-under}
-use Rattle.toml_span.proofs.Nodes.{Sets, cells-found, cells-missing, cells-sets, counts-missing, counts-named, scope-named, sets-roll, slot, slot_in}
+use Rattle.toml_span.proofs.Nodes.{Sets, cells-at, cells-sets, counts-at, counts-named, scope-named, sets-roll, slot, slot_in}
 use Rattle.toml_span.proofs.Placed.{assigned_twice, cond-same, cond-slot, gives-err, held-child, marks-found, met-first, named-clashes, places-refused}
 use Rattle.toml_span.proofs.KeyMaps.{holds-insert}
 use Rattle.toml_span.proofs.Shown.{show_all-marks}
@@ -41,30 +37,26 @@ value_mark k v = pair_mark Assigned k.span (parsed_span v)
 pub refused-child : (n new : Branch) (k : Key) (v : Read) (q : Result (Unit {0}) Halt) (e : Halt) (m : Mark) (P : Unit {0} → Type 0) (d : Path → ℕ)
     → m ≡ value_mark k v → q ≡ Err e → Gives (Err e) (met (held_marks (child (simple_key k).name n)) m (simple_key k).name) P → Places n new q (pair_at [] (simple_key k) v) d
 unfolding pair_at cell_at
-refused-child n new k v q e m P d same is h =
-    subst (λ q. Places n new q (pair_at [] (simple_key k) v) d) (sym is)
-    (places-refused n new name (Err e) (assigned [] (simple_key k) v) (value_claims v []) P d refl (λ before. (tt, go e (child name n) refl (rw same at h))))
+refused-child n new k v q (Memory e) m P d same is h = rw is (λ before. tt)
+refused-child n new k v q (Clash t) m P d same is h =
+    rw is (places-refused n new (simple_key k).name (Err (Clash t)) (assigned [] (simple_key k) v) (value_claims v []) P d refl
+    (λ before. (tt, go (child (simple_key k).name n) refl (rw same at h))))
   where
-    name : List ℕ
-    name = (simple_key k).name
-
-    go : (e : Halt) (o : Option Branch) → child (simple_key k).name n ≡ o → Gives (Err e) (met (held_marks o) (value_mark k v) (simple_key k).name) P
-        → Gives (Err e) (met (cells n (key (simple_key k).name ∷ [])).marks (value_mark k v) (simple_key k).name) P
-    go (Memory e) o c h = tt
-    go (Clash t) None c h = absurd (none-some _ h)
-    go (Clash t) (Some x) c h = ap (λ f. met (f []).marks (value_mark k v) (simple_key k).name) (cells-found n (key (simple_key k).name) x c) ∙ h
+    go : (o : Option Branch) → child (simple_key k).name n ≡ o → Gives (Err (Clash t)) (met (held_marks o) (value_mark k v) (simple_key k).name) P
+        → Gives (Err (Clash t)) (met (cells n (key (simple_key k).name ∷ [])).marks (value_mark k v) (simple_key k).name) P
+    go None c h = absurd (none-some _ h)
+    go (Some x) c h = ap (λ f. met (f []).marks (value_mark k v) (simple_key k).name) (cells-at n (key (simple_key k).name) (Some x) c) ∙ h
 
 -- where it does not, no branch stands there
 pub missing-free : (n : Branch) (k : List ℕ) (m : Mark) (name : List ℕ) → IsScope n → m.sort ≡ Assigned → met (held_marks (child k n)) m name ≡ None → child k n ≡ None
 missing-free n k m name before is h = go (child k n) refl
   where
-    clash : (ms : List Mark) → IsNamed ms → met ms m name ≡ None → ⊥
-    clash [] named none = named
-    clash (x ∷ ms) named none = (named-clashes x.sort named.0).0 (ap (blame x.sort) (sym is) ∙ met-first x m ms name none)
-
     go : (o : Option Branch) → child k n ≡ o → o ≡ None
     go None c = refl
-    go (Some x) c = absurd (clash (marks x) (held-child n x k c before).1 (ap (λ o. met (held_marks o) m name) (sym c) ∙ h))
+    go (Some x) c =
+        let named = (held-child n x k c before).1 in
+        let none : met (marks x) m name ≡ None = ap (λ o. met (held_marks o) m name) (sym c) ∙ h in
+        grind (arith, nat_tests, common_steps, met-first, named-clashes)
 
 -- with a value of the same name
 pub refused-value : (n new : Branch) (k earlier : Key) (x : Value) (v : Read) (r : Result (Unit {0}) Halt) (ms : List Mark) (m : Mark) (name : List ℕ) (P : Unit {0} → Type 0) (d : Path → ℕ)
@@ -72,11 +64,11 @@ pub refused-value : (n new : Branch) (k earlier : Key) (x : Value) (v : Read) (r
     → m ≡ value_mark k v → Gives r (met ms m name) P → Places n new r (pair_at [] (simple_key k) v) d
 unfolding pair_at
 refused-value n new k earlier x v r ms m name P d missing found is same mark h =
+    let at = pair_mark Assigned earlier.span x.span in
     places-refused n new (simple_key k).name r (assigned [] (simple_key k) v) (value_claims v []) P d refl (λ before.
-    let given : Gives r (met (pair_mark Assigned earlier.span x.span ∷ []) (value_mark k v) (simple_key k).name) P = rw (is, mark, same) at h in
-    let there : (cells n (key (simple_key k).name ∷ [])).marks ≡ pair_mark Assigned earlier.span x.span ∷ [] =
-    ap (λ f. (f []).marks) (cells-missing n (key (simple_key k).name) (missing before)) ∙ marks-found _ earlier x _ found refl in
-    (assigned_twice r (pair_mark Assigned earlier.span x.span) (value_mark k v) _ _ ⊥ refl refl given, subst (λ ms. Gives r (met ms (value_mark k v) (simple_key k).name) P) (sym there) given))
+    let given : Gives r (met (at ∷ []) (value_mark k v) (simple_key k).name) P = rw (is, mark, same) at h in
+    let there = ap (λ f. (f []).marks) (cells-at n (key (simple_key k).name) None (missing before)) ∙ marks-found _ earlier x _ found refl in
+    (assigned_twice r at (value_mark k v) _ _ ⊥ refl refl given, rw there given))
 
 -- ---- what a value claims in a scope that has none of its name
 
@@ -113,15 +105,13 @@ told-free n k v missing free =
     let name = (simple_key k).name in
     let own = λ (f : State). clash_met (change f [] (with_claim (assigned [] (simple_key k) v))) (value_claims v []) in
     told-under (key name) (cells n) (claimed (assigned [] (simple_key k) v) (value_claims v []))
-    ∙ ap (λ f. or_else (met (f []).marks (value_mark k v) name) (own (λ q. cells n (key name ∷ q)))) (cells-missing n (key name) missing ∙ ap closed_cell free)
+    ∙ ap (λ f. or_else (met (f []).marks (value_mark k v) name) (own (λ q. cells n (key name ∷ q)))) (cells-at n (key name) None missing ∙ ap closed_cell free)
     ∙ told-value (change (λ q. cells n (key name ∷ q)) [] (with_claim (assigned [] (simple_key k) v))) v []
 
 pub assigned-err : (n new : Branch) (k : Key) (v : Read) (value : Result Value Halt) (q : Result (Unit {0}) Halt) (e : Halt) (m : Mark) (d : Path → ℕ)
     → m.sort ≡ Assigned → met (held_marks (child (simple_key k).name n)) m (simple_key k).name ≡ None → closed (simple_key k).name n ≡ None → value ≡ Err e → q ≡ Err e
     → ValueGives value v → Places n new q (pair_at [] (simple_key k) v) d
-assigned-err n new k v value q e m d sort admitted free was is h before =
-    gives-err q e (clash_met nothing (value_claims v [])) (clash_met (cells n) (pair_at [] (simple_key k) v)) (IsFinished v) _ is
-    (λ t clash. told-free n k v (missing-free n (simple_key k).name m (simple_key k).name before sort admitted) free ∙ clash) (rw was at h)
+assigned-err n new k v value q e m d sort admitted free was is h before = grind (arith, nat_tests, common_steps, gives-err, missing-free, told-free)
 
 pub assigned-ok : (n new : Branch) (k : Key) (x : Value) (v : Read) (value : Result Value Halt) (m : Mark)
     → m.sort ≡ Assigned → met (held_marks (child (simple_key k).name n)) m (simple_key k).name ≡ None → closed (simple_key k).name n ≡ None → value ≡ Ok x
@@ -131,14 +121,14 @@ assigned-ok n new k x v value m sort admitted free was h sets before =
     let name = (simple_key k).name in
     let given : ValueGives (Ok x) v = rw was at h in
     let missing = missing-free n name m name before sort admitted in
-    let none : (λ p. cells n (key name ∷ p)) ≡ nothing = cells-missing n (key name) missing ∙ ap closed_cell free in
+    let none : (λ p. cells n (key name ∷ p)) ≡ nothing = cells-at n (key name) None missing ∙ ap closed_cell free in
     let own = λ (f : State). put_all (change f [] (with_claim (assigned [] (simple_key k) v))) (value_claims v []) in
     let now : Sets (key name) (None, Some (k, x)) n new = subst (λ o. Sets (key name) (o, Some (k, x)) n new) missing sets in (
       told-free n k v missing free ∙ given.0,
       (
         cells-sets (key name) (None, Some (k, x)) n new now ∙ ap (graft (key name) (cells n)) (value-cells k x v given.1 ∙ ap own (sym none))
             ∙ sym (put_all-under (key name) (cells n) (claimed (assigned [] (simple_key k) v) (value_claims v []))),
-        counts-named name (None, Some (k, x)) n new now before ∙ ap (graft (key name) (counts n)) (sym (counts-missing n (key name) missing)) ∙ graft-itself (key name) (counts n),
+        counts-named name (None, Some (k, x)) n new now before ∙ ap (graft (key name) (counts n)) (sym (counts-at n (key name) None missing)) ∙ graft-itself (key name) (counts n),
         scope-named name (None, Some (k, x)) n new now given.1.2 before,
       ),
     )
@@ -148,11 +138,9 @@ pub sets-value : (n : Branch) (b : Branch-F Branch) (k : Key) (x : Value) → cl
     → b.tables ≡ (out-Branch n).tables → b.values.entries ≡ insert_entry key_cmp (out-Branch n).values.entries k x → Sets (key (simple_key k).name) (child (simple_key k).name n, Some (k, x)) n (roll-Branch b)
 sets-value n b k x free claims added tables written = sets-roll (key (simple_key k).name) (child (simple_key k).name n, Some (k, x)) n b claims at
   where
-    closed_now : (name : List ℕ) → closed_in name b.values ≡ cond (bytes_eq (simple_key k).name name) (Some (k, x)) (closed name n)
-    closed_now name = ap (lookup_entry (is_named name)) written ∙ holds-insert k x (out-Branch n).values.entries free name
-
     at : (t : Step) → slot_in t b ≡ cond (same_step (key (simple_key k).name) t) (child (simple_key k).name n, Some (k, x)) (slot t n)
     at (key name) =
+        let here : closed_in name b.values ≡ cond (bytes_eq (simple_key k).name name) (Some (k, x)) (closed name n) = ap (lookup_entry (is_named name)) written ∙ holds-insert k x (out-Branch n).values.entries free name in
         let rest : child_in name b.tables ≡ cond (bytes_eq (simple_key k).name name) (child (simple_key k).name n) (child name n) = ap (child_in name) tables ∙ cond-same (simple_key k).name name (λ l. child l n) in
-        (λ i. (rest i, closed_now name i)) ∙ cond-slot (bytes_eq (simple_key k).name name) (child (simple_key k).name n, Some (k, x)) (slot (key name) n)
+        grind (arith, nat_tests, common_steps, cond-slot)
     at (position i) = ap (λ ns. (item i ns, None)) added

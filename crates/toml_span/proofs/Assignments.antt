@@ -1,7 +1,6 @@
 -- Assignments placed one after another, and inline tables.
-use Rattle.std.proofs.Common.{◌≡◌, List, [], ◌∷◌, ◌==◌, true, map, vec_len, Option, Some, None, option_map, Result, Ok, Err, BTreeMap, refl, sym, ap, ◌∙◌, subst, arith}
+use Rattle.toml_span_lex.proofs.Common.{◌≡◌, List, [], ◌∷◌, ◌==◌, true, map, vec_len, Option, None, option_map, Result, Ok, Err, BTreeMap, refl, sym, ap, ◌∙◌, arith, nil_from_length, nat_tests, common_steps}
 use Rattle.std.proofs.lemmas.Bool.{eqb-true}
-use Rattle.std.proofs.lemmas.List.{nil_from_length}
 use Rattle.toml_span_lex.specs.declared.key.Key.{Key}
 use Rattle.toml_span_tree.specs.Node as tree
 use Rattle.toml_span_tree.specs.Path.{Place, reached, place_of as tree_place}
@@ -18,14 +17,13 @@ use Rattle.toml_span.specs.declared.claims.Halt.TheVariants.{Memory, Clash}
 use Rattle.toml_span.specs.declared.branch.Branch.{Branch}
 use Rattle.toml_span.specs.declared.branch.Branch.TheViews.{out-Branch}
 use Rattle.toml_span.specs.Claims.{Claims, no_claims, followed, assignment_claims, key_value_claims}
-use Rattle.toml_span.specs.Clashes.{or_else}
 use Rattle.toml_span.specs.code.Machine.{State, nothing, show_all, put_all, clash_met}
 use Rattle.toml_span.specs.code.Placing.{Places, ScopeGives, ShowsBelow, ShowsPlain, Finishes, place_shown}
 use Rattle.toml_span.specs.code.Relative.{pair_at}
-use Rattle.toml_span.specs.code.Tree.{marks, cells, counts, plain, IsScope, IsFresh}
+use Rattle.toml_span.specs.code.Tree.{marks, counts, plain, IsScope, IsFresh}
 use Rattle.toml_span.proofs.Absolute.{pair_at-is}
 use Rattle.toml_span.proofs.Grafts.{followed-assoc, followed-none, told-followed}
-use Rattle.toml_span.proofs.Placed.{gives-err, gives-map, reaches-then}
+use Rattle.toml_span.proofs.Placed.{gives-map, reaches-then}
 use Rattle.toml_span.proofs.Nodes.{cells-fresh, scope-fresh}
 use Rattle.toml_span.proofs.Shown.{put_all-shown, shown-plain, key_values-no_header}
 
@@ -41,8 +39,7 @@ pair-claims a = pair_at-is (map simple_key a.parts.inner.items) (simple_key a.pa
 -- an assignment is the pair of its last part and the value
 pub places-one : (a : Assignment) (inner : List Key) (old new : Branch) (r : Result (Unit {0}) Halt) → inner ≡ a.parts.inner.items
     → Places old new r (pair_at (map simple_key inner) (simple_key a.parts.last) (view a.value)) (counts old) → Places old new r (assignment_claims (key_value a) []) (counts old)
-places-one a inner old new r is h =
-    subst (λ cs. Places old new r cs (counts old)) (ap (λ keys. pair_at (map simple_key keys) (simple_key a.parts.last) (view a.value)) is ∙ pair-claims a) h
+places-one a inner old new r is h = grind (arith, nat_tests, common_steps, pair-claims)
 
 -- a key that is one part
 pub inner-none : (a : Assignment) → true ≡ (vec_len a.parts.inner == 0) → [] ≡ a.parts.inner.items
@@ -72,8 +69,7 @@ placed-then first n w r xs ys h g before =
 next-split : (n first : Branch) (old new all : List Assignment) (a : Assignment) → old ≡ a ∷ new → (inv : Placing n old first all)
     → key_value_claims (map key_value all) [] ≡ followed (followed inv.done (assignment_claims (key_value a) [])) (key_value_claims (map key_value new) [])
 unfolding key_value_claims
-next-split n first old new all a is inv =
-    inv.split ∙ ap (λ es. followed inv.done (key_value_claims (map key_value es) [])) is ∙ sym (followed-assoc inv.done (assignment_claims (key_value a) []) (key_value_claims (map key_value new) []))
+next-split n first old new all a is inv = grind (arith, nat_tests, common_steps, followed-assoc)
 
 pub placing-more : (n w first : Branch) (old new all : List Assignment) (a : Assignment) → old ≡ a ∷ new → Placing n old first all
     → Places n w (Ok tt) (assignment_claims (key_value a) []) (counts n) → Placing w new first all
@@ -85,23 +81,20 @@ placing-more n w first old new all a is inv placed = record {
 
 pub placing-err : (n w first new : Branch) (old later all : List Assignment) (a : Assignment) (q : Result (Unit {0}) Halt) (e : Halt) → old ≡ a ∷ later → Placing n old first all → q ≡ Err e
     → Places n w (Err e) (assignment_claims (key_value a) []) (counts n) → Places first new q (key_value_claims (map key_value all) []) (counts first)
-placing-err n w first new old later all a q e is inv same placed before =
-    let now = followed inv.done (assignment_claims (key_value a) []) in
-    let more = key_value_claims (map key_value later) [] in
-    gives-err q e (clash_met (cells first) now) (clash_met (cells first) (key_value_claims (map key_value all) [])) _ _ same
-    (λ t clash. ap (clash_met (cells first)) (next-split n first old later all a is inv) ∙ told-followed (cells first) now more ∙ ap (λ o. or_else o (clash_met (put_all (cells first) now) more)) clash)
-    (placed-then first n w (Err e) inv.done (assignment_claims (key_value a) []) inv.placed placed before)
+placing-err n w first new old later all a q (Memory m) is inv same placed before = rw same tt
+placing-err n w first new old later all a q (Clash c) is inv same placed before =
+    let now = placed-then first n w (Err (Clash c)) inv.done (assignment_claims (key_value a) []) inv.placed placed before in
+    let split = next-split n first old later all a is inv in
+    rw same (grind (arith, nat_tests, common_steps, told-followed))
 
 pub placing-none : (n first : Branch) (rest all : List Assignment) → rest ≡ [] → Placing n rest first all → Places first n (Ok tt) (key_value_claims (map key_value all) []) (counts first)
 unfolding key_value_claims
-placing-none n first rest all none inv =
-    subst (λ cs. Places first n (Ok tt) cs (counts first)) (sym (inv.split ∙ ap (λ es. followed inv.done (key_value_claims (map key_value es) [])) none ∙ followed-none inv.done)) inv.placed
+placing-none n first rest all none inv = grind (arith, nat_tests, common_steps, followed-none)
 
 -- ---- inline tables
 
 map-plain : {A : Type 0} (f : A → Place) (o : Option A) → option_map (λ m. plain (f m)) o ≡ option_map plain (option_map f o)
-map-plain f None = refl
-map-plain f (Some m) = refl
+map-plain f o = grind (arith, nat_tests, common_steps)
 
 -- what assignments show from inside, they show from outside
 shows-plain : (i : tree.Inner) (es : List KeyValue) (st : State) → st ≡ put_all nothing (key_value_claims es []) → ShowsBelow i st → ShowsPlain i (show_all nothing (key_value_claims es []))
@@ -112,15 +105,9 @@ shows-plain i es st is h s p =
 
 pub table-gives : (old new : Branch) (es : List KeyValue) (table : BTreeMap Key Value) → IsFresh old → Places old new (Ok tt) (key_value_claims es []) (counts old)
     → Finishes (out-Branch new).tables (out-Branch new).values (Ok table) → ScopeGives (Ok table) (λ t. inner_view (Table t)) (key_value_claims es [])
-table-gives old new es table fresh placed finished =
-    let h = placed (scope-fresh old fresh) in
-    let whole = finished new refl refl h.1.2.0 in (
-      ap (λ f. clash_met f (key_value_claims es [])) (sym (cells-fresh old fresh)) ∙ h.0,
-      (shows-plain (inner_view (Table table)) es (cells new) (h.1.0 ∙ ap (λ f. put_all f (key_value_claims es [])) (cells-fresh old fresh)) whole.0, whole.1),
-    )
+table-gives old new es table fresh placed finished = grind (arith, nat_tests, common_steps, cells-fresh, scope-fresh, shows-plain)
 
 pub table-err : {A : Type 0} (old new : Branch) (es : List KeyValue) (seen : A → tree.Inner) (q : Result A Halt) (e : Halt) → IsFresh old → q ≡ Err e
     → Places old new (Err e) (key_value_claims es []) (counts old) → ScopeGives q seen (key_value_claims es [])
-table-err old new es seen q (Clash c) fresh same placed =
-    rw same (ap (λ f. clash_met f (key_value_claims es [])) (sym (cells-fresh old fresh)) ∙ placed (scope-fresh old fresh))
+table-err old new es seen q (Clash c) fresh same placed = grind (arith, nat_tests, common_steps, cells-fresh, scope-fresh)
 table-err old new es seen q (Memory e) fresh same placed = rw same tt

@@ -1,12 +1,5 @@
 -- The tree under construction, and what becomes of it, borrow as what is put into them, and that as it was read.
-use Rattle.std.proofs.Common.{◌≡◌, ℕ, Bool, true, false, List, [], ◌∷◌, ◌++◌, map, Some, None, option_map, is_eq, rules, inl, inr, refl, sym, ap, ◌∙◌, subst, Global, Vec, BTreeMap, ◌-◌, ◌<◌, ◌≤◌, length, take, drop, set, zero, get_or, take_all, suc, Result, Ok, Err, arith, OnOk}
-use Rattle.std.specs.BTreeMap.{insert_entry}
-use Rattle.std.specs.Box.{box_value}
-use Rattle.std.specs.Cow.{cow_str_bytes, IsBorrowedStr}
-use Rattle.std.specs.Global.{Box}
-use Rattle.std.specs.Map.{lookup, lookup_entry}
-use Rattle.std.proofs.lemmas.Bool.{cases_Bool, false≢true}
-use Rattle.std.proofs.lemmas.Option.{none-some, same_Some}
+use Rattle.toml_span_lex.proofs.Common.{◌≡◌, ℕ, Bool, true, false, List, [], ◌∷◌, ◌++◌, map, Some, None, option_map, is_eq, rules, inl, inr, refl, sym, ap, ◌∙◌, subst, Global, Vec, BTreeMap, ◌-◌, ◌<◌, ◌≤◌, length, take, drop, set, zero, get_or, take_all, suc, Result, Ok, Err, arith, OnOk, insert_entry, box_value, cow_str_bytes, IsBorrowedStr, Box, lookup, lookup_entry, cases_Bool, false≢true, none-some, IfOk, IsErrAnd, CowStr, nat_tests, common_steps}
 use Rattle.toml_span_lex.specs.declared.key.Key.{Key}
 use Rattle.toml_span_lex.specs.declared.span.Span.{Span}
 use Rattle.toml_span_tree.specs.declared.value.Value.{Value}
@@ -21,18 +14,15 @@ use Rattle.toml_span.specs.declared.branch.Branch.TheFolds.{fold-roll-Branch}
 use Rattle.toml_span.specs.Borrowed.{Standing, table_name, Held, key_standing, held_or_none, held, value_standing, IsNamedBy, IsBorrowedRight, AreBorrowedRight, string as string_standing, IsKeyOf, keys_of}
 use Rattle.toml_span.specs.code.Borrowed.{node_step, nodes_standing, inner_held, array_standing, table_standing, standing, boxes_standing, entries_of, IsFrom, AreFrom, Keeps}
 use Rattle.toml_span.specs.code.Tree.{is_named, entries}
-use Rattle.toml_span.proofs.KeyMaps.{cases_ordering}
+use Rattle.toml_span.proofs.KeyMaps.{insert_by}
 use Rattle.toml_span.proofs.Nodes.{roll-out}
-use Rattle.std.specs.Prelude.{IfOk}
-use Rattle.std.specs.Result.{IsErrAnd}
-use Rattle.std.specs.declared.borrow.CowStr.{CowStr}
 use Rattle.toml_span_read.specs.declared.section.Section.{Section}
 use Rattle.toml_span_read.specs.declared.value.Assignment.{Assignment}
 use Rattle.toml_span_read.specs.declared.value.Val.{Val}
 use Rattle.toml_span_read.specs.declared.value.ValKind.{ValKind, the_lemmas as read_lemmas}
-use Rattle.toml_span_read.specs.Borrowed.{Written, string as string_written, name as name_written, AreWrittenRight as AreRightRead, joined, key_written, keys_written, dotted_written, written, kind_written, assignment_written, assignments_written, section_written, sections_written}
+use Rattle.toml_span_read.specs.Borrowed.{Written, string as string_written, name as name_written, AreWrittenRight as AreRightRead, joined, key_written, keys_written, written, kind_written, assignment_written, assignments_written, section_written, sections_written}
 use Rattle.toml_span.specs.declared.claims.Halt.{Halt}
-use Rattle.toml_span_read.specs.Grammar.{SpellsDocument}
+use Rattle.toml_span_read.specs.Read as read
 use Rattle.toml_span_read.specs.Data.{block}
 use Rattle.toml_span.specs.Parsing.{IsBorrowedTree}
 use Rattle.toml_span.proofs.Placed.{with_tables}
@@ -69,119 +59,78 @@ module _ (text : List ℕ) (ps : List SimpleKey) where
   abbrev Borrows : Standing → Type 0
   Borrows = IsBorrowedRight text ps
 
-  pub whole : (values : List (Key × Value)) (tables : List (Key × Box Branch)) (entries : List Branch)
-      → AreBorrowedRight text ps (table_standing values) → AreBorrowedRight text ps (boxes_standing tables) → AreBorrowedRight text ps (entries_of entries)
-      → AreBorrowedRight text ps (table_standing values ++ (boxes_standing tables ++ entries_of entries))
-  whole values tables entries a b c =
-      all_append Borrows (table_standing values) (boxes_standing tables ++ entries_of entries) a (all_append Borrows (boxes_standing tables) (entries_of entries) b c)
-
   pub of_node : (n : Branch) → AreBorrowedRight text ps (standing n)
       → AreBorrowedRight text ps (table_standing (out-Branch n).values.entries) × AreBorrowedRight text ps (boxes_standing (out-Branch n).tables.entries) × AreBorrowedRight text ps (entries_of (out-Branch n).entries.items)
-  of_node n h =
-      let all = rw (standing_is n) at h in
-      let behind = all_behind Borrows (table_standing (out-Branch n).values.entries) (boxes_standing (out-Branch n).tables.entries ++ entries_of (out-Branch n).entries.items) all in (
-        all_front Borrows (table_standing (out-Branch n).values.entries) (boxes_standing (out-Branch n).tables.entries ++ entries_of (out-Branch n).entries.items) all,
-        all_front Borrows (boxes_standing (out-Branch n).tables.entries) (entries_of (out-Branch n).entries.items) behind,
-        all_behind Borrows (boxes_standing (out-Branch n).tables.entries) (entries_of (out-Branch n).entries.items) behind,
-      )
+  of_node n h = let all = rw (standing_is n) at h in search (rules, all_front, all_behind)
 
   pub node_of : (b : Branch-F Branch) → AreBorrowedRight text ps (table_standing b.values.entries) → AreBorrowedRight text ps (boxes_standing b.tables.entries) → AreBorrowedRight text ps (entries_of b.entries.items)
       → AreBorrowedRight text ps (standing (roll-Branch b))
-  node_of b values tables entries = rw (standing-roll b) (whole b.values.entries b.tables.entries b.entries.items values tables entries)
+  node_of b values tables entries = rw (standing-roll b) (search (rules, all_append))
 
   -- ---- tables
 
   key_named : (b : Bool) (k : Key) → IsBorrowedRight text ps (key_standing b k) → IsNamedBy text ps k.name
-  key_named true k h = (k.span, h.1, h.0)
-  key_named false k h = h
+  key_named b k h = grind (arith, nat_tests, common_steps)
 
   title_right : (b : Bool) (k : Key) → b ≡ false → IsNamedBy text ps k.name → IsBorrowedRight text ps (key_standing b k)
-  title_right true k e h = absurd (false≢true (sym e))
-  title_right false k e h = h
+  title_right b k e h = grind (arith, nat_tests, common_steps)
 
   -- a table or an array put at a name
   pub insert_title : (k : Key) (v : Value) (es : List (Key × Value)) → IsNamedBy text ps k.name → (held v).0 ≡ false → AreBorrowedRight text ps (value_standing v) → AreBorrowedRight text ps (table_standing es)
       → AreBorrowedRight text ps (table_standing (insert_entry key_cmp es k v))
-  insert_title k v [] named plain inside h = (title_right (held v).0 k plain named, all_append Borrows (value_standing v) [] inside tt)
-  insert_title k v (e ∷ es) named plain inside h = elim (cases_ordering (key_cmp k e.0)) [
-    | inl less ↦ rw less (title_right (held v).0 k plain named, all_append Borrows (value_standing v) (table_standing (e ∷ es)) inside h)
-    | inr other ↦ elim other [
-      | inl tie ↦ rw tie (
-        title_right (held v).0 e.0 plain (key_named (held e.1).0 e.0 h.0),
-        all_append Borrows (value_standing v) (table_standing es) inside (all_behind Borrows (value_standing e.1) (table_standing es) h.1),
-      )
-      | inr more ↦ rw more (
+  insert_title k v [] named plain inside h = search (rules, all_append, title_right)
+  insert_title k v (e ∷ es) named plain inside h =
+      insert_by (λ l. AreBorrowedRight text ps (table_standing l)) k v e es (λ less. search (rules, all_append, title_right))
+      (λ tie. search (rules, all_append, all_behind, title_right, key_named))
+      (λ more. (
         h.0,
-        all_append Borrows (value_standing e.1) (table_standing (insert_entry key_cmp es k v)) (all_front Borrows (value_standing e.1) (table_standing es) h.1)
-            (insert_title k v es named plain inside (all_behind Borrows (value_standing e.1) (table_standing es) h.1)),
-      )
-    ]
-  ]
+        all_append Borrows (value_standing e.1) (table_standing (insert_entry key_cmp es k v)) (search (rules, all_front))
+            (insert_title k v es named plain inside (search (rules, all_behind))),
+      ))
 
   -- any value put at a name where none is
   pub insert_new : (k : Key) (v : Value) (es : List (Key × Value)) → lookup_entry (is_named (cow_str_bytes k.name)) es ≡ None
       → ((b : Bool) → IsBorrowedRight text ps (key_standing b k)) → AreBorrowedRight text ps (value_standing v) → AreBorrowedRight text ps (table_standing es)
       → AreBorrowedRight text ps (table_standing (insert_entry key_cmp es k v))
-  insert_new k v [] free here inside h = (here (held v).0, all_append Borrows (value_standing v) [] inside tt)
+  insert_new k v [] free here inside h = search (rules, all_append)
   insert_new k v (e ∷ es) free here inside h = elim (cases_Bool (is_named (cow_str_bytes k.name) e.0)) [
     | inl there ↦ absurd (none-some e (sym free ∙ rw there))
-    | inr apart ↦ elim (cases_ordering (key_cmp k e.0)) [
-      | inl less ↦ rw less (here (held v).0, all_append Borrows (value_standing v) (table_standing (e ∷ es)) inside h)
-      | inr other ↦ elim other [
-        | inl tie ↦ absurd (false≢true (sym apart ∙ ap is_eq tie))
-        | inr more ↦ rw more (
-          h.0,
-          all_append Borrows (value_standing e.1) (table_standing (insert_entry key_cmp es k v)) (all_front Borrows (value_standing e.1) (table_standing es) h.1)
-              (insert_new k v es (rw apart at free) here inside (all_behind Borrows (value_standing e.1) (table_standing es) h.1)),
-        )
-      ]
-    ]
+    | inr apart ↦
+        let rest = insert_new k v es (rw apart at free) here inside (search (rules, all_behind)) in
+        insert_by (λ l. AreBorrowedRight text ps (table_standing l)) k v e es (λ less. search (rules, all_append)) (λ tie. absurd (false≢true (sym apart ∙ ap is_eq tie)))
+        (λ more. (h.0, all_append Borrows (value_standing e.1) (table_standing (insert_entry key_cmp es k v)) (search (rules, all_front)) rest))
   ]
 
   -- ---- branches by name
 
   pub box_found : (test : Key → Bool) (x : Box Branch) (es : List (Key × Box Branch)) → lookup test es ≡ Some x → AreBorrowedRight text ps (boxes_standing es) → AreBorrowedRight text ps (standing (box_value x))
   box_found test x [] found h = absurd (none-some x found)
-  box_found test x (e ∷ es) found h = elim (cases_Bool (test e.0)) [
-    | inl here ↦
-        let same : Some e.1 ≡ Some x = rw here at found in
-        subst (λ (y : Box Branch). AreBorrowedRight text ps (standing (box_value y))) (same_Some e.1 x same) (all_front Borrows (standing (box_value e.1)) (boxes_standing es) h.1)
-    | inr off ↦ box_found test x es (rw off at found) (all_behind Borrows (standing (box_value e.1)) (boxes_standing es) h.1)
-  ]
+  box_found test x (e ∷ es) found h = grind (arith, nat_tests, common_steps, all_front, all_behind, box_found test x es)
 
   pub box_insert : (k : Key) (w : Box Branch) (es : List (Key × Box Branch)) → IsNamedBy text ps k.name → AreBorrowedRight text ps (standing (box_value w)) → AreBorrowedRight text ps (boxes_standing es)
       → AreBorrowedRight text ps (boxes_standing (insert_entry key_cmp es k w))
-  box_insert k w [] named inside h = (named, all_append Borrows (standing (box_value w)) [] inside tt)
-  box_insert k w (e ∷ es) named inside h = elim (cases_ordering (key_cmp k e.0)) [
-    | inl less ↦ rw less (named, all_append Borrows (standing (box_value w)) (boxes_standing (e ∷ es)) inside h)
-    | inr other ↦ elim other [
-      | inl tie ↦ rw tie (h.0, all_append Borrows (standing (box_value w)) (boxes_standing es) inside (all_behind Borrows (standing (box_value e.1)) (boxes_standing es) h.1))
-      | inr more ↦ rw more (
+  box_insert k w [] named inside h = search (rules, all_append)
+  box_insert k w (e ∷ es) named inside h =
+      insert_by (λ l. AreBorrowedRight text ps (boxes_standing l)) k w e es (λ less. search (rules, all_append)) (λ tie. search (rules, all_append, all_behind))
+      (λ more. (
         h.0,
-        all_append Borrows (standing (box_value e.1)) (boxes_standing (insert_entry key_cmp es k w)) (all_front Borrows (standing (box_value e.1)) (boxes_standing es) h.1)
-            (box_insert k w es named inside (all_behind Borrows (standing (box_value e.1)) (boxes_standing es) h.1)),
-      )
-    ]
-  ]
+        all_append Borrows (standing (box_value e.1)) (boxes_standing (insert_entry key_cmp es k w)) (search (rules, all_front))
+            (box_insert k w es named inside (search (rules, all_behind))),
+      ))
 
   -- the first of them, and those behind it
   pub box_first : (k : Key) (b : Box Branch) (left all : List (Key × Box Branch)) → all ≡ (k, b) ∷ left → AreBorrowedRight text ps (boxes_standing all)
       → IsNamedBy text ps k.name × AreBorrowedRight text ps (standing (box_value b)) × AreBorrowedRight text ps (boxes_standing left)
-  box_first k b left all is h =
-      let g : AreBorrowedRight text ps (boxes_standing ((k, b) ∷ left)) = rw is at h in
-      (g.0, all_front Borrows (standing (box_value b)) (boxes_standing left) g.1, all_behind Borrows (standing (box_value b)) (boxes_standing left) g.1)
+  box_first k b left all is h = let g : AreBorrowedRight text ps (boxes_standing ((k, b) ∷ left)) = rw is at h in search (rules, all_front, all_behind)
 
   -- ---- elements
 
   pub entry_first : (n : Branch) (left all : List Branch) → all ≡ n ∷ left → AreBorrowedRight text ps (entries_of all) → AreBorrowedRight text ps (standing n) × AreBorrowedRight text ps (entries_of left)
-  entry_first n left all is h =
-      let g : AreBorrowedRight text ps (entries_of (n ∷ left)) = rw is at h in
-      (all_front Borrows (standing n) (entries_of left) g, all_behind Borrows (standing n) (entries_of left) g)
+  entry_first n left all is h = let g : AreBorrowedRight text ps (entries_of (n ∷ left)) = rw is at h in search (rules, all_front, all_behind)
 
   pub element_push : (v : Value) (vs : List Value) → AreBorrowedRight text ps (array_standing vs) → AreBorrowedRight text ps (value_standing v) → AreBorrowedRight text ps (array_standing (vs ++ (v ∷ [])))
-  element_push v [] h k = all_append Borrows (value_standing v) [] k tt
-  element_push v (w ∷ vs) h k =
-      all_append Borrows (value_standing w) (array_standing (vs ++ (v ∷ []))) (all_front Borrows (value_standing w) (array_standing vs) h) (element_push v vs (all_behind Borrows (value_standing w) (array_standing vs) h) k)
+  element_push v [] h k = search (rules, all_append)
+  element_push v (w ∷ vs) h k = search (rules, all_append, all_front, all_behind, element_push v vs)
 
   -- ---- what is made
 
@@ -203,12 +152,10 @@ module _ (text : List ℕ) (ps : List SimpleKey) where
 -- ---- results
 
 pub ok_map : {A E : Type 0} (r : Result A E) (P Q : Type 0) → (P → Q) → OnOk r P → OnOk r Q
-ok_map (Ok x) P Q f h = f h
-ok_map (Err e) P Q f h = tt
+ok_map r P Q f h = grind (arith, nat_tests, common_steps)
 
 pub err_ok : {A E : Type 0} (r : Result A E) (Q : E → Type 0) (P : A → Type 0) → IsErrAnd r Q → IfOk r P
-err_ok (Ok x) Q P h = absurd h
-err_ok (Err e) Q P h = tt
+err_ok r Q P h = grind (arith, nat_tests, common_steps)
 
 -- ---- what was read
 
@@ -220,60 +167,43 @@ from_more text ps (name_written s span ∷ ws) more h = ((h.0, more _ (inl refl)
 pub all_from : (text : List ℕ) (ws : List Written) → AreRightRead text ws → AreFrom text (keys_of ws) ws
 all_from text ws h = from_more text (keys_of ws) ws (λ p q. q) h
 
-pub tree_borrows : {E : Type 0} (found : List Section) (text : List ℕ) (limit : ℕ) (r : Result Value E) → SpellsDocument (map block found) text limit
+pub tree_borrows : {E : Type 0} (found : List Section) (text : List ℕ) (limit : ℕ) (r : Result Value E) → read.document text limit (Ok (map block found))
     → IfOk r (λ root. AreBorrowedRight text (keys_of (sections_written found)) (value_standing root)) → IfOk r (IsBorrowedTree text limit)
-tree_borrows found text limit (Ok root) spells h = (found, spells, h)
-tree_borrows found text limit (Err e) spells h = tt
+tree_borrows found text limit (Ok root) given h = (found, given, h)
+tree_borrows found text limit (Err e) given h = tt
 
 module _ (text : List ℕ) (ps : List SimpleKey) where
-  abbrev From : Written → Type 0
-  From = IsFrom text ps
-
   pub front_from : (keys : List Key) (first d : Key) → 1 ≤ length keys → first ≡ get_or keys 0 d → AreFrom text ps (keys_written keys)
       → IsFrom text ps (key_written first) × AreFrom text ps (keys_written (take (length keys - 1) (drop 1 keys)))
   front_from [] first d some same h = absurd (omega arith)
-  front_from (key ∷ keys) first d some same h =
-      let all : take (suc (length keys) - 1) keys ≡ keys = take_all _ keys (omega arith) in
-      rw (same, all) h
+  front_from (key ∷ keys) first d some same h = grind (arith, nat_tests, common_steps, take_all)
 
   pub assignment_from : (a : Assignment) → AreFrom text ps (assignment_written a)
       → AreFrom text ps (keys_written a.parts.inner.items) × IsFrom text ps (key_written a.parts.last) × AreFrom text ps (written a.value)
   assignment_from a h =
       let both = rw (assignment_written_is a) at h in
-      let key = all_front From (dotted_written a.parts) (written a.value) both in (
-        all_front From (keys_written a.parts.inner.items) (key_written a.parts.last ∷ []) key,
-        (all_behind From (keys_written a.parts.inner.items) (key_written a.parts.last ∷ []) key).0,
-        all_behind From (dotted_written a.parts) (written a.value) both,
-      )
+      let last : AreFrom text ps (key_written a.parts.last ∷ []) = search (rules, all_front, all_behind) in
+      (search (rules, all_front), last.0, search (rules, all_behind))
 
   -- the first, and those behind it
   pub first_from : {A : Type 0} (f : A → List Written) (old new : List A) (x : A) → old ≡ x ∷ new → AreFrom text ps (joined (map f old)) → AreFrom text ps (f x) × AreFrom text ps (joined (map f new))
-  first_from f old new x is h =
-      let all : AreFrom text ps (f x ++ joined (map f new)) = rw is at h in
-      (all_front From (f x) (joined (map f new)) all, all_behind From (f x) (joined (map f new)) all)
+  first_from f old new x is h = let all : AreFrom text ps (f x ++ joined (map f new)) = rw is at h in search (rules, all_front, all_behind)
 
   pub section_from : (s : Section) → AreFrom text ps (section_written s) → AreFrom text ps (keys_written s.header.items) × AreFrom text ps (assignments_written s.assignments.items)
-  section_from s h =
-      (all_front From (keys_written s.header.items) (assignments_written s.assignments.items) h, all_behind From (keys_written s.header.items) (assignments_written s.assignments.items) h)
+  section_from s h = search (rules, all_front, all_behind)
 
   pub from_key : (key : Key) → IsFrom text ps (key_written key) → (b : Bool) → IsBorrowedRight text ps (key_standing b key)
-  from_key key h true = h
-  from_key key h false = (key.span, h.1, h.0)
+  from_key key h b = grind (arith, nat_tests, common_steps)
 
   pub clone_named : (k c : Key) → cow_str_bytes c.name ≡ cow_str_bytes k.name → (IsBorrowedStr k.name → IsBorrowedStr c.name) → (IsBorrowedStr c.name → IsBorrowedStr k.name) → IsFrom text ps (key_written k)
       → IsNamedBy text ps c.name
-  clone_named k c same forth back h = (
-    k.span,
-    rw same h.1,
-    (λ b. rw same (h.0.0 (back b)), λ e. forth (h.0.1 (rw same at e))),
-  )
+  clone_named k c same forth back h = grind (arith, nat_tests, common_steps)
 
   -- ---- nodes
 
-  pub remarked : (n : Branch) (b : Branch-F Branch) → b.values ≡ (out-Branch n).values → b.tables ≡ (out-Branch n).tables → b.entries.items ≡ entries n → AreBorrowedRight text ps (standing n) → AreBorrowedRight text ps (standing (roll-Branch b))
-  remarked n b values tables items h =
-      let inside = of_node text ps n h in
-      node_of text ps b (rw values inside.0) (rw tables inside.1) (rw items inside.2)
+  remarked : (n : Branch) (b : Branch-F Branch) → b.values ≡ (out-Branch n).values → b.tables ≡ (out-Branch n).tables → b.entries.items ≡ entries n
+      → AreBorrowedRight text ps (standing n) → AreBorrowedRight text ps (standing (roll-Branch b))
+  remarked n b values tables items h = rw (standing-roll b, values, tables, items, ← standing_is n) h
 
   pub keeps_marked : (n : Branch) (b : Branch-F Branch) (new : Branch) (r : Result (Unit {0}) Halt) → b.values ≡ (out-Branch n).values → b.tables ≡ (out-Branch n).tables → b.entries.items ≡ entries n
       → Keeps text ps (roll-Branch b) new r → Keeps text ps n new r
@@ -297,8 +227,8 @@ module _ (text : List ℕ) (ps : List SimpleKey) where
       → b.tables ≡ (out-Branch n).tables → b.entries.items ≡ entries n → b.values.entries ≡ insert_entry key_cmp (out-Branch n).values.entries k v
       → IsFrom text ps (key_written k) → AreBorrowedRight text ps (value_standing v) → AreBorrowedRight text ps (standing n) → AreBorrowedRight text ps (standing (roll-Branch b))
   keeps_value n b k v free tables items inserted key right h =
-      let inside = of_node text ps n h in
-      node_of text ps b (rw inserted (insert_new text ps k v (out-Branch n).values.entries free (from_key k key) right inside.0)) (rw tables inside.1) (rw items inside.2)
+      let all = rw (standing_is n) at h in
+      rw (standing-roll b, tables, items, inserted) (search (rules, all_append, all_front, all_behind, insert_new, from_key))
 
   -- ---- entries
 
@@ -307,36 +237,31 @@ module _ (text : List ℕ) (ps : List SimpleKey) where
 
   entry_at : (m : ℕ) (ns : List Branch) (x : Branch) → m < length ns → x ≡ get_or ns m x → Right ns → AreBorrowedRight text ps (standing x)
   entry_at m [] x within is h = absurd (omega arith)
-  entry_at zero (n ∷ ns) x within is h = subst (λ y. AreBorrowedRight text ps (standing y)) (sym is) (all_front (IsBorrowedRight text ps) (standing n) (entries_of ns) h)
-  entry_at (suc m) (n ∷ ns) x within is h = entry_at m ns x (omega arith) is (all_behind (IsBorrowedRight text ps) (standing n) (entries_of ns) h)
+  entry_at zero (n ∷ ns) x within is h = grind (arith, common_steps, all_front)
+  entry_at (suc m) (n ∷ ns) x within is h = grind (arith, common_steps, all_behind, entry_at m ns x)
 
   entries_set : (m : ℕ) (ns : List Branch) (w : Branch) → AreBorrowedRight text ps (standing w) → Right ns → Right (set ns m w)
   entries_set m [] w right h = h
-  entries_set zero (n ∷ ns) w right h = all_append (IsBorrowedRight text ps) (standing w) (entries_of ns) right (all_behind (IsBorrowedRight text ps) (standing n) (entries_of ns) h)
-  entries_set (suc m) (n ∷ ns) w right h =
-      all_append (IsBorrowedRight text ps) (standing n) (entries_of (set ns m w)) (all_front (IsBorrowedRight text ps) (standing n) (entries_of ns) h)
-      (entries_set m ns w right (all_behind (IsBorrowedRight text ps) (standing n) (entries_of ns) h))
+  entries_set zero (n ∷ ns) w right h = search (rules, all_append, all_behind)
+  entries_set (suc m) (n ∷ ns) w right h = search (rules, all_append, all_front, all_behind, entries_set m ns w)
 
   entries_push : (ns : List Branch) (w : Branch) → AreBorrowedRight text ps (standing w) → Right ns → Right (ns ++ (w ∷ []))
-  entries_push [] w right h = all_append (IsBorrowedRight text ps) (standing w) [] right tt
-  entries_push (n ∷ ns) w right h =
-      all_append (IsBorrowedRight text ps) (standing n) (entries_of (ns ++ (w ∷ []))) (all_front (IsBorrowedRight text ps) (standing n) (entries_of ns) h)
-      (entries_push ns w right (all_behind (IsBorrowedRight text ps) (standing n) (entries_of ns) h))
+  entries_push [] w right h = search (rules, all_append)
+  entries_push (n ∷ ns) w right h = search (rules, all_append, all_front, all_behind, entries_push ns w)
 
   pub keeps_entry : (n : Branch) (b : Branch-F Branch) (m : ℕ) (x w : Branch) (r : Result (Unit {0}) Halt) → b.values ≡ (out-Branch n).values → b.tables ≡ (out-Branch n).tables
       → b.entries.items ≡ set (entries n) m w → m < length (entries n) → x ≡ get_or (entries n) m x → Keeps text ps x w r → Keeps text ps n (roll-Branch b) r
   keeps_entry n b m x w r values tables items within is keep h =
       let inside = of_node text ps n h in
       ok_map r (AreBorrowedRight text ps (standing w)) (AreBorrowedRight text ps (standing (roll-Branch b)))
-      (λ made. node_of text ps b (rw values inside.0) (rw tables inside.1) (rw items (entries_set m (entries n) w made inside.2)))
-      (keep (entry_at m (entries n) x within is inside.2))
+      (λ made. rw (standing-roll b, values, tables, items) (search (rules, all_append, entries_set))) (keep (entry_at m (entries n) x within is inside.2))
 
   pub keeps_pushed : (n : Branch) (b : Branch-F Branch) (x w : Branch) → standing x ≡ [] → b.values ≡ (out-Branch n).values → b.tables ≡ (out-Branch n).tables → b.entries.items ≡ entries n ++ (w ∷ [])
       → Keeps text ps x w (Ok tt) → AreBorrowedRight text ps (standing n) → AreBorrowedRight text ps (standing (roll-Branch b))
   keeps_pushed n b x w bare values tables items keep h =
       let inside = of_node text ps n h in
       let made : AreBorrowedRight text ps (standing w) = keep (rw bare tt) in
-      node_of text ps b (rw values inside.0) (rw tables inside.1) (rw items (entries_push (entries n) w made inside.2))
+      rw (standing-roll b, values, tables, items) (search (rules, all_append, entries_push))
 
   -- ---- values
 
@@ -352,7 +277,7 @@ module _ (text : List ℕ) (ps : List SimpleKey) where
       let read : kind_written (kinds.String s) v.span ≡ string_written s v.span ∷ [] = search (rules, read_lemmas) in
       let right = rw read at (kind_from v (kinds.String s) kind h) in
       let made : inner_held (inners.String s) v.span ≡ (true, string_standing s v.span ∷ []) = search (rules, tree_lemmas) in
-      from_held x (true, string_standing s v.span ∷ []) (kept_held text ps x (inners.String s) v.span (kept.0 ∙ ap (λ i. Some i) is, kept.1) ∙ made) (right.0, tt)
+      from_held x _ (kept_held text ps x (inners.String s) v.span (kept.0 ∙ ap (λ i. Some i) is, kept.1) ∙ made) right
 
   pub plain_right : (x : Value) (i inner : ValueInner) (span : Span) → (x.value ≡ Some i) × (x.span ≡ span) → i ≡ inner → inner_held inner span ≡ (true, []) → AreBorrowedRight text ps (value_standing x)
   plain_right x i inner span kept is made = from_held x (true, []) (kept_held text ps x inner span (kept.0 ∙ ap (λ i. Some i) is, kept.1) ∙ made) tt

@@ -1,14 +1,12 @@
 -- What holds of each claim holds of what decides in the flat document.
-use Rattle.std.proofs.Common.{◌≡◌, ℕ, suc, true, List, [], ◌∷◌, ◌++◌, Option, Some, None, option_map, refl, ap, ◌∙◌, inl, inr}
-use Rattle.std.specs.Prelude.{⊤, IfSome}
-use Rattle.std.proofs.lemmas.Bool.{cases_Bool, false≢true, and_parts}
-use Rattle.std.proofs.lemmas.Option.{none-some, same_Some}
+use Rattle.toml_span_lex.proofs.Common.{◌≡◌, ℕ, suc, true, List, [], ◌∷◌, Option, Some, option_map, refl, ⊤, IfSome, false≢true, and_parts, AllByRecursion, arith, nat_tests, common_steps}
 use Rattle.toml_span_tree.specs.Path.{Path, Step, Place}
+use Rattle.toml_span_read.proofs.BorrowLemmas.{all_append}
 use Rattle.toml_span_read.specs.Data.{ParsedValue as Read, parsed, ParsedInner, scalar, array, inline, ParsedItems, no_items, item, ParsedPairs, no_pairs, pair, KeyValue}
 use Rattle.toml_span_read.specs.Keys.{SimpleKey}
 use Rattle.toml_span.specs.Claims.{Claim, Claims, no_claims, claimed, scope, followed, dotted, assigned, element, key_claims, value_claims, inner_claims, item_claims, pair_claims, key_value_claims}
 use Rattle.toml_span.specs.Clashes.{or_else}
-use Rattle.toml_span.specs.Flat.{flat, all_claims, claims_at, first_claim_by_header, first_claim, deciding_claim, by_header}
+use Rattle.toml_span.specs.Flat.{flat, all_claims, claims_at, first_claim_by_header, deciding_claim}
 use Rattle.toml_span.specs.Paths.{same_path, same_step, with_key, with_position}
 use Rattle.toml_span.proofs.Grafts.{same_step-eq}
 
@@ -17,11 +15,8 @@ use Rattle.toml_span.proofs.Grafts.{same_step-eq}
 pub same_path-eq : (p q : Path) → same_path p q ≡ true → p ≡ q
 unfolding same_path
 same_path-eq [] [] h = refl
-same_path-eq [] (t ∷ q) h = absurd (false≢true h)
-same_path-eq (s ∷ p) [] h = absurd (false≢true h)
-same_path-eq (s ∷ p) (t ∷ q) h =
-    let both = and_parts (same_step s t) (same_path p q) h in
-    ap (λ u. u ∷ p) (same_step-eq s t both.0) ∙ ap (λ l. t ∷ l) (same_path-eq p q both.1)
+same_path-eq (s ∷ p) (t ∷ q) h = let both = and_parts (same_step s t) (same_path p q) h in cc (same_step-eq s t both.0, same_path-eq p q both.1)
+same_path-eq p q h = absurd (false≢true h)
 
 -- ---- claims
 
@@ -73,47 +68,32 @@ module _ (P : Claim → Type 0) (of_inner : (p : Path) (k : SimpleKey) (v : Read
       each-followed P (key_claims p e.parts e.value (value_claims e.value)) (key_value_claims es p) (key-each p e.parts e.value (value_claims e.value) (value-each e.value)) (key_values-each es p)
 
 -- and of each claim of a list
-abbrev pub EachIn : (Claim → Type 0) → List Claim → Type 0
-EachIn P [] = ⊤
-EachIn P (c ∷ cs) = P c × EachIn P cs
-
-each_in-append : (P : Claim → Type 0) (xs ys : List Claim) → EachIn P xs → EachIn P ys → EachIn P (xs ++ ys)
-each_in-append P [] ys h g = g
-each_in-append P (c ∷ xs) ys h g = (h.0, each_in-append P xs ys h.1 g)
-
-pub each-all : (P : Claim → Type 0) (cs : Claims) → Each P cs → EachIn P (all_claims cs)
+pub each-all : (P : Claim → Type 0) (cs : Claims) → Each P cs → AllByRecursion P (all_claims cs)
 unfolding all_claims
 each-all P no_claims h = tt
 each-all P (claimed c cs) h = (h.0, each-all P cs h.1)
-each-all P (scope inner cs) h = each_in-append P (all_claims inner) (all_claims cs) (each-all P inner h.0) (each-all P cs h.1)
+each-all P (scope inner cs) h = all_append P (all_claims inner) (all_claims cs) (each-all P inner h.0) (each-all P cs h.1)
 
 -- P holds of the claim, which is on this path
 abbrev On : (Claim → Type 0) → Path → Claim → Type 0
 On P q c = P c × (c.path ≡ q)
 
-each-at : (P : Claim → Type 0) (q : Path) (cs : List Claim) → EachIn P cs → EachIn (On P q) (claims_at q cs)
+each-at : (P : Claim → Type 0) (q : Path) (cs : List Claim) → AllByRecursion P cs → AllByRecursion (On P q) (claims_at q cs)
 unfolding claims_at
 each-at P q [] h = tt
-each-at P q (c ∷ cs) h = elim (cases_Bool (same_path c.path q)) [
-  | inl here ↦ rw here ((h.0, same_path-eq c.path q here), each-at P q cs h.1)
-  | inr off ↦ rw off (each-at P q cs h.1)
-]
+each-at P q (c ∷ cs) h = grind (arith, nat_tests, common_steps, same_path-eq, each-at P q cs)
 
-by_header-one : (P : Claim → Type 0) (cs : List Claim) → EachIn P cs → IfSome (first_claim_by_header cs) P
+by_header-one : (P : Claim → Type 0) (cs : List Claim) → AllByRecursion P cs → IfSome (first_claim_by_header cs) P
 unfolding first_claim_by_header
 by_header-one P [] h = tt
-by_header-one P (c ∷ cs) h = elim (cases_Bool (by_header c.mark.sort)) [
-  | inl here ↦ rw here h.0
-  | inr off ↦ rw off (by_header-one P cs h.1)
-]
+by_header-one P (c ∷ cs) h = grind (arith, nat_tests, common_steps, by_header-one P cs)
 
-first-one : (P : Claim → Type 0) (cs : List Claim) → EachIn P cs → IfSome (first_claim cs) P
-first-one P [] h = tt
-first-one P (c ∷ cs) h = h.0
+pub either-one : {A : Type 0} (P : A → Type 0) (o p : Option A) → IfSome o P → IfSome p P → IfSome (or_else o p) P
+either-one P o p h g = grind (arith, nat_tests, common_steps)
 
-either-one : (P : Claim → Type 0) (o p : Option Claim) → IfSome o P → IfSome p P → IfSome (or_else o p) P
-either-one P (Some c) p h g = h
-either-one P None p h g = g
+deciding-one : (P : Claim → Type 0) (cs : List Claim) → AllByRecursion P cs → IfSome (deciding_claim cs) P
+unfolding first_claim_by_header
+deciding-one P cs h = grind (arith, nat_tests, common_steps, by_header-one, either-one)
 
 -- ---- the flat document
 
@@ -125,14 +105,10 @@ pub record Decides (P : Claim → Type 0) (q : Path) (x : Place) : Type 0 where
   pub holds : P claim
 
 decided : (P : Claim → Type 0) (q : Path) (o : Option Claim) (x : Place) → IfSome o (On P q) → option_map (λ c. c.place) o ≡ Some x → Decides P q x
-decided P q None x h is = absurd (none-some x is)
-decided P q (Some c) x h is = record { claim = c; on = h.1; place = same_Some c.place x is; holds = h.0 }
+decided P q o x h is = grind (arith, nat_tests, common_steps)
 
 pub flat-decides : (P : Claim → Type 0) (length : ℕ) (cs : Claims) (s : Step) (p : Path) (x : Place) → Each P cs → flat length cs (s ∷ p) ≡ Some x → Decides P (s ∷ p) x
 unfolding flat
 flat-decides P length cs s p x h is =
-    let q = s ∷ p in
-    let here = each-at P q (all_claims cs) (each-all P cs h) in
-    let found = claims_at q (all_claims cs) in
-    decided P q (deciding_claim found) x
-    (either-one (On P q) (first_claim_by_header found) (first_claim found) (by_header-one (On P q) found here) (first-one (On P q) found here)) is
+    let here = each-at P (s ∷ p) (all_claims cs) (each-all P cs h) in
+    decided P (s ∷ p) (deciding_claim (claims_at (s ∷ p) (all_claims cs))) x (deciding-one (On P (s ∷ p)) (claims_at (s ∷ p) (all_claims cs)) here) is

@@ -1,12 +1,7 @@
 -- A branch with another entry, or with its latest entry changed.
-use Rattle.std.proofs.Common.{◌≡◌, ℕ, zero, suc, ◌<◌, ◌≤◌, Bool, true, false, cond, length, get_or, set, List, [], ◌∷◌, ◌++◌, Option, Some, None, Result, Ok, Err, OnOk, refl, sym, ap, ◌∙◌, subst, inr, arith}
-use Rattle.std.specs.Prelude.{nat_eq}
-use Rattle.std.proofs.Math.Dec.{eqb-suc-suc, eqb-suc-zero, eqb-zero-suc}
-use Rattle.std.proofs.lemmas.Bool.{eqb-true, eq-eqb}
-use Rattle.std.proofs.lemmas.Option.{none-some}
-use Rattle.toml_span_lex.specs.declared.key.Key.{Key}
-use Rattle.toml_span_tree.specs.Path.{Path, Step, key, position}
-use Rattle.toml_span_tree.specs.declared.value.Value.{Value}
+use Rattle.toml_span_lex.proofs.Common.{◌≡◌, ℕ, suc, ◌<◌, ◌≤◌, cond, length, get_or, set, List, [], ◌∷◌, ◌++◌, Some, None, Result, Ok, Err, OnOk, refl, sym, ap, ◌∙◌, subst, inr, arith, nat_eq, nat_tests, common_steps}
+use Rattle.std.proofs.lemmas.Bool.{eq-eqb}
+use Rattle.toml_span_tree.specs.Path.{Path, position}
 use Rattle.toml_span.specs.declared.claims.Mark.{Mark}
 use Rattle.toml_span.specs.declared.claims.Sort.TheVariants.{TableElement}
 use Rattle.toml_span.specs.declared.claims.Halt.{Halt}
@@ -14,41 +9,33 @@ use Rattle.toml_span.specs.declared.branch.Branch.{Branch}
 use Rattle.toml_span.specs.declared.branch.Branch.TheViews.{out-Branch, roll-Branch}
 use Rattle.toml_span.specs.declared.branch.Branch.TheOpen.{Branch-F}
 use Rattle.toml_span.specs.Claims.{Claims}
-use Rattle.toml_span.specs.Paths.{same_step}
 use Rattle.toml_span.specs.code.Machine.{graft}
 use Rattle.toml_span.specs.code.Marks.{remember}
 use Rattle.toml_span.specs.code.Placing.{Opening, Opens, Passes, Reaches}
 use Rattle.toml_span.specs.code.Relative.{one_more, under}
-use Rattle.toml_span.specs.code.Tree.{IsArray, IsChild, IsEntry, IsFresh, IsHeld, IsNamed, IsOpen, IsScope, IsTableOrArray, Sound, child_in, closed_in, count_at, cells, counts, entries, is_entry_sort, item, marks, none_open}
+use Rattle.toml_span.specs.code.Tree.{IsArray, IsChild, IsEntry, IsFresh, IsHeld, IsNamed, IsOpen, IsScope, IsTableOrArray, Sound, count_at, cells, counts, entries, is_entry_sort, item, marks, none_open}
 use Rattle.toml_span.proofs.Claimed.{entry-remember}
-use Rattle.toml_span.proofs.Grafts.{fun_ext}
-use Rattle.toml_span.proofs.Nodes.{Sets, Slot, cells-found, cells-fresh, cells-missing, cells-sets, counts-found, counts-fresh, counts-here, counts-sets, counts-step, good-entry, good-sets, open-good, out-roll, scope-fresh, sets-roll, slot, slot_count, slot_in, sound-from, sound-good, sound-shape}
+use Rattle.toml_span.proofs.Grafts.{graft-itself}
+use Rattle.toml_span.proofs.Nodes.{Sets, Slot, cells-at, cells-fresh, cells-sets, counts-at, counts-fresh, counts-here, counts-sets, good-entry, good-sets, open-good, out-roll, scope-fresh, sets-roll, slot, slot_in, sound-from, sound-good, sound-shape}
 use Rattle.toml_span.proofs.Placed.{cond-slot, on_ok, reaches-below, reaches-stops}
 
 -- ---- lists
 
 item-push : (xs : List Branch) (w : Branch) (i : ℕ) → item i (xs ++ w ∷ []) ≡ cond (nat_eq (length xs) i) (Some w) (item i xs)
-item-push [] w zero = refl
-item-push [] w (suc i) = rw (eqb-zero-suc i) refl
-item-push (x ∷ xs) w zero = rw (eqb-suc-zero (length xs)) refl
-item-push (x ∷ xs) w (suc i) = rw (eqb-suc-suc (length xs) i) (item-push xs w i)
+item-push [] w i = grind (arith, nat_tests, common_steps)
+item-push (x ∷ xs) w i = grind (arith, nat_tests, common_steps, item-push xs w)
 
 item-set : (xs : List Branch) (m : ℕ) (w : Branch) → m < length xs → (i : ℕ) → item i (set xs m w) ≡ cond (nat_eq m i) (Some w) (item i xs)
 item-set [] m w h i = absurd (omega arith)
-item-set (x ∷ xs) zero w h zero = refl
-item-set (x ∷ xs) zero w h (suc i) = rw (eqb-zero-suc i) refl
-item-set (x ∷ xs) (suc m) w h zero = rw (eqb-suc-zero m) refl
-item-set (x ∷ xs) (suc m) w h (suc i) = rw (eqb-suc-suc m i) (item-set xs m w (omega arith) i)
+item-set (x ∷ xs) m w h i = grind (arith, nat_tests, common_steps, item-set xs)
 
 pub item-at : (xs : List Branch) (m : ℕ) (d : Branch) → m < length xs → item m xs ≡ Some (get_or xs m d)
 item-at [] m d h = absurd (omega arith)
-item-at (x ∷ xs) zero d h = refl
-item-at (x ∷ xs) (suc m) d h = item-at xs m d (omega arith)
+item-at (x ∷ xs) m d h = grind (arith, nat_tests, common_steps, item-at xs)
 
 item-past : (xs : List Branch) (m : ℕ) → length xs ≤ m → item m xs ≡ None
 item-past [] m h = refl
-item-past (x ∷ xs) zero h = absurd (omega arith)
-item-past (x ∷ xs) (suc m) h = item-past xs m (omega arith)
+item-past (x ∷ xs) m h = grind (arith, nat_tests, common_steps, item-past xs)
 
 -- ---- another entry at a place
 
@@ -60,19 +47,7 @@ pub record PutsEntry (m : ℕ) (w n new : Branch) : Type 0 where
 
 puts : (m : ℕ) (w n : Branch) (b : Branch-F Branch) → b.marks.items ≡ marks n → b.values ≡ (out-Branch n).values → b.tables ≡ (out-Branch n).tables
     → ((i : ℕ) → item i b.entries.items ≡ cond (nat_eq m i) (Some w) (item i (entries n))) → PutsEntry m w n (roll-Branch b)
-puts m w n b claims values tables items = record {
-  sets = sets-roll (position m) (Some w, None) n b claims at;
-  values = ap (λ (x : Branch-F Branch). x.values) (out-roll b) ∙ values;
-  tables = ap (λ (x : Branch-F Branch). x.tables) (out-roll b) ∙ tables;
-}
-  where
-    none : (c : Bool) → None ≡ cond {A = Option (Key × Value)} c None None
-    none true = refl
-    none false = refl
-
-    at : (t : Step) → slot_in t b ≡ cond (same_step (position m) t) (Some w, None) (slot t n)
-    at (key k) = λ i. (child_in k (tables i), closed_in k (values i))
-    at (position i) = (λ j. (items i j, none (nat_eq m i) j)) ∙ cond-slot (nat_eq m i) (Some w, None) (slot (position i) n)
+puts m w n b claims values tables items = grind (arith, nat_tests, common_steps, cond-slot, out-roll, sets-roll, slot, slot_in)
 
 pub puts-set : (m : ℕ) (w n : Branch) (b : Branch-F Branch) → b.marks.items ≡ marks n → b.values ≡ (out-Branch n).values → b.tables ≡ (out-Branch n).tables
     → m < length (entries n) → b.entries.items ≡ set (entries n) m w → PutsEntry m w n (roll-Branch b)
@@ -81,16 +56,9 @@ puts-set m w n b claims values tables within written = puts m w n b claims value
 -- a new entry has no entries below it
 counts-pushed : (m : ℕ) (w n new : Branch) → PutsEntry m w n new → item m (entries n) ≡ None → length (entries new) ≡ suc (length (entries n)) → counts w ≡ none_open → counts new ≡ one_more (counts n)
 unfolding count_at
-counts-pushed m w n new puts past many none = fun_ext at
-  where
-    below : (t : Step) (p : Path) (b : Bool) → same_step (position m) t ≡ b → slot_count (cond b (Some w, None) (slot t n)) p ≡ slot_count (slot t n) p
-    below t p false is = refl
-    below (key k) p true is = absurd cc
-    below (position i) p true is = ap (λ f. f p) none ∙ ap (λ o. slot_count (o, None) p) (sym past ∙ ap (λ j. item j (entries n)) (eqb-true m i is))
-
-    at : (p : Path) → counts new p ≡ one_more (counts n) p
-    at [] = many
-    at (t ∷ p) = counts-step new t p ∙ ap (λ y. slot_count y p) (puts.sets.stands t) ∙ below t p (same_step (position m) t) refl ∙ sym (counts-step n t p)
+counts-pushed m w n new puts past many none =
+    counts-sets (position m) (Some w, None) n new (one_more (counts n)) puts.sets many (λ t p. refl)
+    ∙ ap (graft (position m) (one_more (counts n))) (none ∙ sym (counts-at n (position m) None past)) ∙ graft-itself (position m) (one_more (counts n))
 
 -- ---- what always holds of it
 
@@ -98,11 +66,7 @@ array-named : (n : Branch) → IsArray n → IsNamed (marks n)
 array-named n h = subst IsNamed (sym h.only) (ap is_entry_sort h.array, tt)
 
 shape-of : (n : Branch) (i : ℕ) (x : Branch) → item i (entries n) ≡ Some x → (IsTableOrArray n (entries n) → IsArray n) × (IsArray n → IsTableOrArray n (entries n))
-shape-of n i x found = go (entries n) found
-  where
-    go : (xs : List Branch) → item i xs ≡ Some x → (IsTableOrArray n xs → IsArray n) × (IsArray n → IsTableOrArray n xs)
-    go [] found = absurd (none-some x found)
-    go (y ∷ xs) found = (λ h. h, λ h. h)
+shape-of n i x found = grind (arith, nat_tests, common_steps)
 
 held-put : (m : ℕ) (w n new : Branch) → PutsEntry m w n new → IsOpen n → IsScope w → IsEntry (marks w) → IsHeld new
 held-put m w n new puts h table claimed =
@@ -122,10 +86,10 @@ held-put m w n new puts h table claimed =
 
 -- an array with entries takes another one
 pub open-array : (n : Branch) (i : ℕ) (x : Branch) → item i (entries n) ≡ Some x → Sound n → IsOpen n
-open-array n i x found h = record {
+open-array n i x found h = let good = λ (j : ℕ) (c : Branch) (is : item j (entries n) ≡ Some c). good-entry n j c (sound-good n h (position j)) is in record {
   array = (shape-of n i x found).0 (sound-shape n h);
-  added = λ j c is. let g = good-entry n j c (sound-good n h (position j)) is in (g.0, g.1);
-  below = λ j c is. (good-entry n j c (sound-good n h (position j)) is).2;
+  added = λ j c is. ((good j c is).0, (good j c is).1);
+  below = λ j c is. (good j c is).2;
 }
 
 -- ---- what is placed in an entry
@@ -135,12 +99,12 @@ pub reaches-entry : (k : Mark) (m : ℕ) (n new x w : Branch) (r : Result (Unit 
     → item m (entries n) ≡ Some x → PutsEntry m w n new → length (entries new) ≡ length (entries n) → Opening IsScope k x w r (cs (counts x)) (c (counts x))
     → Passes n new r (under (position m) (cs (λ p. counts n (position m ∷ p)))) (graft (position m) (counts n) (c (λ p. counts n (position m ∷ p))))
 reaches-entry k m n new x w r cs c found puts many h =
-    subst (λ f. Passes n new r (under (position m) (cs f)) (graft (position m) (counts n) (c f))) (sym (counts-found n (position m) x found))
+    subst (λ f. Passes n new r (under (position m) (cs f)) (graft (position m) (counts n) (c f))) (sym (counts-at n (position m) (Some x) found))
     (reaches-below IsChild IsHeld IsScope (λ v. IsScope v × (marks v ≡ remember (marks x) k)) (position m) n new x w r (cs (counts x)) (c (counts x)) (graft (position m) (counts n) (c (counts x)))
-    (cells-found n (position m) x found) (λ before. let g = added before.0 in (g.2, g.0))
+    (cells-at n (position m) (Some x) found) (λ before. let g = added before.0 in (g.2, g.0))
     (on_ok r _ (λ before now. (
       cells-sets (position m) (Some w, None) n new puts.sets,
-      λ same. counts-sets (position m) (Some w, None) n new puts.sets many ∙ ap (graft (position m) (counts n)) same,
+      λ same. counts-sets (position m) (Some w, None) n new (counts n) puts.sets (many ∙ sym (counts-here n)) (λ t p. refl) ∙ ap (graft (position m) (counts n)) same,
       held-put m w n new puts (open-array n m x found before.0) now.0 (subst IsEntry (sym now.1) (entry-remember (marks x) k (added before.0).1)),
     ))) h)
   where
@@ -154,7 +118,7 @@ reaches-added : (k : Mark) (n new x w : Branch) (r : Result (Unit {0}) Halt) (cs
 reaches-added k n new x w r cs c fresh made h =
     subst (λ i. Reaches IsOpen IsHeld n new r (under (position i) cs) (one_more (counts n))) (sym (counts-here n))
     (reaches-below IsOpen IsHeld (Opens TableElement) (λ v. IsScope v × (marks v ≡ remember (marks x) k)) (position m) n new x w r cs c (one_more (counts n))
-    (cells-missing n (position m) past ∙ sym (cells-fresh x fresh)) (λ before. ((scope-fresh x fresh).0, inr (refl, fresh.no_entries))) (set r made) h)
+    (cells-at n (position m) None past ∙ sym (cells-fresh x fresh)) (λ before. ((scope-fresh x fresh).0, inr (refl, fresh.no_entries))) (set r made) h)
   where
     m : ℕ
     m = length (entries n)
@@ -175,16 +139,13 @@ pub reaches-pushed : (k : Mark) (n : Branch) (b : Branch-F Branch) (x w : Branch
     → b.tables ≡ (out-Branch n).tables → b.entries.items ≡ entries n ++ w ∷ [] → Opening (Opens TableElement) k x w (Ok tt) cs (counts x)
     → Reaches IsOpen IsHeld n (roll-Branch b) (Ok tt) (under (position (counts n [])) cs) (one_more (counts n))
 reaches-pushed k n b x w cs entry fresh claims values tables pushed h =
+    let many : length b.entries.items ≡ suc (length (entries n)) = grind (arith, nat_tests, common_steps) in
     reaches-added k n (roll-Branch b) x w (Ok tt) cs (counts x) fresh (
       refl,
       entry,
       puts (length (entries n)) w n b claims values tables (λ i. ap (item i) pushed ∙ item-push (entries n) w i),
-      ap (λ (a : Branch-F Branch). length a.entries.items) (out-roll b) ∙ ap length pushed ∙ more (entries n),
+      ap (λ (a : Branch-F Branch). length a.entries.items) (out-roll b) ∙ many,
     ) h
-  where
-    more : (xs : List Branch) → length (xs ++ w ∷ []) ≡ suc (length xs)
-    more [] = refl
-    more (x ∷ xs) = ap suc (more xs)
 
 pub reaches-added-err : (k : Mark) (n new x w : Branch) (r q : Result (Unit {0}) Halt) (e : Halt) (cs : Claims) (c d : Path → ℕ) → IsFresh x → r ≡ Err e → q ≡ Err e
     → Opening (Opens TableElement) k x w r cs c → Reaches IsOpen IsHeld n new q (under (position (counts n [])) cs) d

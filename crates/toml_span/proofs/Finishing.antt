@@ -1,17 +1,7 @@
 -- What the branches have become.
-use Rattle.std.proofs.Common.{◌≡◌, ℕ, zero, suc, List, [], ◌∷◌, Option, Some, None, option_map, option_and_then, false, cond, Ok, Less, is_eq, nat_cmp, inl, inr, refl, sym, ap, subst, ◌∙◌}
-use Rattle.std.specs.Prelude.{IfSome}
-use Rattle.std.specs.BTreeMap.{BTreeMap, insert_entry}
-use Rattle.std.specs.Box.{box_value}
-use Rattle.std.specs.Cow.{cow_str_bytes}
-use Rattle.std.specs.Cmp.Lexicographic.{slice_cmp}
-use Rattle.std.specs.Global.{Box}
-use Rattle.std.specs.List.{AllZip, AllByRecursion}
+use Rattle.toml_span_lex.proofs.Common.{◌≡◌, ℕ, zero, suc, List, [], ◌∷◌, Option, Some, None, option_map, option_and_then, false, cond, Ok, Less, is_eq, nat_cmp, inl, inr, refl, sym, ap, subst, ◌∙◌, IfSome, BTreeMap, insert_entry, box_value, cow_str_bytes, slice_cmp, Box, AllZip, AllByRecursion, keys_of, lookup, lookup_entry, cases_Bool, none-some, same_Some, arith, nat_tests, common_steps}
 use Rattle.std.specs.List.Sorted.{IsStrictlySortedBy}
-use Rattle.std.specs.Map.{keys_of, lookup, lookup_entry}
-use Rattle.std.proofs.lemmas.Bool.{cases_Bool, false≢true}
 use Rattle.std.proofs.lemmas.Map.Keys.{sorted_head, sorted_tail}
-use Rattle.std.proofs.lemmas.Option.{none-some, same_Some}
 use Rattle.toml_span_lex.specs.declared.key.Key.{Key}
 use Rattle.toml_span_lex.specs.declared.span.Span.{Span}
 use Rattle.toml_span_tree.specs.Node as tree
@@ -24,16 +14,14 @@ use Rattle.toml_span_tree.proofs.Values.{inner_view-Table, inner_view-Array, ent
 use Rattle.toml_span_read.proofs.EarlierTree.{key_cmp, same_name}
 use Rattle.toml_span.specs.declared.claims.Mark.{Mark}
 use Rattle.toml_span.specs.declared.claims.Sort.{Sort}
-use Rattle.toml_span.specs.declared.claims.Sort.TheVariants.{ArrayOfTables, TableElement}
+use Rattle.toml_span.specs.declared.claims.Sort.TheVariants.{ArrayOfTables}
 use Rattle.toml_span.specs.declared.branch.Branch.{Branch}
 use Rattle.toml_span.specs.declared.branch.Branch.TheViews.{out-Branch}
 use Rattle.toml_span.specs.Claims.{shape_claimed, key_span_of}
-use Rattle.toml_span.specs.Clashes.{or_else}
-use Rattle.toml_span.specs.Flat.{by_header}
 use Rattle.toml_span.specs.code.Marks.{first_by_header, deciding}
 use Rattle.toml_span.specs.code.Placing.{Becomes, BecomesEntry, EachBecomes, Finishes, NamesAscend, ShowsBelow, Table, Array, place_shown}
 use Rattle.toml_span.specs.Ordered.{IsOrdered, HoldsOrdered, AreOrdered}
-use Rattle.toml_span.specs.code.Tree.{is_named, marks, entries, child, item, closed, cells, cell_at, closed_cell, or_closed, or_nothing, plain, is_array_sort, is_entry_sort, NoArray, IsNamed, IsEntry, IsArray, IsTableOrArray, Sound}
+use Rattle.toml_span.specs.code.Tree.{is_named, marks, entries, child, item, closed, cells, cell_at, closed_cell, or_closed, or_nothing, plain, is_array_sort, is_entry_sort, IsNamed, IsEntry, IsArray, IsTableOrArray, Sound}
 use Rattle.toml_span.proofs.Nodes.{good-child, good-entry, good-value, sound-good, sound-shape}
 use Rattle.toml_span.proofs.KeyMaps.{found-insert}
 use Rattle.toml_span.proofs.Values.{Made}
@@ -97,51 +85,30 @@ filled-more tables k made b left old new v named become h = record {
 -- ---- the deciding mark
 
 -- what holds of all marks holds of the first of a header
-header-all : (P : Mark → Type 0) (ms : List Mark) (m : Mark) → AllByRecursion P ms → first_by_header ms ≡ Some m → P m
-header-all P [] m all is = absurd (none-some m is)
-header-all P (x ∷ ms) m all is =
-    elim (cases_Bool (by_header x.sort)) [
-      | inl here ↦
-          let same : x ≡ m = let e : Some x ≡ Some m = rw here at is in cc in
-          subst P same all.0
-      | inr off ↦ header-all P ms m all.1 (rw off at is)
-    ]
+header-all : (P : Mark → Type 0) (ms : List Mark) → AllByRecursion P ms → IfSome (first_by_header ms) P
+header-all P [] all = tt
+header-all P (x ∷ ms) all = grind (arith, nat_tests, common_steps, header-all P ms)
 
 -- and of the one that decides
+decides : (P : Mark → Type 0) (x : Mark) (ms : List Mark) → AllByRecursion P (x ∷ ms) → (m : Mark) × (deciding (x ∷ ms) ≡ Some m) × P m
+decides P x ms all = grind (arith, nat_tests, common_steps, header-all)
+
 deciding-all : (P : Mark → Type 0) (ms : List Mark) (m : Mark) → AllByRecursion P ms → deciding ms ≡ Some m → P m
 deciding-all P [] m all is = absurd (none-some m is)
-deciding-all P (x ∷ ms) m all is = from (first_by_header (x ∷ ms)) refl is
-  where
-    from : (o : Option Mark) → first_by_header (x ∷ ms) ≡ o → or_else o (Some x) ≡ Some m → P m
-    from None none e =
-        let same : x ≡ m = cc in
-        subst P same all.0
-    from (Some y) some e = header-all P (x ∷ ms) m all (some ∙ e)
-
--- where there is a mark, one decides
-deciding-some : (x : Mark) (ms : List Mark) → (m : Mark) × (deciding (x ∷ ms) ≡ Some m)
-deciding-some x ms = from (first_by_header (x ∷ ms)) refl
-  where
-    from : (o : Option Mark) → first_by_header (x ∷ ms) ≡ o → (m : Mark) × (or_else (first_by_header (x ∷ ms)) (Some x) ≡ Some m)
-    from None none = (x, rw none)
-    from (Some y) some = (y, rw some)
+deciding-all P (x ∷ ms) m all is = let d = decides P x ms all in subst P (same_Some d.0 m (sym d.1 ∙ is)) d.2
 
 -- a branch at a name stands at its key
 named_key : (sort : Sort) (at : Span) → is_entry_sort sort ≡ false → key_span_of sort at ≡ Some at
-named_key TableElement at h = absurd (false≢true (sym h))
-named_key sort at h = refl
+named_key sort at h = grind (arith, nat_tests, common_steps)
 
 -- what is no array is a table
 table_shape : (sort : Sort) → is_array_sort sort ≡ false → shape_claimed sort ≡ shape_table
-table_shape ArrayOfTables h = absurd (false≢true (sym h))
-table_shape sort h = refl
+table_shape sort h = grind (arith, nat_tests, common_steps)
 
 -- the mark that decides on a branch at a name, and on an entry
 named-decides : (ms : List Mark) → IsNamed ms → (m : Mark) × (deciding ms ≡ Some m) × (key_span_of m.sort m.key ≡ Some m.key)
 named-decides [] h = absurd h
-named-decides (x ∷ ms) h =
-    let d = deciding-some x ms in
-    (d.0, d.1, named_key d.0.sort d.0.key (deciding-all (λ m. is_entry_sort m.sort ≡ false) (x ∷ ms) d.0 h d.1))
+named-decides (x ∷ ms) h = let d = decides (λ m. is_entry_sort m.sort ≡ false) x ms h in (d.0, d.1, named_key d.0.sort d.0.key d.2)
 
 entry-decides : (ms : List Mark) → IsEntry ms → (m : Mark) × (deciding ms ≡ Some m) × (key_span_of m.sort m.key ≡ None)
 entry-decides [] h = absurd h
@@ -149,10 +116,7 @@ entry-decides (x ∷ ms) h = (x, rw h, rw h)
 
 -- that of an array of tables is alone
 array-decides : (x m : Mark) → x.sort ≡ ArrayOfTables → deciding (x ∷ []) ≡ Some m → x ≡ m
-array-decides x m array is =
-    let first : deciding (x ∷ []) ≡ Some x = rw array in
-    let same : Some x ≡ Some m = sym first ∙ is in
-    cc
+array-decides x m array is = grind (arith, nat_tests, common_steps)
 
 -- ---- what is shown
 
@@ -161,9 +125,7 @@ became-shows : (c : Branch) (at : Span) (v : Value) (o : Option Span) → Become
     → (m : Mark) × (deciding (marks c) ≡ Some m) × (key_span_of m.sort m.key ≡ o) → (p : Path)
     → option_map tree_place (reached p (o, view v)) ≡ place_shown (cell_at p c)
 unfolding cell_at
-became-shows c at v o become good d [] =
-    let e = ((become good).0 d.0 o d.1).1 in
-    rw (e, d.1, d.2)
+became-shows c at v o become good d [] = rw (((become good).0 d.0 o d.1).1, d.1, d.2)
 became-shows c at v o become good d (s ∷ p) = (become good).1 s p
 
 -- a branch at a name
@@ -171,19 +133,15 @@ named-shows : (c : Branch) (at : Span) (v : Value) → Becomes c (Ok (at, v)) �
     → option_map tree_place (reached p (Some at, view v)) ≡ place_shown (cell_at p c)
 named-shows c at v become good named p =
     let d = named-decides (marks c) named in
-    let key : at ≡ d.0.key = ((become good).0 d.0 None d.1).0 in
-    became-shows c at v (Some at) become good (d.0, d.1, d.2 ∙ ap (λ k. Some k) (sym key)) p
+    became-shows c at v (Some at) become good (d.0, d.1, d.2 ∙ ap (λ k. Some k) (sym ((become good).0 d.0 None d.1).0)) p
 
 -- whether a header decided is no part of the place
 plain_place : (o : Option (Option Span × tree.Node)) → option_map tree_place o ≡ option_map (λ d. d.place) (option_map (λ m. plain (tree_place m)) o)
-plain_place None = refl
-plain_place (Some m) = refl
+plain_place o = grind (arith, nat_tests, common_steps)
 
 -- a value at a name
 closed-shows : (o : Option (Key × Value)) (p : Path) → option_map tree_place (option_and_then (reached p) (option_map (λ e. (Some e.0.span, view e.1)) o)) ≡ place_shown (closed_cell o p)
-closed-shows None p = refl
-closed-shows (Some e) [] = refl
-closed-shows (Some e) (s ∷ p) = plain_place (reached (s ∷ p) (Some e.0.span, view e.1))
+closed-shows o p = grind (arith, nat_tests, common_steps, plain_place)
 
 -- what stands at a name
 name-shows : (b : Option (Box Branch)) (old new : Option (Key × Value)) (p : Path) → Stands b old new
@@ -222,7 +180,7 @@ name-ordered None old new e h apart kept is = kept e (sym h ∙ is)
 name-ordered (Some b) old new e h apart kept is =
     let a = apart (box_value b) refl in
     let made = h a.0 in
-    subst (λ (f : Key × Value). IsOrdered (view f.1)) (same_Some made.0 e (sym made.1 ∙ is)) ((made.2 a.2).2)
+    let same = same_Some made.0 e (sym made.1 ∙ is) in rw same at ((made.2 a.2).2)
 
 -- a finished table is in order
 finished-ordered : (t : Table) (left : List (Key × Box Branch)) (n : Branch) → left ≡ [] → Filled (out-Branch n).tables.entries left (out-Branch n).values.entries t.entries → NamesAscend t → Sound n
@@ -239,9 +197,7 @@ filled-none tables values none = record { sorted = tt; stands = λ name. rw none
 -- where all branches are finished
 pub filled-finishes : (tables : BTreeMap Key (Box Branch)) (values t : Table) (left : List (Key × Box Branch)) → left ≡ [] → Filled tables.entries left values.entries t.entries → NamesAscend t
     → Finishes tables values (Ok t)
-filled-finishes tables values t left none h ascend n sameTables sameValues scope =
-    let here : Filled (out-Branch n).tables.entries left (out-Branch n).values.entries t.entries = rw (sameTables, sameValues) h in
-    (finished-shows t left n none here scope.0 scope.1, finished-ordered t left n none here ascend scope.0)
+filled-finishes tables values t left none h ascend n sameTables sameValues scope = grind (arith, nat_tests, common_steps, finished-ordered, finished-shows)
 
 -- ---- tables and arrays of tables
 
@@ -249,23 +205,12 @@ filled-finishes tables values t left none h ascend n sameTables sameValues scope
 pub became : (n : Branch) (i : ValueInner) (spans : Span × Span) (v : Value) → IfSome (deciding (marks n)) (λ m. spans ≡ (m.key, m.extent)) → view v ≡ tree.node (inner_view i) spans.1
     → (Sound n → ((m : Mark) → deciding (marks n) ≡ Some m → tree_shape (inner_view i) ≡ shape_claimed m.sort) × ShowsBelow (inner_view i) (cells n) × HoldsOrdered (inner_view i))
     → Becomes n (Ok (spans.0, v))
-became n i spans v placed seen h good = (place, rw seen ((h good).1), rw seen ((h good).2))
-  where
-    place : (m : Mark) (at : Option Span) → deciding (marks n) ≡ Some m
-        → (spans.0 ≡ m.key) × (tree_place (at, view v) ≡ record { shape = shape_claimed m.sort; key_span = at; span = m.extent })
-    place m at is =
-        let stands : spans ≡ (m.key, m.extent) = rw is at placed in
-        (ap (λ w. w.0) stands, rw (seen, (h good).0 m is, stands))
+became n i spans v placed seen h good = grind (arith, nat_tests, common_steps)
 
 -- a branch without entries becomes a table
 pub became-table : (n : Branch) (t : Table) (spans : Span × Span) (v : Value) → IfSome (deciding (marks n)) (λ m. spans ≡ (m.key, m.extent)) → view v ≡ tree.node (inner_view (table_inner t)) spans.1
     → entries n ≡ [] → Finishes (out-Branch n).tables (out-Branch n).values (Ok t) → Becomes n (Ok (spans.0, v))
-became-table n t spans v placed seen none made = became n (table_inner t) spans v placed seen (λ good. let whole = made n refl refl (good, none) in (shape good, whole.0, whole.1))
-  where
-    shape : Sound n → (m : Mark) → deciding (marks n) ≡ Some m → tree_shape (inner_view (table_inner t)) ≡ shape_claimed m.sort
-    shape good m is =
-        let plain : NoArray (marks n) = rw none at (sound-shape n good) in
-        rw (inner_view-Table t) (sym (table_shape m.sort (deciding-all (λ m. is_array_sort m.sort ≡ false) (marks n) m plain is)))
+became-table n t spans v placed seen none made = grind (arith, nat_tests, common_steps, became, deciding-all, inner_view-Table, sound-shape, table_shape)
 
 -- the entries at their positions
 elements-show : (ns : List Branch) (vs : List Value) → AllZip BecomesEntry ns vs → ((i : ℕ) (c : Branch) → item i ns ≡ Some c → IsEntry (marks c) × Sound c) → (i : ℕ) (p : Path)
@@ -285,8 +230,7 @@ elements-ordered ns ms made good = absurd made
 
 -- a sound branch with entries is an array of tables
 array-of : (n : Branch) (ns : List Branch) → entries n ≡ ns → (ns ≡ [] → ⊥) → IsTableOrArray n ns → IsArray n
-array-of n [] is some h = absurd (some refl)
-array-of n (x ∷ xs) is some h = h
+array-of n ns is some h = grind (arith, nat_tests, common_steps)
 
 -- an array of tables shows below it its entries
 array-shows : (n : Branch) (a : Array) → EachBecomes (entries n) (Ok a) → Sound n → IsArray n → ShowsBelow (inner_view (array_inner a)) (cells n)
@@ -303,14 +247,7 @@ array-ordered n a made good = rw (inner_view-Array a) (elements-ordered (entries
 -- a branch with entries becomes an array
 pub became-array : (n : Branch) (a : Array) (spans : Span × Span) (v : Value) → IfSome (deciding (marks n)) (λ m. spans ≡ (m.key, m.extent)) → view v ≡ tree.node (inner_view (array_inner a)) spans.1
     → (entries n ≡ [] → ⊥) → EachBecomes (entries n) (Ok a) → Becomes n (Ok (spans.0, v))
-became-array n a spans v placed seen some made =
-    became n (array_inner a) spans v placed seen
-    (λ good. let arr = array-of n (entries n) refl some (sound-shape n good) in (shape arr, array-shows n a made good arr, array-ordered n a made good))
-  where
-    shape : IsArray n → (m : Mark) → deciding (marks n) ≡ Some m → tree_shape (inner_view (array_inner a)) ≡ shape_claimed m.sort
-    shape arr m is =
-        let claim : arr.claim ≡ m = array-decides arr.claim m arr.array (rw arr.only at is) in
-        rw (inner_view-Array a, ← claim, arr.array)
+became-array n a spans v placed seen some made = grind (arith, nat_tests, common_steps, array-decides, array-of, array-ordered, array-shows, became, inner_view-Array, sound-shape)
 
 -- a list from which something is taken is not empty
 pub never-empty : {A : Type 0} (x : A) (xs ys : List A) → ys ≡ x ∷ xs → ys ≡ [] → ⊥

@@ -1,8 +1,6 @@
 -- What sections make, one after another.
-use Rattle.std.proofs.Common.{◌≡◌, ℕ, List, [], ◌∷◌, ◌++◌, map, length, false, Option, Some, None, Ok, Err, refl, sym, subst, append_assoc, append-nil, ◌<◌, get_or, inr, Result, ap, ◌∙◌}
-use Rattle.std.specs.Prelude.{IfSome, IfNone, is_some}
-use Rattle.std.specs.BTreeMap.{BTreeMap}
-use Rattle.std.proofs.lemmas.Bool.{false≢true}
+use Rattle.std.specs.Global.{Box}
+use Rattle.toml_span_lex.proofs.Common.{◌≡◌, ℕ, List, [], ◌∷◌, ◌++◌, map, length, false, Option, Some, None, Ok, Err, refl, sym, subst, append_assoc, append-nil, ◌<◌, get_or, inr, Result, ap, ◌∙◌, IfSome, IfNone, is_some, BTreeMap, false≢true, arith, nat_tests, common_steps, rules}
 use Rattle.toml_span_lex.specs.declared.key.Key.{Key}
 use Rattle.toml_span_tree.specs.Node.{node}
 use Rattle.toml_span_tree.specs.Value.{view, inner_view}
@@ -11,9 +9,8 @@ use Rattle.toml_span_tree.specs.declared.value.ValueInner.TheVariants.{Table as 
 use Rattle.toml_span_lex.specs.Tokenizer.{FirstPlace}
 use Rattle.toml_span_lex.specs.declared.stop.Stop.{Stop}
 use Rattle.toml_span_read.specs.Borrowed.{IsWrittenRight as IsRightRead, AreWrittenRight as AreRightRead, section_written, sections_written}
-use Rattle.toml_span_read.specs.Data.{Block, block, key_value}
+use Rattle.toml_span_read.specs.Data.{Block, block, key_value, first_block}
 use Rattle.toml_span_read.specs.Keys.{SimpleKey, simple_key}
-use Rattle.toml_span_read.specs.Grammar.{first_block}
 use Rattle.toml_span_read.specs.code.Faults.{Gives}
 use Rattle.toml_span_read.specs.code.Sections.{first_blocks, first_found, section_found, sections_found}
 use Rattle.toml_span_read.specs.Reading.{HoldsForm}
@@ -22,14 +19,14 @@ use Rattle.toml_span_read.specs.declared.section.Section.{Section}
 use Rattle.toml_span_read.proofs.BorrowLemmas.{all_append, all_behind, all_front, sections_more as sections_right}
 use Rattle.toml_span_read.proofs.StepLemmas.{first_keeps}
 use Rattle.toml_span_read.proofs.LineRead.{DocumentFrom, blocks_end, document_begins, document_read, document_stops, section_on}
-use Rattle.toml_span_read.proofs.ReadSound.{document_sound, first_sound, section_sound}
+use Rattle.toml_span_read.proofs.ReadSound.{first_sound, section_sound}
 use Rattle.toml_span.specs.code.Borrowed.{AreFrom, IsFrom, standing}
 use Rattle.toml_span.specs.Borrowed.{AreBorrowedRight}
 use Rattle.toml_span.specs.declared.claims.Clash.{Clash}
 use Rattle.toml_span.specs.declared.claims.Halt.{Halt}
 use Rattle.toml_span.specs.declared.branch.Branch.{Branch}
 use Rattle.toml_span.specs.Claims.{claims, Claims, followed, key_value_claims, section_claims, claims_behind, head_of}
-use Rattle.toml_span.specs.Clashes.{first_clash, or_else}
+use Rattle.toml_span.specs.Clashes.{first_clash}
 use Rattle.toml_span.specs.code.Machine.{clash_told, nothing, clash_met, put_all}
 use Rattle.toml_span.specs.Ordered.{HoldsOrdered}
 use Rattle.toml_span.specs.code.Placing.{AreSections, Assembles, ShowsBelow, Places, place_shown}
@@ -56,7 +53,7 @@ pub remaining-first : (all rest : List Block) (root : Branch) → rest ≡ all �
 unfolding opened_by
 remaining-first all rest root same headers fresh = record {
   earlier = [];
-  headers = subst AreSections (sym same) headers;
+  headers = rw same headers;
   telling = rw (cells-fresh root fresh, same) refl;
   putting = rw (cells-fresh root fresh, same) refl;
   counting = counts-fresh root fresh;
@@ -72,10 +69,7 @@ placed-block s parts root new r same h = rw same at h
 placed-is : (b : Block) (earlier : List Block) (root new : Branch) (r : Result (Unit {0}) Halt) → counts root ≡ elements_added (opened_by earlier)
     → (b.header ≡ [] → b.array ≡ false) → Placed b root new r
     → Places root new r (section_claims (elements_added (opened_by earlier)) b) (elements_added (opened_by (b ∷ earlier)))
-placed-is b earlier root new r counting header placed =
-    subst (λ e. Places root new r (section_claims (elements_added (opened_by earlier)) b) e) (grown-is earlier b header)
-    (subst (λ cs. Places root new r cs (grown (elements_added (opened_by earlier)) (head_of b) b.header)) (section_at-is (elements_added (opened_by earlier)) b header)
-    (subst (λ e. Places root new r (section_at e (head_of b) b.header (key_value_claims b.key_values [])) (grown e (head_of b) b.header)) counting placed))
+placed-is b earlier root new r counting header placed = grind (arith, nat_tests, common_steps, grown-is, section_at-is)
 
 -- what the next section claims, and then the others
 next-claims : (earlier : List Block) (b : Block) (bs : List Block)
@@ -87,15 +81,11 @@ pub remaining-next : (all old new : List Block) (b : Block) (root w : Branch) �
 remaining-next all old new b root w steps inv placed =
     let headers : AreSections (b ∷ new) = subst AreSections steps inv.headers in
     let h = placed-is b inv.earlier root w (Ok tt) inv.counting headers.0 placed inv.scope in
-    let now = section_claims (elements_added (opened_by inv.earlier)) b in
-    let later = claims_behind (b ∷ inv.earlier) new in
-    let split = ap (claims_behind inv.earlier) steps ∙ next-claims inv.earlier b new in
     record {
       earlier = b ∷ inv.earlier;
       headers = headers.1;
-      telling = sym (told-followed (cells root) now later ∙ ap (λ o. or_else o (clash_met (put_all (cells root) now) later)) h.0 ∙ ap (λ st. clash_met st later) (sym h.1.0))
-          ∙ ap (clash_met (cells root)) (sym split) ∙ inv.telling;
-      putting = ap (λ st. put_all st later) h.1.0 ∙ sym (put_all-followed (cells root) now later) ∙ ap (put_all (cells root)) (sym split) ∙ inv.putting;
+      telling = grind (arith, nat_tests, common_steps, next-claims, told-followed, inv.telling);
+      putting = grind (arith, nat_tests, common_steps, next-claims, put_all-followed, inv.putting);
       counting = h.1.1;
       scope = h.1.2.0;
     }
@@ -106,12 +96,7 @@ assembles-err all old new length b root w q (halts.Memory m) steps inv same plac
 assembles-err all old new length b root w q (halts.Clash c) steps inv same placed =
     let headers : AreSections (b ∷ new) = subst AreSections steps inv.headers in
     let h = placed-is b inv.earlier root w (Err (halts.Clash c)) inv.counting headers.0 placed inv.scope in
-    let now = section_claims (elements_added (opened_by inv.earlier)) b in
-    let later = claims_behind (b ∷ inv.earlier) new in
-    let split = ap (claims_behind inv.earlier) steps ∙ next-claims inv.earlier b new in
-    rw same (first-met (claims all)
-    ∙ (sym inv.telling ∙ ap (clash_met (cells root)) split ∙ told-followed (cells root) now later
-    ∙ ap (λ o. or_else o (clash_met (put_all (cells root) now) later)) h))
+    grind (arith, nat_tests, common_steps, first-met, next-claims, told-followed, inv.telling)
 
 -- the tree shows what the root's node keeps, and that is the flat document
 shows-flat : (length : ℕ) (cs : Claims) (t : BTreeMap Key Value) (root : Branch) → cells root ≡ put_all nothing cs → ShowsBelow (inner_view (table_inner t)) (cells root)
@@ -125,43 +110,37 @@ pub assembles-ok : (all rest : List Block) (length : ℕ) (t : BTreeMap Key Valu
     → Assembles all length (Ok v)
 unfolding claims_behind clash_met put_all
 assembles-ok all rest length t root v done inv finished is =
-    let none = ap (claims_behind inv.earlier) done in
-    let below = finished inv.scope in (
-      first-met (claims all) ∙ sym inv.telling ∙ ap (clash_met (cells root)) none,
-      rw is (shows-flat length (claims all) t root (sym (ap (put_all (cells root)) none) ∙ inv.putting) below.0),
-      rw is (below.1),
-    )
+    let below = finished inv.scope in
+    let put : cells root ≡ put_all nothing (claims all) = grind (arith, nat_tests, common_steps, inv.putting) in
+    let told : first_clash (claims all) ≡ None = grind (arith, nat_tests, common_steps, first-met, inv.telling) in
+    (told, rw is (shows-flat length (claims all) t root put below.0), rw is (below.1))
 
 -- ---- what the sections so far make
 
 pub grows-none : (root : Branch) → IsFresh root → GrowsTo [] root None
 grows-none root fresh rest headed = remaining-first rest rest root refl headed fresh
 
-pub grows-more : (bs : List Block) (b : Block) (root new : Branch) (o : Option Clash) → is_some o ≡ false → AreSections (b ∷ []) → GrowsTo bs root o → Placed b root new (Ok tt) → GrowsTo (bs ++ (b ∷ [])) new o
+pub grows-more : (bs : List Block) (b : Block) (root new : Branch) (o : Option (Box Clash)) → is_some o ≡ false → AreSections (b ∷ []) → GrowsTo bs root o → Placed b root new (Ok tt) → GrowsTo (bs ++ (b ∷ [])) new o
 grows-more bs b root new (Some c) none headed grows placed = absurd (false≢true (sym none))
-grows-more bs b root new None none headed grows placed = λ rest are.
-    subst (λ all. Remaining all rest new) (sym (append_assoc bs (b ∷ []) rest))
-    (remaining-next (bs ++ (b ∷ rest)) (b ∷ rest) rest b root new refl (grows (b ∷ rest) (headed.0, are)) placed)
+grows-more bs b root new None none headed grows placed = grind (arith, nat_tests, common_steps, append_assoc, remaining-next)
 
-pub grows-clash : (bs : List Block) (b : Block) (root new : Branch) (o : Option Clash) (halt : Halt) (c : Clash) → is_some o ≡ false → halt ≡ halts.Clash c → AreSections (b ∷ []) → GrowsTo bs root o
+pub grows-clash : (bs : List Block) (b : Block) (root new : Branch) (o : Option (Box Clash)) (halt : Halt) (c : Box Clash) → is_some o ≡ false → halt ≡ halts.Clash c → AreSections (b ∷ []) → GrowsTo bs root o
     → Placed b root new (Err halt) → GrowsTo (bs ++ (b ∷ [])) new (Some c)
 grows-clash bs b root new (Some d) halt c none is headed grows placed = absurd (false≢true (sym none))
 grows-clash bs b root new None halt c none is headed grows placed = λ rest are.
-    subst (λ all. first_clash (claims all) ≡ Some (clash_told c)) (sym (append_assoc bs (b ∷ []) rest))
-    (assembles-err (bs ++ (b ∷ rest)) (b ∷ rest) rest 0 b root new (Err (halts.Clash c)) (halts.Clash c) refl (grows (b ∷ rest) (headed.0, are)) refl (rw is at placed))
+    let told = assembles-err (bs ++ (b ∷ rest)) (b ∷ rest) rest 0 b root new (Err (halts.Clash c)) (halts.Clash c) refl (grows (b ∷ rest) (headed.0, are)) refl (rw is at placed) in
+    rw append_assoc told
 
-pub right-more : (text : List ℕ) (ps : List SimpleKey) (root new : Branch) (o : Option Clash) → is_some o ≡ false → IfNone o (AreBorrowedRight text ps (standing root)) → (AreBorrowedRight text ps (standing root) → AreBorrowedRight text ps (standing new))
+pub right-more : (text : List ℕ) (ps : List SimpleKey) (root new : Branch) (o : Option (Box Clash)) → is_some o ≡ false → IfNone o (AreBorrowedRight text ps (standing root)) → (AreBorrowedRight text ps (standing root) → AreBorrowedRight text ps (standing new))
     → IfNone o (AreBorrowedRight text ps (standing new))
-right-more text ps root new None none right keeps = keeps right
-right-more text ps root new (Some c) none right keeps = tt
+right-more text ps root new o none right keeps = grind (arith, nat_tests, common_steps)
 
 pub finish-tree : (bs : List Block) (length : ℕ) (t : BTreeMap Key Value) (root : Branch) (v : Value) → GrowsTo bs root None
     → (IsScope root → ShowsBelow (inner_view (table_inner t)) (cells root) × HoldsOrdered (inner_view (table_inner t))) → view v ≡ node (inner_view (table_inner t)) (record { start = 0; end = length })
     → Assembles bs length (Ok v)
-finish-tree bs length t root v grows finished shows =
-    assembles-ok bs [] length t root v refl (subst (λ all. Remaining all [] root) (append-nil bs) (grows [] tt)) finished shows
+finish-tree bs length t root v grows finished shows = assembles-ok bs [] length t root v refl (rw append-nil at (grows [] tt)) finished shows
 
-pub finish-clash : (bs : List Block) (length : ℕ) (root : Branch) (c : Clash) → GrowsTo bs root (Some c) → Assembles bs length (Err (halts.Clash c))
+pub finish-clash : (bs : List Block) (length : ℕ) (root : Branch) (c : Box Clash) → GrowsTo bs root (Some c) → Assembles bs length (Err (halts.Clash c))
 finish-clash bs length root c grows = subst (λ all. first_clash (claims all) ≡ Some (clash_told c)) (append-nil bs) (grows [] tt)
 
 -- ---- while a text is read
@@ -197,16 +176,11 @@ growing-first text limit at (Some s) g right h grows borrows bare = record {
 
 from-end : (text : List ℕ) (ps : List SimpleKey) (ss : List Section) (s : Section) → AreFrom text ps (sections_written (ss ++ (s ∷ [])))
     → AreFrom text ps (sections_written ss) × AreFrom text ps (section_written s)
-from-end text ps [] s h = (tt, all_front (IsFrom text ps) (section_written s) [] h)
-from-end text ps (x ∷ xs) s h =
-    let rest = from-end text ps xs s (all_behind (IsFrom text ps) (section_written x) (sections_written (xs ++ (s ∷ []))) h) in (
-      all_append (IsFrom text ps) (section_written x) (sections_written xs) (all_front (IsFrom text ps) (section_written x) (sections_written (xs ++ (s ∷ []))) h) rest.0,
-      rest.1,
-    )
+from-end text ps [] s h = search (rules, all_front)
+from-end text ps (x ∷ xs) s h = grind (arith, nat_tests, common_steps, all_append, all_behind, all_front, from-end text ps xs s)
 
 never-empty : (ss : List Section) (s : Section) → ss ++ (s ∷ []) ≡ [] → ⊥
-never-empty [] s none = cc
-never-empty (x ∷ xs) s none = cc
+never-empty ss s none = grind (arith, nat_tests, common_steps)
 
 -- a section behind a header has parts, as the grammar reads it
 headed : (text : List ℕ) (limit at next : ℕ) (s : Section) → get_or text at 0 ≡ 91 → read.section text limit at (Ok (block s, next)) → AreSections (block s ∷ [])
@@ -227,6 +201,7 @@ growing-more text limit at next s g new under here right h old grows borrows = r
 }
 
 pub first-refused : (stop : Stop Fault) (text : List ℕ) (limit : ℕ) → Gives first_found (read.before_headers text limit) (Err stop) → GrownGives text limit (Err stop)
+unfolding read.document
 first-refused (stops.Memory e) text limit h = tt
 first-refused (stops.Fault e) text limit h = inr (e, h, refl)
 
@@ -237,7 +212,7 @@ section-refused (stops.Fault e) text limit at g under old h = document_stops sec
 pub grown-whole : (text : List ℕ) (limit at : ℕ) (g : Grown) → Growing text limit at g → at ≡ length text → IsGrown text limit g
 grown-whole text limit at g h end = record {
   sections = h.sections;
-  spelled = document_sound (map block h.sections) text limit (document_read text limit at (map block h.sections) h.whole end);
+  document = document_read text limit at (map block h.sections) h.whole end;
   grows = h.grows;
   bare = h.bare;
   read = h.read;

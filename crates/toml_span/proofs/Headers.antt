@@ -1,16 +1,10 @@
 -- A section is placed: its header part by part, and its assignments at the end. A dotted key is placed part by part.
-use Rattle.std.proofs.Common.{◌≡◌, ◌<◌, ◌-◌, Global, Vec, get_or, map, ℕ, zero, suc, Bool, false, true, if◌then◌else◌, List, [], ◌∷◌, length, Some, None, Result, Err, refl, sym, ap, ◌∙◌, subst, inl, inr, arith}
-use Rattle.std.specs.Prelude.{vec_len, ◌==◌}
-use Rattle.std.specs.Vec.{with_item}
+use Rattle.toml_span_lex.proofs.Common.{◌≡◌, ◌<◌, ◌-◌, Global, Vec, get_or, map, ℕ, zero, suc, false, true, if◌then◌else◌, List, [], ◌∷◌, length, Some, None, Result, Err, refl, sym, ap, ◌∙◌, subst, inl, inr, arith, vec_len, ◌==◌, with_item, eqb-false, length-map, nil_from_length, nat_tests, common_steps}
 use Rattle.std.proofs.Math.ListN.{length-set}
-use Rattle.std.proofs.lemmas.Bool.{eqb-false}
-use Rattle.std.proofs.lemmas.List.{length-map, nil_from_length}
-use Rattle.std.proofs.lemmas.Option.{none-some}
 use Rattle.toml_span_tree.specs.Path.{Path, key}
 use Rattle.toml_span_lex.specs.declared.key.Key.{Key}
 use Rattle.toml_span_read.specs.Data.{ParsedValue as Read, parsed_span}
 use Rattle.toml_span_read.specs.Keys.{SimpleKey, simple_key}
-use Rattle.toml_span.specs.declared.claims.Blame.TheVariants.{DuplicateKey}
 use Rattle.toml_span.specs.declared.claims.Halt.{Halt}
 use Rattle.toml_span.specs.declared.claims.Mark.{Mark}
 use Rattle.toml_span.specs.declared.claims.Sort.{Sort}
@@ -19,33 +13,24 @@ use Rattle.toml_span.specs.declared.branch.Branch.{Branch}
 use Rattle.toml_span.specs.declared.branch.Branch.TheViews.{out-Branch, roll-Branch}
 use Rattle.toml_span.specs.declared.branch.Branch.TheOpen.{Branch-F}
 use Rattle.toml_span.specs.declared.claims.Head.{Head}
-use Rattle.toml_span.specs.Claims.{Claims, array_claims, claimed, dotted, header_mark, pair_mark, table_claim}
-use Rattle.toml_span.specs.Clashes.{blame}
+use Rattle.toml_span.specs.Claims.{Claims, array_claims, claimed, header_mark, pair_mark, table_claim}
 use Rattle.toml_span.specs.code.Machine.{Gives, met}
 use Rattle.toml_span.specs.code.Marks.{remember}
 use Rattle.toml_span.specs.code.Placing.{Opening, Opens, Passes, Places, Reaches}
-use Rattle.toml_span.specs.code.Relative.{adding, ending, entered, grown, grown_below, grown_here, grown_through, one_more, opening, pair_at, part_sort, passing, section_at, through, through_pair, under}
-use Rattle.toml_span.specs.code.Tree.{IsChild, IsFresh, IsHeld, IsNamed, IsOpen, IsScope, IsTableOrArray, NoArray, Sound, child, closed, closed_marks, counts, entries, is_array_sort, is_entry_sort, item, marks}
+use Rattle.toml_span.specs.code.Relative.{adding, ending, grown, grown_here, grown_through, one_more, opening, pair_at, part_sort, passing, section_at, through, through_pair}
+use Rattle.toml_span.specs.code.Tree.{IsChild, IsFresh, IsHeld, IsNamed, IsOpen, IsScope, Sound, child, closed, closed_marks, counts, entries, is_array_sort, is_entry_sort, item, marks}
 use Rattle.toml_span.proofs.Absolute.{grown-through, section_at-through}
 use Rattle.toml_span.proofs.Claimed.{Marked, counts-marked, named-fresh, named-remember, reaches-claim-err, reaches-claimed, scope-marked}
-use Rattle.toml_span.proofs.Entries.{PutsEntry, item-at, open-array, puts-set, reaches-entry}
+use Rattle.toml_span.proofs.Entries.{item-at, open-array, puts-set, reaches-entry}
 use Rattle.toml_span.proofs.Grafts.{fun_ext, graft-itself}
-use Rattle.toml_span.proofs.Nodes.{Sets, counts-here, counts-missing, out-roll, roll-out, sound-shape}
-use Rattle.toml_span.proofs.Placed.{gives-map, met-first, named-clashes, not-array, places-beside, places-found, places-new, unclosed}
+use Rattle.toml_span.proofs.Nodes.{Sets, counts-here, counts-at, out-roll, roll-out, sound-shape}
+use Rattle.toml_span.proofs.Placed.{gives-map, not-array, Starts, places-beside, places-below, unclosed}
 
 -- ---- what clashes
 
 -- so what is claimed as an array is fresh
 array-fresh : (n : Branch) (m : Mark) (name : List ℕ) → m.sort ≡ ArrayOfTables → entries n ≡ [] → IsChild n → met (marks n) m name ≡ None → IsFresh n
-array-fresh n m name is none h free =
-    elim h.1 [
-      | inl fresh ↦ fresh
-      | inr claims ↦ absurd (go (marks n) claims (subst (IsTableOrArray n) none (sound-shape n h.0)) free)
-    ]
-  where
-    go : (ms : List Mark) → IsNamed ms → NoArray ms → met ms m name ≡ None → ⊥
-    go [] claims tables free = claims
-    go (x ∷ ms) claims tables free = (named-clashes x.sort claims.0).2 tables.0 (ap (blame x.sort) (sym is) ∙ met-first x m ms name free)
+array-fresh n m name is none h free = grind (arith, nat_tests, common_steps, sound-shape)
 
 -- ---- a table is claimed, and assignments are placed below it
 
@@ -54,25 +39,20 @@ opened : (A : Branch → Type 0) (k : SimpleKey) (m : Mark) (old mid new : Branc
     → met (marks old) m k.name ≡ None → Marked m old mid → (A old → IsScope mid) → Places mid new r (cs (counts mid)) (d (counts mid))
     → Opening A m old new r (claimed (table_claim [] k m) (cs (counts old))) (d (counts old))
 opened A k m old mid new r cs d free h scope placed =
-    reaches-claimed A (λ n. IsScope n × (marks n ≡ remember (marks old) m)) (λ n. IsScope n × (marks n ≡ remember (marks old) m)) k m old mid new r (cs (counts old)) (d (counts old)) free h
-    (λ before. (scope before, h.claims))
-    (subst (λ f. Reaches (λ n. IsScope n × (marks n ≡ remember (marks old) m)) (λ n. IsScope n × (marks n ≡ remember (marks old) m)) mid new r (cs f) (d f)) (counts-marked m old mid h)
+    let After = λ (n : Branch). IsScope n × (marks n ≡ remember (marks old) m) in
+    reaches-claimed A After After k m old mid new r (cs (counts old)) (d (counts old)) free h (λ before. (scope before, h.claims))
+    (subst (λ f. Reaches After After mid new r (cs f) (d f)) (counts-marked m old mid h)
     (λ before. gives-map r _ _ _ _ refl (λ u g. (g.0, g.1, (g.2.0, g.2.1 ∙ h.claims))) (placed before.0)))
 
 opens-scope : (sort : Sort) (n : Branch) (m : Mark) (name : List ℕ) → m.sort ≡ sort → Opens sort n → met (marks n) m name ≡ None → IsScope n
-opens-scope sort n m name is h free =
-    elim h.1 [
-      | inl section ↦ (h.0, not-array n m name (λ none. absurd (none-some _ (sym none ∙ ap (blame ArrayOfTables) (is ∙ section)))) free h.0)
-      | inr entry ↦ (h.0, entry.1)
-    ]
+opens-scope sort n m name is h free = grind (arith, nat_tests, common_steps, not-array)
 
 opens-table : (sort : Sort) (n : Branch) → Opens sort n → is_array_sort sort ≡ false
 opens-table sort n h = elim h.1 [ inl section ↦ ap is_array_sort section | inr entry ↦ ap is_array_sort entry.0 ]
 
 -- a node that is claimed at a name
 held-claimed : (m : Mark) (n new : Branch) → is_entry_sort m.sort ≡ false → IsChild n → marks new ≡ remember (marks n) m → IsNamed (marks new)
-held-claimed m n new other h claims =
-    subst IsNamed (sym claims) (elim h.1 [ inl fresh ↦ named-fresh (marks n) m other fresh.no_marks | inr before ↦ named-remember (marks n) m other before ])
+held-claimed m n new other h claims = grind (arith, nat_tests, common_steps, named-fresh, named-remember)
 
 module _ (h : Head) (k : SimpleKey) where
   pub opened-table : (sort : Sort) (tail : Claims) (old mid new : Branch) (r : Result (Unit {0}) Halt) → met (marks old) (header_mark h sort k.span) k.name ≡ None → Marked (header_mark h sort k.span) old mid
@@ -81,41 +61,23 @@ module _ (h : Head) (k : SimpleKey) where
       let scope = scope-marked (header_mark h sort k.span) old mid (opens-table sort old before) claims (opens-scope sort old (header_mark h sort k.span) k.name refl before free) in
       opened (Opens sort) k (header_mark h sort k.span) old mid new r (λ f. tail) (λ f. f) free claims (λ start. scope) placed before
 
-  pub opened-table-err : (sort : Sort) (tail : Claims) (old new : Branch) (q : Result (Unit {0}) Halt) (e : Halt) (P : Unit {0} → Type 0) (d : Path → ℕ) → q ≡ Err e
-      → Gives (Err e) (met (marks old) (header_mark h sort k.span) k.name) P → Opening (Opens sort) (header_mark h sort k.span) old new q (opening h sort k tail) d
-  opened-table-err sort tail old new q e P d same clash =
-      reaches-claim-err (Opens sort) (λ n. IsScope n × (marks n ≡ remember (marks old) (header_mark h sort k.span))) k (header_mark h sort k.span) old new q e P tail d same clash
+  pub opening-err : (A : Branch → Type 0) (sort : Sort) (tail : Claims) (old new : Branch) (q : Result (Unit {0}) Halt) (e : Halt) (P : Unit {0} → Type 0) (d : Path → ℕ) → q ≡ Err e
+      → Gives (Err e) (met (marks old) (header_mark h sort k.span) k.name) P → Opening A (header_mark h sort k.span) old new q (opening h sort k tail) d
+  opening-err A sort tail old new q e P d same clash =
+      reaches-claim-err A (λ n. IsScope n × (marks n ≡ remember (marks old) (header_mark h sort k.span))) k (header_mark h sort k.span) old new q e P tail d same clash
 
   -- ---- the end of a header
 
   first-open : (old mid : Branch) → entries old ≡ [] → met (marks old) (header_mark h ArrayOfTables k.span) k.name ≡ None → Marked (header_mark h ArrayOfTables k.span) old mid → IsChild old → IsOpen mid
-  first-open old mid none free claims before = record {
-    array = record {
-      claim = header_mark h ArrayOfTables k.span;
-      only = claims.claims ∙ ap (λ l. remember l (header_mark h ArrayOfTables k.span)) fresh.no_marks;
-      array = refl;
-      no_values = ap (λ v. v.entries) claims.values ∙ fresh.no_values;
-      no_tables = ap (λ t. t.entries) claims.tables ∙ fresh.no_tables;
-    };
-    added = λ i c found. absurd (no_entry i c found);
-    below = λ i c found. absurd (no_entry i c found);
-  }
-    where
-      fresh : IsFresh old
-      fresh = array-fresh old (header_mark h ArrayOfTables k.span) k.name refl none before free
-
-      no_entry : (i : ℕ) (c : Branch) → item i (entries mid) ≡ Some c → ⊥
-      no_entry i c found = none-some c (sym (ap (item i) (claims.added ∙ none)) ∙ found)
+  first-open old mid none free claims before = grind (arith, nat_tests, common_steps, array-fresh)
 
   module _ (tail : Claims) where
     pub end-table : (old new : Branch) (r : Result (Unit {0}) Halt) → h.array ≡ false → Opening (Opens StandardTable) (header_mark h StandardTable k.span) old new r (opening h StandardTable k tail) (counts old)
         → Passes old new r (ending h k tail (counts old [])) (grown_here (counts old) h)
     end-table old new r is placed =
-        let claims : ending h k tail (counts old []) ≡ opening h StandardTable k tail = rw is refl in
-        let count : grown_here (counts old) h ≡ counts old = fun_ext (λ p. rw is refl) in
-        subst (λ l. Passes old new r l (grown_here (counts old) h)) (sym claims)
-        (subst (λ c. Passes old new r (opening h StandardTable k tail) c) (sym count)
-        (λ before. gives-map r _ _ _ _ refl (λ u g. (g.0, g.1, (g.2.0.0, held-claimed (header_mark h StandardTable k.span) old new refl before g.2.1))) (placed (before.0, inl refl))))
+        let count : counts old ≡ grown_here (counts old) h = fun_ext (λ p. rw is refl) in
+        simp is (λ before. gives-map r _ _ _ _ refl
+        (λ u g. (g.0, g.1 ∙ count, (g.2.0.0, held-claimed (header_mark h StandardTable k.span) old new refl before g.2.1))) (placed (before.0, inl refl)))
 
     array-ending : (old : Branch) → h.array ≡ true → ending h k tail (counts old []) ≡ array_claims h [] k (counts old []) (adding h k tail (counts old []))
     array-ending old is = rw is refl
@@ -124,9 +86,7 @@ module _ (h : Head) (k : SimpleKey) where
     array-grown old is = fun_ext (λ p. rw is refl)
 
     array-first : (old : Branch) → h.array ≡ true → entries old ≡ [] → ending h k tail (counts old []) ≡ claimed (table_claim [] k (header_mark h ArrayOfTables k.span)) (adding h k tail (counts old []))
-    array-first old is none =
-        let zeros : counts old [] ≡ 0 = counts-here old ∙ ap length none in
-        array-ending old is ∙ rw zeros refl
+    array-first old is none = grind (arith, nat_tests, common_steps, counts-here)
 
     -- with the first entry of an array
     pub end-first : (old mid new : Branch) (r : Result (Unit {0}) Halt) → h.array ≡ true → entries old ≡ [] → met (marks old) (header_mark h ArrayOfTables k.span) k.name ≡ None
@@ -142,16 +102,15 @@ module _ (h : Head) (k : SimpleKey) where
     pub end-first-err : (old new : Branch) (q : Result (Unit {0}) Halt) (e : Halt) (P : Unit {0} → Type 0) (d : Path → ℕ) → h.array ≡ true → entries old ≡ [] → q ≡ Err e
         → Gives (Err e) (met (marks old) (header_mark h ArrayOfTables k.span) k.name) P → Passes old new q (ending h k tail (counts old [])) d
     end-first-err old new q e P d is none same clash =
-        subst (λ l. Passes old new q l d) (sym (array-first old is none))
-        (reaches-claim-err IsChild IsHeld k (header_mark h ArrayOfTables k.span) old new q e P (adding h k tail (counts old [])) d same clash)
+        rw (array-first old is none) (reaches-claim-err IsChild IsHeld k (header_mark h ArrayOfTables k.span) old new q e P (adding h k tail (counts old [])) d same clash)
 
     -- with a further one
     pub end-further : (old new : Branch) (r : Result (Unit {0}) Halt) → h.array ≡ true → (entries old ≡ [] → ⊥) → Reaches IsOpen IsHeld old new r (adding h k tail (counts old [])) (one_more (counts old))
         → Passes old new r (ending h k tail (counts old [])) (grown_here (counts old) h)
     end-further old new r is some placed =
-        subst (λ l. Passes old new r l (grown_here (counts old) h)) (sym (array-ending old is ∙ further (counts old []) (counts-some old some)))
-        (subst (λ c. Passes old new r (adding h k tail (counts old [])) c) (sym (array-grown old is))
-        (λ before. placed (opens (entries old) refl before.0)))
+        let count : one_more (counts old) ≡ grown_here (counts old) h = fun_ext (λ p. rw is refl) in
+        let claims : ending h k tail (counts old []) ≡ adding h k tail (counts old []) = array-ending old is ∙ further (counts old []) (counts-some old some) in
+        rw claims (λ before. gives-map r _ _ _ _ refl (λ u g. (g.0, g.1 ∙ count, g.2)) (placed (opens (entries old) refl before.0)))
       where
         further : (n : ℕ) → (n ≡ 0 → ⊥) → array_claims h [] k n (adding h k tail (counts old [])) ≡ adding h k tail (counts old [])
         further zero some = absurd (some refl)
@@ -174,32 +133,6 @@ module _ (h : Head) (k : SimpleKey) where
           opened IsScope k (header_mark h Passed k.span) old mid new r (λ f. section_at f h rest tail) (λ f. grown f h rest) free claims
           (scope-marked (header_mark h Passed k.span) old mid refl claims) placed
 
-      pub descended-err : (old new : Branch) (q : Result (Unit {0}) Halt) (e : Halt) (P : Unit {0} → Type 0) (c d : Path → ℕ) → q ≡ Err e
-          → Gives (Err e) (met (marks old) (header_mark h Passed k.span) k.name) P → Opening IsScope (header_mark h Passed k.span) old new q (passing h k rest tail c) d
-      descended-err old new q e P c d same clash =
-          reaches-claim-err IsScope (λ n. IsScope n × (marks n ≡ remember (marks old) (header_mark h Passed k.span))) k (header_mark h Passed k.span) old new q e P (section_at c h rest tail) d same clash
-
-    -- into the latest entry
-    pub pass-latest : (rest : List SimpleKey) (m : ℕ) (n new x w : Branch) (r : Result (Unit {0}) Halt) → (rest ≡ [] → ⊥) → length (entries n) ≡ suc m
-        → item m (entries n) ≡ Some x → PutsEntry m w n new → length (entries new) ≡ length (entries n)
-        → Opening IsScope (header_mark h Passed k.span) x w r (passing h k rest tail (counts x)) (grown (counts x) h rest)
-        → Passes n new r (through (counts n) h k rest tail) (grown_through (counts n) h rest)
-    pass-latest [] m n new x w r some many found puts lengths placed = absurd (some refl)
-    pass-latest (l ∷ more) m n new x w r some many found puts lengths placed =
-        let count : counts n [] ≡ suc m = counts-here n ∙ many in
-        subst (λ j. Passes n new r (entered j (counts n) (passing h k (l ∷ more) tail)) (grown_below j (counts n) (λ f. grown f h (l ∷ more)))) (sym count)
-        (reaches-entry (header_mark h Passed k.span) m n new x w r (passing h k (l ∷ more) tail) (λ f. grown f h (l ∷ more)) found puts lengths placed)
-
-    -- or on from the node itself
-    pub pass-here : (rest : List SimpleKey) (n new : Branch) (r : Result (Unit {0}) Halt) → (rest ≡ [] → ⊥) → entries n ≡ []
-        → Opening IsScope (header_mark h Passed k.span) n new r (passing h k rest tail (counts n)) (grown (counts n) h rest)
-        → Passes n new r (through (counts n) h k rest tail) (grown_through (counts n) h rest)
-    pass-here [] n new r some none placed = absurd (some refl)
-    pass-here (l ∷ more) n new r some none placed =
-        let count : counts n [] ≡ 0 = counts-here n ∙ ap length none in
-        subst (λ j. Passes n new r (entered j (counts n) (passing h k (l ∷ more) tail)) (grown_below j (counts n) (λ f. grown f h (l ∷ more)))) (sym count)
-        (λ before. gives-map r _ _ _ _ refl (λ u g. (g.0, g.1, (g.2.0.0, held-claimed (header_mark h Passed k.span) n new refl before g.2.1))) (placed (before.0, none)))
-
     -- what stands behind the first claim, where nothing stands yet
     behind_first : (Path → ℕ) → List SimpleKey → Claims
     behind_first e [] = if h.array then adding h k tail 0 else tail
@@ -207,46 +140,26 @@ module _ (h : Head) (k : SimpleKey) where
 
     through-first : (rest : List SimpleKey) (e : Path → ℕ) → e [] ≡ 0 → through e h k rest tail ≡ claimed (table_claim [] k (header_mark h (part_sort h rest) k.span)) (behind_first e rest)
     unfolding behind_first
-    through-first [] e none = rw none (go h.array)
-      where
-        go : (b : Bool) → (if b then claimed (table_claim [] k (header_mark h ArrayOfTables k.span)) (adding h k tail 0) else opening h StandardTable k tail)
-            ≡ claimed (table_claim [] k (header_mark h (if b then ArrayOfTables else StandardTable) k.span)) (if b then adding h k tail 0 else tail)
-        go true = refl
-        go false = refl
-    through-first (l ∷ more) e none = rw none refl
+    through-first rest e none = grind (arith, nat_tests, common_steps)
 
     -- what clashes with a value of the name
     pub section-beside : (rest : List SimpleKey) (n new : Branch) (q : Result (Unit {0}) Halt) (e : Halt) (P : Unit {0} → Type 0) (d : Path → ℕ)
         → child k.name n ≡ None → q ≡ Err e → Gives (Err e) (met (closed_marks (closed k.name n)) (header_mark h (part_sort h rest) k.span) k.name) P
         → Places n new q (section_at (counts n) h (k ∷ rest) tail) d
     section-beside rest n new q e P d missing same clash =
-        subst (λ l. Places n new q l d) (sym (section_at-through (counts n) h k rest tail ∙ ap (under (key k.name)) (through-first rest (λ p. counts n (key k.name ∷ p)) (ap (λ f. f []) (counts-missing n (key k.name) missing)))))
+        let none : counts n (key k.name ∷ []) ≡ 0 = ap (λ f. f []) (counts-at n (key k.name) None missing) in
+        rw (section_at-through, through-first rest (λ p. counts n (key k.name ∷ p)) none)
         (places-beside n new k.name q e (table_claim [] k (header_mark h (part_sort h rest) k.span)) (behind_first (λ p. counts n (key k.name ∷ p)) rest) P d missing refl same clash)
 
     -- where nothing clashes no value stands there
     pub section-free : (rest : List SimpleKey) (n : Branch) → met (closed_marks (closed k.name n)) (header_mark h (part_sort h rest) k.span) k.name ≡ None → closed k.name n ≡ None
-    section-free rest n free = unclosed (closed k.name n) (header_mark h (part_sort h rest) k.span) k.name free (named rest)
-      where
-        ends : (b : Bool) → is_entry_sort (if b then ArrayOfTables else StandardTable) ≡ false
-        ends true = refl
-        ends false = refl
+    section-free rest n free = grind (arith, nat_tests, common_steps, unclosed)
 
-        named : (rest : List SimpleKey) → is_entry_sort (part_sort h rest) ≡ false
-        named [] = ends h.array
-        named (l ∷ more) = refl
-
-    pub section-found : (rest : List SimpleKey) (n new x w : Branch) (r : Result (Unit {0}) Halt) → child k.name n ≡ Some x → Sets (key k.name) (Some w, closed k.name n) n new
+    pub section-placed : (rest : List SimpleKey) (n new x w : Branch) (r : Result (Unit {0}) Halt) → Starts n x k.name → Sets (key k.name) (Some w, closed k.name n) n new
         → Passes x w r (through (counts x) h k rest tail) (grown_through (counts x) h rest)
         → Places n new r (section_at (counts n) h (k ∷ rest) tail) (grown (counts n) h (k ∷ rest))
-    section-found rest n new x w r found sets placed =
-        rw (section_at-through, grown-through) (places-found n new x w k.name r (λ f. through f h k rest tail) (λ f. grown_through f h rest) found sets placed)
-
-    pub section-fresh : (rest : List SimpleKey) (n new x w : Branch) (r : Result (Unit {0}) Halt) → child k.name n ≡ None → closed k.name n ≡ None → IsFresh x → Sets (key k.name) (Some w, closed k.name n) n new
-        → Passes x w r (through (counts x) h k rest tail) (grown_through (counts x) h rest)
-        → Places n new r (section_at (counts n) h (k ∷ rest) tail) (grown (counts n) h (k ∷ rest))
-    section-fresh rest n new x w r missing free fresh sets placed =
-        rw (section_at-through, grown-through)
-        (places-new n new x w k.name r (λ f. through f h k rest tail) (λ f. grown_through f h rest) missing free fresh sets placed)
+    section-placed rest n new x w r start sets placed =
+        rw (section_at-through, grown-through) (places-below n new x w k.name r (λ f. through f h k rest tail) (λ f. grown_through f h rest) start sets placed)
 
 -- ---- lists of the code
 
@@ -257,8 +170,7 @@ pub parts-some : (xs : List Key) → (length xs == 0) ≡ false → map simple_k
 parts-some xs h none = eqb-false (length xs) 0 h (sym (length-map xs simple_key) ∙ ap length none)
 
 pub parts-below : (xs : List Key) → length xs < 1 → map simple_key xs ≡ []
-parts-below [] h = refl
-parts-below (x ∷ xs) h = absurd (omega arith)
+parts-below xs h = grind (arith, nat_tests, common_steps)
 
 -- ---- the code's nodes
 
@@ -266,31 +178,31 @@ parts-below (x ∷ xs) h = absurd (omega arith)
 abbrev pub with_entries : Branch → Vec Branch Global → Branch
 with_entries n xs = roll-Branch (record { marks = (out-Branch n).marks; values = (out-Branch n).values; tables = (out-Branch n).tables; entries = xs })
 
-pub pass-vec : (h : Head) (k : SimpleKey) (tail : Claims) (rest : List SimpleKey) (n x w : Branch) (r : Result (Unit {0}) Halt) → (rest ≡ [] → ⊥)
-    → 0 < vec_len (out-Branch n).entries → x ≡ get_or (entries n) (vec_len (out-Branch n).entries - 1) x
-    → Opening IsScope (header_mark h Passed k.span) x w r (passing h k rest tail (counts x)) (grown (counts x) h rest)
-    → Passes n (with_entries n (with_item (out-Branch n).entries (vec_len (out-Branch n).entries - 1) w)) r (through (counts n) h k rest tail) (grown_through (counts n) h rest)
-pass-vec h k tail rest n x w r some many is placed =
-    let m = vec_len (out-Branch n).entries - 1 in
-    let within : m < length (entries n) = omega (arith, (out-Branch n).entries.ok.0) in
-    pass-latest h k tail rest m n _ x w r some (omega (arith, (out-Branch n).entries.ok.0))
-    (item-at (entries n) m x within ∙ ap Some (sym is))
-    (puts-set m w n _ refl refl refl within refl)
-    (ap (λ (b : Branch-F Branch). length b.entries.items) (out-roll _) ∙ length-set (entries n) m w)
-    placed
+module _ (h : Head) (k : SimpleKey) (tail : Claims) where
+  -- into the latest entry
+  pub pass-vec : (rest : List SimpleKey) (n x w : Branch) (r : Result (Unit {0}) Halt) → (rest ≡ [] → ⊥) → 0 < vec_len (out-Branch n).entries
+      → x ≡ get_or (entries n) (vec_len (out-Branch n).entries - 1) x
+      → Opening IsScope (header_mark h Passed k.span) x w r (passing h k rest tail (counts x)) (grown (counts x) h rest)
+      → Passes n (with_entries n (with_item (out-Branch n).entries (vec_len (out-Branch n).entries - 1) w)) r (through (counts n) h k rest tail) (grown_through (counts n) h rest)
+  pass-vec [] n x w r some many is placed = absurd (some refl)
+  pass-vec (l ∷ more) n x w r some many is placed =
+      let m = vec_len (out-Branch n).entries - 1 in
+      let within : m < length (entries n) = omega (arith, (out-Branch n).entries.ok.0) in
+      let count : counts n [] ≡ suc m = counts-here n ∙ omega (arith, (out-Branch n).entries.ok.0) in
+      let new = with_entries n (with_item (out-Branch n).entries m w) in
+      rw count (reaches-entry (header_mark h Passed k.span) m n new x w r (passing h k (l ∷ more) tail) (λ f. grown f h (l ∷ more)) (item-at (entries n) m x within ∙ ap Some (sym is))
+      (puts-set m w n _ refl refl refl within refl) (ap (λ (b : Branch-F Branch). length b.entries.items) (out-roll _) ∙ length-set (entries n) m w) placed)
 
-pub pass-again : (h : Head) (k : SimpleKey) (tail : Claims) (rest : List SimpleKey) (n new : Branch) (r : Result (Unit {0}) Halt) → (rest ≡ [] → ⊥) → entries n ≡ []
-    → Opening IsScope (header_mark h Passed k.span) (with_entries n (out-Branch n).entries) new r
-    (passing h k rest tail (counts (with_entries n (out-Branch n).entries))) (grown (counts (with_entries n (out-Branch n).entries)) h rest)
-    → Passes n new r (through (counts n) h k rest tail) (grown_through (counts n) h rest)
-pass-again h k tail rest n new r some none placed =
-    pass-here h k tail rest n new r some none
-    (subst (λ a. Opening IsScope (header_mark h Passed k.span) a new r (passing h k rest tail (counts a)) (grown (counts a) h rest)) (roll-out n) placed)
-
--- the node behind a loan
-pub pass-lent : (h : Head) (k : SimpleKey) (tail : Claims) (rest : List SimpleKey) (lent n new : Branch) (r : Result (Unit {0}) Halt) → lent ≡ n
-    → Passes lent new r (through (counts lent) h k rest tail) (grown_through (counts lent) h rest) → Passes n new r (through (counts n) h k rest tail) (grown_through (counts n) h rest)
-pass-lent h k tail rest lent n new r same placed = subst (λ a. Passes a new r (through (counts a) h k rest tail) (grown_through (counts a) h rest)) same placed
+  -- or on from the node itself
+  pub pass-again : (rest : List SimpleKey) (n new : Branch) (r : Result (Unit {0}) Halt) → (rest ≡ [] → ⊥) → entries n ≡ []
+      → Opening IsScope (header_mark h Passed k.span) (with_entries n (out-Branch n).entries) new r
+      (passing h k rest tail (counts (with_entries n (out-Branch n).entries))) (grown (counts (with_entries n (out-Branch n).entries)) h rest)
+      → Passes n new r (through (counts n) h k rest tail) (grown_through (counts n) h rest)
+  pass-again [] n new r some none placed = absurd (some refl)
+  pass-again (l ∷ more) n new r some none placed =
+      let count : counts n [] ≡ 0 = counts-here n ∙ ap length none in
+      let here = subst (λ a. Opening IsScope (header_mark h Passed k.span) a new r (passing h k (l ∷ more) tail (counts a)) (grown (counts a) h (l ∷ more))) (roll-out n) placed in
+      rw count (λ before. gives-map r _ _ _ _ refl (λ u g. (g.0, g.1, (g.2.0.0, held-claimed (header_mark h Passed k.span) n new refl before g.2.1))) (here (before.0, none)))
 
 abbrev dotted_mark : SimpleKey → Read → Mark
 dotted_mark k v = pair_mark Dotted k.span (parsed_span v)
@@ -299,11 +211,7 @@ dotted_mark k v = pair_mark Dotted k.span (parsed_span v)
 
 -- a branch that a dotted key passes through is a table
 table-marked : (n mid : Branch) (m : Mark) (name : List ℕ) → m.sort ≡ Dotted → met (marks n) m name ≡ None → Marked m n mid → IsChild n → IsScope mid × IsNamed (marks mid)
-table-marked n mid m name sort h marked before = (
-  scope-marked m n mid (ap is_array_sort sort) marked
-      (before.0, not-array n m name (λ is. let clash : blame ArrayOfTables m.sort ≡ Some DuplicateKey = ap (blame ArrayOfTables) sort in absurd (none-some _ (sym is ∙ clash))) h before.0),
-  held-claimed m n mid (ap is_entry_sort sort) before marked.claims,
-)
+table-marked n mid m name sort h marked before = grind (arith, nat_tests, common_steps, held-claimed, not-array, scope-marked)
 
 pub passes-dotted : (n mid new : Branch) (k : SimpleKey) (inner : List SimpleKey) (last : SimpleKey) (v : Read) (m : Mark) (r : Result (Unit {0}) Halt)
     → m ≡ dotted_mark k v → met (marks n) m k.name ≡ None → Marked m n mid → Places mid new r (pair_at inner last v) (counts mid)
@@ -319,29 +227,18 @@ passes-dotted n mid new k inner last v m r same free marked h =
 
 pub passes-dotted-err : (n new : Branch) (k : SimpleKey) (inner : List SimpleKey) (last : SimpleKey) (v : Read) (m : Mark) (q : Result (Unit {0}) Halt) (e : Halt) (P : Unit {0} → Type 0) (d : Path → ℕ)
     → m ≡ dotted_mark k v → q ≡ Err e → Gives (Err e) (met (marks n) m k.name) P → Passes n new q (through_pair k inner last v) d
-passes-dotted-err n new k inner last v m q e P d same is h =
-    subst (λ m. Passes n new q (claimed (table_claim [] k m) (pair_at inner last v)) d) same
-    (reaches-claim-err IsChild IsHeld k m n new q e P (pair_at inner last v) d is h)
+passes-dotted-err n new k inner last v m q e P d same is h = reaches-claim-err IsChild IsHeld k (dotted_mark k v) n new q e P (pair_at inner last v) d is (rw same at h)
 
 -- ---- a dotted key, below a name
 
-pub pair-found : (n new x w : Branch) (k : SimpleKey) (inner : List SimpleKey) (last : SimpleKey) (v : Read) (r : Result (Unit {0}) Halt)
-    → child k.name n ≡ Some x → Sets (key k.name) (Some w, closed k.name n) n new → Passes x w r (through_pair k inner last v) (counts x) → Places n new r (pair_at (k ∷ inner) last v) (counts n)
+pub pair-placed : (n new x w : Branch) (k : SimpleKey) (inner : List SimpleKey) (last : SimpleKey) (v : Read) (r : Result (Unit {0}) Halt)
+    → Starts n x k.name → Sets (key k.name) (Some w, closed k.name n) n new → Passes x w r (through_pair k inner last v) (counts x)
+    → Places n new r (pair_at (k ∷ inner) last v) (counts n)
 unfolding pair_at
-pair-found n new x w k inner last v r found sets h =
-    subst (Places n new r (pair_at (k ∷ inner) last v)) (graft-itself (key k.name) (counts n))
-    (places-found n new x w k.name r (λ f. through_pair k inner last v) (λ f. f) found sets h)
-
-pub pair-fresh : (n new x w : Branch) (k : SimpleKey) (inner : List SimpleKey) (last : SimpleKey) (v : Read) (m : Mark) (r : Result (Unit {0}) Halt)
-    → child k.name n ≡ None → m ≡ dotted_mark k v → met (closed_marks (closed k.name n)) m k.name ≡ None → IsFresh x → Sets (key k.name) (Some w, closed k.name n) n new
-    → Passes x w r (through_pair k inner last v) (counts x) → Places n new r (pair_at (k ∷ inner) last v) (counts n)
-unfolding pair_at
-pair-fresh n new x w k inner last v m r missing same free fresh sets h =
-    subst (Places n new r (pair_at (k ∷ inner) last v)) (graft-itself (key k.name) (counts n))
-    (places-new n new x w k.name r (λ f. through_pair k inner last v) (λ f. f) missing (unclosed (closed k.name n) m k.name free (ap (λ m. is_entry_sort m.sort) same)) fresh sets h)
+pair-placed n new x w k inner last v r start sets h =
+    subst (Places n new r (pair_at (k ∷ inner) last v)) (graft-itself (key k.name) (counts n)) (places-below n new x w k.name r (λ f. through_pair k inner last v) (λ f. f) start sets h)
 
 pub pair-beside : (n new : Branch) (k : SimpleKey) (inner : List SimpleKey) (last : SimpleKey) (v : Read) (m : Mark) (q : Result (Unit {0}) Halt) (e : Halt) (P : Unit {0} → Type 0) (d : Path → ℕ)
     → child k.name n ≡ None → m ≡ dotted_mark k v → q ≡ Err e → Gives (Err e) (met (closed_marks (closed k.name n)) m k.name) P → Places n new q (pair_at (k ∷ inner) last v) d
 unfolding pair_at
-pair-beside n new k inner last v m q e P d missing same is h =
-    places-beside n new k.name q e (dotted [] k v) (pair_at inner last v) P d missing refl is (subst (λ m. Gives (Err e) (met (closed_marks (closed k.name n)) m k.name) P) same h)
+pair-beside n new k inner last v m q e P d missing same is h = grind (arith, nat_tests, common_steps, places-beside)

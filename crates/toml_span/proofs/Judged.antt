@@ -1,13 +1,10 @@
 -- What is told is the first clash.
-use Rattle.std.proofs.Common.{◌≡◌, ℕ, true, List, [], ◌∷◌, ◌++◌, Option, Some, None, option_map, refl, sym, ap, ◌∙◌, inl, inr}
-use Rattle.std.specs.List.{list_any}
-use Rattle.std.proofs.lemmas.Bool.{cases_Bool, false≢true}
+use Rattle.toml_span_lex.proofs.Common.{◌≡◌, ℕ, true, List, [], ◌∷◌, ◌++◌, Option, option_map, refl, sym, ap, ◌∙◌, list_any, false≢true, arith, nat_tests, common_steps}
 use Rattle.toml_span.specs.declared.claims.Blame.{Blame}
 use Rattle.toml_span.specs.declared.claims.Mark.{Mark}
 use Rattle.toml_span.specs.declared.claims.Meeting.{Meeting}
-use Rattle.toml_span.specs.Paths.{same_path}
 use Rattle.toml_span.specs.Claims.{Claim, Claims, no_claims, claimed, scope}
-use Rattle.toml_span.specs.Clashes.{NamedClash, named, blame, meeting, meets, or_else, clash, clash_among, clash_behind, first_clash}
+use Rattle.toml_span.specs.Clashes.{NamedClash, named, meeting, meets, or_else, clash, clash_among, clash_behind, first_clash}
 use Rattle.toml_span.specs.code.Marks.{partner, same_sort, remember}
 use Rattle.toml_span.specs.code.Machine.{State, nothing, change, with_claim, show_all, met, clash_met}
 use Rattle.toml_span.proofs.Claimed.{remember-cases, same_sort-eq}
@@ -18,35 +15,25 @@ use Rattle.toml_span.proofs.Shown.{show_all-marks}
 
 absorbed : (x a b : Mark) (o p : Option Blame) (y : Option Meeting) → o ≡ p
     → or_else (option_map (meeting x b) o) y ≡ or_else (or_else (option_map (meeting x b) o) y) (option_map (meeting a b) p)
-absorbed x a b (Some k) p y e = refl
-absorbed x a b None p y e = rw (← e) (sym (or_else-none y))
+absorbed x a b o p y e = grind (arith, nat_tests, common_steps, or_else-none)
 
 partner-known : (l : List Mark) (a b : Mark) → list_any (λ x. same_sort x.sort a.sort) l ≡ true → partner l b ≡ or_else (partner l b) (meets a b)
 partner-known [] a b h = absurd (false≢true h)
-partner-known (x ∷ l) a b h =
-    elim (cases_Bool (same_sort x.sort a.sort)) [
-      | inl same ↦ absorbed x a b (blame x.sort b.sort) (blame a.sort b.sort) (partner l b) (ap (λ s. blame s b.sort) (same_sort-eq x.sort a.sort same))
-      | inr other ↦ ap (or_else (meets x b)) (partner-known l a b (rw other at h)) ∙ sym (or_else-assoc (meets x b) (partner l b) (meets a b))
-    ]
+partner-known (x ∷ l) a b h = grind (arith, nat_tests, common_steps, absorbed, or_else-assoc, same_sort-eq, partner-known l a b)
 
 partner-push : (l : List Mark) (a b : Mark) → partner (l ++ a ∷ []) b ≡ or_else (partner l b) (meets a b)
 partner-push [] a b = or_else-none (meets a b)
 partner-push (x ∷ l) a b = ap (or_else (meets x b)) (partner-push l a b) ∙ sym (or_else-assoc (meets x b) (partner l b) (meets a b))
 
 partner-remember : (l : List Mark) (a b : Mark) → partner (remember l a) b ≡ or_else (partner l b) (meets a b)
-partner-remember l a b =
-    elim (remember-cases l a) [
-      | inl h ↦ ap (λ ms. partner ms b) h.1 ∙ partner-known l a b h.0
-      | inr h ↦ ap (λ ms. partner ms b) h.1 ∙ partner-push l a b
-    ]
+partner-remember l a b = grind (arith, nat_tests, common_steps, partner-known, partner-push, remember-cases)
 
 -- ---- what the state keeps of the earlier claims of the scope
 
 among-push : (earlier : List Claim) (c later : Claim) → clash_among (earlier ++ (c ∷ [])) later ≡ or_else (clash_among earlier later) (clash c later)
 unfolding clash_among
 among-push [] c later = or_else-none (clash c later)
-among-push (x ∷ earlier) c later =
-    ap (or_else (clash x later)) (among-push earlier c later) ∙ sym (or_else-assoc (clash x later) (clash_among earlier later) (clash c later))
+among-push (x ∷ earlier) c later = grind (arith, nat_tests, common_steps, or_else-assoc, among-push earlier c later)
 
 abbrev met_in : State → Claim → Option NamedClash
 met_in st c = met (st c.path).marks c.mark c.name
@@ -60,22 +47,14 @@ unfolding clash_among
 keeps-nothing later = refl
 
 map-or_else : (name : List ℕ) (x y : Option Meeting) → option_map (named name) (or_else x y) ≡ or_else (option_map (named name) x) (option_map (named name) y)
-map-or_else name (Some m) y = refl
-map-or_else name None y = refl
+map-or_else name x y = grind (arith, nat_tests, common_steps)
 
 met-claim : (st : State) (c later : Claim) → met_in (change st c.path (with_claim c)) later ≡ or_else (met_in st later) (clash c later)
 unfolding change clash
-met-claim st c later =
-    elim (cases_Bool (same_path c.path later.path)) [
-      | inl here ↦ rw here
-          (ap (option_map (named later.name)) (partner-remember (st later.path).marks c.mark later.mark)
-          ∙ map-or_else later.name (partner (st later.path).marks later.mark) (meets c.mark later.mark))
-      | inr off ↦ rw off (sym (or_else-none (met_in st later)))
-    ]
+met-claim st c later = grind (arith, nat_tests, common_steps, map-or_else, or_else-none, partner-remember)
 
 keeps-claim : (st : State) (earlier : List Claim) (c : Claim) → Keeps st earlier → Keeps (change st c.path (with_claim c)) (earlier ++ (c ∷ []))
-keeps-claim st earlier c keeps later =
-    met-claim st c later ∙ ap (λ o. or_else o (clash c later)) (keeps later) ∙ sym (among-push earlier c later)
+keeps-claim st earlier c keeps later = grind (arith, nat_tests, common_steps, among-push, met-claim)
 
 keeps-inner : (st : State) (earlier : List Claim) (inner : Claims) → Keeps st earlier → Keeps (show_all st inner) earlier
 keeps-inner st earlier inner keeps later = ap (λ l. met l later.mark later.name) (show_all-marks st inner later.path) ∙ keeps later
@@ -85,8 +64,7 @@ keeps-inner st earlier inner keeps later = ap (λ l. met l later.mark later.name
 met-behind : (st : State) (earlier : List Claim) (cs : Claims) → Keeps st earlier → clash_met st cs ≡ clash_behind earlier cs
 unfolding clash_met clash_behind
 met-behind st earlier no_claims keeps = refl
-met-behind st earlier (claimed c cs) keeps =
-    rw (keeps c) (ap (or_else (clash_among earlier c)) (met-behind (change st c.path (with_claim c)) (earlier ++ (c ∷ [])) cs (keeps-claim st earlier c keeps)))
+met-behind st earlier (claimed c cs) keeps = let rest = met-behind (change st c.path (with_claim c)) (earlier ++ (c ∷ [])) cs (keeps-claim st earlier c keeps) in grind (arith, nat_tests, common_steps, keeps c)
 met-behind st earlier (scope inner cs) keeps =
     rw (met-behind nothing [] inner keeps-nothing) (ap (or_else (clash_behind [] inner)) (met-behind (show_all st inner) earlier cs (keeps-inner st earlier inner keeps)))
 

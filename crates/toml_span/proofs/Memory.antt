@@ -1,20 +1,19 @@
 -- Memory is wanted only where there is something to place.
-use Rattle.std.proofs.Common.{◌≡◌, ℕ, ◌<◌, ◌≤◌, Bool, true, false, List, [], ◌∷◌, ◌++◌, map, length, arith, Result, Ok, Err, refl, ◌∙◌}
-use Rattle.std.specs.Prelude.{IsOk}
-use Rattle.std.proofs.lemmas.Bool.{false≢true}
+use Rattle.toml_span_lex.proofs.Common.{◌≡◌, ℕ, ◌<◌, ◌≤◌, Bool, List, [], ◌∷◌, ◌++◌, map, length, arith, Result, Ok, Err, refl, ◌∙◌, IsOk, false≢true, AllocError, nat_tests, common_steps}
 use Rattle.toml_span_lex.specs.declared.stop.Stop.{Stop}
 use Rattle.toml_span_lex.specs.declared.stop.Stop.TheVariants as stops
 use Rattle.toml_span_lex.specs.Tokenizer.{FirstPlace}
-use Rattle.std.specs.declared.alloc.AllocError.{AllocError}
 use Rattle.toml_span.specs.declared.sections.Grown.{Grown}
 use Rattle.toml_span_read.specs.declared.fault.Fault.{Fault}
 use Rattle.toml_span_tree.specs.declared.error.Error.{Error}
 use Rattle.toml_span_tree.specs.declared.value.Value.{Value}
 use Rattle.toml_span_read.specs.declared.section.Section.{Section}
-use Rattle.toml_span_read.specs.Data.{KeyValue, Block, block}
+use Rattle.toml_span_read.specs.Data.{KeyValue, Block, block, first_block}
 use Rattle.toml_span_read.specs.Gaps.{MaximalGap}
 use Rattle.toml_span_read.specs.Keys.{SimpleKey, SpellsKey}
-use Rattle.toml_span_read.specs.Grammar.{first_block, OpensHeader, SpellsDocument, SpellsKeyValues, SpellsSection, SpellsSections}
+use Rattle.toml_span_read.specs.Grammar.{OpensHeader, SpellsKeyValues, SpellsSection, SpellsSections}
+use Rattle.toml_span_read.specs.Read as read
+use Rattle.toml_span_read.proofs.ReadSound.{document_sound}
 use Rattle.toml_span_read.specs.Reading.{HoldsForm, OnlyFormsTakeMemory}
 use Rattle.toml_span_read.proofs.InsideLemmas.{ascend_forward}
 use Rattle.toml_span_read.proofs.KeyOrder.{dotted_ascend}
@@ -22,17 +21,13 @@ use Rattle.toml_span_read.proofs.KeyOrder.{dotted_ascend}
 -- a key stands before the end of the text
 key-before : (ps : List SimpleKey) (text : List ℕ) (i j : ℕ) → SpellsKey ps text i j → i < length text
 key-before [] text i j h = absurd h
-key-before (p ∷ ps) text i j h =
-    let a = dotted_ascend (p ∷ ps) text i j h in omega (arith, a.0.0, a.0.1, ascend_forward ps p.span.end j a.0.2, a.1)
+key-before (p ∷ ps) text i j h = grind (arith, nat_tests, common_steps, ascend_forward, dotted_ascend)
 
 opens-forward : (array : Bool) (text : List ℕ) (i j : ℕ) → OpensHeader array text i j → i ≤ j
-opens-forward false text i j h = omega (arith, h.2)
-opens-forward true text i j h = omega (arith, h.2)
+opens-forward array text i j h = grind (arith, nat_tests, common_steps)
 
 section-before : (b : Block) (text : List ℕ) (limit i j : ℕ) → SpellsSection b text limit i j → i < length text
-section-before b text limit i j h =
-    let front = h.header.front in
-    omega (arith, opens-forward b.array text i front.inside front.opens, front.before.forward, key-before b.header text front.start front.end front.key)
+section-before b text limit i j h = grind (arith, nat_tests, common_steps, key-before, opens-forward)
 
 -- where a section is spelled, more than blank lines stand
 sections-hold : (es : List KeyValue) (bs : List Block) (text : List ℕ) (limit start k j : ℕ) → MaximalGap text start k → SpellsKeyValues es [] text limit k j → SpellsSections bs text limit j
@@ -46,11 +41,12 @@ no-blocks [] none = refl
 no-blocks (s ∷ ss) none = cc
 
 -- a tree that needs no memory where there are no sections
-pub keeps-placed : (ss : List Section) (text : List ℕ) (limit : ℕ) (r : Result Value (Stop Error)) → SpellsDocument (map block ss) text limit → (ss ≡ [] → IsOk r)
+pub keeps-placed : (ss : List Section) (text : List ℕ) (limit : ℕ) (r : Result Value (Stop Error)) → read.document text limit (Ok (map block ss)) → (ss ≡ [] → IsOk r)
     → (start : ℕ) × FirstPlace text start × OnlyFormsTakeMemory text start r
-keeps-placed ss text limit (Ok root) h bare = (h.start, h.begins, tt)
-keeps-placed ss text limit (Err (stops.Fault error)) h bare = (h.start, h.begins, tt)
-keeps-placed ss text limit (Err (stops.Memory e)) h bare =
+keeps-placed ss text limit (Ok root) given bare = let h = document_sound (map block ss) text limit given in (h.start, h.begins, tt)
+keeps-placed ss text limit (Err (stops.Fault error)) given bare = let h = document_sound (map block ss) text limit given in (h.start, h.begins, tt)
+keeps-placed ss text limit (Err (stops.Memory e)) given bare =
+    let h = document_sound (map block ss) text limit given in
     (h.start, h.begins, sections-hold h.first h.rest text limit h.start h.lines.0 h.end h.lines.1 h.lines.2 h.sections (λ none. false≢true (bare (no-blocks ss (h.all ∙ none)))))
 
 -- want of memory is handed on

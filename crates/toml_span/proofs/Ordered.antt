@@ -1,36 +1,21 @@
 -- Values whose tables have their entries in the order of the names.
-use Rattle.std.proofs.Common.{◌≡◌, ◌<◌, ℕ, List, [], ◌∷◌, Bool, true, false, cond, Option, Some, None, Ordering, Less, Equal, Greater, nat_cmp, is_lt, refl, sym, ap, subst, ◌∙◌, inl, inr, arith}
-use Rattle.std.specs.Cmp.Lexicographic.{slice_cmp}
-use Rattle.std.specs.Cow.{cow_str_bytes}
-use Rattle.std.specs.List.{AllByRecursion}
-use Rattle.std.specs.List.Sorted.{IsStrictlySortedBy}
-use Rattle.std.specs.Map.{keys_of, lookup_entry}
-use Rattle.std.specs.Ordering.{MatchOrdering, ordering_then}
-use Rattle.std.specs.Str.{bytes_eq}
-use Rattle.std.proofs.lemmas.Bool.{cases_Bool, false≢true}
-use Rattle.std.proofs.lemmas.Cmp.{ranked}
+use Rattle.toml_span_lex.proofs.Common.{◌≡◌, ◌<◌, ℕ, List, [], ◌∷◌, Bool, true, false, cond, Option, Some, None, Ordering, Less, nat_cmp, is_lt, refl, sym, ap, ◌∙◌, inl, inr, arith, slice_cmp, cow_str_bytes, AllByRecursion, IsStrictlySortedBy, keys_of, lookup_entry, MatchOrdering, ordering_then, bytes_eq, cases_Bool, false≢true, ranked, is_eq-slice_cmp, none-some, nat_tests, common_steps, bytes_eq-Decides}
 use Rattle.std.proofs.lemmas.Map.Keys.{sorted_head, sorted_tail}
-use Rattle.std.proofs.lemmas.Map.Text.{is_eq-slice_cmp}
-use Rattle.std.proofs.lemmas.Option.{none-some}
 use Rattle.toml_span_lex.specs.declared.key.Key.{Key}
 use Rattle.toml_span_lex.specs.declared.span.Span.{Span}
 use Rattle.toml_span_tree.specs.Node.{Node, node, Inner, taken, scalar, array, table, Items, no_items, item, Members, no_members, member, entry_at}
-use Rattle.toml_span_tree.specs.Path.{Step, key, position}
+use Rattle.toml_span_tree.specs.Path.{key}
 use Rattle.toml_span_tree.specs.Value.{view, members_view}
 use Rattle.toml_span_tree.specs.declared.value.Value.{Value}
 use Rattle.toml_span_read.proofs.EarlierTree.{key_cmp, same_name}
 use Rattle.toml_span.specs.Ordered.{HasOneEach, InnerHasOneEach, ItemsHaveOneEach, MembersHaveOneEach, IsNameBefore, EachName, IsOrdered, HoldsOrdered, AreOrdered, MembersOrdered}
 use Rattle.toml_span.specs.code.Tree.{is_named}
-use Rattle.toml_span.proofs.Grafts.{same_step-eq, same_step-self}
+use Rattle.toml_span.proofs.Grafts.{same_step-self}
 
 -- ---- names and entries
 
 pub same-name : (a b : List ℕ) → bytes_eq a b ≡ true → a ≡ b
-same-name a b h = ap name (same_step-eq (key a) (key b) h)
-  where
-    name : Step → List ℕ
-    name (key k) = k
-    name (position i) = []
+same-name a b h = (bytes_eq-Decides a b).0 h
 
 pub first-entry : (a : List ℕ) (at : Span) (n : Node) (ms : Members) → entry_at a (member a at n ms) ≡ Some (Some at, n)
 first-entry a at n ms = ap (λ b. cond b (Some (Some at, n)) (entry_at a ms)) (same_step-self (key a))
@@ -43,9 +28,7 @@ later-entry k a at n ms off = ap (λ b. cond b (Some (Some at, n)) (entry_at k m
 -- the first two bytes that differ decide
 before-then : (x y : ℕ) (xs ys : List ℕ) (o rest : Ordering) → MatchOrdering o (x < y) (x ≡ y) (y < x) → (rest ≡ Less → IsNameBefore xs ys) → ordering_then o rest ≡ Less
     → IsNameBefore (x ∷ xs) (y ∷ ys)
-before-then x y xs ys Less rest m f h = inl m
-before-then x y xs ys Equal rest m f h = inr (m, f h)
-before-then x y xs ys Greater rest m f h = absurd (false≢true (ap is_lt h))
+before-then x y xs ys o rest m f h = grind (arith, nat_tests, common_steps, is_lt)
 
 name-before : (xs ys : List ℕ) → slice_cmp nat_cmp xs ys ≡ Less → IsNameBefore xs ys
 name-before [] [] h = absurd (false≢true (ap is_lt h))
@@ -94,13 +77,7 @@ not-before (x ∷ xs) (inl less) = omega (arith, less)
 not-before (x ∷ xs) (inr (same, h)) = not-before xs h
 
 name-apart : (name other : List ℕ) → IsNameBefore name other → bytes_eq name other ≡ false
-name-apart name other h = elim (cases_Bool (bytes_eq name other)) [
-  | inl same ↦ absurd (not-before name (subst (IsNameBefore name) (sym (same_key same)) h))
-  | inr apart ↦ apart
-]
-  where
-    same_key : bytes_eq name other ≡ true → name ≡ other
-    same_key same = same_name name other (is_eq-slice_cmp name other ∙ same)
+name-apart name other h = let itself = not-before name in grind (arith, nat_tests, common_steps, bytes_eq-Decides)
 
 -- a name that is before all others is none of them
 not-again : (name : List ℕ) (ms : Members) → EachName (IsNameBefore name) ms → entry_at name ms ≡ None

@@ -1,16 +1,16 @@
 -- A clash is told inside the text, at the later of two claims.
-use Rattle.std.proofs.Common.{◌≡◌, ℕ, zero, suc, List, [], ◌∷◌, ◌++◌, map, length, Option, Some, None, option_map, true, refl, sym, ◌∙◌, subst, inl, inr, append-nil}
-use Rattle.std.specs.Prelude.{⊤, IfSome}
-use Rattle.std.proofs.lemmas.Bool.{cases_Bool, false≢true}
+use Rattle.std.specs.Box.{box_value}
+use Rattle.std.specs.Global.{Box}
+use Rattle.toml_span_lex.proofs.Common.{Ok, ◌≡◌, ℕ, List, [], ◌∷◌, map, length, Option, Some, None, option_map, true, append-nil, ⊤, IfSome, false≢true, arith, nat_tests, common_steps}
 use Rattle.toml_span_tree.specs.Path.{Path}
 use Rattle.toml_span_read.specs.Places.{IsInside, PartsInside, KeysInside, InnerKeysInside, ItemKeysInside, PairKeysInside, KeyValuesInside, SectionsInside}
 use Rattle.toml_span_read.specs.Data.{ParsedValue as Read, parsed, ParsedInner, scalar, array, inline, ParsedItems, no_items, item, ParsedPairs, no_pairs, pair, KeyValue, Block, block}
 use Rattle.toml_span_read.specs.Keys.{SimpleKey}
-use Rattle.toml_span_read.specs.Grammar.{SpellsDocument}
+use Rattle.toml_span_read.specs.Read as read
+use Rattle.toml_span_read.proofs.ReadSound.{document_sound}
 use Rattle.toml_span_read.specs.declared.section.Section.{Section}
 use Rattle.toml_span_read.proofs.InsideLemmas.{document_inside}
 use Rattle.toml_span.specs.declared.claims.Sort.{Sort}
-use Rattle.toml_span.specs.declared.claims.Sort.TheVariants.{Passed, StandardTable, ArrayOfTables, TableElement, Dotted, Assigned}
 use Rattle.toml_span.specs.declared.claims.Blame.{Blame}
 use Rattle.toml_span.specs.declared.claims.Blame.TheVariants as blames
 use Rattle.toml_span.specs.declared.claims.Clash.{Clash as ClashFound}
@@ -20,13 +20,14 @@ use Rattle.toml_span.specs.declared.claims.Head.{Head}
 use Rattle.toml_span.specs.declared.claims.Mark.{Mark}
 use Rattle.toml_span.specs.declared.claims.Meeting.{Meeting}
 use Rattle.toml_span.specs.declared.sections.Grown.{Grown}
-use Rattle.toml_span.specs.Paths.{with_key, with_position, enter, elements_added, opened_by, section_path}
-use Rattle.toml_span.specs.Claims.{Claims, no_claims, claimed, scope, followed, header_claim, key_claims, value_claims, inner_claims, pair_claims, key_value_claims, array_claims, end_claims, header_claims, section_claims, claims_behind, claims, head_of}
-use Rattle.toml_span.specs.Clashes.{NamedClash, blame, meeting, meets, named, or_else}
+use Rattle.toml_span.specs.Paths.{with_key, enter, elements_added, opened_by, section_path}
+use Rattle.toml_span.specs.Claims.{Claims, no_claims, claimed, scope, followed, key_claims, value_claims, inner_claims, pair_claims, key_value_claims, end_claims, header_claims, section_claims, claims_behind, claims, head_of}
+use Rattle.toml_span.specs.Clashes.{NamedClash, blame, meeting, named}
 use Rattle.toml_span.specs.Flat.{by_header}
 use Rattle.toml_span.specs.code.Growing.{Grows, GrowsTo, IsGrownInside}
-use Rattle.toml_span.specs.code.Machine.{State, change, clash_met, clash_told, met, nothing, show_all, with_claim}
+use Rattle.toml_span.specs.code.Machine.{State, change, clash_met, nothing, show_all, with_claim}
 use Rattle.toml_span.specs.code.Marks.{IsHaltInside, partner}
+use Rattle.toml_span.proofs.EachClaim.{either-one}
 use Rattle.toml_span.proofs.Judged.{first-met}
 use Rattle.toml_span.proofs.Values.{first_in, told-array}
 
@@ -40,46 +41,22 @@ IsTold sort blames.DuplicateTable = by_header sort ≡ true
 IsTold sort blames.DuplicateKey = ⊤
 IsTold sort blames.RedefineAsArray = by_header sort ≡ true
 
-told_of_header : (sort : Sort) (o : Option Blame) → by_header sort ≡ true → IfSome o (IsTold sort)
-told_of_header sort None h = tt
-told_of_header sort (Some blames.DuplicateTable) h = h
-told_of_header sort (Some blames.DuplicateKey) h = tt
-told_of_header sort (Some blames.RedefineAsArray) h = h
-
 blame_told : (later earlier : Sort) → IfSome (blame earlier later) (IsTold later)
-blame_told Passed earlier = told_of_header Passed (blame earlier Passed) refl
-blame_told StandardTable earlier = told_of_header StandardTable (blame earlier StandardTable) refl
-blame_told ArrayOfTables earlier = told_of_header ArrayOfTables (blame earlier ArrayOfTables) refl
-blame_told TableElement earlier = told_of_header TableElement (blame earlier TableElement) refl
-blame_told Dotted Passed = tt
-blame_told Dotted earlier = tt
-blame_told Assigned Passed = tt
-blame_told Assigned earlier = tt
+blame_told later earlier = grind (arith, common_steps)
 
 meeting_inside : (n : ℕ) (earlier later : Mark) (o : Option Blame) → IfSome o (IsTold later.sort) → IsMarkInside n later → IfSome (option_map (meeting earlier later) o) (λ m. IsInside n m.span)
-meeting_inside n earlier later None told inside = tt
-meeting_inside n earlier later (Some blames.DuplicateTable) told inside = inside.1 told
-meeting_inside n earlier later (Some blames.DuplicateKey) told inside = inside.0
-meeting_inside n earlier later (Some blames.RedefineAsArray) told inside = inside.1 told
-
-or_else_if : {A : Type 0} (P : A → Type 0) (o p : Option A) → IfSome o P → IfSome p P → IfSome (or_else o p) P
-or_else_if P (Some x) p h i = h
-or_else_if P None p h i = i
+meeting_inside n earlier later o told inside = grind (arith, common_steps)
 
 partner_inside : (n : ℕ) (marks : List Mark) (later : Mark) → IsMarkInside n later → IfSome (partner marks later) (λ m. IsInside n m.span)
 partner_inside n [] later inside = tt
-partner_inside n (earlier ∷ marks) later inside =
-    or_else_if (λ m. IsInside n m.span) (meets earlier later) (partner marks later)
-    (meeting_inside n earlier later (blame earlier.sort later.sort) (blame_told later.sort earlier.sort) inside)
-    (partner_inside n marks later inside)
+partner_inside n (earlier ∷ marks) later inside = grind (arith, nat_tests, common_steps, blame_told, either-one, meeting_inside, partner_inside n marks later inside)
 
 -- a clash is told there
 abbrev In : ℕ → NamedClash → Type 0
 In n t = IsInside n t.meeting.span
 
 named_inside : (n : ℕ) (name : List ℕ) (o : Option Meeting) → IfSome o (λ m. IsInside n m.span) → IfSome (option_map (named name) o) (In n)
-named_inside n name None h = tt
-named_inside n name (Some m) h = h
+named_inside n name o h = grind (arith, nat_tests, common_steps)
 
 -- ---- claims
 
@@ -93,10 +70,8 @@ Told n (scope inner cs) = IfSome (clash_met nothing inner) (In n) × Told n cs
 told_inside : (n : ℕ) (st : State) (cs : Claims) → Told n cs → IfSome (clash_met st cs) (In n)
 unfolding clash_met
 told_inside n st no_claims h = tt
-told_inside n st (claimed c cs) h =
-    or_else_if (In n) (met (st c.path).marks c.mark c.name) (clash_met (change st c.path (with_claim c)) cs)
-    (named_inside n c.name (partner (st c.path).marks c.mark) (partner_inside n (st c.path).marks c.mark h.0)) (told_inside n (change st c.path (with_claim c)) cs h.1)
-told_inside n st (scope inner cs) h = or_else_if (In n) (clash_met nothing inner) (clash_met (show_all st inner) cs) h.0 (told_inside n (show_all st inner) cs h.1)
+told_inside n st (claimed c cs) h = grind (arith, nat_tests, common_steps, either-one, named_inside, partner_inside, told_inside n (change st c.path (with_claim c)) cs)
+told_inside n st (scope inner cs) h = either-one (In n) (clash_met nothing inner) (clash_met (show_all st inner) cs) h.0 (told_inside n (show_all st inner) cs h.1)
 
 followed_told : (n : ℕ) (xs ys : Claims) → Told n xs → Told n ys → Told n (followed xs ys)
 unfolding followed
@@ -125,7 +100,7 @@ mutual
 
   items_told : (n : ℕ) (vs : ParsedItems) → ItemKeysInside n vs → IfSome (first_in vs) (In n)
   items_told n no_items h = tt
-  items_told n (item v vs) h = or_else_if (In n) (clash_met nothing (value_claims v [])) (first_in vs) (told_inside n nothing (value_claims v []) (value_told n v [] h.0)) (items_told n vs h.1)
+  items_told n (item v vs) h = either-one (In n) (clash_met nothing (value_claims v [])) (first_in vs) (told_inside n nothing (value_claims v []) (value_told n v [] h.0)) (items_told n vs h.1)
 
   pairs_told : (n : ℕ) (ps : ParsedPairs) (p : Path) → PairKeysInside n ps → Told n (pair_claims ps p)
   pairs_told n no_pairs p h = tt
@@ -135,22 +110,13 @@ mutual
 key_values_told : (n : ℕ) (es : List KeyValue) (p : Path) → KeyValuesInside n es → Told n (key_value_claims es p)
 unfolding key_value_claims
 key_values_told n [] p h = tt
-key_values_told n (e ∷ es) p h =
-    followed_told n (key_claims p e.parts e.value (value_claims e.value)) (key_value_claims es p)
-    (key_told n p e.parts e.value (value_claims e.value) h.0.0 (λ q. value_told n e.value q h.0.1)) (key_values_told n es p h.1)
+key_values_told n (e ∷ es) p h = grind (arith, nat_tests, common_steps, followed_told, key_told, value_told, key_values_told n es p)
 
 -- ---- sections
 
 end_told : (n : ℕ) (h : Head) (p : Path) (k : SimpleKey) (i : ℕ) → IsInside n h.line → IsInside n k.span → Told n (end_claims h p k i)
 unfolding end_claims
-end_told n h p k i line key = elim (cases_Bool h.array) [
-  | inl arr ↦ rw arr (added i)
-  | inr tab ↦ rw tab ((key, λ e. line), tt)
-]
-  where
-    added : (i : ℕ) → Told n (array_claims h p k i (claimed (header_claim h TableElement (with_position p i) k) no_claims))
-    added zero = ((key, λ e. line), ((key, λ e. line), tt))
-    added (suc i) = ((key, λ e. line), tt)
+end_told n h p k i line key = grind (arith, nat_tests, common_steps)
 
 header_told : (n : ℕ) (e : Path → ℕ) (h : Head) (p : Path) (parts : List SimpleKey) → IsInside n h.line → PartsInside n parts → Told n (header_claims e h p parts)
 unfolding header_claims
@@ -174,18 +140,17 @@ behind_told n earlier (s ∷ ss) h =
 is_inside : (n : ℕ) (o : Option NamedClash) (t : NamedClash) → o ≡ Some t → IfSome o (In n) → In n t
 is_inside n o t is h = rw is at h
 
-pub grown_inside : (text : List ℕ) (limit : ℕ) (ss : List Section) (g : Grown) → SpellsDocument (map block ss) text limit → Grows (map block ss) g → IsGrownInside (length text) g
-grown_inside text limit ss g spelled = go g.clash
+pub grown_inside : (text : List ℕ) (limit : ℕ) (ss : List Section) (g : Grown) → read.document text limit (Ok (map block ss)) → Grows (map block ss) g → IsGrownInside (length text) g
+grown_inside text limit ss g given = go g.clash
   where
-    go : (o : Option ClashFound) → GrowsTo (map block ss) g.root o → IfSome o (λ c. IsInside (length text) c.meeting.span)
+    go : (o : Option (Box ClashFound)) → GrowsTo (map block ss) g.root o → IfSome o (λ c. IsInside (length text) (box_value c).meeting.span)
     go None grows = tt
     go (Some c) grows =
-        let all = claims (map block ss ++ []) in
-        is_inside (length text) (clash_met nothing all) (clash_told c) (sym (first-met all) ∙ grows [] tt)
-        (told_inside (length text) nothing all
-        (subst (λ bs. Told (length text) (claims bs)) (sym (append-nil (map block ss))) (behind_told (length text) [] ss (document_inside ss text limit spelled))))
+        let told = told_inside (length text) nothing (claims (map block ss)) (behind_told (length text) [] ss (document_inside ss text limit (document_sound (map block ss) text limit given))) in
+        let first = grows [] tt in
+        grind (arith, nat_tests, common_steps, first-met, append-nil)
 
 -- ---- halts
 
-pub clash_inside : (n : ℕ) (halt : Halt) (c : ClashFound) → halt ≡ Clash c → IsHaltInside n halt → IsInside n c.meeting.span
+pub clash_inside : (n : ℕ) (halt : Halt) (c : Box ClashFound) → halt ≡ Clash c → IsHaltInside n halt → IsInside n (box_value c).meeting.span
 clash_inside n halt c is h = rw is at h

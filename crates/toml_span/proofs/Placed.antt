@@ -1,73 +1,50 @@
 -- One placing after another, and below a step.
-use Rattle.std.proofs.Common.{◌≡◌, ℕ, Bool, true, false, List, [], ◌∷◌, Option, Some, None, option_map, Result, Ok, Err, OnOk, cond, refl, sym, ap, ◌∙◌, subst, inl, inr}
-use Rattle.std.specs.Box.{box_value}
-use Rattle.std.specs.BTreeMap.{BTreeMap, insert_entry}
-use Rattle.std.specs.Cow.{cow_str_bytes}
-use Rattle.std.specs.Global.{Box}
-use Rattle.std.specs.Map.{lookup}
-use Rattle.std.specs.Result.{IsErrAnd}
-use Rattle.std.specs.Str.{bytes_eq}
-use Rattle.std.proofs.lemmas.Bool.{false≢true}
-use Rattle.std.proofs.lemmas.Slice.Eq.{bytes_eq-Decides}
-use Rattle.std.proofs.lemmas.Option.{none-some}
+use Rattle.toml_span_lex.proofs.Common.{◌≡◌, ℕ, Bool, false, List, [], ◌∷◌, Option, Some, None, option_map, Result, Ok, Err, OnOk, cond, refl, sym, ap, ◌∙◌, subst, inl, inr, box_value, BTreeMap, insert_entry, cow_str_bytes, Box, lookup, IsErrAnd, bytes_eq, bytes_eq-Decides, arith, nat_tests, common_steps}
 use Rattle.toml_span_tree.specs.Path.{Path, Step, key, position}
-use Rattle.toml_span_tree.specs.Value.{span_of, view}
+use Rattle.toml_span_tree.specs.Value.{span_of}
 use Rattle.toml_span_tree.proofs.Values.{view_is}
 use Rattle.toml_span_tree.specs.declared.value.Value.{Value}
 use Rattle.toml_span_lex.specs.declared.key.Key.{Key}
-use Rattle.toml_span.specs.declared.claims.Blame.{Blame}
 use Rattle.toml_span.specs.declared.claims.Mark.{Mark}
-use Rattle.toml_span.specs.declared.claims.Meeting.{Meeting}
 use Rattle.toml_span.specs.declared.claims.Sort.{Sort}
-use Rattle.toml_span.specs.declared.claims.Sort.TheVariants.{ArrayOfTables, TableElement, Assigned}
+use Rattle.toml_span.specs.declared.claims.Sort.TheVariants.{ArrayOfTables, Assigned}
 use Rattle.toml_span.specs.declared.claims.Halt.{Halt}
 use Rattle.toml_span.specs.declared.claims.Halt.TheVariants.{Memory, Clash}
 use Rattle.toml_span.specs.declared.branch.Branch.{Branch}
 use Rattle.toml_span.specs.declared.branch.Branch.TheViews.{roll-Branch, out-Branch}
 use Rattle.toml_span_read.proofs.EarlierTree.{key_cmp}
 use Rattle.toml_span.specs.Claims.{Claim, Claims, claimed, followed, pair_mark}
-use Rattle.toml_span.specs.Clashes.{NamedClash, blame, meeting, named, or_else}
-use Rattle.toml_span.specs.code.Machine.{Gives, change, with_claim, met, clash_met, clash_told, put_all, graft}
-use Rattle.toml_span.specs.code.Marks.{partner}
+use Rattle.toml_span.specs.Clashes.{NamedClash, blame, named}
+use Rattle.toml_span.specs.code.Machine.{Gives, met, clash_met, put_all, graft}
 use Rattle.toml_span.specs.code.Placing.{Reaches, Places, Passes}
 use Rattle.toml_span.specs.code.Relative.{under}
 use Rattle.toml_span.specs.Paths.{same_step}
-use Rattle.toml_span.specs.code.Tree.{is_named, marks, entries, child, child_in, closed, closed_marks, cells, counts, is_array_sort, is_entry_sort, IsChild, IsFresh, IsHeld, IsNamed, IsScope, IsTableOrArray, Sound}
+use Rattle.toml_span.specs.code.Tree.{is_named, marks, entries, child, child_in, closed, closed_marks, cells, counts, is_array_sort, is_entry_sort, IsChild, IsFresh, IsHeld, IsNamed, IsScope, Sound}
 use Rattle.toml_span.proofs.Grafts.{told-followed, put_all-followed, told-under, put_all-under}
 use Rattle.toml_span.proofs.KeyMaps.{puts-insert}
-use Rattle.toml_span.proofs.Nodes.{Slot, Sets, cells-found, cells-missing, cells-slot, cells-sets, counts-found, counts-missing, counts-named, cells-fresh, counts-fresh, good-child, scope-fresh, scope-named, sets-roll, slot, slot_in, sound-good, sound-shape}
+use Rattle.toml_span.proofs.Nodes.{Slot, Sets, cells-at, cells-slot, cells-sets, counts-at, counts-named, cells-fresh, counts-fresh, good-child, scope-fresh, scope-named, sets-roll, slot, slot_in, sound-good, sound-shape}
 
 -- ---- what is given
 
 pub gives-map : {A : Type 0} (r : Result A Halt) (o p : Option NamedClash) (P Q : A → Type 0) → p ≡ o → ((x : A) → P x → Q x) → Gives r o P → Gives r p Q
-gives-map (Ok x) o p P Q same more h = (same ∙ h.0, more x h.1)
-gives-map (Err (Clash c)) o p P Q same more h = same ∙ h
-gives-map (Err (Memory e)) o p P Q same more h = tt
+gives-map r o p P Q same more h = grind (arith, nat_tests, common_steps)
 
 pub gives-err : {A B : Type 0} (r : Result B Halt) (e : Halt) (o p : Option NamedClash) (P : A → Type 0) (Q : B → Type 0)
     → r ≡ Err e → ((t : NamedClash) → o ≡ Some t → p ≡ Some t) → Gives {A = A} (Err e) o P → Gives r p Q
-gives-err r (Clash c) o p P Q is more h = rw is (more (clash_told c) h)
-gives-err r (Memory e) o p P Q is more h = rw is tt
+gives-err r e o p P Q is more h = grind (arith, nat_tests, common_steps)
 
 -- what `?` passes on
 pub err-of : {A : Type 0} (r : Result A Halt) (e : Halt) (Q : Halt → Type 0) → IsErrAnd r Q → ((y : Halt) → Q y → y ≡ e) → r ≡ Err e
-err-of (Ok x) e Q h k = absurd h
-err-of (Err y) e Q h k = ap Err (k y h)
+err-of r e Q h k = grind (arith, nat_tests, common_steps)
 
 pub on_ok : {A E : Type 0} (r : Result A E) (P : Type 0) → P → OnOk r P
-on_ok (Ok x) P h = h
-on_ok (Err e) P h = tt
+on_ok r P h = grind (arith, nat_tests, common_steps)
 
 -- ---- one after another
 
 pub reaches-then : (A B C : Branch → Type 0) (old mid new : Branch) (r : Result (Unit {0}) Halt) (xs ys : Claims) (c d : Path → ℕ)
     → Reaches A B old mid (Ok tt) xs c → Reaches B C mid new r ys d → Reaches A C old new r (followed xs ys) d
-reaches-then A B C old mid new r xs ys c d h g before =
-    let first = h before in
-    gives-map r (clash_met (cells mid) ys) (clash_met (cells old) (followed xs ys)) _ _
-    (told-followed (cells old) xs ys ∙ ap (λ o. or_else o (clash_met (put_all (cells old) xs) ys)) first.0 ∙ ap (λ f. clash_met f ys) (sym first.1.0))
-    (λ u h. (h.0 ∙ ap (λ f. put_all f ys) first.1.0 ∙ sym (put_all-followed (cells old) xs ys), h.1, h.2))
-    (g first.1.2)
+reaches-then A B C old mid new r xs ys c d h g before = grind (arith, nat_tests, common_steps, gives-map, put_all-followed, told-followed)
 
 -- what is placed below a step, from a branch x on that becomes w
 pub reaches-below : (A B C D : Branch → Type 0) (s : Step) (n new x w : Branch) (r : Result (Unit {0}) Halt) (cs : Claims) (c d : Path → ℕ)
@@ -84,22 +61,16 @@ reaches-below A B C D s n new x w (Err (Memory e)) cs c d at start set h before 
 
 -- where it stops, nothing is said of the branch and of its entries
 pub reaches-stops : (A B : Branch → Type 0) (n new other : Branch) (e : Halt) (cs : Claims) (c d : Path → ℕ) → Reaches A B n other (Err e) cs c → Reaches A B n new (Err e) cs d
-reaches-stops A B n new other (Clash t) cs c d h = h
-reaches-stops A B n new other (Memory e) cs c d h = h
+reaches-stops A B n new other e cs c d h = grind (arith, nat_tests, common_steps)
 
 -- ---- below a name
 
 -- whatever stands at a name is chosen by the name, and both parts of a slot
 pub cond-same : {A : Type 0} (k l : List ℕ) (f : List ℕ → A) → f l ≡ cond (bytes_eq k l) (f k) (f l)
-cond-same k l f = go (bytes_eq k l) refl
-  where
-    go : (b : Bool) → bytes_eq k l ≡ b → f l ≡ cond b (f k) (f l)
-    go true is = ap f (sym ((bytes_eq-Decides k l).0 is))
-    go false is = refl
+cond-same k l f = grind (arith, nat_tests, common_steps, bytes_eq-Decides)
 
 pub cond-slot : (b : Bool) (x y : Slot) → (cond b x.0 y.0, cond b x.1 y.1) ≡ cond b x y
-cond-slot true x y = refl
-cond-slot false x y = refl
+cond-slot b x y = grind (arith, nat_tests, common_steps)
 
 -- the branch, with other branches by name
 abbrev pub with_tables : Branch → BTreeMap Key (Box Branch) → Branch
@@ -110,50 +81,50 @@ pub sets-entry : (n : Branch) (tables made : BTreeMap Key (Box Branch)) (k : Lis
     → made.entries ≡ insert_entry key_cmp (out-Branch n).tables.entries name w → tables ≡ made → Sets (key k) (Some (box_value w), closed k n) n (with_tables n tables)
 sets-entry n tables made k name w is written same = sets-roll (key k) (Some (box_value w), closed k n) n (record { marks = (out-Branch n).marks; values = (out-Branch n).values; tables = tables; entries = (out-Branch n).entries }) refl at
   where
-    put : (c : Bool) (o : Option (Box Branch)) → option_map box_value (cond c (Some w) o) ≡ cond c (Some (box_value w)) (option_map box_value o)
-    put true o = refl
-    put false o = refl
-
     named_now : (l : List ℕ) → child_in l tables ≡ cond (bytes_eq k l) (Some (box_value w)) (child l n)
-    named_now l =
-        ap (λ es. option_map box_value (lookup (is_named l) es)) (ap (λ (m : BTreeMap Key (Box Branch)). m.entries) same ∙ written) ∙ ap (option_map box_value) (puts-insert name w (out-Branch n).tables.entries l)
-        ∙ put (bytes_eq (cow_str_bytes name.name) l) (lookup (is_named l) (out-Branch n).tables.entries) ∙ ap (λ q. cond (bytes_eq q l) (Some (box_value w)) (child l n)) is
+    named_now l = grind (arith, nat_tests, common_steps, puts-insert)
 
     at : (t : Step) → slot_in t (record { marks = (out-Branch n).marks; values = (out-Branch n).values; tables = tables; entries = (out-Branch n).entries }) ≡ cond (same_step (key k) t) (Some (box_value w), closed k n) (slot t n)
     at (key l) = (λ i. (named_now l i, cond-same k l (λ l. closed l n) i)) ∙ cond-slot (bytes_eq k l) (Some (box_value w), closed k n) (slot (key l) n)
     at (position i) = refl
 
--- what is placed in the branch of a name, which may be a fresh one
-places-below : (n new x w : Branch) (k : List ℕ) (r : Result (Unit {0}) Halt) (cs : (Path → ℕ) → Claims) (c : (Path → ℕ) → Path → ℕ)
-    → (λ p. cells n (key k ∷ p)) ≡ cells x → (λ p. counts n (key k ∷ p)) ≡ counts x → (IsScope n → (closed k n ≡ None) × IsChild x)
-    → Sets (key k) (Some w, closed k n) n new → Passes x w r (cs (counts x)) (c (counts x))
-    → Places n new r (under (key k) (cs (λ p. counts n (key k ∷ p)))) (graft (key k) (counts n) (c (λ p. counts n (key k ∷ p))))
-places-below n new x w k r cs c at count start sets h =
-    subst (λ f. Places n new r (under (key k) (cs f)) (graft (key k) (counts n) (c f))) (sym count)
-    (reaches-below IsScope (λ m. IsScope m × (marks m ≡ marks n)) IsChild IsHeld (key k) n new x w r (cs (counts x)) (c (counts x)) (graft (key k) (counts n) (c (counts x))) at (λ before. (start before).1)
-    (on_ok r _ (λ before held. (
-      cells-sets (key k) (Some w, closed k n) n new sets,
-      λ same. counts-named k (Some w, closed k n) n new sets before ∙ ap (graft (key k) (counts n)) same,
-      scope-named k (Some w, closed k n) n new sets ((start before).0, held.1, held.0) before,
-    ))) h)
-
 -- the branch of a name in a scope
 pub held-child : (n x : Branch) (k : List ℕ) → child k n ≡ Some x → IsScope n → (closed k n ≡ None) × IsNamed (marks x) × Sound x
 held-child n x k found before = good-child n k x (sound-good n before.0 (key k)) found
 
-pub places-found : (n new x w : Branch) (k : List ℕ) (r : Result (Unit {0}) Halt) (cs : (Path → ℕ) → Claims) (c : (Path → ℕ) → Path → ℕ)
-    → child k n ≡ Some x → Sets (key k) (Some w, closed k n) n new → Passes x w r (cs (counts x)) (c (counts x))
-    → Places n new r (under (key k) (cs (λ p. counts n (key k ∷ p)))) (graft (key k) (counts n) (c (λ p. counts n (key k ∷ p))))
-places-found n new x w k r cs c found sets h =
-    places-below n new x w k r cs c (cells-found n (key k) x found) (counts-found n (key k) x found)
-    (λ scope. let held = held-child n x k found scope in (held.0, (held.2, inr held.1))) sets h
+-- x stands at the name k, or is a fresh branch where nothing does
+pub record Starts (n x : Branch) (k : List ℕ) : Type 0 where
+  pub shown : (λ p. cells n (key k ∷ p)) ≡ cells x
+  pub counted : (λ p. counts n (key k ∷ p)) ≡ counts x
+  pub is_open : IsScope n → (closed k n ≡ None) × IsChild x
 
-pub places-new : (n new x w : Branch) (k : List ℕ) (r : Result (Unit {0}) Halt) (cs : (Path → ℕ) → Claims) (c : (Path → ℕ) → Path → ℕ)
-    → child k n ≡ None → closed k n ≡ None → IsFresh x → Sets (key k) (Some w, closed k n) n new → Passes x w r (cs (counts x)) (c (counts x))
+pub starts-found : (n x : Branch) (k : List ℕ) → child k n ≡ Some x → Starts n x k
+starts-found n x k found = record {
+  shown = cells-at n (key k) (Some x) found;
+  counted = counts-at n (key k) (Some x) found;
+  is_open = λ scope. let held = held-child n x k found scope in (held.0, (held.2, inr held.1));
+}
+
+pub starts-new : (n x : Branch) (k : List ℕ) → child k n ≡ None → closed k n ≡ None → IsFresh x → Starts n x k
+starts-new n x k missing free fresh = record {
+  shown = cells-slot n (key k) (None, None) (λ i. (missing i, free i)) ∙ sym (cells-fresh x fresh);
+  counted = counts-at n (key k) None missing ∙ sym (counts-fresh x fresh);
+  is_open = λ scope. (free, ((scope-fresh x fresh).0, inl fresh));
+}
+
+-- what is placed in the branch of a name
+pub places-below : (n new x w : Branch) (k : List ℕ) (r : Result (Unit {0}) Halt) (cs : (Path → ℕ) → Claims) (c : (Path → ℕ) → Path → ℕ)
+    → Starts n x k → Sets (key k) (Some w, closed k n) n new → Passes x w r (cs (counts x)) (c (counts x))
     → Places n new r (under (key k) (cs (λ p. counts n (key k ∷ p)))) (graft (key k) (counts n) (c (λ p. counts n (key k ∷ p))))
-places-new n new x w k r cs c missing free fresh sets h =
-    places-below n new x w k r cs c (cells-slot n (key k) (None, None) (λ i. (missing i, free i)) ∙ sym (cells-fresh x fresh))
-    (counts-missing n (key k) missing ∙ sym (counts-fresh x fresh)) (λ scope. (free, ((scope-fresh x fresh).0, inl fresh))) sets h
+places-below n new x w k r cs c start sets h =
+    subst (λ f. Places n new r (under (key k) (cs f)) (graft (key k) (counts n) (c f))) (sym start.counted)
+    (reaches-below IsScope (λ m. IsScope m × (marks m ≡ marks n)) IsChild IsHeld (key k) n new x w r (cs (counts x)) (c (counts x))
+    (graft (key k) (counts n) (c (counts x))) start.shown (λ before. (start.is_open before).1)
+    (on_ok r _ (λ before held. (
+      cells-sets (key k) (Some w, closed k n) n new sets,
+      λ same. counts-named k (Some w, closed k n) n new sets before ∙ ap (graft (key k) (counts n)) same,
+      scope-named k (Some w, closed k n) n new sets ((start.is_open before).0, held.1, held.0) before,
+    ))) h)
 
 -- ---- a claim that clashes at a name
 
@@ -161,9 +132,7 @@ pub places-refused : (n new : Branch) (k : List ℕ) (r : Result (Unit {0}) Halt
     → c.path ≡ [] → (IsScope n → OnOk r ⊥ × Gives r (met (cells n (key k ∷ [])).marks c.mark c.name) P) → Places n new r (under (key k) (claimed c cs)) d
 unfolding clash_met
 places-refused n new k (Ok u) c cs P d here h before = absurd (h before).0
-places-refused n new k (Err (Clash t)) c cs P d here h before =
-    told-under (key k) (cells n) (claimed c cs)
-    ∙ ap (λ o. or_else o (clash_met (change (λ q. cells n (key k ∷ q)) c.path (with_claim c)) cs)) (ap (λ p. met (cells n (key k ∷ p)).marks c.mark c.name) here ∙ (h before).1)
+places-refused n new k (Err (Clash t)) c cs P d here h before = grind (arith, nat_tests, common_steps, told-under)
 places-refused n new k (Err (Memory e)) c cs P d here h before = tt
 
 -- with a value of the name
@@ -171,41 +140,29 @@ pub places-beside : (n new : Branch) (k : List ℕ) (q : Result (Unit {0}) Halt)
     → child k n ≡ None → c.path ≡ [] → q ≡ Err e → Gives (Err e) (met (closed_marks (closed k n)) c.mark c.name) P
     → Places n new q (under (key k) (claimed c cs)) d
 places-beside n new k q e c cs P d missing here same h =
-    subst (λ q. Places n new q (under (key k) (claimed c cs)) d) (sym same) (places-refused n new k (Err e) c cs P d here
-    (λ before. (tt, subst (λ ms. Gives (Err e) (met ms c.mark c.name) P) (sym (ap (λ f. (f []).marks) (cells-missing n (key k) missing))) h)))
+    rw same (places-refused n new k (Err e) c cs P d here (λ before. (tt, rw (ap (λ f. (f []).marks) (cells-at n (key k) None missing)) h)))
 
 -- ---- what clashes
 
 -- each claim at a name with a value, and that of a table with an array
 pub named-clashes : (s : Sort) → is_entry_sort s ≡ false → (blame s Assigned ≡ None → ⊥) × (blame Assigned s ≡ None → ⊥) × (is_array_sort s ≡ false → blame s ArrayOfTables ≡ None → ⊥)
-named-clashes TableElement e = absurd (false≢true (sym e))
-named-clashes s e = (λ h. cc, λ h. cc, λ a h. cc)
+named-clashes s e = grind (arith, nat_tests, common_steps)
 
 -- what clashes with none does not clash with the first one
 pub met-first : (x m : Mark) (ms : List Mark) (name : List ℕ) → met (x ∷ ms) m name ≡ None → blame x.sort m.sort ≡ None
-met-first x m ms name h = go (blame x.sort m.sort) (partner ms m) h
-  where
-    go : (o : Option Blame) (p : Option Meeting) → option_map (named name) (or_else (option_map (meeting x m) o) p) ≡ None → o ≡ None
-    go None p h = refl
-    go (Some b) p h = absurd (none-some (named name (meeting x m b)) (sym h))
+met-first x m ms name h = grind (arith, nat_tests, common_steps)
 
 -- what clashes with each array of tables is claimed of a table
 pub not-array : (n : Branch) (m : Mark) (name : List ℕ) → (blame ArrayOfTables m.sort ≡ None → ⊥) → met (marks n) m name ≡ None → Sound n → entries n ≡ []
-not-array n m name clashes free h = go (entries n) (sound-shape n h)
-  where
-    go : (xs : List Branch) → IsTableOrArray n xs → xs ≡ []
-    go [] shape = refl
-    go (x ∷ xs) array = absurd (clashes (ap (λ s. blame s m.sort) (sym array.array) ∙ met-first array.claim m [] name (ap (λ l. met l m name) (sym array.only) ∙ free)))
+not-array n m name clashes free h = grind (arith, nat_tests, common_steps, met-first, sound-shape)
 
 -- where nothing clashes with it there is none
 pub unclosed : (o : Option (Key × Value)) (m : Mark) (name : List ℕ) → met (closed_marks o) m name ≡ None → is_entry_sort m.sort ≡ false → o ≡ None
-unclosed None m name h named = refl
-unclosed (Some e) m name h named = absurd ((named-clashes m.sort named).1 (met-first (pair_mark Assigned e.0.span (span_of (view e.1))) m [] name h))
+unclosed o m name h named = grind (arith, nat_tests, common_steps, met-first, named-clashes)
 
 -- two values that are assigned to one name clash
 pub assigned_twice : (r : Result (Unit {0}) Halt) (a b : Mark) (name : List ℕ) (Q : Unit {0} → Type 0) (P : Type 0) → a.sort ≡ Assigned → b.sort ≡ Assigned → Gives r (met (a ∷ []) b name) Q → OnOk r P
-assigned_twice (Ok x) a b name Q P d e h = let clash = rw (d, e) at h.0 in absurd (none-some _ (sym clash))
-assigned_twice (Err e) a b name Q P d f h = tt
+assigned_twice r a b name Q P d e h = grind (arith, nat_tests, common_steps)
 
 -- ---- maps by name
 

@@ -1,6 +1,6 @@
 -- What the reader and the assembly give is what `parse` gives.
-use Rattle.std.proofs.Common.{◌≡◌, Some, ℕ, Bool, true, false, List, [], ◌∷◌, ◌++◌, length, inl, refl, sym, subst, Result, Ok, Err}
-use Rattle.std.specs.Result.{IfOk}
+use Rattle.std.specs.Global.{Box}
+use Rattle.toml_span_lex.proofs.Common.{◌≡◌, Some, ℕ, Bool, true, false, List, [], ◌∷◌, ◌++◌, length, inl, Result, Ok, Err, IfOk, arith, nat_tests, common_steps}
 use Rattle.toml_span_lex.specs.declared.stop.Stop.{Stop}
 use Rattle.toml_span_lex.specs.declared.stop.Stop.TheVariants as stops
 use Rattle.toml_span_tree.specs.declared.error.Error.{Error}
@@ -8,11 +8,12 @@ use Rattle.toml_span_tree.specs.declared.value.Value.{Value}
 use Rattle.toml_span_read.specs.declared.fault.Fault.{Fault}
 use Rattle.toml_span_tree.specs.Error.{content_of}
 use Rattle.toml_span_tree.specs.Value.{is_whole, view}
-use Rattle.toml_span_read.specs.Data.{KeyValue, Block}
+use Rattle.toml_span_read.specs.Data.{KeyValue, Block, first_block}
 use Rattle.toml_span_read.specs.code.Faults.{IsPlacedStop}
 use Rattle.toml_span_read.specs.Faults.{Tells}
 use Rattle.toml_span_read.specs.Keys.{SimpleKey, SpellsKey}
-use Rattle.toml_span_read.specs.Grammar.{SpellsDocument, SpellsSections, first_block}
+use Rattle.toml_span_read.specs.Read as read
+use Rattle.toml_span_read.specs.Grammar.{SpellsDocument, SpellsSections}
 use Rattle.toml_span.specs.declared.claims.Clash.{Clash}
 use Rattle.toml_span.specs.declared.claims.Halt.{Halt}
 use Rattle.toml_span.specs.declared.claims.Halt.TheVariants as halts
@@ -38,27 +39,24 @@ some_part array text i j ps key none = absurd (rw none at key)
 
 sections-headed : (bs : List Block) (text : List ℕ) (limit i : ℕ) → SpellsSections bs text limit i → AreSections bs
 sections-headed [] text limit i h = tt
-sections-headed (b ∷ bs) text limit i (j, here, rest) =
-    (some_part b.array text _ _ b.header here.header.front.key, sections-headed bs text limit j rest)
+sections-headed (b ∷ bs) text limit i (j, here, rest) = grind (arith, nat_tests, common_steps, some_part, sections-headed bs text limit j rest)
 
 pub first-headed : (evs : List KeyValue) (bs : List Block) → AreSections bs → AreSections (first_block evs ++ bs)
-first-headed [] bs h = h
-first-headed (ev ∷ evs) bs h = (λ none. refl, h)
+first-headed evs bs h = grind (arith, nat_tests, common_steps)
 
 -- only a section without a header has no parts, and that is no array of tables
 pub spelled-headed : (bs : List Block) (text : List ℕ) (limit : ℕ) → SpellsDocument bs text limit → AreSections bs
-spelled-headed bs text limit h =
-    subst AreSections (sym h.all) (first-headed h.first h.rest (sections-headed h.rest text limit h.end h.sections))
+spelled-headed bs text limit h = grind (arith, nat_tests, common_steps, first-headed, sections-headed)
 
 -- ---- their tree, or their first clash
 
-pub answers-tree : (text : List ℕ) (limit : ℕ) (bs : List Block) (root : Value) → SpellsDocument bs text limit → Assembles bs (length text) (Ok root) → Answers text limit (Ok root)
-answers-tree text limit bs root spelled (resolves, shows, ordered) = (bs, (spelled, resolves), record { shows = shows; ordered = ordered })
+pub answers-tree : (text : List ℕ) (limit : ℕ) (bs : List Block) (root : Value) → read.document text limit (Ok bs) → Assembles bs (length text) (Ok root) → Answers text limit (Ok root)
+answers-tree text limit bs root given (resolves, shows, ordered) = (bs, (given, resolves), record { shows = shows; ordered = ordered })
 
 pub whole-tree : (text : List ℕ) (limit : ℕ) (r : Result Value (Stop Error)) → Answers text limit r → IfOk r (λ root. is_whole (view root) ≡ true)
 whole-tree text limit (Err stop) h = tt
 whole-tree text limit (Ok root) (bs, has, tree) = shown-whole (view root) (length text) bs (one-each (view root) tree.ordered) tree.shows
 
 -- where the assembly ends at a clash it is the first one
-pub first-of-halt : (bs : List Block) (n : ℕ) (halt : Halt) (c : Clash) → halt ≡ halts.Clash c → Assembles bs n (Err halt) → first_clash (claims bs) ≡ Some (clash_told c)
+pub first-of-halt : (bs : List Block) (n : ℕ) (halt : Halt) (c : Box Clash) → halt ≡ halts.Clash c → Assembles bs n (Err halt) → first_clash (claims bs) ≡ Some (clash_told c)
 first-of-halt bs n halt c is h = rw is at h

@@ -1,10 +1,7 @@
 -- What a state shows is what the flat document says.
-use Rattle.std.proofs.Common.{◌≡◌, ℕ, Bool, true, false, List, [], ◌∷◌, ◌++◌, Option, Some, None, option_map, refl, sym, ap, ◌∙◌, inl, inr}
-use Rattle.std.specs.Prelude.{⊤}
-use Rattle.std.proofs.lemmas.Bool.{cases_Bool}
+use Rattle.toml_span_lex.proofs.Common.{◌≡◌, ℕ, Bool, true, false, List, [], ◌∷◌, ◌++◌, Option, Some, None, option_map, refl, sym, ap, ◌∙◌, inl, inr, if◌then◌else◌, ⊤, cases_Bool, arith, nat_tests, common_steps}
 use Rattle.toml_span_tree.specs.Path.{Path, Step, Place}
 use Rattle.toml_span_read.specs.Data.{KeyValue}
-use Rattle.toml_span.specs.Paths.{same_path}
 use Rattle.toml_span.specs.Claims.{Claim, Claims, no_claims, claimed, scope, key_value_claims}
 use Rattle.toml_span.specs.Clashes.{or_else}
 use Rattle.toml_span.specs.Flat.{all_claims, claims_at, first_claim_by_header, deciding_claim, flat, by_header}
@@ -12,66 +9,85 @@ use Rattle.toml_span.specs.code.Machine.{Cell, State, Decided, nothing, decide, 
 use Rattle.toml_span.specs.code.Placing.{place_shown}
 use Rattle.toml_span.proofs.EachClaim.{Each, key_values-each}
 
+-- ---- one after another
+
+abbrev by_some : Bool → Place → Option Decided
+by_some header place = Some (record { header = header; place = place })
+
+-- what some claims, or marks, decide, of which `by` is the first one of a header
+module _ (A : Type 0) (d : A → Decided) (by : List A → Option A) where
+  unfoldable pub shown_by : Option Decided → List A → Option Decided
+  shown_by o [] = o
+  shown_by o (x ∷ xs) = shown_by (decide o (d x)) xs
+
+  pub shown_by-append : (o : Option Decided) (xs ys : List A) → shown_by o (xs ++ ys) ≡ shown_by (shown_by o xs) ys
+  unfolding shown_by
+  shown_by-append o [] ys = refl
+  shown_by-append o (x ∷ xs) ys = shown_by-append (decide o (d x)) xs ys
+
+  module _ (none : by [] ≡ None) (some : (x : A) (xs : List A) → by (x ∷ xs) ≡ (if (d x).header then Some x else by xs)) where
+    -- a header that has decided stays
+    shown_by-header : (place : Place) (xs : List A) → shown_by (by_some true place) xs ≡ by_some true place
+    unfolding shown_by
+    shown_by-header place [] = refl
+    shown_by-header place (x ∷ xs) = shown_by-header place xs
+
+    -- behind an assignment the first header still decides
+    shown_by-plain : (place : Place) (xs : List A) → shown_by (by_some false place) xs ≡ or_else (option_map d (by xs)) (by_some false place)
+    unfolding shown_by
+    shown_by-plain place [] = rw none refl
+    shown_by-plain place (x ∷ xs) = grind (arith, nat_tests, common_steps, some x xs, shown_by-header (d x).place xs, shown_by-plain place xs)
+
+    -- the first header decides, or else the first of them
+    pub shown_by-none : (x : A) (xs : List A) → shown_by None (x ∷ xs) ≡ option_map d (or_else (by (x ∷ xs)) (Some x))
+    unfolding shown_by
+    shown_by-none x xs =
+        elim (cases_Bool (d x).header) [
+          | inl header ↦ rw (some x xs, header) (shown_by-header (d x).place xs ∙ ap (λ b. by_some b (d x).place) (sym header))
+          | inr other ↦ rw (some x xs, other) (shown_by-plain (d x).place xs ∙ first_or (by xs) other)
+        ]
+      where
+        first_or : (o : Option A) → (d x).header ≡ false → or_else (option_map d o) (by_some false (d x).place) ≡ option_map d (or_else o (Some x))
+        first_or None h = rw h
+        first_or (Some y) h = refl
+
 -- ---- what is shown at a path
 
--- what claims on one path decide, one after another
-shown_by : Option Decided → List Claim → Option Decided
-shown_by o [] = o
-shown_by o (c ∷ cs) = shown_by (decide o (decided c)) cs
-
-shown_by-append : (o : Option Decided) (xs ys : List Claim) → shown_by o (xs ++ ys) ≡ shown_by (shown_by o xs) ys
-unfolding shown_by
-shown_by-append o [] ys = refl
-shown_by-append o (x ∷ xs) ys = shown_by-append (decide o (decided x)) xs ys
+-- what claims on one path decide
+abbrev claims_show : Option Decided → List Claim → Option Decided
+claims_show = shown_by Claim decided first_claim_by_header
 
 claims_at-append : (p : Path) (xs ys : List Claim) → claims_at p (xs ++ ys) ≡ claims_at p xs ++ claims_at p ys
 unfolding claims_at
 claims_at-append p [] ys = refl
-claims_at-append p (x ∷ xs) ys =
-    elim (cases_Bool (same_path x.path p)) [
-      | inl here ↦ rw here (ap (λ l. x ∷ l) (claims_at-append p xs ys))
-      | inr off ↦ rw off (claims_at-append p xs ys)
-    ]
+claims_at-append p (x ∷ xs) ys = grind (arith, nat_tests, common_steps, claims_at-append p xs)
 
 -- the claims of a path, in every scope
 abbrev on_path : Path → Claims → List Claim
 on_path p cs = claims_at p (all_claims cs)
 
 on_path-scope : (p : Path) (o : Option Decided) (inner cs : Claims)
-    → shown_by o (on_path p (scope inner cs)) ≡ shown_by (shown_by o (on_path p inner)) (on_path p cs)
+    → claims_show o (on_path p (scope inner cs)) ≡ claims_show (claims_show o (on_path p inner)) (on_path p cs)
 unfolding all_claims
-on_path-scope p o inner cs =
-    ap (shown_by o) (claims_at-append p (all_claims inner) (all_claims cs)) ∙ shown_by-append o (on_path p inner) (on_path p cs)
+on_path-scope p o inner cs = grind (arith, nat_tests, common_steps, claims_at-append, shown_by-append)
 
 -- a claim decides at its own path, whether it is of the scope or of one inside
 on_path-claimed : (p : Path) (st : State) (c : Claim) (cs : Claims) (f : Cell → Cell) → ((x : Cell) → (f x).shown ≡ decide x.shown (decided c))
-    → shown_by (change st c.path f p).shown (on_path p cs) ≡ shown_by (st p).shown (on_path p (claimed c cs))
+    → claims_show (change st c.path f p).shown (on_path p cs) ≡ claims_show (st p).shown (on_path p (claimed c cs))
 unfolding all_claims claims_at change shown_by
-on_path-claimed p st c cs f h =
-    elim (cases_Bool (same_path c.path p)) [
-      | inl here ↦ rw here (ap (λ o. shown_by o (on_path p cs)) (h (st p)))
-      | inr off ↦ rw off
-    ]
+on_path-claimed p st c cs f h = grind (arith, nat_tests, common_steps)
 
-show_all-is : (st : State) (cs : Claims) (p : Path) → (show_all st cs p).shown ≡ shown_by (st p).shown (on_path p cs)
+show_all-is : (st : State) (cs : Claims) (p : Path) → (show_all st cs p).shown ≡ claims_show (st p).shown (on_path p cs)
 unfolding show_all all_claims claims_at shown_by
 show_all-is st no_claims p = refl
-show_all-is st (claimed c cs) p =
-    show_all-is (change st c.path (with_inner c)) cs p ∙ on_path-claimed p st c cs (with_inner c) (λ x. refl)
-show_all-is st (scope inner cs) p =
-    show_all-is (show_all st inner) cs p
-    ∙ ap (λ o. shown_by o (on_path p cs)) (show_all-is st inner p)
-    ∙ sym (on_path-scope p (st p).shown inner cs)
+show_all-is st (claimed c cs) p = show_all-is (change st c.path (with_inner c)) cs p ∙ on_path-claimed p st c cs (with_inner c) (λ x. refl)
+show_all-is st (scope inner cs) p = grind (arith, nat_tests, common_steps, on_path-scope, show_all-is (show_all st inner) cs p, show_all-is st inner p)
 
-put_all-is : (st : State) (cs : Claims) (p : Path) → (put_all st cs p).shown ≡ shown_by (st p).shown (on_path p cs)
+put_all-is : (st : State) (cs : Claims) (p : Path) → (put_all st cs p).shown ≡ claims_show (st p).shown (on_path p cs)
 unfolding put_all all_claims claims_at shown_by
 put_all-is st no_claims p = refl
-put_all-is st (claimed c cs) p =
-    put_all-is (change st c.path (with_claim c)) cs p ∙ on_path-claimed p st c cs (with_claim c) (λ x. refl)
-put_all-is st (scope inner cs) p =
-    put_all-is (show_all st inner) cs p
-    ∙ ap (λ o. shown_by o (on_path p cs)) (show_all-is st inner p)
-    ∙ sym (on_path-scope p (st p).shown inner cs)
+put_all-is st (claimed c cs) p = put_all-is (change st c.path (with_claim c)) cs p ∙ on_path-claimed p st c cs (with_claim c) (λ x. refl)
+put_all-is st (scope inner cs) p = grind (arith, nat_tests, common_steps, on_path-scope, put_all-is (show_all st inner) cs p, show_all-is st inner p)
 
 -- a scope shows the same from inside and from outside
 pub put_all-shown : (cs : Claims) (p : Path) → (put_all nothing cs p).shown ≡ (show_all nothing cs p).shown
@@ -81,9 +97,7 @@ put_all-shown cs p = put_all-is nothing cs p ∙ sym (show_all-is nothing cs p)
 pub show_all-marks : (st : State) (cs : Claims) (p : Path) → (show_all st cs p).marks ≡ (st p).marks
 unfolding show_all change
 show_all-marks st no_claims p = refl
-show_all-marks st (claimed c cs) p =
-    show_all-marks (change st c.path (with_inner c)) cs p
-    ∙ elim (cases_Bool (same_path c.path p)) [ inl here ↦ rw here | inr off ↦ rw off ]
+show_all-marks st (claimed c cs) p = grind (arith, nat_tests, common_steps, show_all-marks (change st c.path (with_inner c)) cs p)
 show_all-marks st (scope inner cs) p = show_all-marks (show_all st inner) cs p ∙ show_all-marks st inner p
 
 -- ---- values and assignments
@@ -100,20 +114,16 @@ IsPlain None = ⊤
 IsPlain (Some d) = d.header ≡ false
 
 plain-decide : (o : Option Decided) (c : Claim) → IsPlain o → by_header c.mark.sort ≡ false → IsPlain (decide o (decided c))
-plain-decide None c h k = k
-plain-decide (Some d) c h k = rw (h, k)
+plain-decide o c h k = grind (arith, nat_tests, common_steps)
 
 plain-shown : (st : State) (cs : Claims) (p : Path) → NoHeader cs → IsPlain (st p).shown → IsPlain (show_all st cs p).shown
 unfolding show_all change
 plain-shown st no_claims p h k = k
-plain-shown st (claimed c cs) p h k =
-    plain-shown (change st c.path (with_inner c)) cs p h.1
-    (elim (cases_Bool (same_path c.path p)) [ inl here ↦ rw here (plain-decide (st p).shown c k h.0) | inr off ↦ rw off k ])
+plain-shown st (claimed c cs) p h k = grind (arith, nat_tests, common_steps, plain-decide, plain-shown (change st c.path (with_inner c)) cs p)
 plain-shown st (scope inner cs) p h k = plain-shown (show_all st inner) cs p h.1 (plain-shown st inner p h.0 k)
 
 plain-place : (o : Option Decided) → IsPlain o → o ≡ option_map (λ x. record { header = false; place = x }) (option_map (λ d. d.place) o)
-plain-place None h = refl
-plain-place (Some d) h = ap (λ b. Some (record { header = b; place = d.place })) h
+plain-place o h = grind (arith, nat_tests, common_steps)
 
 -- so no header decides
 pub shown-plain : (cs : Claims) (p : Path) → NoHeader cs → (show_all nothing cs p).shown ≡ option_map (λ x. record { header = false; place = x }) (place_shown (show_all nothing cs p))
@@ -121,45 +131,15 @@ shown-plain cs p h = plain-place (show_all nothing cs p).shown (plain-shown noth
 
 -- ---- the flat document
 
-abbrev by_some : Bool → Place → Option Decided
-by_some header place = Some (record { header = header; place = place })
-
--- a header that has decided stays
-shown_by-header : (place : Place) (cs : List Claim) → shown_by (by_some true place) cs ≡ by_some true place
-unfolding shown_by
-shown_by-header place [] = refl
-shown_by-header place (c ∷ cs) = shown_by-header place cs
-
--- behind an assignment the first header still decides
-shown_by-plain : (place : Place) (cs : List Claim) → shown_by (by_some false place) cs ≡ or_else (option_map decided (first_claim_by_header cs)) (by_some false place)
+claims_show-none : (cs : List Claim) → claims_show None cs ≡ option_map decided (deciding_claim cs)
 unfolding shown_by first_claim_by_header
-shown_by-plain place [] = refl
-shown_by-plain place (c ∷ cs) =
-    elim (cases_Bool (by_header c.mark.sort)) [
-      | inl header ↦ rw header (shown_by-header c.place cs ∙ ap (λ b. by_some b c.place) (sym header))
-      | inr other ↦ rw other (shown_by-plain place cs)
-    ]
-
-first_or : (c : Claim) (o : Option Claim) → by_header c.mark.sort ≡ false → or_else (option_map decided o) (by_some false c.place) ≡ option_map decided (or_else o (Some c))
-first_or c None h = rw h
-first_or c (Some x) h = refl
-
-shown_by-none : (cs : List Claim) → shown_by None cs ≡ option_map decided (deciding_claim cs)
-unfolding shown_by first_claim_by_header
-shown_by-none [] = refl
-shown_by-none (c ∷ cs) =
-    elim (cases_Bool (by_header c.mark.sort)) [
-      | inl header ↦ rw header (shown_by-header c.place cs ∙ ap (λ b. by_some b c.place) (sym header))
-      | inr other ↦ rw other (shown_by-plain c.place cs ∙ first_or c (first_claim_by_header cs) other)
-    ]
+claims_show-none [] = refl
+claims_show-none (c ∷ cs) = shown_by-none Claim decided first_claim_by_header refl (λ x xs. refl) c cs
 
 place-decided : (o : Option Claim) → option_map (λ d. d.place) (option_map decided o) ≡ option_map (λ c. c.place) o
-place-decided None = refl
-place-decided (Some c) = refl
+place-decided o = grind (arith, nat_tests, common_steps)
 
 -- what decides in the state decides in the flat document
 pub shown-flat : (length : ℕ) (cs : Claims) (s : Step) (p : Path) → place_shown (put_all nothing cs (s ∷ p)) ≡ flat length cs (s ∷ p)
 unfolding flat
-shown-flat length cs s p =
-    ap (option_map (λ d. d.place)) (put_all-is nothing cs (s ∷ p) ∙ shown_by-none (on_path (s ∷ p) cs))
-    ∙ place-decided (deciding_claim (on_path (s ∷ p) cs))
+shown-flat length cs s p = grind (arith, nat_tests, common_steps, claims_show-none, place-decided, put_all-is)

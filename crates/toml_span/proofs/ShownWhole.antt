@@ -1,24 +1,19 @@
 -- A tree that shows a flat document is whole.
-use Rattle.std.proofs.Common.{◌≡◌, ℕ, suc, true, false, cond, List, [], ◌∷◌, Option, Some, None, option_map, refl, sym, ap, ◌∙◌, subst, inl, inr, zero, Bool}
-use Rattle.std.specs.Prelude.{option_and_then}
-use Rattle.std.specs.Str.{bytes_eq}
-use Rattle.std.proofs.lemmas.Bool.{cases_Bool, and_from}
-use Rattle.std.proofs.lemmas.Option.{none-some, same_Some}
+use Rattle.toml_span_lex.proofs.Common.{◌≡◌, ℕ, suc, true, false, cond, List, [], ◌∷◌, Option, Some, None, option_map, refl, sym, ap, ◌∙◌, subst, inl, inr, Bool, option_and_then, bytes_eq, cases_Bool, and_from, none-some, same_Some, arith, nat_tests, common_steps}
 use Rattle.toml_span_lex.specs.declared.span.Span.{Span}
 use Rattle.toml_span_tree.specs.Node.{Node, node, Inner, taken, scalar, array, table, Items, no_items, item, Members, no_members, member, entry_at, element_at}
 use Rattle.toml_span_tree.specs.Path.{Path, key, position, Place, shape_of, reached, place_of, node_at, Shape, shape_taken, shape_scalar, shape_array, shape_table}
 use Rattle.toml_span_tree.specs.Value.{inner_of, holds_nothing, is_taken, is_whole, all_whole, all_members_whole}
-use Rattle.toml_span_read.specs.Data.{Block, ParsedInner, scalar as scalar_read, array as array_read, inline as inline_read, KeyValue}
-use Rattle.toml_span.specs.Claims.{claims, Claim, value_shape, parsed_inner, key_value_claims, array_claims, end_claims, header_claims, section_claims, claims_behind, head_of, header_claim, no_claims, claimed}
+use Rattle.toml_span_read.specs.Data.{Block, ParsedInner, KeyValue}
+use Rattle.toml_span.specs.Claims.{claims, Claim, value_shape, parsed_inner, key_value_claims, end_claims, header_claims, section_claims, claims_behind}
 use Rattle.toml_span.specs.Flat.{flat, Shows}
 use Rattle.toml_span.specs.Ordered.{HasOneEach, ItemsHaveOneEach, MembersHaveOneEach}
 use Rattle.toml_span.proofs.EachClaim.{flat-decides, Each, each-followed, key_values-each}
 use Rattle.toml_span.proofs.Grafts.{same_step-self}
 use Rattle.toml_span.proofs.Ordered.{same-name}
 use Rattle.toml_span_read.specs.Keys.{SimpleKey}
-use Rattle.toml_span.specs.declared.claims.Sort.TheVariants.{TableElement}
 use Rattle.toml_span.specs.declared.claims.Head.{Head}
-use Rattle.toml_span.specs.Paths.{elements_added, opened_by, section_path, enter, with_key, with_position}
+use Rattle.toml_span.specs.Paths.{enter, with_key}
 
 -- ---- what is claimed is not taken
 
@@ -33,23 +28,14 @@ abbrev pub IsHeldAt : Claim → Type 0
 IsHeldAt c = is_held c.place.shape ≡ true
 
 value-held : (k : ParsedInner) → is_held (value_shape k) ≡ true
-value-held (scalar_read s) = refl
-value-held (array_read vs) = refl
-value-held (inline_read ps) = refl
+value-held k = grind (arith, nat_tests, common_steps)
 
 key_values-held : (es : List KeyValue) (p : Path) → Each IsHeldAt (key_value_claims es p)
 key_values-held = key_values-each IsHeldAt (λ p k v. refl) (λ p k v. value-held (parsed_inner v)) (λ p i v. value-held (parsed_inner v))
 
 end-held : (h : Head) (p : Path) (k : SimpleKey) (n : ℕ) → Each IsHeldAt (end_claims h p k n)
 unfolding end_claims
-end-held h p k n = elim (cases_Bool h.array) [
-  | inl arr ↦ rw arr (added n)
-  | inr tab ↦ rw tab (refl, tt)
-]
-  where
-    added : (n : ℕ) → Each IsHeldAt (array_claims h p k n (claimed (header_claim h TableElement (with_position p n) k) no_claims))
-    added zero = (refl, (refl, tt))
-    added (suc n) = (refl, tt)
+end-held h p k n = grind (arith, nat_tests, common_steps)
 
 header-held : (e : Path → ℕ) (h : Head) (p : Path) (parts : List SimpleKey) → Each IsHeldAt (header_claims e h p parts)
 unfolding header_claims
@@ -60,11 +46,7 @@ header-held e h p (k ∷ l ∷ more) = (refl, header-held e h (enter (e (with_ke
 behind-held : (earlier bs : List Block) → Each IsHeldAt (claims_behind earlier bs)
 unfolding claims_behind section_claims
 behind-held earlier [] = tt
-behind-held earlier (b ∷ bs) =
-    let e = elements_added (opened_by earlier) in
-    each-followed IsHeldAt (section_claims e b) (claims_behind (b ∷ earlier) bs)
-    (each-followed IsHeldAt (header_claims e (head_of b) [] b.header) (key_value_claims b.key_values (section_path e b)) (header-held e (head_of b) [] b.header) (key_values-held b.key_values (section_path e b)))
-    (behind-held (b ∷ earlier) bs)
+behind-held earlier (b ∷ bs) = grind (arith, nat_tests, common_steps, each-followed, header-held, key_values-held, behind-held (b ∷ earlier) bs)
 
 pub claims-held : (bs : List Block) → Each IsHeldAt (claims bs)
 claims-held bs = behind-held [] bs
@@ -90,7 +72,7 @@ IsFilled n = (p : Path) (m : Node) → node_at p n ≡ Some m → is_taken m ≡
 rest-filled : (name : List ℕ) (at : Span) (n : Node) (ms : Members) → entry_at name ms ≡ None → ((k : List ℕ) → IsFilledBelow (entry_at k (member name at n ms)))
     → (k : List ℕ) → IsFilledBelow (entry_at k ms)
 rest-filled name at n ms once h k p m is = elim (cases_Bool (bytes_eq k name)) [
-  | inl same ↦ absurd (none-some m (sym (ap (λ j. option_map (λ r. r.1) (option_and_then (reached p) (entry_at j ms))) (same-name k name same) ∙ ap (λ o. option_map (λ r. r.1) (option_and_then (reached p) o)) once) ∙ is))
+  | inl same ↦ let here = same-name k name same in grind (arith, nat_tests, common_steps)
   | inr off ↦ h k p m (ap (λ b. option_map (λ r. r.1) (option_and_then (reached p) (cond b (Some (Some at, n)) (entry_at k ms)))) off ∙ is)
 ]
 

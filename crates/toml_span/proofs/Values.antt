@@ -1,16 +1,14 @@
 -- What finished values show, and which clashes are told in them.
-use Rattle.std.proofs.Common.{◌≡◌, ℕ, zero, suc, ◌+◌, ◌<◌, ◌≤◌, false, List, [], ◌∷◌, ◌++◌, map, Option, Some, None, option_map, Result, Ok, Err, BTreeMap, Vec, Global, refl, sym, ap, ◌∙◌, append_assoc, append-nil, arith}
-use Rattle.std.specs.Prelude.{option_and_then}
+use Rattle.toml_span_lex.proofs.Common.{◌≡◌, ℕ, zero, suc, ◌+◌, ◌<◌, ◌≤◌, false, List, [], ◌∷◌, ◌++◌, map, Option, Some, None, option_map, Result, Ok, Err, Vec, Global, refl, sym, ap, ◌∙◌, append_assoc, append-nil, arith, option_and_then, AllZip, nat_tests, common_steps}
 use Rattle.std.proofs.lemmas.Bool.{ne_eqb}
-use Rattle.toml_span_lex.specs.declared.key.Key.{Key}
 use Rattle.toml_span_tree.specs.Node as tree
 use Rattle.toml_span_tree.specs.Node.{Scalar, text, integer, float, boolean, datetime, element_at}
-use Rattle.toml_span_tree.specs.Path.{Path, Step, key, position, reached, Shape, shape_of as tree_shape, place_of as tree_place}
+use Rattle.toml_span_tree.specs.Path.{Path, Step, key, position, reached, shape_of as tree_shape, place_of as tree_place}
 use Rattle.toml_span_tree.specs.Value.{view, inner_view, items_view}
 use Rattle.toml_span_tree.specs.declared.value.Value.{Value}
 use Rattle.toml_span_tree.specs.declared.value.ValueInner.{ValueInner}
 use Rattle.toml_span_tree.specs.declared.value.ValueInner.TheVariants as inners
-use Rattle.toml_span_tree.proofs.Values.{inner_view-Array, inner_view-Table}
+use Rattle.toml_span_tree.proofs.Values.{inner_view-Array}
 use Rattle.toml_span_read.specs.Data.{ParsedValue as Read, parsed, ParsedInner, scalar, array, inline, parsed_span, ParsedItems, no_items, item, no_pairs, onto, pairs_onto, view as view_read, kind_view, key_value}
 use Rattle.toml_span_read.specs.declared.value.Assignment.{Assignment}
 use Rattle.toml_span_read.specs.declared.value.Val.{Val}
@@ -20,17 +18,16 @@ use Rattle.toml_span_read.proofs.Views.{view_is, kind_view-Array, kind_view-Inli
 use Rattle.toml_span.specs.declared.claims.Halt.{Halt}
 use Rattle.toml_span.specs.declared.claims.Halt.TheVariants.{Memory, Clash}
 use Rattle.toml_span.specs.Paths.{same_step, same_path}
-use Rattle.std.specs.List.{AllZip}
 use Rattle.toml_span_lex.specs.declared.span.Span.{Span}
 use Rattle.toml_span.specs.Claims.{Claim, Claims, no_claims, claimed, scope, followed, parsed_inner, value_claims, inner_claims, item_claims, key_value_claims, element, value_shape}
 use Rattle.toml_span.specs.Clashes.{or_else, NamedClash}
-use Rattle.toml_span.specs.code.Machine.{Cell, State, nothing, no_cell, change, with_claim, with_inner, show_all, put_all, clash_met, clash_told, graft}
+use Rattle.toml_span.specs.code.Machine.{Cell, State, nothing, no_cell, change, with_claim, with_inner, show_all, put_all, clash_met, graft}
 use Rattle.toml_span.specs.Ordered.{HoldsOrdered, AreOrdered}
 use Rattle.toml_span.specs.code.Placing.{IsFinished, ValueGives, ShowsPlain, ScopeGives}
 use Rattle.toml_span.specs.code.Relative.{under}
 use Rattle.toml_span.specs.code.Tree.{value_shows, plain}
 use Rattle.toml_span.proofs.Absolute.{item_claims-under, pairs-key_values, value_claims-under}
-use Rattle.toml_span.proofs.Grafts.{fun_ext, or_else-none, put_all-under, show_all-followed, show_all-under, sub-graft, told-followed, told-under}
+use Rattle.toml_span.proofs.Grafts.{or_else-none, put_all-under, show_all-followed, show_all-under, sub-graft, told-followed, told-under}
 use Rattle.toml_span.proofs.EachClaim.{Each, value-each}
 
 -- ---- what a value claims stands below it
@@ -56,10 +53,8 @@ show_all-here st (scope inner cs) h = show_all-here (show_all st inner) cs h.1 �
 pub show_all-local : (f g : State) (cs : Claims) (p : Path) → f p ≡ g p → show_all f cs p ≡ show_all g cs p
 unfolding show_all change
 show_all-local f g no_claims p same = same
-show_all-local f g (claimed c cs) p same =
-    show_all-local (change f c.path (with_inner c)) (change g c.path (with_inner c)) cs p (rw same)
-show_all-local f g (scope inner cs) p same =
-    show_all-local (show_all f inner) (show_all g inner) cs p (show_all-local f g inner p same)
+show_all-local f g (claimed c cs) p same = grind (arith, nat_tests, common_steps, show_all-local (change f c.path (with_inner c)) (change g c.path (with_inner c)) cs p)
+show_all-local f g (scope inner cs) p same = grind (arith, nat_tests, common_steps, show_all-local (show_all f inner) (show_all g inner) cs p, show_all-local f g inner p same)
 
 -- ---- a value is a scope of its own, or claims nothing
 
@@ -91,9 +86,8 @@ made-more A B R all old left xs ys v x is h become more = record {
 }
   where
     push : (ns : List A) (ms : List B) → AllZip R ns ms → AllZip R (ns ++ (v ∷ [])) (ms ++ (x ∷ []))
-    push [] [] h = (become, tt)
-    push (n ∷ ns) (m ∷ ms) h = (h.0, push ns ms h.1)
-    push ns ms h = absurd h
+    push [] ms h = grind (arith, nat_tests, common_steps)
+    push (n ∷ ns) ms h = grind (arith, nat_tests, common_steps, push ns)
 
 abbrev pub IsMade : Val → Value → Type 0
 IsMade v x = ValueGives (Ok x) (view_read v)
@@ -159,9 +153,7 @@ abbrev behind : State → ℕ → Read → State
 behind st i v = graft (position i) st (show_all (λ q. st (position i ∷ q)) (own v))
 
 show_all-item : (st : State) (i : ℕ) (v : Read) (vs : ParsedItems) → show_all st (item_claims (item v vs) i []) ≡ show_all (behind st i v) (item_claims vs (suc i) [])
-show_all-item st i v vs =
-    ap (show_all st) (item-under v vs i) ∙ show_all-followed st (under (position i) (own v)) (item_claims vs (suc i) [])
-    ∙ ap (λ f. show_all f (item_claims vs (suc i) [])) (show_all-under (position i) st (own v))
+show_all-item st i v vs = grind (arith, nat_tests, common_steps, item-under, show_all-followed, show_all-under)
 
 -- elements from i on change nothing elsewhere
 items-apart : (vs : ParsedItems) (i : ℕ) (st : State) (s : Step) (p : Path) → ((l : ℕ) → i ≤ l → same_step (position l) s ≡ false) → show_all st (item_claims vs i []) (s ∷ p) ≡ st (s ∷ p)
@@ -188,14 +180,7 @@ items-shown : (vs : List Val) (xs : List Value) (i j l : ℕ) (st : State) (p : 
     → (show_all st (item_claims (onto (map view_read vs) no_items) i []) (position l ∷ p)).shown ≡ option_map (λ m. plain (tree_place m)) (option_and_then (reached p) (element_at j (items_view xs)))
 unfolding show_all item_claims graft
 items-shown [] [] i j l st p h clear is = ap (λ c. c.shown) (clear l p (omega arith))
-items-shown (v ∷ vs) (x ∷ xs) i zero l st p h clear is =
-    let same : l ≡ i = omega arith in
-    let rest = onto (map view_read vs) no_items in
-    let next = behind st i (view_read v) in
-    ap (λ f. (f (position l ∷ p)).shown) (show_all-item st i (view_read v) rest)
-    ∙ ap (λ c. c.shown) (items-apart rest (suc i) next (position l) p (λ k past. ne_eqb k l (λ e. absurd (omega (arith, e)))))
-    ∙ ap (λ k. (next (position k ∷ p)).shown) same
-    ∙ element-shown st i (view_read v) x p (fun_ext (λ q. clear i q (omega arith))) h.0.1
+items-shown (v ∷ vs) (x ∷ xs) i zero l st p h clear is = grind (arith, nat_tests, common_steps, element-shown, items-apart, ne_eqb, show_all-item)
 items-shown (v ∷ vs) (x ∷ xs) i (suc j) l st p h clear is =
     ap (λ f. (f (position l ∷ p)).shown) (show_all-item st i (view_read v) (onto (map view_read vs) no_items))
     ∙ items-shown vs xs (suc i) j l (behind st i (view_read v)) p h.1 (λ l p past. rw (apart i l (omega arith)) (clear l p (omega arith))) (omega arith)
@@ -203,41 +188,31 @@ items-shown ns ms i j l st p h clear is = absurd h
 
 -- the elements show what their claims show
 items-plain : (vs : List Val) (xs : List Value) → AllZip IsMade vs xs → ShowsPlain (tree.array (items_view xs)) (show_all nothing (item_claims (onto (map view_read vs) no_items) 0 []))
-items-plain vs xs h (key k) p = sym (ap (λ c. c.shown) (items-apart (onto (map view_read vs) no_items) 0 nothing (key k) p (λ l past. refl)))
-items-plain vs xs h (position l) p = sym (items-shown vs xs 0 l l nothing p h (λ l p past. refl) (omega arith))
+items-plain vs xs h v3 p = grind (arith, nat_tests, common_steps, items-apart, items-shown)
 
 -- and each is in order
 items-ordered : (vs : List Val) (xs : List Value) → AllZip IsMade vs xs → AreOrdered (items_view xs)
-items-ordered [] [] h = tt
-items-ordered (v ∷ vs) (x ∷ xs) h = (h.0.1.2, items-ordered vs xs h.1)
-items-ordered ns ms h = absurd h
+items-ordered [] xs h = grind (arith, nat_tests, common_steps)
+items-ordered (v ∷ vs) xs h = grind (arith, nat_tests, common_steps, items-ordered vs)
 
 pub elements-err : {A : Type 0} (old later all : List Val) (v : Val) (xs : List Value) (seen : A → tree.Inner) (q : Result A Halt) (e : Halt) → old ≡ v ∷ later → Elements old all xs → q ≡ Err e
     → ValueGives (Err e) (view_read v) → ScopeGives q seen (item_claims (onto (map view_read all) no_items) 0 [])
-elements-err old later all v xs seen q (Clash c) is inv same gives =
-    let split : all ≡ inv.done ++ (v ∷ later) = inv.split ∙ ap (λ l. inv.done ++ l) is in
-    rw (same, split) (told-array (onto (map view_read (inv.done ++ (v ∷ later))) no_items) [] ∙ told-element inv.done xs v later (clash_told c) inv.become gives)
+elements-err old later all v xs seen q (Clash c) is inv same gives = grind (arith, nat_tests, common_steps, told-array, told-element)
 elements-err old later all v xs seen q (Memory e) is inv same gives = rw same tt
 
 pub elements-none : (rest all : List Val) (xs : Vec Value Global) → rest ≡ [] → Elements rest all xs.items
     → ScopeGives (Ok xs) (λ xs. inner_view (inners.Array xs)) (item_claims (onto (map view_read all) no_items) 0 [])
-elements-none rest all xs none inv =
-    let whole : all ≡ inv.done = inv.split ∙ ap (λ l. inv.done ++ l) none ∙ append-nil inv.done in
-    rw (whole, inner_view-Array xs)
-    (told-array (onto (map view_read inv.done) no_items) [] ∙ told-finished inv.done xs.items inv.become, (items-plain inv.done xs.items inv.become, items-ordered inv.done xs.items inv.become))
+elements-none rest all xs none inv = grind (arith, nat_tests, common_steps, append-nil, inner_view-Array, items-ordered, items-plain, told-array, told-finished)
 
 -- ---- what was read of a kind
 
 value-gives : (v : Val) (k : ParsedInner) (i : tree.Inner) (x : Value) → kind_view v.kind ≡ k → view x ≡ tree.node i v.span → tree_shape i ≡ value_shape k
     → clash_met nothing (inner_claims k []) ≡ None → ShowsPlain i (show_all nothing (inner_claims k [])) → HoldsOrdered i → ValueGives (Ok x) (view_read v)
 unfolding value_claims
-value-gives v k i x kind seen shape clear shows ordered =
-    let is : view_read v ≡ parsed k v.span = view_is v ∙ ap (λ k. parsed k v.span) kind in
-    rw (is, seen) (clear, (λ span. ap (λ (s : Shape). record { shape = s; key_span = span; span = v.span }) shape, shows, ordered))
+value-gives v k i x kind seen shape clear shows ordered = grind (arith, nat_tests, common_steps, view_is)
 
 scalar-shows : (x : Scalar) → ShowsPlain (tree.scalar x) nothing
-scalar-shows x (key k) p = refl
-scalar-shows x (position i) p = refl
+scalar-shows x v1 p = grind (arith, nat_tests, common_steps)
 
 pub scalar-gives : (v : Val) (inner i : ValueInner) (kind : ValKind) (x : Value) (s : Scalar) → v.kind ≡ kind → inner ≡ i → kind_view kind ≡ scalar s → inner_view i ≡ tree.scalar s → view x ≡ tree.node (inner_view inner) v.span
     → ValueGives (Ok x) (view_read v)
@@ -245,65 +220,32 @@ unfolding clash_met show_all inner_claims
 scalar-gives v inner i kind x s is made read seen shown =
     value-gives v (scalar s) (tree.scalar s) x (ap kind_view is ∙ read) (shown ∙ ap (λ i. tree.node (inner_view i) v.span) made ∙ ap (λ i. tree.node i v.span) seen) refl refl (scalar-shows s) tt
 
--- what is claimed in a scope that is all there is
-scope-told : (cs : Claims) → clash_met nothing (scope cs no_claims) ≡ clash_met nothing cs
-unfolding clash_met
-scope-told cs = or_else-none (clash_met nothing cs)
-
-scope-shown : (cs : Claims) → show_all nothing (scope cs no_claims) ≡ show_all nothing cs
-unfolding show_all
-scope-shown cs = refl
-
-scope-gives : (v : Val) (k : ParsedInner) (cs : Claims) (i : tree.Inner) (x : Value) → kind_view v.kind ≡ k → inner_claims k [] ≡ scope cs no_claims → view x ≡ tree.node i v.span → tree_shape i ≡ value_shape k
-    → clash_met nothing cs ≡ None → ShowsPlain i (show_all nothing cs) × HoldsOrdered i → ValueGives (Ok x) (view_read v)
-scope-gives v k cs i x kind claims seen shape clear whole =
-    value-gives v k i x kind seen shape (ap (clash_met nothing) claims ∙ scope-told cs ∙ clear)
-    (λ s p. whole.0 s p ∙ ap (λ f. (f (s ∷ p)).shown) (sym (scope-shown cs) ∙ ap (show_all nothing) (sym claims))) whole.1
-
-scope-err : {A : Type 0} (v : Val) (k : ParsedInner) (cs : Claims) (seen : A → tree.Inner) (q : Result Value Halt) (e : Halt) → kind_view v.kind ≡ k → inner_claims k [] ≡ scope cs no_claims → q ≡ Err e
-    → ScopeGives (Err e) seen cs → ValueGives q (view_read v)
-unfolding value_claims
-scope-err v k cs seen q (Clash c) kind claims same gives =
-    let is : view_read v ≡ parsed k v.span = view_is v ∙ ap (λ k. parsed k v.span) kind in
-    rw (same, is) (ap (clash_met nothing) claims ∙ scope-told cs ∙ gives)
-scope-err v k cs seen q (Memory e) kind claims same gives = rw same tt
-
 -- ---- arrays and inline tables
 
-abbrev pub element_claims : Vec Val Global → Claims
-element_claims vs = item_claims (onto (map view_read vs.items) no_items) 0 []
+-- what was read is a scope of these claims
+abbrev pub ReadsScope : Val → ParsedInner → Claims → Type 0
+ReadsScope v k cs = (kind_view v.kind ≡ k) × (inner_claims k [] ≡ scope cs no_claims)
 
-abbrev pub inline_claims : Vec Assignment Global → Claims
-inline_claims ps = key_value_claims (map key_value ps.items) []
-
-array-claims : (vs : Vec Val Global) → inner_claims (array (onto (map view_read vs.items) no_items)) [] ≡ scope (element_claims vs) no_claims
+pub array-reads : (v : Val) (vs : Vec Val Global) → v.kind ≡ kinds.Array vs
+    → ReadsScope v (array (onto (map view_read vs.items) no_items)) (item_claims (onto (map view_read vs.items) no_items) 0 [])
 unfolding inner_claims
-array-claims vs = refl
+array-reads v vs is = (ap kind_view is ∙ kind_view-Array vs, refl)
 
-inline-claims : (ps : Vec Assignment Global) → inner_claims (inline (pairs_onto (map key_value ps.items) no_pairs)) [] ≡ scope (inline_claims ps) no_claims
+pub inline-reads : (v : Val) (ps : Vec Assignment Global) → v.kind ≡ kinds.Inline ps
+    → ReadsScope v (inline (pairs_onto (map key_value ps.items) no_pairs)) (key_value_claims (map key_value ps.items) [])
 unfolding inner_claims
-inline-claims ps = ap (λ cs. scope cs no_claims) (pairs-key_values (map key_value ps.items) [])
+inline-reads v ps is = (ap kind_view is ∙ kind_view-Inline ps, ap (λ cs. scope cs no_claims) (pairs-key_values (map key_value ps.items) []))
 
-pub array-gives : (v : Val) (vs : Vec Val Global) (xs : Vec Value Global) (inner : ValueInner) (x : Value) → v.kind ≡ kinds.Array vs → inner ≡ inners.Array xs → view x ≡ tree.node (inner_view inner) v.span
-    → ScopeGives (Ok xs) (λ xs. inner_view (inners.Array xs)) (element_claims vs) → ValueGives (Ok x) (view_read v)
-array-gives v vs xs inner x kind is seen gives =
-    scope-gives v (array (onto (map view_read vs.items) no_items)) (element_claims vs) (inner_view (inners.Array xs)) x (ap kind_view kind ∙ kind_view-Array vs) (array-claims vs)
-    (seen ∙ ap (λ i. tree.node (inner_view i) v.span) is) (ap tree_shape (inner_view-Array xs)) gives.0 gives.1
+pub scope-gives : (v : Val) (k : ParsedInner) (cs : Claims) (inner i : ValueInner) (x : Value) → ReadsScope v k cs → inner ≡ i
+    → view x ≡ tree.node (inner_view inner) v.span → tree_shape (inner_view i) ≡ value_shape k
+    → (clash_met nothing cs ≡ None) × (ShowsPlain (inner_view i) (show_all nothing cs) × HoldsOrdered (inner_view i)) → ValueGives (Ok x) (view_read v)
+unfolding clash_met show_all
+scope-gives v k cs inner i x reads is seen shape whole =
+    value-gives v k (inner_view i) x reads.0 (seen ∙ ap (λ i. tree.node (inner_view i) v.span) is) shape (ap (clash_met nothing) reads.1 ∙ or_else-none (clash_met nothing cs) ∙ whole.0)
+    (λ s p. whole.1.0 s p ∙ ap (λ f. (f (s ∷ p)).shown) (ap (show_all nothing) (sym reads.1))) whole.1.1
 
-pub array-err : (v : Val) (vs : Vec Val Global) (q : Result Value Halt) (e : Halt) → v.kind ≡ kinds.Array vs → q ≡ Err e
-    → ScopeGives (Err e) (λ (xs : Vec Value Global). inner_view (inners.Array xs)) (element_claims vs) → ValueGives q (view_read v)
-array-err v vs q e kind same gives =
-    scope-err v (array (onto (map view_read vs.items) no_items)) (element_claims vs) (λ (xs : Vec Value Global). inner_view (inners.Array xs)) q e
-    (ap kind_view kind ∙ kind_view-Array vs) (array-claims vs) same gives
-
-pub inline-gives : (v : Val) (ps : Vec Assignment Global) (t : BTreeMap Key Value) (inner : ValueInner) (x : Value) → v.kind ≡ kinds.Inline ps → inner ≡ inners.Table t → view x ≡ tree.node (inner_view inner) v.span
-    → ScopeGives (Ok t) (λ t. inner_view (inners.Table t)) (inline_claims ps) → ValueGives (Ok x) (view_read v)
-inline-gives v ps t inner x kind is seen gives =
-    scope-gives v (inline (pairs_onto (map key_value ps.items) no_pairs)) (inline_claims ps) (inner_view (inners.Table t)) x (ap kind_view kind ∙ kind_view-Inline ps) (inline-claims ps)
-    (seen ∙ ap (λ i. tree.node (inner_view i) v.span) is) (ap tree_shape (inner_view-Table t)) gives.0 gives.1
-
-pub inline-err : (v : Val) (ps : Vec Assignment Global) (q : Result Value Halt) (e : Halt) → v.kind ≡ kinds.Inline ps → q ≡ Err e
-    → ScopeGives (Err e) (λ (t : BTreeMap Key Value). inner_view (inners.Table t)) (inline_claims ps) → ValueGives q (view_read v)
-inline-err v ps q e kind same gives =
-    scope-err v (inline (pairs_onto (map key_value ps.items) no_pairs)) (inline_claims ps) (λ (t : BTreeMap Key Value). inner_view (inners.Table t)) q e
-    (ap kind_view kind ∙ kind_view-Inline ps) (inline-claims ps) same gives
+pub scope-err : {A : Type 0} (v : Val) (k : ParsedInner) (cs : Claims) (seen : A → tree.Inner) (q : Result Value Halt) (e : Halt) → ReadsScope v k cs → q ≡ Err e
+    → ScopeGives (Err e) seen cs → ValueGives q (view_read v)
+unfolding value_claims clash_met
+scope-err v k cs seen q (Clash c) reads same gives = grind (arith, nat_tests, common_steps, or_else-none, view_is)
+scope-err v k cs seen q (Memory e) reads same gives = rw same tt

@@ -8,7 +8,6 @@ use Rattle.toml_span_tree.specs.Node.{Members, node, table}
 use Rattle.toml_span_tree.specs.declared.error.Error.{Error}
 use Rattle.toml_span_tree.specs.Error.{content_of}
 use Rattle.toml_span_read.specs.Data.{Block, block}
-use Rattle.toml_span_read.specs.Grammar.{SpellsDocument}
 use Rattle.toml_span_read.specs.declared.section.Section.{Section}
 use Rattle.toml_span_read.specs.Borrowed.{sections_written}
 use Rattle.toml_span_read.specs.declared.fault.Fault.{Fault}
@@ -23,18 +22,18 @@ use Rattle.toml_span.specs.Borrowed.{AreBorrowedRight, keys_of, value_standing}
 
 -- ---- what becomes of a text
 
--- the sections that it spells; those and their first clash; or the fault that is told where it can't be read on
+-- the sections that are read; those and their first clash; or the fault that is told where it can't be read on
 pub data Outcome : Type 0 where
   resolved : List Block → Outcome
   clashed : List Block → NamedClash → Outcome
   refused_at : Fault → Outcome
 
--- The text spells these sections within the limit, and no two of their claims clash; or it spells them, and this clash
--- is their first; or reading the document tells this fault.
+-- Reading the document, within the limit, gives these sections, and no two of their claims clash; or it gives them, and
+-- this clash is their first; or it tells this fault.
 abbrev pub HasOutcome : List ℕ → ℕ → Outcome → Type 0
-HasOutcome text limit (resolved blocks) = SpellsDocument blocks text limit × Resolves (claims blocks)
+HasOutcome text limit (resolved blocks) = document text limit (Ok blocks) × Resolves (claims blocks)
 HasOutcome text limit (clashed blocks clash) =
-    SpellsDocument blocks text limit × (first_clash (claims blocks) ≡ Some clash)
+    document text limit (Ok blocks) × (first_clash (claims blocks) ≡ Some clash)
 HasOutcome text limit (refused_at fault) = document text limit (Err fault)
 
 -- ---- what is answered
@@ -93,5 +92,5 @@ IsRoot size root = (members : Members) × (view root ≡ node (table members) (r
 -- the text at that key; which one is not said. An empty string on one line is borrowed.
 abbrev pub IsBorrowedTree : List ℕ → ℕ → Value → Type 0
 IsBorrowedTree text limit root =
-    (sections : List Section) × SpellsDocument (map block sections) text limit
+    (sections : List Section) × document text limit (Ok (map block sections))
     × AreBorrowedRight text (keys_of (sections_written sections)) (value_standing root)

@@ -156,7 +156,8 @@ impl Clash {
 #[derive(Drop)]
 pub enum Halt {
     Memory(AllocError),
-    Clash(Clash),
+    /// In a block of its own, so that a result that may be a halt is small.
+    Clash(Box<Clash>),
 }
 
 impl From<AllocError> for Halt {
@@ -201,12 +202,20 @@ fn knows(marks: &[Mark], mark: Mark) -> Result<bool, Meeting>
     Ok(known)
 }
 
-/// The halt at a clash over a key, or want of memory for the key's name.
+/// The clash over a key.
+fn clash_of(alloc: Global, meeting: Meeting, key: &Key<'_>) -> Result<Box<Clash>, AllocError>
+    ensures { IfOk result (λ clash. kept.Tells clash.value meeting (cow_str_bytes key.now.name)) }
+{
+    let name = String::from_str(alloc, key.name.as_ref())?;
+    Ok(Box::new(alloc, Clash { meeting, name })?)
+}
+
+/// The halt at a clash over a key, or want of memory to tell it.
 fn halted(alloc: Global, meeting: Meeting, key: &Key<'_>) -> Halt
     ensures { kept.Halts result meeting (cow_str_bytes key.now.name) }
 {
-    match String::from_str(alloc, key.name.as_ref()) {
-        Ok(name) => Halt::Clash(Clash { meeting, name }),
+    match clash_of(alloc, meeting, key) {
+        Ok(clash) => Halt::Clash(clash),
         Err(error) => Halt::Memory(error),
     }
 }

@@ -9,7 +9,7 @@ ghost use Rattle.toml_span_read.specs.Limits.{depth_limit};
 ghost use Rattle.toml_span_tree.specs.Value.{is_whole, view};
 ghost use Rattle.toml_span.specs.Borrowed.{AreBorrowedRight, value_standing};
 ghost use Rattle.toml_span.specs.code.Growing.{GrownGives, GrownRight, Grows, IsBare, IsGrownInside};
-ghost use Rattle.toml_span_read.specs.Grammar.{SpellsDocument};
+ghost use Rattle.toml_span_read.specs.Read.{document};
 ghost use Rattle.toml_span.specs.Parsing.{Answers, IsBorrowedTree, IsRoot};
 
 use crate::claims::Halt;
@@ -28,7 +28,7 @@ fn grown_of<'de>(alloc: Global, text: &'de str, limit: usize) -> Result<Grown<'d
     requires some { 1 ≤ limit }
     requires small { limit ≤ depth_limit }
     ensures placed { IfErr result (IsPlacedStop text.now) }
-    ensures gives { GrownGives text.now limit result }
+    ensures grown { GrownGives text.now limit result }
     ensures memory { (start : ℕ) × FirstPlace text.now start × OnlyFormsTakeMemory text.now start result }
 {
     let (first, start) = read_first(alloc, text, limit)?;
@@ -50,7 +50,7 @@ fn grown_of<'de>(alloc: Global, text: &'de str, limit: usize) -> Result<Grown<'d
 /// The tree of a document, or its first clash.
 fn tree_of<'de>(grown: Grown<'de>, text: &'de str) -> Result<Value<'de>, Stop<Error<'de>>>
     requires inside { IsGrownInside (length text.now) grown }
-    ensures answers { (bs : List Block) (limit : ℕ) → SpellsDocument bs text.now limit → Grows bs grown.entry
+    ensures answers { (bs : List Block) (limit : ℕ) → document text.now limit (Ok bs) → Grows bs grown.entry
         → Answers text.now limit result }
     ensures root { IfOk result (IsRoot (length text.now)) }
     ensures borrows { (ps : List SimpleKey) → GrownRight text.now ps grown.entry
@@ -61,6 +61,7 @@ fn tree_of<'de>(grown: Grown<'de>, text: &'de str) -> Result<Value<'de>, Stop<Er
         Ok(root) => Ok(root),
         Err(Halt::Memory(error)) => Err(Stop::Memory(error)),
         Err(Halt::Clash(clash)) => {
+            let clash = Box::into_inner(clash);
             let place = line_info(text, clash.meeting.span.start);
             Err(Stop::Fault(clash.into_error(place)))
         }

@@ -107,7 +107,7 @@ fn assign<'de>(
     value: Result<Value<'de>, Halt>,
     span: Span,
 ) -> Result<(), Halt>
-    ensures gives { (v : Read) → ValueGives value.entry v → span ≡ parsed_span v
+    ensures places { (v : Read) → ValueGives value.entry v → span ≡ parsed_span v
         → Places node.old node.new result (pair_at [] (part_of key.entry) v) (counts node.old) }
     ensures borrows { (text : List ℕ) → (ps : List SimpleKey) → IsFrom text ps (key_written key.entry)
         → ValueRight text ps value.entry → Keeps text ps node.old node.new result }
@@ -149,7 +149,7 @@ fn assign_due<'de>(
     due: &mut Option<Due<'de>>,
     span: Span,
 ) -> Result<(), Halt>
-    ensures gives { (d : Due) (v : Read) → due.old ≡ Some d → ValueGives d.value v → span ≡ parsed_span v
+    ensures places { (d : Due) (v : Read) → due.old ≡ Some d → ValueGives d.value v → span ≡ parsed_span v
         → Places node.old node.new result (pair_at [] (part_of d.last) v) (counts node.old) }
     ensures borrows { (text : List ℕ) → (ps : List SimpleKey) → (d : Due) → due.old ≡ Some d
         → IsFrom text ps (key_written d.last) → ValueRight text ps d.value → Keeps text ps node.old node.new result }
@@ -172,7 +172,7 @@ fn place_pair<'de>(
     due: &mut Option<Due<'de>>,
     span: Span,
 ) -> Result<(), Halt>
-    ensures gives { (d : Due) (v : Read) → due.old ≡ Some d → ValueGives d.value v → span ≡ parsed_span v
+    ensures places { (d : Due) (v : Read) → due.old ≡ Some d → ValueGives d.value v → span ≡ parsed_span v
         → Places node.old node.new result (pair_at (map part_of inner.now) (part_of d.last) v) (counts node.old) }
     ensures borrows { (text : List ℕ) → (ps : List SimpleKey) → (d : Due) → due.old ≡ Some d
         → AreFrom text ps (keys_written inner.now) → IsFrom text ps (key_written d.last)
@@ -201,7 +201,7 @@ fn pass_child<'de>(
     due: &mut Option<Due<'de>>,
     span: Span,
 ) -> Result<(), Halt>
-    ensures gives { (d : Due) (v : Read) → due.old ≡ Some d → ValueGives d.value v → span ≡ parsed_span v
+    ensures places { (d : Due) (v : Read) → due.old ≡ Some d → ValueGives d.value v → span ≡ parsed_span v
         → Passes child.old.value child.new.value result (through_pair (part_of part.now) (map part_of rest.now)
         (part_of d.last) v) (counts child.old.value) }
     ensures borrows { (text : List ℕ) → (ps : List SimpleKey) → (d : Due) → due.old ≡ Some d
@@ -222,7 +222,7 @@ fn pass_pair<'de>(
     due: &mut Option<Due<'de>>,
     span: Span,
 ) -> Result<(), Halt>
-    ensures gives { (d : Due) (v : Read) → due.old ≡ Some d → ValueGives d.value v → span ≡ parsed_span v
+    ensures places { (d : Due) (v : Read) → due.old ≡ Some d → ValueGives d.value v → span ≡ parsed_span v
         → Passes node.old node.new result (through_pair (part_of part.now) (map part_of rest.now)
         (part_of d.last) v) (counts node.old) }
     ensures borrows { (text : List ℕ) → (ps : List SimpleKey) → (d : Due) → due.old ≡ Some d
@@ -242,7 +242,7 @@ fn pass_pair<'de>(
 /// Places an assignment below a branch.
 #[cycle(value_of)]
 fn place_one<'de>(alloc: Global, pair: Assignment<'de>, node: &mut Branch<'de>) -> Result<(), Halt>
-    ensures gives { Places node.old node.new result (assignment_claims (key_value pair.entry) []) (counts node.old) }
+    ensures places { Places node.old node.new result (assignment_claims (key_value pair.entry) []) (counts node.old) }
     ensures borrows { (text : List ℕ) → (ps : List SimpleKey) → AreFrom text ps (assignment_written pair.entry)
         → Keeps text ps node.old node.new result }
 {
@@ -267,7 +267,7 @@ fn place_pairs<'de>(
     pairs: Vec<Assignment<'de>>,
     node: &mut Branch<'de>,
 ) -> Result<(), Halt>
-    ensures gives { Places node.old node.new result (key_value_claims (map key_value pairs.entry.items) [])
+    ensures places { Places node.old node.new result (key_value_claims (map key_value pairs.entry.items) [])
         (counts node.old) }
     ensures borrows { (text : List ℕ) → (ps : List SimpleKey) → AreFrom text ps (assignments_written pairs.entry.items)
         → Keeps text ps node.old node.new result }
@@ -284,7 +284,7 @@ pub(crate) fn place_all<'de>(
     pairs: Vec<Assignment<'de>>,
     node: &mut Branch<'de>,
 ) -> Result<(), Halt>
-    ensures gives { Places node.old node.new result (key_value_claims (map key_value pairs.entry.items) [])
+    ensures places { Places node.old node.new result (key_value_claims (map key_value pairs.entry.items) [])
         (counts node.old) }
     ensures borrows { (text : List ℕ) → (ps : List SimpleKey) → AreFrom text ps (assignments_written pairs.entry.items)
         → Keeps text ps node.old node.new result }
@@ -301,7 +301,7 @@ pub(crate) fn place_all<'de>(
 /// The table of an inline table.
 #[cycle(value_of)]
 fn table_of<'de>(alloc: Global, pairs: Vec<Assignment<'de>>) -> Result<Table<'de>, Halt>
-    ensures gives { ScopeGives result (λ t. inner_view (inners.Table t))
+    ensures scope { ScopeGives result (λ t. inner_view (inners.Table t))
         (key_value_claims (map key_value pairs.entry.items) []) }
     ensures borrows { (text : List ℕ) → (ps : List SimpleKey) → AreFrom text ps (assignments_written pairs.entry.items)
         → IfOk result (λ table. AreBorrowedRight text ps (table_standing table.entries)) }
@@ -314,7 +314,7 @@ fn table_of<'de>(alloc: Global, pairs: Vec<Assignment<'de>>) -> Result<Table<'de
 /// The elements of an array.
 #[cycle(value_of)]
 fn array_of<'de>(alloc: Global, elements: Vec<Val<'de>>) -> Result<Array<'de>, Halt>
-    ensures gives { ScopeGives result (λ xs. inner_view (inners.Array xs))
+    ensures scope { ScopeGives result (λ xs. inner_view (inners.Array xs))
         (item_claims (onto (map view elements.entry.items) no_items) 0 []) }
     ensures borrows { (text : List ℕ) → (ps : List SimpleKey)
         → AreFrom text ps (joined (map written elements.entry.items))
@@ -330,7 +330,7 @@ fn array_of<'de>(alloc: Global, elements: Vec<Val<'de>>) -> Result<Array<'de>, H
 /// The value that was read.
 #[cycle(value_of)]
 fn value_of<'de>(alloc: Global, val: Val<'de>) -> Result<Value<'de>, Halt>
-    ensures gives { ValueGives result (view val.entry) }
+    ensures value { ValueGives result (view val.entry) }
     ensures borrows { (text : List ℕ) → (ps : List SimpleKey) → AreFrom text ps (written val.entry)
         → ValueRight text ps result }
 {

@@ -60,7 +60,7 @@ fn place_section<'de>(
     head: Head,
     pairs: Vec<Assignment<'de>>,
 ) -> Result<(), Halt>
-    ensures gives { Places node.old node.new result (section_at (counts node.old) head (map part_of parts.now)
+    ensures places { Places node.old node.new result (section_at (counts node.old) head (map part_of parts.now)
         (key_value_claims (map key_value pairs.entry.items) []))
         (grown (counts node.old) head (map part_of parts.now)) }
     ensures borrows { (text : List ℕ) → (ps : List SimpleKey) → AreFrom text ps (keys_written parts.now)
@@ -90,7 +90,7 @@ fn pass_child<'de>(
     head: Head,
     pairs: Vec<Assignment<'de>>,
 ) -> Result<(), Halt>
-    ensures gives { Passes child.old.value child.new.value result
+    ensures places { Passes child.old.value child.new.value result
         (through (counts child.old.value) head (part_of part.now) (map part_of rest.now)
         (key_value_claims (map key_value pairs.entry.items) [])) (grown_through (counts child.old.value) head
         (map part_of rest.now)) }
@@ -111,7 +111,7 @@ fn pass_header<'de>(
     head: Head,
     pairs: Vec<Assignment<'de>>,
 ) -> Result<(), Halt>
-    ensures gives { Passes node.old node.new result (through (counts node.old) head (part_of part.now)
+    ensures places { Passes node.old node.new result (through (counts node.old) head (part_of part.now)
         (map part_of rest.now) (key_value_claims (map key_value pairs.entry.items) []))
         (grown_through (counts node.old) head (map part_of rest.now)) }
     ensures borrows { (text : List ℕ) → (ps : List SimpleKey) → IsFrom text ps (key_written part.now)
@@ -137,7 +137,7 @@ fn descend<'de>(
     head: Head,
     pairs: Vec<Assignment<'de>>,
 ) -> Result<(), Halt>
-    ensures gives { Opening IsScope (claims.header_mark head Passed part.now.span) node.old node.new result
+    ensures places { Opening IsScope (claims.header_mark head Passed part.now.span) node.old node.new result
         (passing head (part_of part.now) (map part_of rest.now) (key_value_claims (map key_value pairs.entry.items) [])
         (counts node.old)) (grown (counts node.old) head (map part_of rest.now)) }
     ensures borrows { (text : List ℕ) → (ps : List SimpleKey) → IsFrom text ps (key_written part.now)
@@ -162,7 +162,7 @@ fn open_table<'de>(
     head: Head,
     pairs: Vec<Assignment<'de>>,
 ) -> Result<(), Halt>
-    ensures gives { Opening (Opens sort) (claims.header_mark head sort part.now.span) node.old node.new result
+    ensures places { Opening (Opens sort) (claims.header_mark head sort part.now.span) node.old node.new result
         (opening head sort (part_of part.now) (key_value_claims (map key_value pairs.entry.items) []))
         (counts node.old) }
     ensures borrows { (text : List ℕ) → (ps : List SimpleKey) → AreFrom text ps (assignments_written pairs.entry.items)
@@ -180,7 +180,7 @@ fn add_entry<'de>(
     head: Head,
     pairs: Vec<Assignment<'de>>,
 ) -> Result<(), Halt>
-    ensures gives { Reaches IsOpen IsHeld node.old node.new result
+    ensures places { Reaches IsOpen IsHeld node.old node.new result
         (adding head (part_of part.now) (key_value_claims (map key_value pairs.entry.items) []) (counts node.old []))
         (one_more (counts node.old)) }
     ensures borrows { (text : List ℕ) → (ps : List SimpleKey) → AreFrom text ps (assignments_written pairs.entry.items)
@@ -201,7 +201,7 @@ fn end_header<'de>(
     head: Head,
     pairs: Vec<Assignment<'de>>,
 ) -> Result<(), Halt>
-    ensures gives { Passes node.old node.new result (ending head (part_of part.now)
+    ensures places { Passes node.old node.new result (ending head (part_of part.now)
         (key_value_claims (map key_value pairs.entry.items) []) (counts node.old []))
         (grown_here (counts node.old) head) }
     ensures borrows { (text : List ℕ) → (ps : List SimpleKey) → AreFrom text ps (assignments_written pairs.entry.items)
@@ -219,7 +219,7 @@ fn end_header<'de>(
 
 /// Places a section below the root of a tree.
 fn place<'de>(alloc: Global, root: &mut Branch<'de>, section: Section<'de>) -> Result<(), Halt>
-    ensures gives { Placed (block section.entry) root.old root.new result }
+    ensures places { Placed (block section.entry) root.old root.new result }
     ensures borrows { (text : List ℕ) → (ps : List SimpleKey) → AreFrom text ps (section_written section.entry)
         → Keeps text ps root.old root.new result }
 {
@@ -244,7 +244,7 @@ pub(crate) struct Grown<'de> {
     /// Their tree, as long as no two clash.
     root: Branch<'de>,
     /// Their first clash.
-    clash: Option<Clash>,
+    clash: Option<Box<Clash>>,
 }
 
 impl<'de> Grown<'de> {
@@ -310,7 +310,7 @@ pub(crate) fn begin<'de>(
 
 /// The tree of a document, which is `length` bytes long, or its first clash.
 pub(crate) fn finish<'de>(grown: Grown<'de>, length: usize) -> Result<Value<'de>, Halt>
-    ensures gives { (bs : List Block) → Grows bs grown.entry → Assembles bs length result }
+    ensures assembles { (bs : List Block) → Grows bs grown.entry → Assembles bs length result }
     ensures root { IfOk result (IsRoot length) }
     ensures placed { (n : ℕ) → IsGrownInside n grown.entry → IfErr result (IsHaltInside n) }
     ensures borrows { (text : List ℕ) → (ps : List SimpleKey) → GrownRight text ps grown.entry

@@ -1,10 +1,5 @@
 -- What a tree costs, by its names and by what stands in it, it costs by its claims too.
-use Rattle.std.proofs.Common.{◌≡◌, ◌≤◌, ◌<◌, ◌+◌, ℕ, suc, false, List, [], ◌∷◌, ◌++◌, Option, Some, None, option_map, refl, sym, ap, subst, ◌∙◌, inl, inr, arith}
-use Rattle.std.specs.Prelude.{option_and_then}
-use Rattle.std.specs.Str.{bytes_eq}
-use Rattle.std.proofs.Common.{nat_eq}
-use Rattle.std.proofs.lemmas.Bool.{cases_Bool}
-use Rattle.std.proofs.lemmas.Option.{none-some, same_Some}
+use Rattle.toml_span_lex.proofs.Common.{◌≡◌, ◌≤◌, ◌<◌, ◌+◌, ℕ, suc, false, List, [], ◌∷◌, ◌++◌, Option, Some, None, option_map, refl, sym, ap, subst, ◌∙◌, inl, inr, arith, nat_tests, common_steps, option_and_then, nat_eq, same_Some}
 use Rattle.toml_span_lex.specs.declared.span.Span.{Span}
 use Rattle.toml_span_tree.specs.Node.{Node, node, Inner, taken, scalar, array, table, Items, no_items, item, Members, no_members, member, entry_at, element_at}
 use Rattle.toml_span_tree.specs.Path.{Path, Step, key, position, Shape, shape_table, shape_of, Place, place_of, at_step, reached}
@@ -55,22 +50,16 @@ abbrev found : Path → Option (Option Span × Node) → Option Place
 found q o = option_map place_of (option_and_then (reached q) o)
 
 off-numbers : (i j : ℕ) → i < j → nat_eq i j ≡ false
-off-numbers i j h = search (arith, h)
+off-numbers i j h = grind (arith, nat_tests, common_steps)
 
 -- a name that is found behind the first is another one
 others : (c : Cost) (name : List ℕ) (at : Span) (n : Node) (ms : Members) (ps : List (Path × ℕ)) → entry_at name ms ≡ None
     → ((other : List ℕ) (q : Path) (x : Place) → found q (entry_at other (member name at n ms)) ≡ Some x → Has (key other ∷ q) (place_cost c (c.name other) q x) ps)
     → (other : List ℕ) (q : Path) (x : Place) → found q (entry_at other ms) ≡ Some x → Has (key other ∷ q) (place_cost c (c.name other) q x) (without (key name) ps)
 others c name at n ms ps once f other q x h =
-    let alone = λ (e : name ≡ other). none-some x (sym (ap (λ o. found q o) (sym (ap (λ l. entry_at l ms) e) ∙ once)) ∙ h) in
-    elim (cases_Bool (bytes_eq name other)) [
-      | inl same ↦ absurd (alone (same-name name other same))
-      | inr off ↦
-          elim (cases_Bool (bytes_eq other name)) [
-            | inl same ↦ absurd (alone (sym (same-name other name same)))
-            | inr back ↦ without-mem (key name) (key other) q (place_cost c (c.name other) q x) ps off (f other q x (ap (λ o. found q o) (later-entry other name at n ms back) ∙ h))
-          ]
-    ]
+    let price = place_cost c (c.name other) q x in
+    let moved = without-mem (key name) (key other) q price ps in
+    grind (arith, nat_tests, common_steps, same-name name other, same-name other name, later-entry other name at n ms, moved, f other q x)
 
 -- A tree whose places are all in a list, each for its cost or more, costs no more than the list.
 mutual
@@ -84,8 +73,7 @@ mutual
   inner-few c e taken o ps f = omega arith
   inner-few c e (scalar s) o ps f = omega arith
   inner-few c e (array ns) o ps f =
-      items-few c ns 0 o ps
-      (λ j k q x e h. let same : k ≡ j = omega arith in f (position j) q x (ap (λ n. found q (element_at n ns)) (sym same) ∙ h))
+      items-few c ns 0 o ps (λ j k q x same h. let is : k ≡ j = omega arith in f (position j) q x (ap (λ n. found q (element_at n ns)) (sym is) ∙ h))
   inner-few c e (table ms) o ps f = members-few c ms o ps (λ name q x h. f (key name) q x h)
 
   items-few : (c : Cost) (ns : Items) (i : ℕ) → AreOrdered ns → (ps : List (Path × ℕ))
@@ -127,12 +115,11 @@ IsWithin ps qs = (p : Path) (w : ℕ) → Has p w ps → Has p w qs
 
 has-left : (c : Cost) (p : Path) (w : ℕ) (xs ys : List Claim) → Has p w (prices c xs) → Has p w (prices c (xs ++ ys))
 has-left c p w [] ys h = absurd h
-has-left c p w (x ∷ xs) ys (inl e) = inl e
-has-left c p w (x ∷ xs) ys (inr h) = inr (has-left c p w xs ys h)
+has-left c p w (x ∷ xs) ys h = grind (arith, nat_tests, common_steps, has-left c p w xs ys)
 
 has-right : (c : Cost) (p : Path) (w : ℕ) (xs ys : List Claim) → Has p w (prices c ys) → Has p w (prices c (xs ++ ys))
 has-right c p w [] ys h = h
-has-right c p w (x ∷ xs) ys h = inr (has-right c p w xs ys h)
+has-right c p w (x ∷ xs) ys h = grind (arith, nat_tests, common_steps, has-right c p w xs ys)
 
 each-priced : (c : Cost) (cs : Claims) (ps : List (Path × ℕ)) → IsWithin (prices c (all_claims cs)) ps → Each (IsPriced c ps) cs
 unfolding all_claims

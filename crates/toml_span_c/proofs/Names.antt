@@ -1,5 +1,5 @@
 -- Numbers of kinds have the names of the kinds.
-use Rattle.std.proofs.Common.{◌≡◌, ◌≢◌, refl}
+use Rattle.toml_span_lex.proofs.Common.{◌≡◌, ◌≢◌, refl}
 use Rattle.toml_span_tree.specs.Error.{Kind, unexpected_eof, exceeded_depth_limit, invalid_char_in_string, invalid_escape, invalid_hex_escape, invalid_escape_value, unexpected, unterminated_string, invalid_number, invalid_datetime, wanted, duplicate_table, duplicate_key, redefine_as_array, multiline_string_key, dotted_key_invalid_type, unquoted_string, out_of_range, custom, unexpected_keys, missing_field, deprecated, unexpected_value, marked}
 use Rattle.toml_span_tree.specs.Message.{code_of}
 use Rattle.toml_span_c.specs.Faults.{code_name, code_number}

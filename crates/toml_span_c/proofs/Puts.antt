@@ -1,5 +1,5 @@
 -- Entries that are put, one behind the other.
-use Rattle.std.proofs.Common.{◌≡◌, ◌≤◌, ℕ, suc, ◌+◌, List, [], ◌∷◌, ◌++◌, length, refl, sym, ap, subst, ◌∙◌, arith, append_assoc, length-append}
+use Rattle.toml_span_lex.proofs.Common.{◌≡◌, ◌≤◌, ℕ, suc, ◌+◌, List, [], ◌∷◌, ◌++◌, length, refl, ap, subst, ◌∙◌, arith, length-append, nat_tests, common_steps}
 use Rattle.toml_span_c.specs.declared.records.Counts.{Counts}
 use Rattle.toml_span_c.specs.declared.records.Record.{Record}
 use Rattle.toml_span_c.specs.declared.records.TheConstants.{NONE}
@@ -9,13 +9,11 @@ use Rattle.toml_span_c.proofs.Arrays.{laid-none, laid-append, laid-before}
 
 pub strings-append : (document : List ℕ) (es fs : List Entry) → strings_of document (es ++ fs) ≡ strings_of document es ++ strings_of document fs
 strings-append document [] fs = refl
-strings-append document (e ∷ es) fs =
-    ap (λ l. entry_strings document e ++ l) (strings-append document es fs) ∙ sym (append_assoc (entry_strings document e) (strings_of document es) (strings_of document fs))
+strings-append document (e ∷ es) fs = grind (arith, nat_tests, common_steps, strings-append document es fs)
 
 pub records-append : (document : List ℕ) (m n : ℕ) (es fs : List Entry) → n ≡ m + length (strings_of document es)
     → records_of document m (es ++ fs) ≡ records_of document m es ++ records_of document n fs
-records-append document m n [] fs e =
-    let same : m ≡ n = omega arith in ap (λ i. records_of document i fs) same
+records-append document m n [] fs e = grind (arith, nat_tests, common_steps)
 records-append document m n (f ∷ es) fs e =
     let long = length-append (entry_strings document f) (strings_of document es) in
     ap (λ l. record_of document m f ∷ l) (records-append document (m + length (entry_strings document f)) n es fs (omega (arith, e, long)))
@@ -28,75 +26,33 @@ pub at-moved : (k l m n : ℕ) (counts : Counts) → k ≡ l → m ≡ n → IsA
 at-moved k l m n counts e f at = record { nodes = at.nodes ∙ e; strings = at.strings ∙ f }
 
 pub puts-none : (document : List ℕ) (k m : ℕ) (ns : List Record) (bytes : List ℕ) (counts : Counts) → IsAt k m counts → Puts document k m [] ns ns bytes bytes counts
-puts-none document k m ns bytes counts at = record {
-  nodes = sym (laid-none k ns);
-  strings = sym (laid-none m bytes);
-  counts = at-moved k (k + 0) m (m + 0) counts (omega arith) (omega arith) at;
-}
+puts-none document k m ns bytes counts at = grind (arith, nat_tests, common_steps, at-moved, laid-none)
 
 -- the entries of one value, and then those behind it
 pub puts-append : (document : List ℕ) (k m : ℕ) (es fs : List Entry) (a b c : List Record) (x y z : List ℕ) (t u : Counts) → Puts document k m es a b x y t
     → Puts document (k + length es) (m + length (strings_of document es)) fs b c y z u → Puts document k m (es ++ fs) a c x z u
-puts-append document k m es fs a b c x y z t u p q =
-    let n = m + length (strings_of document es) in
-    let long = length-append es fs in
-    let wide = length-append (strings_of document es) (strings_of document fs) in
-    let all = ap length (strings-append document es fs) in
-    let after : k + length es ≡ k + length (records_of document m es) = ap (λ i. k + i) (sym (length-records document m es)) in
-    record {
-      nodes = q.nodes ∙ ap (λ l. laid (k + length es) (records_of document n fs) l) p.nodes
-          ∙ laid-append k (k + length es) (records_of document m es) (records_of document n fs) a after
-          ∙ ap (λ l. laid k l a) (sym (records-append document m n es fs refl));
-      strings = q.strings ∙ ap (λ l. laid n (strings_of document fs) l) p.strings
-          ∙ laid-append m n (strings_of document es) (strings_of document fs) x refl
-          ∙ ap (λ l. laid m l x) (sym (strings-append document es fs));
-      counts = at-moved (k + length es + length fs) (k + length (es ++ fs)) (n + length (strings_of document fs)) (m + length (strings_of document (es ++ fs))) u (omega (arith, long)) (omega (arith, wide, all)) q.counts;
-    }
+puts-append document k m es fs a b c x y z t u p q = grind (arith, nat_tests, common_steps, at-moved, laid-append, length-records, records-append, strings-append)
 
 -- the entry of a value whose record is written last, and those of what it holds
 pub puts-own : (document : List ℕ) (j k m n : ℕ) (e : Entry) (es : List Entry) (r : Record) (a b c : List Record) (x y z : List ℕ) (t : Counts)
     → n ≡ m + length (entry_strings document e) → r ≡ record_of document m e → y ≡ laid m (entry_strings document e) x
     → Puts document (suc k) n es a b y z t → c ≡ laid j (r ∷ []) b → j ≡ k → Puts document k m (e ∷ es) a c x z t
-puts-own document j k m n e es r a b c x y z t at own first p last same =
-    let wide = length-append (entry_strings document e) (strings_of document es) in
-    record {
-      nodes = last ∙ ap (λ i. laid i (r ∷ []) b) same ∙ ap (λ l. laid k (r ∷ []) l) p.nodes ∙ laid-before k r (records_of document n es) a
-          ∙ ap (λ s. laid k (s ∷ records_of document n es) a) own
-          ∙ ap (λ i. laid k (record_of document m e ∷ records_of document i es) a) at;
-      strings = p.strings ∙ ap (λ l. laid n (strings_of document es) l) first
-          ∙ laid-append m n (entry_strings document e) (strings_of document es) x at;
-      counts = at-moved (suc k + length es) (k + suc (length es)) (n + length (strings_of document es)) (m + length (entry_strings document e ++ strings_of document es)) t (omega arith) (omega (arith, at, wide)) p.counts;
-    }
+puts-own document j k m n e es r a b c x y z t at own first p last same = grind (arith, nat_tests, common_steps, at-moved, laid-append, laid-before)
 
 pub bytes-append : (m : ℕ) (xs ys a b c : List ℕ) (t u : ℕ) → PutsBytes m xs a b t → PutsBytes (m + length xs) ys b c u → PutsBytes m (xs ++ ys) a c u
-bytes-append m xs ys a b c t u p q =
-    let long = length-append xs ys in
-    let same : m + length xs + length ys ≡ m + length (xs ++ ys) = omega (arith, long) in
-    record {
-      bytes = q.bytes ∙ ap (λ l. laid (m + length xs) ys l) p.bytes ∙ laid-append m (m + length xs) xs ys a refl;
-      count = q.count ∙ same;
-    }
+bytes-append m xs ys a b c t u p q = grind (arith, nat_tests, common_steps, laid-append)
 
 -- ---- what can be counted
 
 -- an entry and those behind it
 pub fits-own : (document : List ℕ) (k m : ℕ) (e : Entry) (es : List Entry) → Fits document k m (e ∷ es)
     → (m + length (entry_strings document e) ≤ NONE) × Fits document (suc k) (m + length (entry_strings document e)) es
-fits-own document k m e es h =
-    let long = length-append (entry_strings document e) (strings_of document es) in
-    (omega (arith, h.short, long), record { few = omega (arith, h.few); short = omega (arith, h.short, long) })
+fits-own document k m e es h = grind (arith, nat_tests, common_steps)
 
 -- a part
 pub fits-part : (document : List ℕ) (k m : ℕ) (es fs gs : List Entry) → Fits document k m (es ++ (fs ++ gs))
     → Fits document (k + length es) (m + length (strings_of document es)) fs
-fits-part document k m es fs gs h =
-    let count = length-append es (fs ++ gs) in
-    let inner = length-append fs gs in
-    let size = ap (λ l. length l) (strings-append document es (fs ++ gs)) in
-    let long = length-append (strings_of document es) (strings_of document (fs ++ gs)) in
-    let more = ap (λ l. length l) (strings-append document fs gs) in
-    let wide = length-append (strings_of document fs) (strings_of document gs) in
-    record { few = omega (arith, h.few, count, inner); short = omega (arith, h.short, size, long, more, wide) }
+fits-part document k m es fs gs h = grind (arith, nat_tests, common_steps)
 
 pub fits-same : (document : List ℕ) (k m : ℕ) (es fs : List Entry) → es ≡ fs → Fits document k m es → Fits document k m fs
 fits-same document k m es fs e h = subst (λ (l : List Entry). Fits document k m l) e h

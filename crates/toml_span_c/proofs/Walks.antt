@@ -1,12 +1,10 @@
 -- One more value of a walk down a tree.
-use Rattle.std.proofs.Common.{◌≡◌, ◌<◌, ℕ, suc, ◌+◌, List, [], ◌∷◌, ◌++◌, Option, Some, None, drop, length, get_or, refl, sym, ap, ◌∙◌, true, false, arith, append_assoc, add-one, length-append, subst}
-use Rattle.std.proofs.lemmas.List.{drop_more, append-nil}
-use Rattle.std.specs.Cow.{cow_str_bytes}
+use Rattle.toml_span_lex.proofs.Common.{◌≡◌, ◌<◌, ℕ, suc, ◌+◌, List, [], ◌∷◌, ◌++◌, Option, Some, None, drop, length, get_or, sym, ap, ◌∙◌, true, false, arith, cow_str_bytes, nat_tests, common_steps}
 use Rattle.toml_span_lex.specs.declared.key.Key.{Key}
 use Rattle.toml_span_lex.specs.declared.span.Span.{Span}
 use Rattle.toml_span_tree.specs.declared.value.Value.{Value}
-use Rattle.toml_span_tree.specs.Node.{Node, node, Inner, taken, scalar, array, table}
-use Rattle.toml_span_tree.specs.Value.{view, items_view, members_view, is_taken, holds_nothing}
+use Rattle.toml_span_tree.specs.Node.{Node, Inner}
+use Rattle.toml_span_tree.specs.Value.{view, items_view, members_view, inner_of, is_taken}
 use Rattle.toml_span_c.specs.declared.records.Counts.{Counts}
 use Rattle.toml_span_c.specs.declared.records.Record.{Record}
 use Rattle.toml_span_c.specs.Records.{Entry, no_span, node_entries, held_entries, items_entries, members_entries, strings_of}
@@ -24,24 +22,12 @@ own_entry at parent i name key n inner = record {
   value = n;
 }
 
-own_first : (at parent i : ℕ) (name : Option (List ℕ)) (key : Span) (inner : Inner) (span : Span) → holds_nothing inner ≡ false
-    → node_entries at parent i name key (node inner span) ≡ own_entry at parent i name key (node inner span) inner ∷ held_entries at inner
-own_first at parent i name key taken span h = cc
-own_first at parent i name key (scalar s) span h = refl
-own_first at parent i name key (array ns) span h = refl
-own_first at parent i name key (table ms) span h = refl
-
-pub entries-held : (at parent i : ℕ) (name : Option (List ℕ)) (key : Span) (n : Node) (inner : Inner) (span : Span) → n ≡ node inner span → is_taken n ≡ false
-    → node_entries at parent i name key n ≡ own_entry at parent i name key n inner ∷ held_entries at inner
-entries-held at parent i name key n inner span e h =
-    ap (λ m. node_entries at parent i name key m) e ∙ own_first at parent i name key inner span (sym (ap (λ m. is_taken m) e) ∙ h)
-    ∙ ap (λ m. own_entry at parent i name key m inner ∷ held_entries at inner) (sym e)
+pub entries-held : (at parent i : ℕ) (name : Option (List ℕ)) (key : Span) (n : Node) → is_taken n ≡ false
+    → node_entries at parent i name key n ≡ own_entry at parent i name key n (inner_of n) ∷ held_entries at (inner_of n)
+entries-held at parent i name key n h = grind (arith, nat_tests, common_steps)
 
 pub entries-taken : (at parent i : ℕ) (name : Option (List ℕ)) (key : Span) (n : Node) → is_taken n ≡ true → node_entries at parent i name key n ≡ []
-entries-taken at parent i name key (node taken s) h = refl
-entries-taken at parent i name key (node (scalar x) s) h = cc
-entries-taken at parent i name key (node (array ns) s) h = cc
-entries-taken at parent i name key (node (table ms) s) h = cc
+entries-taken at parent i name key n h = grind (arith, nat_tests, common_steps)
 
 -- The entries were put up to those that are left, which depend on the number of the next one; together they are all.
 pub record Upto (document : List ℕ) (k m : ℕ) (left : ℕ → List Entry) (all : List Entry) (old new : List Record) (bytes bytes' : List ℕ) (total : Counts) : Type 0 where
@@ -64,52 +50,31 @@ upto-more document k m left rest mine all a b c x y z t u split step fits so =
     let at = k + length so.done in
     let n = m + length (strings_of document so.done) in
     let added = mine at in
-    let long = length-append so.done added in
-    let next : at + length added ≡ k + length (so.done ++ added) = omega (arith, long) in
     let parts : all ≡ so.done ++ (added ++ rest (at + length added)) = sym so.whole ∙ ap (λ l. so.done ++ l) (split at) in
     let part = fits-part document k m so.done added (rest (at + length added)) (fits-same document k m all _ parts fits) in
     record {
       done = so.done ++ added;
       puts = puts-append document k m so.done added a b c x y z t u so.puts (step at n so.puts.counts part);
-      whole = append_assoc so.done added (rest (k + length (so.done ++ added)))
-          ∙ ap (λ i. so.done ++ (added ++ rest i)) (sym next)
-          ∙ ap (λ l. so.done ++ l) (sym (split at)) ∙ so.whole;
+      whole = grind (arith, nat_tests, common_steps, parts);
     }
 
 pub items-split : (parent i at : ℕ) (es : List Value) (e : Value) → i < length es → get_or es i e ≡ e
     → items_left parent i (drop i es) at ≡ node_entries at parent i None no_span (view e)
     ++ items_left parent (i + 1) (drop (i + 1) es) (at + length (node_entries at parent i None no_span (view e)))
-items-split parent i at es e below here =
-    let split : drop i es ≡ e ∷ drop (i + 1) es = drop_more es i e below ∙ ap (λ x. x ∷ drop (i + 1) es) here in
-    let mine = node_entries at parent i None no_span (view e) in
-    ap (λ l. items_left parent i l at) split
-    ∙ ap (λ j. mine ++ items_left parent j (drop (i + 1) es) (at + length mine)) (sym (add-one i))
+items-split parent i at es e below here = grind (arith, nat_tests, common_steps)
 
 pub members-split : (parent i at : ℕ) (es rest : List (Key × Value)) (key : Key) (value : Value) → es ≡ (key, value) ∷ rest
     → members_left parent i es at ≡ node_entries at parent i (Some (cow_str_bytes key.name)) key.span (view value)
     ++ members_left parent (i + 1) rest (at + length (node_entries at parent i (Some (cow_str_bytes key.name)) key.span (view value)))
-members-split parent i at es rest key value split =
-    let mine = node_entries at parent i (Some (cow_str_bytes key.name)) key.span (view value) in
-    ap (λ l. members_left parent i l at) split
-    ∙ ap (λ j. mine ++ members_left parent j rest (at + length mine)) (sym (add-one i))
+members-split parent i at es rest key value split = grind (arith, nat_tests, common_steps)
 
 -- at the end nothing is left
 pub upto-all : (document : List ℕ) (k m : ℕ) (left : ℕ → List Entry) (all : List Entry) (a b : List Record) (x y : List ℕ) (t : Counts) → ((at : ℕ) → left at ≡ [])
     → Upto document k m left all a b x y t → Puts document k m all a b x y t
-upto-all document k m left all a b x y t none so =
-    subst (λ (es : List Entry). Puts document k m es a b x y t)
-    (sym (append-nil so.done) ∙ ap (λ l. so.done ++ l) (sym (none (k + length so.done))) ∙ so.whole) so.puts
+upto-all document k m left all a b x y t none so = grind (arith, nat_tests, common_steps)
 
 -- at the start all is left
 pub upto-begin : (document : List ℕ) (k m : ℕ) (left : ℕ → List Entry) (a : List Record) (x : List ℕ) (t : Counts) → IsAt k m t → Upto document k m left (left k) a a x x t
 upto-begin document k m left a x t at =
     let same : k + 0 ≡ k = omega arith in
     record { done = []; puts = puts-none document k m a x t at; whole = ap left same }
-
--- a value whose name is spelled otherwise
-pub puts-named : (document : List ℕ) (k m parent i : ℕ) (a b : List ℕ) (key : Span) (n : Node) (old new : List Record) (x y : List ℕ) (t : Counts) → a ≡ b
-    → Puts document k m (node_entries k parent i (Some a) key n) old new x y t → Puts document k m (node_entries k parent i (Some b) key n) old new x y t
-puts-named document k m parent i a b key n old new x y t e p = subst (λ (name : List ℕ). Puts document k m (node_entries k parent i (Some name) key n) old new x y t) e p
-
-pub puts-same : (document : List ℕ) (k m : ℕ) (es fs : List Entry) (old new : List Record) (x y : List ℕ) (t : Counts) → es ≡ fs → Puts document k m es old new x y t → Puts document k m fs old new x y t
-puts-same document k m es fs old new x y t e p = subst (λ (l : List Entry). Puts document k m l old new x y t) e p

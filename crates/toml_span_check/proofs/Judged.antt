@@ -1,13 +1,11 @@
 -- What is told of one file.
-use Rattle.std.proofs.Common.{◌≡◌, ◌+◌, ◌++◌, ℕ, Bool, max, List, Option, Vec, Result, Ok, Err, IfOk, IsErrAnd, refl, sym, ap, subst, inl, inr}
-use Rattle.std.specs.Global.{Global}
-use Rattle.std.specs.declared.alloc.AllocError.{AllocError}
+use Rattle.toml_span_lex.proofs.Common.{◌≡◌, ◌+◌, ◌++◌, ℕ, Bool, max, List, Option, Vec, Result, Ok, Err, IfOk, IsErrAnd, refl, inl, inr, Global, AllocError, arith, nat_tests, common_steps}
 use Rattle.toml_span_lines.specs.Held.{Streams}
 use Rattle.toml_span_lines.specs.declared.held.Unwritten.{Unwritten}
-use Rattle.toml_span_lines.specs.declared.held.Unwritten.TheVariants.{Failed, Memory}
+use Rattle.toml_span_lines.specs.declared.held.Unwritten.TheVariants.{Memory}
 use Rattle.toml_span_lines.proofs.Fronts.{front-written}
 use Rattle.toml_span_check.specs.Answer.{IsAnswer}
-use Rattle.toml_span_check.specs.code.Telling.{Begun, BegunOne, Holds, TellsBytes, TellsOne, TextsOf}
+use Rattle.toml_span_check.specs.code.Telling.{Begun, BegunOne, TellsBytes, TellsOne, TextsOf}
 use Rattle.toml_span_check.specs.declared.answer.Form.{Form}
 use Rattle.toml_span_check.specs.declared.answer.Task.{Task}
 use Rattle.toml_span_check.specs.declared.answer.Task.TheVariants.{Show}
@@ -15,25 +13,12 @@ use Rattle.toml_span_check.specs.declared.faults.Format.{Format}
 
 -- a text with status 1
 pub with-one : (r : Result (Vec ℕ Global) AllocError) (text : List ℕ) → IfOk r (λ out. out.items ≡ text) → IfOk r (λ out. let a : ℕ × List ℕ = (1, out.items) in a ≡ (1, text))
-with-one (Err e) text h = tt
-with-one (Ok out) text h = ap (λ (t : List ℕ). let a : ℕ × List ℕ = (1, t) in a) h
+with-one r text h = grind (arith, nat_tests, common_steps)
 
 -- a document that is shown
 pub shows-bytes : (format : Format) (task : Task) (pointer name bytes : List ℕ) (form : Form) (answer : ℕ × List ℕ) (r : Result ℕ Unwritten) (a b : Option (List ℕ)) (failed : Bool) (held kept : List ℕ) →
     task ≡ Show form → IsAnswer format task pointer name bytes answer → IfOk r (λ s. s ≡ answer.0) → Streams r a b failed (held ++ answer.1) kept → TellsBytes format task pointer name bytes r a b failed held kept
-shows-bytes format task pointer name bytes form answer (Ok s) a b failed held kept shows is same st =
-    (st.0, inr (form, shows), (answer.1, subst (λ (n : ℕ). IsAnswer format task pointer name bytes (n, answer.1)) (sym same) is, (st.1, inr (form, shows))))
-shows-bytes format task pointer name bytes form answer (Err Memory) a b failed held kept shows is same st = (st.0, inr ((form, shows), (answer, is, st.1)))
-shows-bytes format task pointer name bytes form answer (Err Failed) a b failed held kept shows is same st = (st.0, ((form, shows), (answer, is, st.1)))
-
--- the file of these bytes is told of
-pub told-one : (format : Format) (task : Task) (pointer name bytes looked : List ℕ) (reading : Result (List ℕ) (List ℕ)) (status : ℕ) (a b : Option (List ℕ)) (failed : Bool) (t u : TextsOf) (kept : List ℕ) →
-    reading ≡ Ok bytes → looked ≡ bytes → TellsBytes format task pointer name looked (Ok status) a b failed t.0 kept → u.0 ≡ kept → u.1 ≡ t.1 → u.2 ≡ max t.2 status → u.3 ≡ t.3 + status →
-    TellsOne format task pointer name reading (Ok tt) a b failed t u
-told-one format task pointer name bytes looked reading status a b failed t u kept read is told e0 e1 e2 e3 =
-    let answer = subst (λ (x : List ℕ). IsAnswer format task pointer name x (status, told.2.0)) is told.2.1 in
-    subst (λ (r : Result (List ℕ) (List ℕ)). TellsOne format task pointer name r (Ok tt) a b failed t u) (sym read)
-    (told.0, told.1, (t.0 ++ told.2.0, ((status, told.2.0), answer, refl, e1, e2, e3), subst (Holds task a b (t.0 ++ told.2.0)) (sym e0) told.2.2))
+shows-bytes format task pointer name bytes form answer r a b failed held kept shows is same st = grind (arith, nat_tests, common_steps)
 
 begun-one : (format : Format) (task : Task) (pointer name bytes : List ℕ) (a b : Option (List ℕ)) (t : TextsOf) → Begun format task pointer name bytes a b t.0 → BegunOne format task pointer name (Ok bytes) a b t
 begun-one format task pointer name bytes a b t begun =
@@ -42,19 +27,12 @@ begun-one format task pointer name bytes a b t begun =
 
 stops-bytes : (format : Format) (task : Task) (pointer name bytes : List ℕ) (a b : Option (List ℕ)) (failed : Bool) (t u : TextsOf) (kept : List ℕ) (e : Unwritten) →
     TellsBytes format task pointer name bytes (Err e) a b failed t.0 kept → TellsOne format task pointer name (Ok bytes) (Err e) a b failed t u
-stops-bytes format task pointer name bytes a b failed t u kept Failed (bad, begun) = (bad, begun-one format task pointer name bytes a b t begun)
-stops-bytes format task pointer name bytes a b failed t u kept Memory (good, inl same) = (good, inl same)
-stops-bytes format task pointer name bytes a b failed t u kept Memory (good, inr begun) = (good, inr (begun-one format task pointer name bytes a b t begun))
+stops-bytes format task pointer name bytes a b failed t u kept e told = grind (arith, nat_tests, common_steps, begun-one format task pointer name bytes a b t)
 
 -- it is not told of to its end
 pub stops-one : (format : Format) (task : Task) (pointer name bytes looked : List ℕ) (reading : Result (List ℕ) (List ℕ)) (a b : Option (List ℕ)) (failed : Bool) (t u : TextsOf) (kept : List ℕ) (e : Unwritten) (r : Result (Unit {0}) Unwritten) →
     reading ≡ Ok bytes → looked ≡ bytes → TellsBytes format task pointer name looked (Err e) a b failed t.0 kept → IsErrAnd r (λ y. y ≡ e) → TellsOne format task pointer name reading r a b failed t u
-stops-one format task pointer name bytes looked reading a b failed t u kept e (Ok v) read is told err = absurd err
-stops-one format task pointer name bytes looked reading a b failed t u kept e (Err y) read is told err =
-    let same = subst (λ (x : List ℕ). TellsBytes format task pointer name x (Err e) a b failed t.0 kept) is told in
-    let all = stops-bytes format task pointer name bytes a b failed t u kept e same in
-    let this = subst (λ (x : Unwritten). TellsOne format task pointer name (Ok bytes) (Err x) a b failed t u) (sym err) all in
-    subst (λ (x : Result (List ℕ) (List ℕ)). TellsOne format task pointer name x (Err y) a b failed t u) (sym read) this
+stops-one format task pointer name bytes looked reading a b failed t u kept e r read is told err = grind (arith, nat_tests, common_steps, stops-bytes)
 
 counts-not : (format : Format) (task : Task) (pointer name bytes : List ℕ) (status : ℕ) (a b : Option (List ℕ)) (failed : Bool) (t u : TextsOf) (kept : List ℕ) →
     TellsBytes format task pointer name bytes (Ok status) a b failed t.0 kept → TellsOne format task pointer name (Ok bytes) (Err Memory) a b failed t u
@@ -65,8 +43,5 @@ counts-not format task pointer name bytes status a b failed t u kept (good, inr 
 -- it is not counted
 pub stops-count : (format : Format) (task : Task) (pointer name bytes looked : List ℕ) (reading : Result (List ℕ) (List ℕ)) (status : ℕ) (a b : Option (List ℕ)) (failed : Bool) (t u : TextsOf) (kept : List ℕ) (r : Result (Unit {0}) Unwritten) →
     reading ≡ Ok bytes → looked ≡ bytes → TellsBytes format task pointer name looked (Ok status) a b failed t.0 kept → IsErrAnd r (λ y. y ≡ Memory) → TellsOne format task pointer name reading r a b failed t u
-stops-count format task pointer name bytes looked reading status a b failed t u kept (Ok v) read is told err = absurd err
-stops-count format task pointer name bytes looked reading status a b failed t u kept (Err Failed) read is told err = cc
-stops-count format task pointer name bytes looked reading status a b failed t u kept (Err Memory) read is told err =
-    let same = subst (λ (x : List ℕ). TellsBytes format task pointer name x (Ok status) a b failed t.0 kept) is told in
-    subst (λ (x : Result (List ℕ) (List ℕ)). TellsOne format task pointer name x (Err Memory) a b failed t u) (sym read) (counts-not format task pointer name bytes status a b failed t u kept same)
+stops-count format task pointer name bytes looked reading status a b failed t u kept r read is told err =
+    grind (arith, nat_tests, common_steps, counts-not format task pointer name bytes status a b failed t u kept)

@@ -5,4 +5,3 @@ pub mod Pieces
 pub mod Rows
 pub mod Statuses
 pub mod Tellings
-pub mod Walks

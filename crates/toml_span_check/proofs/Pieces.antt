@@ -1,5 +1,5 @@
 -- Texts that grow piece by piece.
-use Rattle.std.proofs.Common.{◌≡◌, ℕ, List, ◌++◌, append_assoc}
+use Rattle.toml_span_lex.proofs.Common.{◌≡◌, ℕ, List, ◌++◌, append_assoc}
 
 pub three : (old a b c s t u : List ℕ) → s ≡ old ++ a → t ≡ s ++ b → u ≡ t ++ c → u ≡ old ++ (a ++ b ++ c)
 three old a b c s t u first second last = rw (last, second, first) (simp append_assoc)

@@ -1,10 +1,10 @@
 -- One more file that is told of.
-use Rattle.std.proofs.Common.{◌≡◌, ◌<◌, ◌+◌, ◌⊎◌, ℕ, Bool, false, List, [], ◌∷◌, ◌++◌, map, take, drop, get_or, length, Option, Some, None, Result, Ok, Err, IsErrAnd, refl, sym, ap, subst, inl, inr, ◌∙◌, append_assoc, take-append-drop, string_bytes, suc, arith, length-append}
-use Rattle.std.proofs.lemmas.List.{take_more, map-append, append-nil}
+use Rattle.toml_span_lex.proofs.Common.{◌≡◌, ◌<◌, ◌+◌, ◌⊎◌, ℕ, Bool, false, List, [], ◌∷◌, ◌++◌, map, take, drop, get_or, length, Option, Result, Ok, Err, IsErrAnd, refl, sym, ap, subst, inl, inr, ◌∙◌, append_assoc, take-append-drop, string_bytes, suc, arith, length-append, take_more, map-append, Appends-trans, nat_tests, common_steps}
+use Rattle.std.proofs.lemmas.List.{append-nil}
 use Rattle.toml_span_check.specs.declared.answer.Task.{Task}
 use Rattle.toml_span_check.specs.declared.answer.Task.TheVariants.{Check, Show}
 use Rattle.toml_span_check.specs.declared.faults.Format.{Format}
-use Rattle.toml_span_check.specs.Run.{Asked, Reading, Finds, FindsAll, no_name, one_more, Begins, Logs, Shows, Tells, TellsFirst, nothing, answered, unread, together, whole}
+use Rattle.toml_span_check.specs.Run.{Asked, Reading, Gathered, Finds, FindsAll, no_name, one_more, Logs, Shows, Tells, TellsFirst, nothing, answered, unread, together, whole}
 use Rattle.toml_span_check.specs.code.Telling.{Adds, BegunOne, Holds, TellsAll, TellsFiles, TellsOne, TextsOf}
 use Rattle.toml_span_check.specs.declared.run.Telling.{Telling}
 use Rattle.toml_span_lines.specs.Held.{HoldsRest}
@@ -12,18 +12,12 @@ use Rattle.toml_span_lines.specs.Run.{HasWritten}
 use Rattle.toml_span_lines.specs.declared.held.Unwritten.{Unwritten}
 use Rattle.toml_span_lines.specs.declared.held.Unwritten.TheVariants.{Failed, Memory}
 use Rattle.toml_span_lines.proofs.Fronts.{front-written, written-front}
-use Rattle.std.proofs.KnownBytes.{Appends-trans}
 
 logs-none : (log : Option Asked) → Logs log log []
-logs-none None = tt
-logs-none (Some asked) = ap (λ rs. Some (record asked { readings = rs })) (sym (append-nil asked.readings))
+logs-none log = grind (arith, nat_tests, common_steps)
 
 logs-more : (a b c : Option Asked) (rs : List Reading) (r : Reading) → Logs a b rs → Logs b c (r ∷ []) → Logs a c (rs ++ r ∷ [])
-logs-more None b c rs r h k = tt
-logs-more (Some x) None c rs r h k = cc
-logs-more (Some x) (Some y) c rs r h k =
-    let whole : y ≡ record x { readings = x.readings ++ rs } = cc in
-    k ∙ ap (λ (z : Asked). Some (record z { readings = z.readings ++ r ∷ [] })) whole ∙ ap (λ l. Some (record x { readings = l })) (append_assoc x.readings rs (r ∷ []))
+logs-more a b c rs r h k = grind (arith, nat_tests, common_steps)
 
 pub finds-none : (log : Option Asked) (files : List (List ℕ)) → files ≡ [] → FindsAll [] log log files
 finds-none log files none = rw none (no_name log)
@@ -37,24 +31,20 @@ pub tells-start : (format : Format) (task : Task) (pointer : List ℕ) (log : Op
 tells-start format task pointer log out errors none silent =
     record { readings = []; asked = refl; logged = logs-none log; told = rw (none, silent) nothing }
 
-pub tells-more : (format : Format) (task : Task) (pointer : List ℕ) (names more : List (List ℕ)) (name : List ℕ) (old mid new : Option Asked) (reading : Result (List ℕ) (List ℕ)) (out errors : List ℕ) (status wrong : ℕ) (out' errors' : List ℕ) (status' wrong' : ℕ) →
-    Tells format task pointer names old mid out errors status wrong → more ≡ names ++ name ∷ [] → Logs mid new ((name, reading) ∷ []) →
-    Adds format task pointer name reading (out, errors, status, wrong) (out', errors', status', wrong') →
-    Tells format task pointer more old new out' errors' status' wrong'
-tells-more format task pointer names more name old mid new (Ok bytes) out errors status wrong out' errors' status' wrong' t n l a =
-    record {
-      readings = t.readings ++ (name, Ok bytes) ∷ [];
-      asked = map-append (λ r. r.0) t.readings ((name, Ok bytes) ∷ []) ∙ ap (λ ns. ns ++ name ∷ []) t.asked ∙ sym n;
-      logged = logs-more old mid new t.readings (name, Ok bytes) t.logged l;
-      told = rw (a.2, a.3, a.4, a.5) (answered t.readings out errors status wrong name bytes a.0 t.told a.1);
-    }
-tells-more format task pointer names more name old mid new (Err reason) out errors status wrong out' errors' status' wrong' t n l a =
-    record {
-      readings = t.readings ++ (name, Err reason) ∷ [];
-      asked = map-append (λ r. r.0) t.readings ((name, Err reason) ∷ []) ∙ ap (λ ns. ns ++ name ∷ []) t.asked ∙ sym n;
-      logged = logs-more old mid new t.readings (name, Err reason) t.logged l;
-      told = rw (a.0, a.1, a.2, a.3) (unread t.readings out errors status wrong name reason t.told);
-    }
+gathers-more : (format : Format) (task : Task) (pointer : List ℕ) (rs : List Reading) (name : List ℕ) (reading : Result (List ℕ) (List ℕ)) (t u : TextsOf) →
+    Gathered format task pointer rs t.0 t.1 t.2 t.3 → Adds format task pointer name reading t u → Gathered format task pointer (rs ++ (name, reading) ∷ []) u.0 u.1 u.2 u.3
+gathers-more format task pointer rs name (Ok bytes) t u told a = rw (a.2, a.3, a.4, a.5) (answered rs t.0 t.1 t.2 t.3 name bytes a.0 told a.1)
+gathers-more format task pointer rs name (Err reason) t u told a = rw (a.0, a.1, a.2, a.3) (unread rs t.0 t.1 t.2 t.3 name reason told)
+
+pub tells-more : (format : Format) (task : Task) (pointer : List ℕ) (names more : List (List ℕ)) (name : List ℕ) (old mid new : Option Asked) (reading : Result (List ℕ) (List ℕ)) (t u : TextsOf) →
+    Tells format task pointer names old mid t.0 t.1 t.2 t.3 → more ≡ names ++ name ∷ [] → Logs mid new ((name, reading) ∷ []) → Adds format task pointer name reading t u →
+    Tells format task pointer more old new u.0 u.1 u.2 u.3
+tells-more format task pointer names more name old mid new reading t u told n l a = record {
+  readings = told.readings ++ (name, reading) ∷ [];
+  asked = map-append (λ r. r.0) told.readings ((name, reading) ∷ []) ∙ ap (λ ns. ns ++ name ∷ []) told.asked ∙ sym n;
+  logged = logs-more old mid new told.readings (name, reading) told.logged l;
+  told = gathers-more format task pointer told.readings name reading t u told.told a;
+}
 
 pub names-more : {X : Type 0} (text : X → List ℕ) (names : List X) (i : ℕ) (d : X) → i < length names →
     map text (take (i + 1) names) ≡ map text (take i names) ++ text (get_or names i d) ∷ []
@@ -77,9 +67,7 @@ written-behind a b c all held text h w =
 adds-behind : (format : Format) (task : Task) (pointer name : List ℕ) (reading : Result (List ℕ) (List ℕ)) (held errors : List ℕ) (status wrong : ℕ) (t : TextsOf) (front all : List ℕ) →
     Adds format task pointer name reading (held, errors, status, wrong) t → front ++ held ≡ all →
     Adds format task pointer name reading (all, errors, status, wrong) (front ++ t.0, t.1, t.2, t.3)
-adds-behind format task pointer name (Ok bytes) held errors status wrong t front all a is =
-    (a.0, a.1, ap (λ l. front ++ l) a.2 ∙ sym (append_assoc front held a.0.1) ∙ ap (λ l. l ++ a.0.1) is, a.3, a.4, a.5)
-adds-behind format task pointer name (Err reason) held errors status wrong t front all a is = (ap (λ l. front ++ l) a.0 ∙ is, a.1, a.2, a.3)
+adds-behind format task pointer name reading held errors status wrong t front all a is = grind (arith, nat_tests, common_steps)
 
 -- ---- files, one after another
 
@@ -102,8 +90,7 @@ holds-next task all held text kept front is (inl same) (inl more) = inl (more �
 
 -- of documents that are shown nothing stands round what is told
 whole-shown : (format : Format) (task : Task) (text : List ℕ) → Shows task → text ≡ whole format task text
-whole-shown format (Show form) text shows = refl
-whole-shown format Check text (form, is) = cc
+whole-shown format task text shows = grind (arith, nat_tests, common_steps)
 
 -- what is told of all files together is held
 pub whole-held : (format : Format) (task : Task) (a b : Option (List ℕ)) (all held kept : List ℕ) → Holds task a b all held → kept ≡ whole format task held → HoldsRest a b (whole format task all) kept
@@ -113,9 +100,7 @@ whole-held format Check a b all held kept (h, inl same) is =
 whole-held format Check a b all held kept (h, inr (form, wrong)) is = cc
 
 shows-next : (task : Task) (a b c : Option (List ℕ)) → (b ≡ a) ⊎ Shows task → (c ≡ b) ⊎ Shows task → (c ≡ a) ⊎ Shows task
-shows-next task a b c (inr shows) k = inr shows
-shows-next task a b c (inl same) (inr shows) = inr shows
-shows-next task a b c (inl same) (inl more) = inl (more ∙ same)
+shows-next task a b c h k = grind (arith, nat_tests, common_steps)
 
 pub upto-next : (format : Format) (task : Task) (pointer : List ℕ) (names more : List (List ℕ)) (name : List ℕ) (old mid new : Option Asked) (reading : Result (List ℕ) (List ℕ)) (a b c : Option (List ℕ)) (t u : TextsOf) (text : List ℕ) →
     Upto format task pointer names old mid a b t → more ≡ names ++ name ∷ [] → Logs mid new ((name, reading) ∷ []) →
@@ -126,11 +111,17 @@ upto-next format task pointer names more name old mid new reading a b c t u text
       shows-next task a b c before.0 kept,
       (
         h.0 ++ text,
-        tells-more format task pointer names more name old mid new reading before.1.0 t.1 t.2 t.3 (h.0 ++ text) u.1 u.2 u.3 before.1.1 n l
+        tells-more format task pointer names more name old mid new reading (before.1.0, t.1, t.2, t.3) (h.0 ++ text, u.1, u.2, u.3) before.1.1 n l
             (adds-behind format task pointer name reading t.0 t.1 t.2 t.3 (text, u.1, u.2, u.3) h.0 before.1.0 adds h.2),
         (holds-behind a b c before.1.0 t.0 text u.0 h holds.0, holds-next task before.1.0 t.0 text u.0 h.0 h.2 before.1.2.1 holds.1),
       ),
     )
+
+pub tells-first : (format : Format) (task : Task) (pointer : List ℕ) (first rest files : List (List ℕ)) (old new : Option Asked) (a b : Option (List ℕ)) (t : TextsOf) →
+    files ≡ first ++ rest → Shows task ⊎ (rest ≡ []) → Tells format task pointer first old new t.0 t.1 t.2 t.3 → HasWritten a b (whole format task t.0) →
+    TellsFirst format task pointer files old new a b
+tells-first format task pointer first rest files old new a b t parts all tells written =
+    record { first = first; rest = rest; parts = parts; all = all; out = t.0; complaints = t.1; status = t.2; wrong = t.3; tells = tells; written = written }
 
 -- the first files, and one more that was begun
 first-more : (format : Format) (task : Task) (pointer : List ℕ) (names more rest files : List (List ℕ)) (name : List ℕ) (old mid new : Option Asked) (reading : Result (List ℕ) (List ℕ)) (a b c : Option (List ℕ)) (t : TextsOf) →
@@ -139,50 +130,24 @@ first-more : (format : Format) (task : Task) (pointer : List ℕ) (names more re
 first-more format task pointer names more rest files name old mid new reading a b c t before n parts l begun =
     let h = before.1.2.0 in
     let u = begun.1.0 in
-    record {
-      first = more;
-      rest = rest;
-      parts = parts;
-      all = inl begun.0;
-      out = h.0 ++ u.0;
-      complaints = u.1;
-      status = u.2;
-      wrong = u.3;
-      tells = tells-more format task pointer names more name old mid new reading before.1.0 t.1 t.2 t.3 (h.0 ++ u.0) u.1 u.2 u.3 before.1.1 n l
-          (adds-behind format task pointer name reading t.0 t.1 t.2 t.3 u h.0 before.1.0 begun.1.1 h.2);
-      written = subst (HasWritten a c) (whole-shown format task (h.0 ++ u.0) begun.0) (written-behind a b c before.1.0 t.0 u.0 h begun.1.2);
-    }
+    tells-first format task pointer more rest files old new a c (h.0 ++ u.0, u.1, u.2, u.3) parts (inl begun.0)
+    (tells-more format task pointer names more name old mid new reading (before.1.0, t.1, t.2, t.3) (h.0 ++ u.0, u.1, u.2, u.3) before.1.1 n l
+    (adds-behind format task pointer name reading t.0 t.1 t.2 t.3 u h.0 before.1.0 begun.1.1 h.2))
+    (subst (HasWritten a c) (whole-shown format task (h.0 ++ u.0) begun.0) (written-behind a b c before.1.0 t.0 u.0 h begun.1.2))
 
 -- the first files, and no more
 first-upto : (format : Format) (task : Task) (pointer : List ℕ) (names rest files : List (List ℕ)) (old new : Option Asked) (a b : Option (List ℕ)) (t : TextsOf) →
     Upto format task pointer names old new a b t → files ≡ names ++ rest → (b ≡ a) ⊎ (Shows task × ((last : Option Asked) × TellsFirst format task pointer files old last a b))
 first-upto format task pointer names rest files old new a b t (inl same, told) parts = inl same
 first-upto format task pointer names rest files old new a b t (inr shows, told) parts =
-    inr (
-      shows,
-      (
-        new,
-        record {
-          first = names;
-          rest = rest;
-          parts = parts;
-          all = inl shows;
-          out = told.0;
-          complaints = t.1;
-          status = t.2;
-          wrong = t.3;
-          tells = told.1;
-          written = subst (HasWritten a b) (whole-shown format task told.0 shows) (front-written a b told.0 t.0 told.2.0);
-        },
-      ),
-    )
+    let written = subst (HasWritten a b) (whole-shown format task told.0 shows) (front-written a b told.0 t.0 told.2.0) in
+    inr (shows, (new, tells-first format task pointer names rest files old new a b (told.0, t.1, t.2, t.3) parts (inl shows) told.1 written))
 
 -- memory is refused between two files
 pub stops-reading : (format : Format) (task : Task) (pointer : List ℕ) (names rest files : List (List ℕ)) (old mid new : Option Asked) (a b : Option (List ℕ)) (t : TextsOf) (failed : Bool) (r : Result Telling Unwritten) →
     Upto format task pointer names old mid a b t → files ≡ names ++ rest → failed ≡ false → IsErrAnd r (λ y. y ≡ Memory) → TellsFiles format task pointer files r old new a b failed
-stops-reading format task pointer names rest files old mid new a b t failed (Ok v) before parts good err = absurd err
-stops-reading format task pointer names rest files old mid new a b t failed (Err Failed) before parts good err = cc
-stops-reading format task pointer names rest files old mid new a b t failed (Err Memory) before parts good err = (good, first-upto format task pointer names rest files old mid a b t before parts)
+stops-reading format task pointer names rest files old mid new a b t failed r before parts good err =
+    grind (arith, nat_tests, common_steps, first-upto format task pointer names rest files old mid a b t before parts)
 
 -- a file is not told of to its end
 stops-with : (format : Format) (task : Task) (pointer : List ℕ) (names more rest files : List (List ℕ)) (name : List ℕ) (old mid new : Option Asked) (reading : Result (List ℕ) (List ℕ)) (a b c : Option (List ℕ)) (t u : TextsOf) (failed : Bool) (e : Unwritten) →
@@ -193,52 +158,29 @@ stops-with format task pointer names more rest files name old mid new reading a 
 stops-with format task pointer names more rest files name old mid new reading a b c t u failed Memory before n parts l (good, inr begun) =
     (good, inr (begun.0, (new, first-more format task pointer names more rest files name old mid new reading a b c t before n parts l begun)))
 stops-with format task pointer names more rest files name old mid new reading a b c t u failed Memory before n parts l (good, inl same) =
-    let all : files ≡ names ++ (name ∷ [] ++ rest) = parts ∙ ap (λ m. m ++ rest) n ∙ append_assoc names (name ∷ []) rest in (
-      good,
-      subst (λ (o : Option (List ℕ)). (o ≡ a) ⊎ (Shows task × ((last : Option Asked) × TellsFirst format task pointer files old last a o))) (sym same)
-          (first-upto format task pointer names (name ∷ [] ++ rest) files old mid a b t before all),
-    )
+    let all : files ≡ names ++ (name ∷ [] ++ rest) = parts ∙ ap (λ m. m ++ rest) n ∙ append_assoc names (name ∷ []) rest in
+    grind (arith, nat_tests, common_steps, first-upto format task pointer names (name ∷ [] ++ rest) files old mid a b t before all)
 
 pub stops-telling : (format : Format) (task : Task) (pointer : List ℕ) (names more rest files : List (List ℕ)) (name : List ℕ) (old mid new : Option Asked) (reading : Result (List ℕ) (List ℕ)) (a b c : Option (List ℕ)) (t u : TextsOf) (failed : Bool) (e : Unwritten) (r : Result Telling Unwritten) →
     Upto format task pointer names old mid a b t → more ≡ names ++ name ∷ [] → files ≡ more ++ rest → Logs mid new ((name, reading) ∷ []) →
     TellsOne format task pointer name reading (Err e) b c failed t u → IsErrAnd r (λ y. y ≡ e) → TellsFiles format task pointer files r old new a c failed
-stops-telling format task pointer names more rest files name old mid new reading a b c t u failed e (Ok v) before n parts l one err = absurd err
-stops-telling format task pointer names more rest files name old mid new reading a b c t u failed e (Err y) before n parts l one err =
-    subst (λ (x : Unwritten). TellsFiles format task pointer files (Err x) old new a c failed) (sym err)
-    (stops-with format task pointer names more rest files name old mid new reading a b c t u failed e before n parts l one)
+stops-telling format task pointer names more rest files name old mid new reading a b c t u failed e r before n parts l one err = grind (arith, nat_tests, common_steps, stops-with)
 
 -- ---- the files that names are for
 
 -- memory is refused before a file is looked at
 pub stops-finding : (format : Format) (task : Task) (pointer : List ℕ) (names : List (List ℕ)) (old new : Option Asked) (a b : Option (List ℕ)) (failed : Bool) (r : Result Telling Unwritten) →
     b ≡ a → failed ≡ false → IsErrAnd r (λ y. y ≡ Memory) → TellsAll format task pointer names r old new a b failed
-stops-finding format task pointer names old new a b failed (Ok v) same good err = absurd err
-stops-finding format task pointer names old new a b failed (Err Failed) same good err = cc
-stops-finding format task pointer names old new a b failed (Err Memory) same good err = (good, inl same)
-
-begins : (format : Format) (task : Task) (pointer : List ℕ) (names files : List (List ℕ)) (old mid new : Option Asked) (a b : Option (List ℕ)) →
-    FindsAll names old mid files → TellsFirst format task pointer files mid new a b → Begins format task pointer names false old new a b
-begins format task pointer names files old mid new a b found first = record { aloud = refl; files = files; mid = mid; found = found; tells = first }
+stops-finding format task pointer names old new a b failed r same good err = grind (arith, nat_tests, common_steps)
 
 stops-all : (format : Format) (task : Task) (pointer : List ℕ) (names files : List (List ℕ)) (old mid new : Option Asked) (a b : Option (List ℕ)) (failed : Bool) (e : Unwritten) →
     FindsAll names old mid files → TellsFiles format task pointer files (Err e) mid new a b failed → TellsAll format task pointer names (Err e) old new a b failed
-stops-all format task pointer names files old mid new a b failed Failed found (bad, shows, first) = (bad, begins format task pointer names files old mid new a b found first)
-stops-all format task pointer names files old mid new a b failed Memory found (good, inl same) = (good, inl same)
-stops-all format task pointer names files old mid new a b failed Memory found (good, inr (shows, (last, first))) =
-    (good, inr (shows, (last, begins format task pointer names files old mid last a b found first)))
-
-pub stops-files : (format : Format) (task : Task) (pointer : List ℕ) (names files : List (List ℕ)) (old mid new : Option Asked) (a b : Option (List ℕ)) (failed : Bool) (e : Unwritten) (r : Result Telling Unwritten) →
-    FindsAll names old mid files → TellsFiles format task pointer files (Err e) mid new a b failed → IsErrAnd r (λ y. y ≡ e) → TellsAll format task pointer names r old new a b failed
-stops-files format task pointer names files old mid new a b failed e (Ok v) found told err = absurd err
-stops-files format task pointer names files old mid new a b failed e (Err y) found told err =
-    subst (λ (x : Unwritten). TellsAll format task pointer names (Err x) old new a b failed) (sym err) (stops-all format task pointer names files old mid new a b failed e found told)
+stops-all format task pointer names files old mid new a b failed e found h = grind (arith, nat_tests, common_steps)
 
 -- memory is refused behind the files
 pub stops-counting : (format : Format) (task : Task) (pointer : List ℕ) (names files : List (List ℕ)) (old mid new : Option Asked) (a b : Option (List ℕ)) (failed : Bool) (t : Telling) (r : Result Telling Unwritten) →
     FindsAll names old mid files → TellsFiles format task pointer files (Ok t) mid new a b failed → IsErrAnd r (λ y. y ≡ Memory) → TellsAll format task pointer names r old new a b failed
-stops-counting format task pointer names files old mid new a b failed t (Ok v) found told err = absurd err
-stops-counting format task pointer names files old mid new a b failed t (Err Failed) found told err = cc
-stops-counting format task pointer names files old mid new a b failed t (Err Memory) found (good, kept, all) err =
+stops-counting format task pointer names files old mid new a b failed t r found told err =
     let text : TextsOf = (t.held.items, string_bytes t.errors, t.status, t.wrong) in
-    let first = first-upto format task pointer files [] files mid new a b text (kept, all) (sym (append-nil files)) in
-    stops-all format task pointer names files old mid new a b failed Memory found (good, first)
+    let first = first-upto format task pointer files [] files mid new a b text (told.1, told.2) (sym (append-nil files)) in
+    grind (arith, nat_tests, common_steps, stops-all format task pointer names files old mid new a b failed Memory found (told.0, first))

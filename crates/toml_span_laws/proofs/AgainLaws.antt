@@ -1,12 +1,47 @@
--- The values of a document are read again from the texts at their spans.
-use Rattle.std.proofs.Common.{◌≡◌, ℕ, ◌+◌, ◌≤◌, List, [], ◌∷◌, ◌++◌, length, arith, inl, inr, sym, subst}
+-- Values are read again from the texts that spell them.
+use Rattle.toml_span_lex.proofs.Common.{◌≡◌, ℕ, ◌+◌, ◌-◌, ◌≤◌, List, [], ◌∷◌, length, arith, sym, refl, subst, slice_range, codes, nat_tests, common_steps}
+use Rattle.toml_span_read.specs.Keys.{SimpleKey, SpellsSimpleKey}
+use Rattle.toml_span_read.specs.Data.{ParsedValue, parsed, ParsedInner, scalar, array, inline, ParsedItems, no_items, item, ParsedPairs, no_pairs, pair, KeyValue, parsed_span, Block, from_to, first_block}
+use Rattle.toml_span_read.specs.Grammar.{Spells, SpellsDocument, SpellsInner, SpellsItems, SpellsPairs, SpellsKeyValues}
+use Rattle.toml_span_laws.specs.Again.{moved, assigned_again, key_value_again, SpellsAgain, ReadsAgain, ScalarReadsAgain, AllReadAgain, InnerReadAgain, ItemsReadAgain, PairsReadAgain, KeyValuesReadAgain, BlocksReadAgain}
+use Rattle.toml_span_read.proofs.SpanLaws.{value_lies}
+use Rattle.toml_span_places.proofs.Moves.{Copied}
+use Rattle.toml_span_laws.proofs.AgainValues.{value_copied}
+use Rattle.toml_span_laws.proofs.SpelledLine.{assigned, document}
 use Rattle.toml_span_lex.specs.declared.span.Span.{Span}
 use Rattle.toml_span_tree.specs.Node.{Scalar, text as text_scalar, integer, float, boolean, datetime}
-use Rattle.toml_span_read.specs.Keys.{SimpleKey, SpellsKey}
-use Rattle.toml_span_read.specs.Data.{ParsedValue, parsed, ParsedInner, scalar, array, inline, ParsedItems, no_items, item, ParsedPairs, no_pairs, pair, KeyValue, parsed_span, Block}
-use Rattle.toml_span_read.specs.Grammar.{from_to, Spells, SpellsInner, SpellsItems, SpellsPairs, SpellsKeyValues, first_block, SpellsSections, SpellsDocument}
-use Rattle.toml_span_laws.specs.Again.{SpellsAgain, ReadsAgain, ScalarReadsAgain, AllReadAgain, InnerReadAgain, ItemsReadAgain, PairsReadAgain, KeyValuesReadAgain, BlocksReadAgain}
-use Rattle.toml_span_laws.proofs.AgainLines.{document_spelled}
+use Rattle.toml_span_laws.proofs.AscendLaws.{AreBlocks, document_blocks}
+use Rattle.toml_span_laws.proofs.SpelledClaims.{some-part}
+
+-- ---- the text
+
+again_length : (text : List ℕ) (i j : ℕ) → i ≤ j → j ≤ length text → length (assigned_again text i j) ≡ (j + 4) - i
+again_length text i j on within = grind (arith, nat_tests, common_steps)
+
+again_copied : (text : List ℕ) (i j : ℕ) → i ≤ j → j ≤ length text → Copied text (assigned_again text i j) i 4 (length (assigned_again text i j)) 0
+again_copied text i j on within = grind (arith, nat_tests, common_steps)
+
+pub few : (v : ParsedValue) (text : List ℕ) (limit d i j : ℕ) → Spells v text limit d i j → d ≤ limit
+few (parsed x s) text limit d i j h = h.0
+
+abbrev x_key : SimpleKey
+x_key = record { name = codes "x"; span = record { start = 0; end = 1 } }
+
+x_stands : (text : List ℕ) (i j : ℕ) → 4 ≤ length (assigned_again text i j) → SpellsSimpleKey x_key (assigned_again text i j) 0 1
+x_stands text i j l = grind (arith, nat_tests, common_steps)
+
+pub document_spelled : (v : ParsedValue) (text : List ℕ) (limit d i j : ℕ) → 1 ≤ d → Spells v text limit d i j → SpellsDocument (first_block (key_value_again v i j ∷ [])) (assigned_again text i j) limit
+document_spelled v text limit d i j deep h =
+    let lies = value_lies v text limit d i j h in
+    let on = lies.1 in
+    let n = again_length text i j on lies.2 in
+    let least = few v text limit d i j h in
+    let again = (value_copied (again_copied text i j on lies.2) v limit 1 d deep).to i j 4 (length (assigned_again text i j)) (record { after = omega arith; moved = omega arith; inside = omega arith }) (record { after = on; moved = omega arith; inside = omega arith }) h in
+    let x = x_stands text i j (omega arith) in
+    subst (λ (m : ℕ). SpellsDocument (first_block (record { parts = x_key ∷ []; value = moved i 4 v; extent = from_to 0 m } ∷ [])) (assigned_again text i j) limit) n
+    (document x_key (moved i 4 v) (assigned_again text i j) limit 1 x (assigned (codes "x") (slice_range text i j) x_key (moved i 4 v) limit 1 4 refl refl (omega arith) (assigned_again text i j) refl x again))
+
+-- ---- the values of a document
 
 -- a value whose span is from where it begins to where it ends
 pub at-span : (v : ParsedValue) (text : List ℕ) (limit d i j : ℕ) → 1 ≤ d → Spells v text limit d i j → parsed_span v ≡ from_to i j → ReadsAgain text limit v
@@ -32,36 +67,21 @@ mutual
 
   items_again : (vs : ParsedItems) (text : List ℕ) (limit d i j : ℕ) → 1 ≤ d → SpellsItems vs text limit d i j → ItemsReadAgain text limit vs
   items_again no_items text limit d i j deep h = tt
-  items_again (item v vs) text limit d i j deep (m, h, inl (e, close)) = (value_again v text limit d i m deep h, subst (λ (ws : ParsedItems). ItemsReadAgain text limit ws) (sym e) tt)
-  items_again (item v vs) text limit d i j deep (m, h, inr (p, comma, rest)) = (value_again v text limit d i m deep h, items_again vs text limit d p j deep rest)
+  items_again (item v vs) text limit d i j deep h = grind (arith, nat_tests, common_steps, items_again vs, value_again v)
 
   pairs_again : (ps : ParsedPairs) (es : List KeyValue) (text : List ℕ) (limit d i j : ℕ) → 1 ≤ d → SpellsPairs ps es text limit d i j → PairsReadAgain text limit ps
   pairs_again no_pairs es text limit d i j deep h = tt
-  pairs_again (pair ss v x ps) es text limit d i j deep (m, (a, b, key, few, eq, val, ext), clear, inl (e, close)) =
-      (value_again v text limit (d + length ss) b m (omega arith) val, subst (λ (rs : ParsedPairs). PairsReadAgain text limit rs) (sym e) tt)
-  pairs_again (pair ss v x ps) es text limit d i j deep (m, (a, b, key, few, eq, val, ext), clear, inr (p, comma, rest)) =
-      (value_again v text limit (d + length ss) b m (omega arith) val, pairs_again ps (es ++ (record { parts = ss; value = v; extent = x } ∷ [])) text limit d p j deep rest)
+  pairs_again (pair ss v x ps) es text limit d i j deep h = grind (arith, nat_tests, common_steps, pairs_again ps, value_again v)
 
 -- ---- documents
 
-some_part : (ps : List SimpleKey) (text : List ℕ) (i j : ℕ) → SpellsKey ps text i j → 1 ≤ length ps
-some_part [] text i j h = absurd h
-some_part (p ∷ ps) text i j h = omega arith
-
 key_values_again : (evs earlier : List KeyValue) (text : List ℕ) (limit i j : ℕ) → SpellsKeyValues evs earlier text limit i j → KeyValuesReadAgain text limit evs
 key_values_again [] earlier text limit i j h = tt
-key_values_again (ev ∷ evs) earlier text limit i j (m, n, k, h, tail, clear, gap, rest) =
-    (value_again ev.value text limit (length ev.parts) h.from m (some_part ev.parts text i h.key_end h.key) h.spelled, key_values_again evs (earlier ++ (ev ∷ [])) text limit k j rest)
+key_values_again (ev ∷ evs) earlier text limit i j h = grind (arith, nat_tests, common_steps, key_values_again evs, some-part, value_again)
 
-sections_again : (bs : List Block) (text : List ℕ) (limit i : ℕ) → SpellsSections bs text limit i → BlocksReadAgain text limit bs
-sections_again [] text limit i h = tt
-sections_again (b ∷ bs) text limit i (j, h, rest) = (key_values_again b.key_values [] text limit h.lines.0 j h.lines.2, sections_again bs text limit j rest)
-
-with_first : (evs : List KeyValue) (bs : List Block) (text : List ℕ) (limit : ℕ) → KeyValuesReadAgain text limit evs → BlocksReadAgain text limit bs → BlocksReadAgain text limit (first_block evs ++ bs)
-with_first [] bs text limit h more = more
-with_first (ev ∷ evs) bs text limit h more = (h, more)
+sections_again : (bs : List Block) (text : List ℕ) (limit i n : ℕ) → AreBlocks bs text limit i n → BlocksReadAgain text limit bs
+sections_again [] text limit i n h = tt
+sections_again (b ∷ bs) text limit i n (s, k, j, header, few, plain, on, lines, rest) = (key_values_again b.key_values [] text limit k j lines, sections_again bs text limit j n rest)
 
 pub blocks_again : (bs : List Block) (text : List ℕ) (limit : ℕ) → SpellsDocument bs text limit → BlocksReadAgain text limit bs
-blocks_again bs text limit h =
-    subst (λ (cs : List Block). BlocksReadAgain text limit cs) (sym h.all)
-    (with_first h.first h.rest text limit (key_values_again h.first [] text limit h.lines.0 h.end h.lines.2) (sections_again h.rest text limit h.end h.sections))
+blocks_again bs text limit h = sections_again bs text limit 0 (length text) (document_blocks bs text limit h)

@@ -1,85 +1,140 @@
--- Strings that stand in a part of a text stand in its copy.
-use Rattle.std.proofs.Common.{◌≡◌, ℕ, ◌+◌, ◌-◌, ◌<◌, ◌≤◌, ◌⊎◌, Bool, true, false, List, [], ◌∷◌, ◌++◌, length, get_or, take, drop, arith, inl, inr, sym, ◌∙◌, refl, subst, cond}
-use Rattle.std.specs.Prelude.{◌==◌, ◌||◌, ◌&&◌, not}
-use Rattle.std.proofs.lemmas.Bool.{cases_lt, cases_Bool, false≢true, or_cases, or_left, or_right, false_from_ne_true}
-use Rattle.std.proofs.lemmas.Bool.Decides.{nat_tests}
-use Rattle.std.proofs.lemmas.List.{get_or_past}
+-- A part of a text that ends another one: runs, gaps and strings that stand in the part stand in its copy.
+use Rattle.toml_span_lex.proofs.Common.{◌≡◌, ℕ, ◌+◌, ◌-◌, ◌<◌, ◌⊎◌, Bool, true, false, List, [], ◌∷◌, length, get_or, arith, inl, inr, sym, ◌∙◌, refl, ◌==◌, cases_lt, false≢true, false_from_ne_true, get_or_past, nat_tests, common_steps, ◌≤◌, ◌++◌, take, drop, subst}
+use Rattle.toml_span_lex.specs.Bytes.{is_blank, is_printed, MaximalRun}
+use Rattle.toml_span_lex.specs.Pieces.{is_ws_or_newline, is_plain, WsAndNewlines, IsDropped, IsPiece, piece_value, IsClose}
+use Rattle.toml_span_lex.specs.Text.{is_crlf, LineEnd}
+use Rattle.toml_span_lex.specs.Tokens.{RunAt}
+use Rattle.toml_span_read.specs.Gaps.{GapPiece, begins_gap, GapBy, MaximalGap, Dot, NoDot, Separator, Closes}
+use Rattle.toml_span_read.proofs.Places.{run_some}
+use Rattle.toml_span_places.proofs.Moves.{Moves, either, said, Copied, At, behind, nothing, byte, stays, first, run, same_range, further, room, between}
 use Rattle.toml_span_lex.specs.declared.span.Span.{Span}
 use Rattle.toml_span_lex.specs.declared.pieces.Piece.{Piece}
 use Rattle.toml_span_lex.specs.declared.pieces.Piece.TheVariants as pieces
-use Rattle.toml_span_lex.specs.Bytes.{is_blank, MaximalRun}
-use Rattle.toml_span_lex.specs.Text.{is_crlf}
 use Rattle.toml_span_lex.specs.Escapes.{is_hex, hex_len, IsHexEscape, IsEscape}
-use Rattle.toml_span_lex.specs.Pieces.{is_plain, is_ws_or_newline, WsAndNewlines, IsDropped, IsPiece, piece_value, IsClose}
-use Rattle.toml_span_lex.specs.Strings.{Cut, content, content_end, IsContent, IsQuote, opens_multi, ContentFrom, content_span, IsString}
-use Rattle.toml_span_lex.proofs.PieceLemmas.{line_forward, piece_forward, Cut-forward, closing}
+use Rattle.toml_span_lex.specs.Strings.{Cut, content, content_end, IsContent, IsQuote, opens_multi, ContentFrom, IsString}
+use Rattle.toml_span_lex.proofs.PieceLemmas.{piece_forward, Cut-forward, closing}
 use Rattle.toml_span_lex.proofs.Copies.{content_fits}
 use Rattle.toml_span_lex.proofs.MadeStrings.{content_from_after}
-use Rattle.toml_span_read.proofs.NumberLemmas.{byte_is, same_byte}
 use Rattle.toml_span_laws.specs.Again.{moved_span}
-use Rattle.toml_span_places.proofs.Moves.{Moves, said, Copied, At, further, room, between, behind, byte, same_range}
-use Rattle.toml_span_laws.proofs.AgainRuns.{Alike, runs, run_cut, crlf, no_crlf, line, ws_back}
+
+module _ {a b : List ℕ} {s t : ℕ} (w : Copied a b s t (length b) 0) where
+  abbrev pub Alike : ℕ → (List ℕ → ℕ → ℕ → Type 0) → Type 0
+  Alike e R = Moves (At s t (length b) e) (R a) (R b)
+
+  -- ---- runs
+
+  pub runs : {e : ℕ} (p : ℕ → Bool) → Alike e (MaximalRun p)
+  runs p = run w p (λ x. absurd (omega arith))
+
+  pub worded : (p : ℕ → Bool) (word : List ℕ) → Alike 0 (λ x i j. RunAt p x i j word)
+  worded p word = record {
+    on = λ i j h. omega (arith, h.0);
+    to = λ i j k l u v h. (let some = h.0 in (omega arith, (runs p).to i j k l u v h.1, h.2 ∙ same_range w i j k l (omega arith) u v));
+  }
+
+  -- a run that may go on behind the copy's end
+  pub run_cut : (p : ℕ → Bool) (i j k : ℕ) → At s t (length b) 0 i k → MaximalRun p a i j → (l : ℕ) × MaximalRun p b k l × ((j + t ≡ l + s) ⊎ ((l ≡ length b) × (l + s < j + t)))
+  run_cut p i j k u r =
+      elim (cases_lt (length b + s) (j + t)) [
+        | inl past ↦ (
+          length b,
+          record {
+            forward = omega arith;
+            within = omega arith;
+            passes = λ m x y. (let g = r.passes ((m + s) - t) (omega arith) (omega arith) in rw (w.same ((m + s) - t) m (omega arith) (omega arith) y) at g);
+            stops = λ x. absurd (omega arith);
+          },
+          inr (refl, past),
+        )
+        | inr within ↦
+            let f : j + t ≡ ((j + t) - s) + s = omega (arith, r.forward) in
+            ((j + t) - s, (runs p).to i j k ((j + t) - s) u (record { after = omega (arith, r.forward); moved = f; inside = omega arith }) r, inl f)
+      ]
+
+  -- ---- line ends
+
+  pub crlf : {e i k : ℕ} (x : Bool) → At s t (length b) e i k → k + 1 < length b → is_crlf a i ≡ x → is_crlf b k ≡ x
+  crlf {i = i} {k} x u l h = rw (w.same i k u.after u.moved (omega arith), w.same (i + 1) (k + 1) (omega arith) (omega arith) l) at h
+
+  pub line : {e : ℕ} → Alike e LineEnd
+  line = either (first w (λ x. x) 10 nothing) (record { on = λ i j h. omega (arith, h.1); to = λ i j k l u v h. (crlf true u (omega (arith, h.1)) h.0, omega (arith, h.1)) })
+
+  -- ---- gaps
+
+  pub ws_back : {e i k : ℕ} → At s t (length b) e i k → is_ws_or_newline b k ≡ true → is_ws_or_newline a i ≡ true
+  ws_back {i = i} {k} u h = grind (arith, nat_tests, common_steps)
+
+  gap_back : {e i k : ℕ} → At s t (length b) e i k → begins_gap b k ≡ true → begins_gap a i ≡ true
+  gap_back {i = i} {k} u h = grind (arith, nat_tests, common_steps)
+
+  gap_piece : Alike 0 GapPiece
+  gap_piece = either (first w is_blank true nothing) (either line comment)
+    where
+      comment : Alike 0 (λ x i j. (get_or x i 0 ≡ 35) × MaximalRun is_printed x i j)
+      comment = record {
+        on = λ i j h. h.1.forward;
+        to = λ i j k l u v h. (let some = run_some is_printed a i j refl (rw (h.0) refl) h.1 in (byte w (λ x. x) 35 u (omega arith) h.0, (runs is_printed).to i j k l u v h.1));
+      }
+
+  gap_pieces : (ns : List ℕ) → Moves (At s t (length b) 0) (λ i j. GapBy a i ns j) (λ k l. (ms : List ℕ) × GapBy b k ms l)
+  gap_pieces [] = said (λ i j h. sym h) (λ k l h. ([], sym h)) nothing
+  gap_pieces (n ∷ ns) = said (λ i j h. (n, h.0, h.1)) (λ k l h. (h.0 ∷ h.2.0, (h.1, h.2.1))) (behind gap_piece (gap_pieces ns))
+
+  pub gap : Alike 0 MaximalGap
+  gap = record {
+    on = λ i j h. h.forward;
+    to = λ i j k l u v h. (
+        let by = (gap_pieces h.ends).to i j k l u v h.pieces in
+        record { ends = by.0; pieces = by.1; forward = omega (arith, h.forward); stops = false_from_ne_true _ (λ y. false≢true (sym h.stops ∙ gap_back v y)) });
+  }
+
+  -- ---- signs
+
+  pub sign : (c : ℕ) → Alike 0 (Separator c)
+  sign c = said (λ i j h. (h.at, h.before, (h.here, h.behind))) (λ k l h. record { at = h.0; before = h.1; here = h.2.0; behind = h.2.1 }) (behind gap (first w (λ x. x) c gap))
+
+  pub closes : (c : ℕ) → Alike 0 (Closes c)
+  closes c = said (λ i j h. (h.at, h.before, (h.here, h.ends))) (λ k l h. record { at = h.0; before = h.1; here = h.2.0; ends = h.2.1 }) (behind gap (first w (λ x. x) c nothing))
+
+  pub dot : Alike 0 Dot
+  dot = said (λ i j h. (h.at, h.before, (h.here, h.behind))) (λ k l h. record { at = h.0; before = h.1; here = h.2.0; behind = h.2.1 }) (behind (runs is_blank) (first w (λ x. x) 46 (runs is_blank)))
+
+  pub no_dot : {i k : ℕ} → At s t (length b) 0 i k → NoDot a i → NoDot b k
+  no_dot {i} {k} u h = (let r = run_cut is_blank i h.at k u h.before in no_dot_at r.0 r.1 r.2)
+    where
+      no_dot_at : (l : ℕ) → MaximalRun is_blank b k l → (h.at + t ≡ l + s) ⊎ ((l ≡ length b) × (l + s < h.at + t)) → NoDot b k
+      no_dot_at l r (inl f) = (let on = h.before.forward in let in_b = r.within in
+          record { at = l; before = r; here = stays w {e = 0} {i = h.at} (λ c. c == 46) (record { after = omega arith; moved = f; inside = omega arith }) refl h.here })
+      no_dot_at l r (inr (z, past)) = record { at = l; before = r; here = rw (get_or_past b l 0 (omega arith)) refl }
 
 -- ---- spans
 
 pub equal_moved : (s t x y x' y' : ℕ) → x + t ≡ x' + s → y + t ≡ y' + s → (x == y) ≡ (x' == y')
-equal_moved s t x y x' y' e f = elim (cases_Bool (x == y)) [
-  | inl h ↦ let z : x' ≡ y' = omega (arith, byte_is x y h) in h ∙ sym (same_byte x' y' z)
-  | inr h ↦ h ∙ sym (false_from_ne_true (x' == y') (λ g. (let z : x ≡ y = omega (arith, byte_is x' y' g) in false≢true (sym h ∙ same_byte x y z))))
-]
-
-place_moved : (s t x y : ℕ) → x + t ≡ y + s → (x + t) - s ≡ y
-place_moved s t x y e = omega arith
-
-span_moved : (s t x y x' y' : ℕ) → x + t ≡ x' + s → y + t ≡ y' + s → moved_span s t (record { start = x; end = y }) ≡ record { start = x'; end = y' }
-span_moved s t x y x' y' e f = rw (place_moved s t x x' e, place_moved s t y y' f) refl
-
-content_span_moved : (m : Bool) (s t i from to i' from' to' : ℕ) → i + t ≡ i' + s → from + t ≡ from' + s → to + t ≡ to' + s → moved_span s t (content_span m i from to) ≡ content_span m i' from' to'
-content_span_moved m s t i from to i' from' to' e f g = rw (sym (equal_moved s t from to from' to' f g)) (go (not m && from == to))
-  where
-    go : (c : Bool) → moved_span s t (cond c (record { start = i; end = i + 1 }) (record { start = from; end = to })) ≡ cond c (record { start = i'; end = i' + 1 }) (record { start = from'; end = to' })
-    go true = span_moved s t i (i + 1) i' (i' + 1) e (omega arith)
-    go false = span_moved s t from to from' to' f g
+equal_moved s t x y x' y' e f = grind (arith, nat_tests, common_steps)
 
 -- ---- what stands before the closing quotes
 
--- three quotes take three places
-close_three : (q : ℕ) (m : Bool) (a : List ℕ) (i j : ℕ) → IsClose q m a i j → (m ≡ true) → 3 ≤ j
-close_three q false a i j h x = absurd (false≢true x)
-close_three q true a i j (r, h, long, y) x = omega arith
-
 content_end_moved : (m : Bool) (s t to end to' end' : ℕ) → (m ≡ true → 3 ≤ end) → to ≡ content_end m end → s ≤ to → to < end → to + t ≡ to' + s → end + t ≡ end' + s → to' ≡ content_end m end'
-content_end_moved true s t to end to' end' n e o l f g = let three = n refl in omega arith
-content_end_moved false s t to end to' end' n e o l f g = omega arith
+content_end_moved m s t to end to' end' n e o l f g = grind (arith, nat_tests, common_steps)
 
 same_value : {v x y x' y' : List ℕ} → v ≡ x ++ y → x ≡ x' → y ≡ y' → v ≡ x' ++ y'
 same_value e f g = cc
 
-opens_none : (b : List ℕ) (k : ℕ) → IsQuote (get_or b k 0) → get_or b (k + 2) 0 ≡ 0 → false ≡ opens_multi b k
-opens_none b k (inl q) z = sym (false_from_ne_true (opens_multi b k) (λ y. grind (arith, nat_tests)))
-opens_none b k (inr q) z = sym (false_from_ne_true (opens_multi b k) (λ y. grind (arith, nat_tests)))
-
 long_enough : (a : List ℕ) (m : Bool) (i from to j : ℕ) → ContentFrom m a i from → from ≤ to → to ≡ content_end m j → to < j → m ≡ true → i + 5 < j
-long_enough a true i from to j (inl h) l e less x = let y = line_forward a (i + 3) from h in omega arith
-long_enough a true i from to j (inr h) l e less x = omega (arith, h.1)
-long_enough a false i from to j h l e less x = absurd (false≢true x)
+long_enough a m i from to j h l e less x = grind (arith, nat_tests, common_steps)
 
 pub string_on : (a : List ℕ) (i j : ℕ) (span : Span) (src v : List ℕ) (m : Bool) → IsString a i j span src v m → i < j
 string_on a i j span src v m h =
-    let fit = content_fits (get_or a i 0) m a v h.from h.to j h.content_is in omega (arith, fit.0, fit.1, content_from_after m a i h.from h.begins)
+    grind (arith, nat_tests, common_steps, content_fits (get_or a i 0) m a v h.from h.to j h.content_is, content_from_after m a i h.from h.begins)
 
 module _ {a b : List ℕ} {s t : ℕ} (w : Copied a b s t (length b) 0) where
   pub spans : {e i j k l : ℕ} {span : Span} → At s t (length b) e i k → At s t (length b) e j l → span ≡ record { start = i; end = j } → moved_span s t span ≡ record { start = k; end = l }
-  spans {i = i} {j} {k} {l} u v z = rw z (span_moved s t i j k l u.moved v.moved)
+  spans {i = i} {j} {k} {l} u v z = grind (arith, nat_tests, common_steps)
 
   -- ---- what a backslash drops
 
   ws_on : {i k : ℕ} → At s t (length b) 1 i k → k + 1 < length b → is_ws_or_newline a i ≡ true → is_ws_or_newline b k ≡ true
-  ws_on {i} {k} u l h =
-      elim (or_cases (is_blank (get_or a i 0) || get_or a i 0 == 10) (is_crlf a i) h) [
-        | inl y ↦ or_left _ _ (byte w (λ c. is_blank c || c == 10) true u (omega arith) y)
-        | inr y ↦ or_right (is_blank (get_or b k 0) || get_or b k 0 == 10) (is_crlf b k) (crlf w true u l y)
-      ]
+  ws_on {i} {k} u l h = grind (arith, nat_tests, common_steps)
 
   dropped_gap : Alike w 1 WsAndNewlines
   dropped_gap = record {
@@ -110,10 +165,7 @@ module _ {a b : List ℕ} {s t : ℕ} (w : Copied a b s t (length b) 0) where
 
   escape : (i j k l c : ℕ) → At s t (length b) 1 i k → At s t (length b) 1 j l → IsEscape a i c j → IsEscape b k c l
   escape i j k l c u v (inl (h, x, y)) = inl ((rw (w.same i k u.after u.moved (omega arith)) at h), omega arith, omega arith)
-  escape i j k l c u v (inr (h, x, y)) =
-      let z = y.1 in
-      let q = w.same i k u.after u.moved (omega arith) in
-      inr ((rw q at h), omega arith, hex_escape i j k l (hex_len (get_or b k 0)) c u v (rw q at y))
+  escape i j k l c u v (inr (h, x, y)) = grind (arith, nat_tests, common_steps, hex_escape i j k l (hex_len (get_or b k 0)) c u v)
 
   -- ---- pieces
 
@@ -122,8 +174,7 @@ module _ {a b : List ℕ} {s t : ℕ} (w : Copied a b s t (length b) 0) where
   piece q m i j k l pieces.Quotes u v h = (h.0, omega (arith, h.1), omega (arith, h.2), (runs w (λ c. c == q)).to i j k l u v h.3)
   piece q m i j k l pieces.LineEnd u v h = (h.0, (line w).to i j k l u v h.1)
   piece q m i j k l (pieces.Escape c) u v h =
-      let n = piece_forward q m a i j (pieces.Escape c) h in
-      (h.0, byte w (λ x. x) 92 u (omega arith) h.1, escape (i + 1) j (k + 1) l c (further 1 (omega arith) u) v h.2)
+      grind (arith, nat_tests, common_steps, byte w, escape (i + 1) j (k + 1) l c (further 1 (omega arith) u) v h.2, further 1 (omega arith) u, piece_forward q m a i j (pieces.Escape c) h)
   piece q m i j k l pieces.Dropped u v h =
       let n = piece_forward q m a i j pieces.Dropped h in
       (h.0, h.1, byte w (λ x. x) 92 u (omega arith) h.2, dropped.to (i + 1) j (k + 1) l (further 1 (omega arith) u) v h.3)
@@ -131,9 +182,7 @@ module _ {a b : List ℕ} {s t : ℕ} (w : Copied a b s t (length b) 0) where
   piece_value_same : (i j k l : ℕ) (p : Piece) → i ≤ j → At s t (length b) 1 i k → At s t (length b) 1 j l → piece_value a i j p ≡ piece_value b k l p
   piece_value_same i j k l pieces.Plain on u v = same_range w i j k l on u v
   piece_value_same i j k l pieces.Quotes on u v = same_range w i j k l on u v
-  piece_value_same i j k l pieces.LineEnd on u v = refl
-  piece_value_same i j k l (pieces.Escape c) on u v = refl
-  piece_value_same i j k l pieces.Dropped on u v = refl
+  piece_value_same i j k l p on u v = refl
 
   cut : (q : ℕ) (m : Bool) (ps : List (Piece × ℕ)) (i j k l : ℕ) → At s t (length b) 1 i k → At s t (length b) 1 j l → Cut q m a i ps j → (qs : List (Piece × ℕ)) × Cut q m b k qs l × (content a i ps ≡ content b k qs)
   cut q m [] i j k l u v h = let same : k ≡ l = omega arith in ([], same, refl)
@@ -150,11 +199,7 @@ module _ {a b : List ℕ} {s t : ℕ} (w : Copied a b s t (length b) 0) where
 
   close : (q : ℕ) (m : Bool) (i j k l : ℕ) → At s t (length b) 0 i k → At s t (length b) 0 j l → IsClose q m a i j → IsClose q m b k l
   close q false i j k l u v (h, x, y) = (byte w (λ x. x) q u (omega arith) h, omega arith, omega arith)
-  close q true i j k l u v (r, h, long, y) = let c = run_cut w (λ c. c == q) i r k u h in go c.0 c.1 c.2
-    where
-      go : (z : ℕ) → MaximalRun (λ c. c == q) b k z → (r + t ≡ z + s) ⊎ ((z ≡ length b) × (z + s < r + t)) → IsClose q true b k l
-      go z g (inl e) = (z, g, omega arith, omega arith)
-      go z g (inr e) = (z, g, omega (arith, e.0, e.1), omega (arith, e.0, e.1))
+  close q true i j k l u v (r, h, long, y) = let (z, g, e) = run_cut w (λ c. c == q) i r k u h in (z, g, grind (arith, nat_tests), grind (arith, nat_tests))
 
   is_content : (q : ℕ) (m : Bool) (v : List ℕ) (from to end from' to' end' : ℕ) → At s t (length b) 0 from from' → At s t (length b) 0 to to' → At s t (length b) 0 end end' → IsContent q m a from v to end → IsContent q m b from' v to' end'
   is_content q m v from to end from' to' end' x y z h =
@@ -172,25 +217,17 @@ module _ {a b : List ℕ} {s t : ℕ} (w : Copied a b s t (length b) 0) where
             at = at;
             cut = ps.1;
             closes = close q m h.at end at end' o z h.closes;
-            to_is = content_end_moved m s t to end to' end' (close_three q m a h.at end h.closes) h.to_is (omega arith) less y.moved z.moved;
+            to_is = content_end_moved m s t to end to' end' (grind (arith, nat_tests, common_steps)) h.to_is (omega arith) less y.moved z.moved;
             value_is = same_value h.value_is ps.2 (same_range w h.at to at to' on o y);
           }
 
   -- ---- strings
 
-  opens_on : (m : Bool) (i k : ℕ) → At s t (length b) 0 i k → k + 2 < length b → m ≡ opens_multi a i → m ≡ opens_multi b k
-  opens_on m i k u l h =
-      rw (w.same i k u.after u.moved (omega arith), w.same (i + 1) (k + 1) (omega arith) (omega arith) (omega arith), w.same (i + 2) (k + 2) (omega arith) (omega arith) (omega arith)) at h
-
   opens : (m : Bool) (i k : ℕ) → At s t (length b) 0 i k → IsQuote (get_or b k 0) → (m ≡ true → k + 2 < length b) → m ≡ opens_multi a i → m ≡ opens_multi b k
-  opens true i k u q n h = opens_on true i k u (n refl) h
-  opens false i k u q n h = elim (cases_lt (k + 2) (length b)) [ inl x ↦ opens_on false i k u x h | inr x ↦ opens_none b k q (get_or_past b (k + 2) 0 x) ]
+  opens m i k u q n h = grind (arith, nat_tests, common_steps)
 
   begins : (m : Bool) (i from k from' : ℕ) → At s t (length b) 0 i k → At s t (length b) 0 from from' → from' < length b → ContentFrom m a i from → ContentFrom m b k from'
-  begins false i from k from' u v l h = omega arith
-  begins true i from k from' u v l (inl h) = (let on = line_forward a (i + 3) from h in inl ((line w).to (i + 3) from (k + 3) from' (further 3 (omega arith) u) v h))
-  begins true i from k from' u v l (inr (h, x)) =
-      let y : At s t (length b) 0 (i + 3) (k + 3) = further 3 (omega arith) u in inr ((byte w (λ c. c == 10) false y (omega arith) h.0, no_crlf w y h.1), omega arith)
+  begins m i from k from' u v l h = grind (arith, nat_tests, common_steps)
 
   pub string : (span : Span) (src v : List ℕ) (m : Bool) → Moves (At s t (length b) 0) (λ i j. IsString a i j span src v m) (λ k l. IsString b k l (moved_span s t span) src v m)
   string span src v m = record { on = λ i j h. omega (arith, string_on a i j span src v m h); to = to }
@@ -214,5 +251,5 @@ module _ {a b : List ℕ} {s t : ℕ} (w : Copied a b s t (length b) 0) where
             begins = begins m i h.from k from x f (omega arith) h.begins;
             content_is = subst (λ (c : ℕ). IsContent c m b from v end l) q (is_content (get_or a i 0) m v h.from h.to j from end l f g y h.content_is);
             source_is = h.source_is ∙ same_range w i j k l (omega arith) x y;
-            span_is = rw h.span_is (content_span_moved m s t i h.from h.to k from end x.moved f.moved g.moved);
+            span_is = rw h.span_is (grind (arith, nat_tests, common_steps));
           }

@@ -1,18 +1,87 @@
--- Values that stand in a part of a text stand in its copy.
-use Rattle.std.proofs.Common.{◌≡◌, ℕ, ◌+◌, ◌≤◌, List, [], ◌∷◌, ◌++◌, map, length, get_or, arith, sym, ◌∙◌, refl, ap, subst}
-use Rattle.std.proofs.lemmas.List.{map-append, length-map}
+-- Numbers, dates and values that stand in a part of a text stand in its copy.
+use Rattle.toml_span_lex.proofs.Common.{◌≡◌, ℕ, ◌+◌, ◌-◌, ◌<◌, ◌≤◌, Bool, true, false, List, length, get_or, arith, inl, inr, sym, ◌∙◌, refl, ◌==◌, ◌&&◌, false≢true, and_parts, and_from, false_from_ne_true, nat_tests, common_steps, [], ◌∷◌, ◌++◌, map, ap, subst, map-append, length-map}
 use Rattle.toml_span_lex.specs.declared.span.Span.{Span}
-use Rattle.toml_span_lex.specs.Bytes.{is_keylike}
+use Rattle.toml_span_lex.specs.Bytes.{is_keylike, MaximalRun}
+use Rattle.toml_span_tree.specs.Node.{Scalar, text as text_scalar, integer, float, boolean, datetime}
+use Rattle.toml_span_read.specs.Dates.{is_date_byte, begins_date, continues_date, IsCandidate}
+use Rattle.toml_span_read.specs.Numbers.{IsNumber}
+use Rattle.toml_span_read.specs.Grammar.{SpellsScalar, truth_text, Spells, SpellsInner, SpellsItems, SpellsPairs}
+use Rattle.toml_span_places.proofs.Moves.{Moves, also, Copied, At, further, same_range, either, said, given, behind, nothing, first}
+use Rattle.toml_span_places.proofs.NumbersMove.{number}
+use Rattle.toml_span_places.proofs.DatesAgain.{date_carried}
+use Rattle.toml_span_laws.specs.Again.{moved_span, moved_parts, moved, moved_inner, moved_items, moved_pairs}
+use Rattle.toml_span_laws.proofs.AgainStrings.{runs, worded, gap, sign, closes, dot, no_dot, string, string_on, spans, equal_moved}
 use Rattle.toml_span_read.specs.Gaps.{Separator, MaximalGap}
 use Rattle.toml_span_read.specs.Keys.{SimpleKey, SpellsSimpleKey, Onward, SpellsKey}
-use Rattle.toml_span_read.specs.Data.{ParsedValue, parsed, ParsedInner, scalar, array, inline, ParsedItems, no_items, item, ParsedPairs, no_pairs, pair, KeyValue}
+use Rattle.toml_span_read.specs.Data.{ParsedValue, parsed, ParsedInner, scalar, array, inline, ParsedItems, no_items, item, ParsedPairs, no_pairs, pair, KeyValue, from_to}
 use Rattle.toml_span_read.specs.Earlier.{part_names, NoneAt, NoneThrough, Clear}
-use Rattle.toml_span_read.specs.Grammar.{from_to, Spells, SpellsInner, SpellsItems, SpellsPairs}
-use Rattle.toml_span_laws.specs.Again.{moved_span, moved_parts, moved, moved_inner, moved_items, moved_pairs}
-use Rattle.toml_span_places.proofs.Moves.{Moves, either, said, also, given, Copied, At, behind, nothing, first}
-use Rattle.toml_span_laws.proofs.AgainRuns.{worded, gap, sign, closes, dot, no_dot}
-use Rattle.toml_span_laws.proofs.AgainStrings.{string, spans}
-use Rattle.toml_span_laws.proofs.AgainNumbers.{scalar_copied}
+
+-- ---- numbers, truth values and dates
+
+-- a run goes on over a byte that passes
+covers : (p : ℕ → Bool) (a : List ℕ) (i j x : ℕ) → p 0 ≡ false → MaximalRun p a i j → x ≤ j → p (get_or a x 0) ≡ true → x < j
+covers p a i j x z r l h = grind (arith, nat_tests, common_steps)
+
+-- behind a space the run of a date goes on
+second_run : (a : List ℕ) (i j : ℕ) → continues_date a (i + 10) ≡ true → MaximalRun is_date_byte a (i + 11) j → i + 11 < j
+second_run a i j h r = grind (arith, nat_tests, common_steps)
+
+-- a date's first run
+first_run : (a : List ℕ) (i j : ℕ) → IsCandidate a i j → (n : ℕ) × MaximalRun is_date_byte a i n × (n ≤ j)
+first_run a i j (inl (r, n)) = let z : j ≤ j = omega arith in (j, r, z)
+first_run a i j (inr (r, c, more)) = (i + 10, r, omega (arith, second_run a i j c more))
+
+module _ {a b : List ℕ} {s t : ℕ} (w : Copied a b s t (length b) 0) where
+  date_on : (i j k : ℕ) → At s t (length b) 0 i k → j + t ≤ length b + s → MaximalRun is_date_byte a i j → begins_date a i ≡ true → begins_date b k ≡ true
+  date_on i j k u e r h = date_carried a b i k (j - i) (λ m o d. (
+      let on = r.forward in
+      let less = covers is_date_byte a i j (i + m) refl r (omega arith) d in
+      let l : m < j - i = omega arith in
+      (l, w.same (i + m) (k + m) (omega arith) (omega arith) (omega arith)))) h
+
+  no_date : (i k : ℕ) → At s t (length b) 0 i k → begins_date a i ≡ false → begins_date b k ≡ false
+  no_date i k u h = grind (arith, nat_tests, common_steps)
+
+  continues_back : (i k : ℕ) → At s t (length b) 0 i k → continues_date b k ≡ true → continues_date a i ≡ true
+  continues_back i k u h = grind (arith, nat_tests, common_steps)
+
+  continues_on : (i k : ℕ) → At s t (length b) 0 i k → k + 1 < length b → continues_date a i ≡ true → continues_date b k ≡ true
+  continues_on i k u l h = rw (w.same i k u.after u.moved (omega arith), w.same (i + 1) (k + 1) (omega arith) (omega arith) l) at h
+
+  candidate : (i j k l : ℕ) → At s t (length b) 0 i k → At s t (length b) 0 j l → IsCandidate a i j → IsCandidate b k l
+  candidate i j k l u v (inl (r, n)) =
+      let on = r.forward in
+      inl (
+        (runs w is_date_byte).to i j k l u v r,
+        false_from_ne_true ((l == k + 10) && continues_date b l) (λ y. (
+            let z = and_parts (l == k + 10) _ y in false≢true (sym n ∙ and_from (j == i + 10) _ (equal_moved s t j (i + 10) l (k + 10) v.moved (omega arith) ∙ z.0) (continues_back j l v z.1)))),
+      )
+  candidate i j k l u v (inr (r, c, more)) =
+      let some = second_run a i j c more in
+      let x : At s t (length b) 0 (i + 10) (k + 10) = further 10 (omega arith) u in
+      inr ((runs w is_date_byte).to i (i + 10) k (k + 10) u x r, continues_on (i + 10) (k + 10) x (omega arith) c, (runs w is_date_byte).to (i + 11) j (k + 11) l (further 11 (omega arith) u) v more)
+
+  -- ---- scalars
+
+  numbered : (x : Scalar) (span : Span) → Moves (At s t (length b) 0) (λ i j. (begins_date a i ≡ false) × IsNumber x a i j × (span ≡ from_to i j)) (λ k l. (begins_date b k ≡ false) × IsNumber x b k l × (moved_span s t span ≡ from_to k l))
+  numbered x span = grind (arith, nat_tests, common_steps, no_date, number w refl x, spans w)
+
+  pub scalar_copied : (x : Scalar) (span : Span) → Moves (At s t (length b) 0) (SpellsScalar x span a) (SpellsScalar x (moved_span s t span) b)
+  scalar_copied (text_scalar v) span = record {
+    on = λ i j h. omega (arith, string_on a i j span h.0 v h.1 h.2);
+    to = λ i j k l x y h. (h.0, h.1, (string w span h.0 v h.1).to i j k l x y h.2);
+  }
+  scalar_copied (boolean c) span = also (worded w is_keylike (truth_text c)) (λ i j k l o u v h z. spans w u v z)
+  scalar_copied (integer n) span = numbered (integer n) span
+  scalar_copied (float n) span = numbered (float n) span
+  scalar_copied (datetime d) span = record {
+    on = λ i j h. (let r = first_run a i j h.1 in omega (arith, r.1.forward, r.2));
+    to = λ i j k l u v h. (
+        let r = first_run a i j h.1 in
+        let on = r.1.forward in
+        let less = r.2 in
+        (date_on i r.0 k u (omega arith) r.1 h.0, candidate i j k l u v h.1, h.2, h.3 ∙ same_range w i j k l (omega arith) u v, spans w u v h.4));
+  }
 
 abbrev moved_part : ℕ → ℕ → SimpleKey → SimpleKey
 moved_part s t p = record { name = p.name; span = moved_span s t p.span }
@@ -49,9 +118,7 @@ cut_alike (p ∷ ps) (x ∷ xs) y ys e =
     record { before = p ∷ c.before; here = c.here; behind = c.behind; is = cc (c.is); first = cc; path = cc; last = c.last }
 
 through_moved : (s t : ℕ) (ps qs : List SimpleKey) (es : List KeyValue) → part_names qs ≡ part_names ps → NoneThrough ps es → NoneThrough qs (map (moved_key_value s t) es)
-through_moved s t ps qs es m h outer p rest e =
-    let c = cut_alike ps outer p rest (sym (ap (λ (l : List SimpleKey). part_names l) e) ∙ m) in
-    none_moved s t (part_names (outer ++ (p ∷ []))) es (subst (λ (n : List (List ℕ)). NoneAt n es) c.path (h c.before c.here c.behind c.is))
+through_moved s t ps qs es m h outer p rest e = grind (arith, nat_tests, common_steps, cut_alike ps outer p rest, none_moved s t (part_names (outer ++ (p ∷ []))) es)
 
 none_of : (ps : List SimpleKey) → part_names ps ≡ [] → ps ≡ []
 none_of [] e = refl

@@ -1,29 +1,26 @@
 -- No two keys of a document start at one place.
-use Rattle.std.proofs.Common.{◌≡◌, ℕ, ◌<◌, ◌⊎◌, List, [], ◌∷◌, ◌++◌, Option, Some, length, arith, refl, sym, ap, ◌∙◌, inl, inr}
-use Rattle.std.specs.Prelude.{⊤, option_and_then}
-use Rattle.std.proofs.lemmas.List.{append_cancel_left}
-use Rattle.std.proofs.lemmas.Option.{none-some, option_and_then_some}
+use Rattle.toml_span_lex.proofs.Common.{◌≡◌, ℕ, ◌<◌, ◌⊎◌, List, [], ◌∷◌, ◌++◌, Option, Some, length, arith, refl, sym, ap, ◌∙◌, inl, inr, ⊤, option_and_then, none-some, option_and_then_some, nat_tests, common_steps}
 use Rattle.toml_span_lex.specs.declared.span.Span.{Span}
-use Rattle.toml_span_tree.specs.Path.{Path, key, position, Place, place_at}
+use Rattle.toml_span_tree.specs.Path.{Path, key, Place, place_at}
 use Rattle.toml_span_tree.specs.Value.{view}
 use Rattle.toml_span_tree.specs.declared.value.Value.{Value}
+use Rattle.toml_span_read.proofs.ReadSound.{document_sound}
 use Rattle.toml_span_read.specs.Data.{Block}
 use Rattle.toml_span_read.specs.Grammar.{SpellsDocument}
 use Rattle.toml_span.specs.declared.claims.Sort.TheVariants.{TableElement}
 use Rattle.toml_span.specs.Claims.{Claim, Claims, no_claims, claimed, scope, claims}
 use Rattle.toml_span.specs.Flat.{all_claims, flat}
 use Rattle.toml_span_laws.specs.Clashing.{IsIn}
-use Rattle.toml_span_laws.specs.Order.{claim_start, Follows, key_at, KeysApart}
+use Rattle.toml_span_laws.specs.Order.{claim_start, key_at, KeysApart}
 use Rattle.toml_span.specs.Parsing.{IsTree}
 use Rattle.toml_span.proofs.EachClaim.{Each, flat-decides}
-use Rattle.toml_span_laws.proofs.Order.{IsKeyed, Onward, Rising, follows-start, document-rises}
+use Rattle.toml_span_laws.proofs.Order.{IsKeyed, Onward, Rising, document-rises}
 
 -- ---- claims of a list
 
 pub in-left : (c : Claim) (xs ys : List Claim) → IsIn c xs → IsIn c (xs ++ ys)
 in-left c [] ys h = absurd h
-in-left c (x ∷ xs) ys (inl here) = inl here
-in-left c (x ∷ xs) ys (inr later) = inr (in-left c xs ys later)
+in-left c (x ∷ xs) ys h = grind (arith, nat_tests, common_steps, in-left c xs)
 
 pub in-right : (c : Claim) (xs ys : List Claim) → IsIn c ys → IsIn c (xs ++ ys)
 in-right c [] ys h = h
@@ -31,8 +28,7 @@ in-right c (x ∷ xs) ys h = inr (in-right c xs ys h)
 
 pub in-cases : (c : Claim) (xs ys : List Claim) → IsIn c (xs ++ ys) → IsIn c xs ⊎ IsIn c ys
 in-cases c [] ys h = inr h
-in-cases c (x ∷ xs) ys (inl same) = inl (inl same)
-in-cases c (x ∷ xs) ys (inr more) = elim (in-cases c xs ys more) [ inl left ↦ inl (inr left) | inr right ↦ inr right ]
+in-cases c (x ∷ xs) ys h = grind (arith, nat_tests, common_steps, in-cases c xs)
 
 -- R holds of each claim and each behind it
 abbrev pub Pairs : (Claim → Claim → Type 0) → List Claim → Type 0
@@ -44,9 +40,7 @@ Across R xs ys = (c d : Claim) → IsIn c xs → IsIn d ys → R c d
 
 pub pairs-split : (R : Claim → Claim → Type 0) (xs ys : List Claim) → Pairs R (xs ++ ys) → Pairs R xs × Pairs R ys × Across R xs ys
 pairs-split R [] ys r = (tt, r, λ c d h g. absurd h)
-pairs-split R (x ∷ xs) ys r =
-    let (left, right, across) = pairs-split R xs ys r.1 in
-    ((λ d h. r.0 d (in-left d xs ys h), left), right, λ c d h g. elim h [ inl same ↦ rw same (r.0 d (in-right d xs ys g)) | inr more ↦ across c d more g ])
+pairs-split R (x ∷ xs) ys r = grind (arith, nat_tests, common_steps, pairs-split R xs ys r.1, in-left, in-right)
 
 pub pairs-join : (R : Claim → Claim → Type 0) (xs ys : List Claim) → Pairs R xs → Pairs R ys → Across R xs ys → Pairs R (xs ++ ys)
 pairs-join R [] ys l r across = r
@@ -58,8 +52,7 @@ each-in : (cs : Claims) (l : List Claim) → ((c : Claim) → IsIn c (all_claims
 unfolding all_claims
 each-in no_claims l f = tt
 each-in (claimed c cs) l f = (f c (inl refl), each-in cs l (λ d h. f d (inr h)))
-each-in (scope inner cs) l f =
-    (each-in inner l (λ d h. f d (in-left d (all_claims inner) (all_claims cs) h)), each-in cs l (λ d h. f d (in-right d (all_claims inner) (all_claims cs) h)))
+each-in (scope inner cs) l f = grind (arith, nat_tests, common_steps, each-in inner, each-in cs, in-left, in-right)
 
 -- ---- claims that ascend
 
@@ -67,22 +60,12 @@ each-in (scope inner cs) l f =
 abbrev pub IsLater : Claim → Claim → Type 0
 IsLater c d = (claim_start c < claim_start d) ⊎ (d.mark.sort ≡ TableElement)
 
-follows-later : (c d : Claim) → Follows c d → IsLater c d
-follows-later c d (inl behind) = inl behind
-follows-later c d (inr opened) = inr opened.1
-
-later-on : (c d e : Claim) → Follows c d → IsLater d e → IsLater c e
-later-on c d e f (inl behind) = inl (omega (arith, follows-start c d f, behind))
-later-on c d e f (inr entry) = inr entry
-
 onward-later : (c d : Claim) (ds : List Claim) (j : ℕ) → Onward c ds j → IsIn d ds → IsLater c d
 onward-later c d [] j h i = absurd i
-onward-later c d (e ∷ ds) j h (inl same) = rw same (follows-later c e h.1)
-onward-later c d (e ∷ ds) j h (inr later) = later-on c e d h.1 (onward-later e d ds j h.2 later)
+onward-later c d (e ∷ ds) j h g = grind (arith, nat_tests, common_steps, onward-later e d ds)
 
 onward-rest : (c : Claim) (ds : List Claim) (j : ℕ) → Onward c ds j → Rising ds (claim_start c) j
-onward-rest c [] j h = omega (arith, h.1)
-onward-rest c (d ∷ ds) j h = (follows-start c d h.1, h.2)
+onward-rest c ds j h = grind (arith, nat_tests, common_steps)
 
 pub rising-later : (cs : List Claim) (i j : ℕ) → Rising cs i j → Pairs IsLater cs
 rising-later [] i j r = tt
@@ -98,16 +81,12 @@ rising-keyed c (d ∷ ds) i j r (inl same) = rw same (onward-keyed d ds j r.1)
 rising-keyed c (d ∷ ds) i j r (inr later) = rising-keyed c ds (claim_start d) j (onward-rest d ds j r.1) later
 
 pub strictly : (c d : Claim) → IsLater c d → (d.mark.sort ≡ TableElement → ⊥) → claim_start c < claim_start d
-strictly c d (inl behind) plain = behind
-strictly c d (inr entry) plain = absurd (plain entry)
+strictly c d h plain = grind (arith, nat_tests, common_steps)
 
 -- two claims that start at one place are one, if neither is an entry
 one-claim : (c d : Claim) (l : List Claim) → Pairs IsLater l → IsIn c l → IsIn d l → (c.mark.sort ≡ TableElement → ⊥) → (d.mark.sort ≡ TableElement → ⊥) → claim_start c ≡ claim_start d → c ≡ d
 one-claim c d [] r h g f e at = absurd h
-one-claim c d (x ∷ xs) r (inl same) (inl other) f e at = same ∙ sym other
-one-claim c d (x ∷ xs) r (inl same) (inr later) f e at = absurd (let less = strictly c d (rw same (r.0 d later)) e in omega arith)
-one-claim c d (x ∷ xs) r (inr later) (inl other) f e at = absurd (let less = strictly d c (rw other (r.0 c later)) f in omega arith)
-one-claim c d (x ∷ xs) r (inr later) (inr also) f e at = one-claim c d xs r.1 later also f e at
+one-claim c d (x ∷ xs) r h g f e at = grind (arith, nat_tests, common_steps, one-claim c d xs)
 
 -- ---- keys
 
@@ -127,11 +106,7 @@ key-claimed n cs (s ∷ p) k h =
     record { claim = d.claim; on = d.on; among = d.holds; spanned = ap (λ y. y.key_span) d.place ∙ spanned })
 
 one-key : (l : List Claim) (i j : ℕ) (p q : Path) (k m : Span) → Rising l i j → ClaimAt l p k → ClaimAt l q m → k.start ≡ m.start → p ≡ q
-one-key l i j p q k m r a b e =
-    let c = rising-keyed a.claim l i j r a.among k a.spanned in
-    let d = rising-keyed b.claim l i j r b.among m b.spanned in
-    let same = one-claim a.claim b.claim l (rising-later l i j r) a.among b.among c.1 d.1 (ap (λ s. s.start) (sym c.0) ∙ e ∙ ap (λ s. s.start) d.0) in
-    sym a.on ∙ ap (λ x. x.path) same ∙ b.on
+one-key l i j p q k m r a b e = grind (arith, nat_tests, common_steps, one-claim, rising-keyed, rising-later)
 
 pub flat-apart : (text : List ℕ) (limit n : ℕ) (bs : List Block) → SpellsDocument bs text limit → KeysApart (flat n (claims bs))
 flat-apart text limit n bs h p q k l is at e =
@@ -141,18 +116,12 @@ pub tree-apart : (text : List ℕ) (limit : ℕ) (root : Value) → IsTree text 
 tree-apart text limit root h p q k l is at e =
     let (bs, has, tree) = h in
     let spanned = λ (o : Option Place). option_and_then (λ x. x.key_span) o in
-    flat-apart text limit (length text) bs has.0 p q k l (ap spanned (sym (tree.shows p)) ∙ is) (ap spanned (sym (tree.shows q)) ∙ at) e
+    flat-apart text limit (length text) bs (document_sound bs text limit has.0) p q k l (ap spanned (sym (tree.shows p)) ∙ is) (ap spanned (sym (tree.shows q)) ∙ at) e
 
 -- ---- in one table
 
-last_name : Path → List ℕ
-last_name [] = []
-last_name (key name ∷ p) = name
-last_name (position i ∷ p) = []
-
 same-name : (p : Path) (a b : List ℕ) → p ++ (key a ∷ []) ≡ p ++ (key b ∷ []) → a ≡ b
-unfolding last_name
-same-name p a b h = ap last_name (append_cancel_left p (key a ∷ []) (key b ∷ []) h)
+same-name p a b h = grind (arith, nat_tests, common_steps)
 
 pub names-apart : (text : List ℕ) (limit n : ℕ) (bs : List Block) (p : Path) (a b : List ℕ) (k l : Span) → SpellsDocument bs text limit
     → key_at (flat n (claims bs)) (p ++ (key a ∷ [])) ≡ Some k → key_at (flat n (claims bs)) (p ++ (key b ∷ [])) ≡ Some l → (a ≡ b → ⊥) → k.start ≡ l.start → ⊥

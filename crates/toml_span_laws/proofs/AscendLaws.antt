@@ -1,14 +1,15 @@
--- Where a text spells a document, its headers, keys and values stand one behind the other.
-use Rattle.std.proofs.Common.{◌≡◌, ◌⊎◌, inl, inr, refl, ℕ, ◌+◌, ◌≤◌, Bool, false, List, [], ◌∷◌, ◌++◌, length, arith}
-use Rattle.toml_span_read.specs.Data.{KeyValue, Block}
+-- Where a text spells a document, its headers, keys and values stand one behind the other, and their starts rise.
+use Rattle.toml_span_lex.proofs.Common.{◌≡◌, ◌⊎◌, inl, inr, refl, ℕ, ◌+◌, ◌≤◌, Bool, false, List, [], ◌∷◌, ◌++◌, length, arith, zero, suc, ◌<◌, get_or, IsStrictlyIncreasing, nat_tests, common_steps}
+use Rattle.toml_span_read.specs.Data.{KeyValue, Block, ParsedValue, parsed, scalar, array, inline, ParsedItems, no_items, item, ParsedPairs, no_pairs, pair, last_end, first_block}
 use Rattle.toml_span_read.specs.Keys.{SimpleKey}
 use Rattle.toml_span_read.specs.Places.{Ascend}
-use Rattle.toml_span_read.specs.Grammar.{SpellsKeyValues, SpellsHeader, last_end, first_block, SpellsSections, SpellsDocument}
-use Rattle.toml_span_laws.specs.Places.{KeyValuesAscend, BlocksAscend}
+use Rattle.toml_span_read.specs.Grammar.{SpellsKeyValues, SpellsHeader, SpellsSections, SpellsDocument, Spells, SpellsItems, SpellsPairs}
+use Rattle.toml_span_laws.specs.Places.{KeyValuesAscend, BlocksAscend, part_starts, key_starts, item_key_starts, pair_key_starts, key_value_key_starts, block_key_starts, starts, item_starts, pair_starts, key_value_starts, header_starts, block_starts}
 use Rattle.toml_span_read.proofs.InsideLemmas.{tail_inside, opens_on, shuts_on}
 use Rattle.toml_span_read.proofs.KeyOrder.{dotted_ascend}
 use Rattle.toml_span_read.proofs.SpanLaws.{value_lies}
 use Rattle.toml_span.proofs.Refusals.{some_part}
+use Rattle.toml_span_lex.specs.declared.span.Span.{Span}
 
 ascend_wide : (ps : List SimpleKey) (h i j k : ℕ) → h ≤ i → j ≤ k → Ascend ps i j → Ascend ps h k
 ascend_wide [] h i j k a b x = omega (arith, a, b, x)
@@ -40,7 +41,7 @@ sections_ascend (b ∷ bs) text limit n i l (j, s, r) =
 first_ascend : (es : List KeyValue) (text : List ℕ) (limit k i j : ℕ) (bs : List Block) → SpellsKeyValues es [] text limit k j → SpellsSections bs text limit j → BlocksAscend (first_block es ++ bs) 0 (length text)
 first_ascend [] text limit k i j bs h r = sections_ascend bs text limit 0 j (omega arith) r
 first_ascend (e ∷ es) text limit k i j bs h r =
-    let a = key_values_ascend (e ∷ es) [] text limit 0 k j (omega arith) h in (omega arith, omega arith, a.0, sections_ascend bs text limit (last_end e.extent.end es) j a.1 r)
+    grind (arith, nat_tests, common_steps, key_values_ascend (e ∷ es) [] text limit 0 k j (omega arith) h, sections_ascend bs text limit (last_end e.extent.end es) j)
 
 pub document_ascends : (bs : List Block) (text : List ℕ) (limit : ℕ) → SpellsDocument bs text limit → BlocksAscend bs 0 (length text)
 document_ascends bs text limit x = rw x.all (first_ascend x.first text limit x.lines.0 x.start x.end x.rest x.lines.2 x.sections)
@@ -54,13 +55,13 @@ HeaderFrom b i j = ((b.header ≡ []) × (i ≤ j)) ⊎ ((i ≤ b.header_span.st
 pub header_from : (b : Block) (i j : ℕ) → HeaderFrom b i j → Ascend b.header i j
 header_from b i j h = elim h [ inl (none, on) ↦ rw none on | inr (on, a) ↦ ascend_wide b.header i (b.header_span.start + 1) j j (omega (arith, on)) (omega arith) a ]
 
--- from i to the end of the text stand these sections: each has its header, if it has one, and assignments
-abbrev pub AreBlocks : List Block → List ℕ → ℕ → ℕ → Type 0
-AreBlocks [] text limit i = i ≤ length text
-AreBlocks (b ∷ bs) text limit i =
-    (s k j : ℕ) × HeaderFrom b i s × (length b.header ≤ limit) × (b.header ≡ [] → b.array ≡ false) × (s ≤ k) × SpellsKeyValues b.key_values [] text limit k j × AreBlocks bs text limit j
+-- from i to n stand these sections: each has its header, if it has one, and assignments
+abbrev pub AreBlocks : List Block → List ℕ → ℕ → ℕ → ℕ → Type 0
+AreBlocks [] text limit i n = i ≤ n
+AreBlocks (b ∷ bs) text limit i n =
+    (s k j : ℕ) × HeaderFrom b i s × (length b.header ≤ limit) × (b.header ≡ [] → b.array ≡ false) × (s ≤ k) × SpellsKeyValues b.key_values [] text limit k j × AreBlocks bs text limit j n
 
-section_blocks : (bs : List Block) (text : List ℕ) (limit h i : ℕ) → h ≤ i → SpellsSections bs text limit i → AreBlocks bs text limit h
+section_blocks : (bs : List Block) (text : List ℕ) (limit h i : ℕ) → h ≤ i → SpellsSections bs text limit i → AreBlocks bs text limit h (length text)
 section_blocks [] text limit h i l x = omega (arith, l, x)
 section_blocks (b ∷ bs) text limit h i l (j, s, rest) = (
   s.end,
@@ -74,10 +75,137 @@ section_blocks (b ∷ bs) text limit h i l (j, s, rest) = (
   section_blocks bs text limit j j (omega arith) rest,
 )
 
-first_blocks : (es : List KeyValue) (bs : List Block) (text : List ℕ) (limit i j : ℕ) → SpellsKeyValues es [] text limit i j → SpellsSections bs text limit j → AreBlocks (first_block es ++ bs) text limit 0
-first_blocks [] bs text limit i j h rest = section_blocks bs text limit 0 j (omega arith) rest
-first_blocks (e ∷ es) bs text limit i j h rest =
-    (0, i, j, inl (refl, omega arith), omega arith, (λ none. refl), omega arith, h, section_blocks bs text limit j j (omega arith) rest)
+-- the assignments before the first header, and sections from j on
+pub first_blocks : (es : List KeyValue) (bs : List Block) (text : List ℕ) (limit i j n : ℕ) → SpellsKeyValues es [] text limit i j → ((h : ℕ) → h ≤ j → AreBlocks bs text limit h n) → AreBlocks (first_block es ++ bs) text limit 0 n
+first_blocks [] bs text limit i j n h rest = rest 0 (omega arith)
+first_blocks (e ∷ es) bs text limit i j n h rest = (0, i, j, inl (refl, omega arith), omega arith, (λ none. refl), omega arith, h, rest j (omega arith))
 
-pub document_blocks : (bs : List Block) (text : List ℕ) (limit : ℕ) → SpellsDocument bs text limit → AreBlocks bs text limit 0
-document_blocks bs text limit x = rw x.all (first_blocks x.first x.rest text limit x.lines.0 x.end x.lines.2 x.sections)
+pub document_blocks : (bs : List Block) (text : List ℕ) (limit : ℕ) → SpellsDocument bs text limit → AreBlocks bs text limit 0 (length text)
+document_blocks bs text limit x = rw x.all (first_blocks x.first x.rest text limit x.lines.0 x.end (length text) x.lines.2 (λ h l. section_blocks x.rest text limit h x.end l x.sections))
+
+-- ---- where headers, keys, arrays and inline tables start
+
+-- from i to before j the numbers rise
+abbrev Rising : List ℕ → ℕ → ℕ → Type 0
+Rising [] i j = i ≤ j
+Rising (n ∷ ns) i j = (i ≤ n) × Rising ns (n + 1) j
+
+rising_wide : (ns : List ℕ) (h i j k : ℕ) → h ≤ i → j ≤ k → Rising ns i j → Rising ns h k
+rising_wide [] h i j k a b r = omega (arith, a, b, r)
+rising_wide (n ∷ ns) h i j k a b (x, r) = (omega arith, rising_wide ns (n + 1) (n + 1) j k (omega arith) b r)
+
+rising_on : (ns ms : List ℕ) (i j k : ℕ) → Rising ns i j → Rising ms j k → Rising (ns ++ ms) i k
+rising_on [] ms i j k r s = rising_wide ms i j k k r (omega arith) s
+rising_on (n ∷ ns) ms i j k (x, r) s = (x, rising_on ns ms (n + 1) j k r s)
+
+rises_at : (ns : List ℕ) (i j k l : ℕ) → Rising ns i j → l ≡ suc k → l < length ns → get_or ns k 0 < get_or ns l 0
+rises_at [] i j k l r e w = absurd (omega (arith, w))
+rises_at (n ∷ []) i j k l r e w = absurd (omega (arith, e, w))
+rises_at (n ∷ m ∷ ns) i j zero l r e w = rw e (omega (arith, r.1.0))
+rises_at (n ∷ m ∷ ns) i j (suc k) l r e w = rw e (rises_at (m ∷ ns) (n + 1) j k (suc k) r.1 refl (omega (arith, e, w)))
+
+rising_increases : (ns : List ℕ) (i j : ℕ) → Rising ns i j → IsStrictlyIncreasing ns
+rising_increases ns i j r k l = rises_at ns i j k (k + 1) r (omega arith) l
+
+-- ---- keys
+
+parts_rise : (ps : List SimpleKey) (i j : ℕ) → Ascend ps i j → Rising (part_starts ps) i j
+parts_rise [] i j h = h
+parts_rise (p ∷ ps) i j (a, b, rest) = (a, rising_wide (part_starts ps) (p.span.start + 1) p.span.end j j (omega arith) (omega arith) (parts_rise ps p.span.end j rest))
+
+-- ---- keys and brackets
+
+mutual
+  starts_rise : (v : ParsedValue) (text : List ℕ) (limit d i j : ℕ) → Spells v text limit d i j → Rising (starts v) i j
+  starts_rise (parsed (scalar y) s) text limit d i j h = (value_lies (parsed (scalar y) s) text limit d i j h).1
+  starts_rise (parsed (array vs) s) text limit d i j (few, (here, e, k, gap, h)) =
+      grind (arith, nat_tests, common_steps, item_starts_rise vs text limit (d + 1) k j h, rising_wide)
+  starts_rise (parsed (inline ps) s) text limit d i j (few, (here, e, k, gap, h)) =
+      grind (arith, nat_tests, common_steps, pair_starts_rise ps [] text limit (d + 1) k j h, rising_wide)
+
+  item_starts_rise : (vs : ParsedItems) (text : List ℕ) (limit d i j : ℕ) → SpellsItems vs text limit d i j → Rising (item_starts vs) i j
+  item_starts_rise no_items text limit d i j h = omega (arith, h.1)
+  item_starts_rise (item v vs) text limit d i j h = grind (arith, nat_tests, common_steps, item_starts_rise vs, starts_rise v, rising_on, rising_wide)
+
+  pair_starts_rise : (ps : ParsedPairs) (es : List KeyValue) (text : List ℕ) (limit d i j : ℕ) → SpellsPairs ps es text limit d i j → Rising (pair_starts ps) i j
+  pair_starts_rise no_pairs es text limit d i j h = omega (arith, h.1)
+  pair_starts_rise (pair ss v x ps) es text limit d i j (m, (a, b, key, few, sign, h, extent), clear, then) =
+      rising_on (part_starts ss) (starts v ++ pair_starts ps) i a j (parts_rise ss i a (dotted_ascend ss text i a key).0)
+      (rising_wide (starts v ++ pair_starts ps) a b j j (omega (arith, sign.before.forward, sign.behind.forward)) (omega arith)
+      (rising_on (starts v) (pair_starts ps) b m j (starts_rise v text limit (d + length ss) b m h) (elim then [
+        | inl (e, close) ↦ rw e (omega (arith, close.before.forward, close.ends))
+        | inr (p, comma, rest) ↦
+            rising_wide (pair_starts ps) m p j j (omega (arith, comma.before.forward, comma.behind.forward)) (omega arith)
+            (pair_starts_rise ps (es ++ (record { parts = ss; value = v; extent = x } ∷ [])) text limit d p j rest)
+      ])))
+
+key_values_starts_rise : (es before : List KeyValue) (text : List ℕ) (limit i j : ℕ) → SpellsKeyValues es before text limit i j → Rising (key_value_starts es) i j
+key_values_starts_rise [] before text limit i j h = omega (arith, h)
+key_values_starts_rise (e ∷ es) before text limit i j (m, n, k, h, tail, clear, gap, rest) =
+    let a = dotted_ascend e.parts text i h.key_end h.key in
+    let s : h.key_end ≤ h.from = omega (arith, h.sign.before.forward, h.sign.behind.forward) in
+    let f : m ≤ k = omega (arith, (tail_inside text m n tail).0, gap.forward) in
+    rising_on (part_starts e.parts) (starts e.value ++ key_value_starts es) i h.from j
+    (rising_wide (part_starts e.parts) i i h.key_end h.from (omega arith) s (parts_rise e.parts i h.key_end a.0))
+    (rising_on (starts e.value) (key_value_starts es) h.from m j (starts_rise e.value text limit (length e.parts) h.from m h.spelled)
+    (rising_wide (key_value_starts es) m k j j f (omega arith) (key_values_starts_rise es (before ++ (e ∷ [])) text limit k j rest)))
+
+header_starts_rise : (b : Block) (parts : List SimpleKey) (i j : ℕ) → b.header ≡ parts → HeaderFrom b i j → Rising (header_starts b.header b.header_span) i j
+header_starts_rise b parts i j is h = grind (arith, nat_tests, common_steps, header_from, parts_rise)
+
+blocks_starts_rise : (bs : List Block) (text : List ℕ) (limit i : ℕ) → AreBlocks bs text limit i (length text) → Rising (block_starts bs) i (length text)
+blocks_starts_rise [] text limit i h = h
+blocks_starts_rise (b ∷ bs) text limit i (s, k, j, header, few, plain, on, lines, rest) =
+    rising_on (header_starts b.header b.header_span) (key_value_starts b.key_values ++ block_starts bs) i s (length text) (header_starts_rise b b.header i s refl header)
+    (rising_on (key_value_starts b.key_values) (block_starts bs) s j (length text)
+    (rising_wide (key_value_starts b.key_values) s k j j on (omega arith) (key_values_starts_rise b.key_values [] text limit k j lines)) (blocks_starts_rise bs text limit j rest))
+
+document_starts_rise : (bs : List Block) (text : List ℕ) (limit : ℕ) → SpellsDocument bs text limit → Rising (block_starts bs) 0 (length text)
+document_starts_rise bs text limit d = blocks_starts_rise bs text limit 0 (document_blocks bs text limit d)
+
+pub document_starts_increase : (bs : List Block) (text : List ℕ) (limit : ℕ) → SpellsDocument bs text limit → IsStrictlyIncreasing (block_starts bs)
+document_starts_increase bs text limit d = rising_increases (block_starts bs) 0 (length text) (document_starts_rise bs text limit d)
+
+-- ---- keys alone
+
+-- where the second list rises, the first does
+abbrev Fewer : List ℕ → List ℕ → Type 0
+Fewer ms ns = (i j : ℕ) → Rising ns i j → Rising ms i j
+
+rising_split : (ns ms : List ℕ) (i k : ℕ) → Rising (ns ++ ms) i k → (j : ℕ) × Rising ns i j × Rising ms j k
+rising_split [] ms i k r = (i, omega arith, r)
+rising_split (n ∷ ns) ms i k (x, r) = let (j, a, b) = rising_split ns ms (n + 1) k r in (j, (x, a), b)
+
+fewer_on : (ms ns ls ks : List ℕ) → Fewer ms ns → Fewer ls ks → Fewer (ms ++ ls) (ns ++ ks)
+fewer_on ms ns ls ks f g i k r = let (j, a, b) = rising_split ns ks i k r in rising_on ms ls i j k (f i j a) (g j k b)
+
+behind_first : (n : ℕ) (ns : List ℕ) → Fewer ns (n ∷ ns)
+behind_first n ns i j (x, r) = rising_wide ns i (n + 1) j j (omega (arith, x)) (omega arith) r
+
+mutual
+  value_keys : (v : ParsedValue) → Fewer (key_starts v) (starts v)
+  value_keys (parsed (scalar y) s) = λ i j r. r
+  value_keys (parsed (array vs) s) = λ i j r. item_keys vs i j (behind_first s.start (item_starts vs) i j r)
+  value_keys (parsed (inline ps) s) = λ i j r. pair_keys ps i j (behind_first s.start (pair_starts ps) i j r)
+
+  item_keys : (vs : ParsedItems) → Fewer (item_key_starts vs) (item_starts vs)
+  item_keys no_items = λ i j r. r
+  item_keys (item v vs) = fewer_on (key_starts v) (starts v) (item_key_starts vs) (item_starts vs) (value_keys v) (item_keys vs)
+
+  pair_keys : (ps : ParsedPairs) → Fewer (pair_key_starts ps) (pair_starts ps)
+  pair_keys no_pairs = λ i j r. r
+  pair_keys (pair ss v x ps) = grind (arith, nat_tests, common_steps, pair_keys ps, value_keys v, fewer_on)
+
+key_value_keys : (es : List KeyValue) → Fewer (key_value_key_starts es) (key_value_starts es)
+key_value_keys [] = λ i j r. r
+key_value_keys (e ∷ es) = grind (arith, nat_tests, common_steps, key_value_keys es, fewer_on, value_keys)
+
+header_keys : (ps : List SimpleKey) (span : Span) → Fewer (part_starts ps) (header_starts ps span)
+header_keys ps span = grind (arith, nat_tests, common_steps)
+
+block_keys : (bs : List Block) → Fewer (block_key_starts bs) (block_starts bs)
+block_keys [] = λ i j r. r
+block_keys (b ∷ bs) = grind (arith, nat_tests, common_steps, block_keys bs, fewer_on, header_keys, key_value_keys)
+
+pub document_keys_increase : (bs : List Block) (text : List ℕ) (limit : ℕ) → SpellsDocument bs text limit → IsStrictlyIncreasing (block_key_starts bs)
+document_keys_increase bs text limit d = rising_increases (block_key_starts bs) 0 (length text) (block_keys bs 0 (length text) (document_starts_rise bs text limit d))

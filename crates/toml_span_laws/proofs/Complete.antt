@@ -1,32 +1,27 @@
 -- What is spelled is read.
-use Rattle.std.proofs.Common.{◌≡◌, ℕ, zero, suc, ◌+◌, ◌-◌, ◌<◌, ◌≤◌, ◌⊎◌, Bool, true, false, List, [], ◌∷◌, ◌++◌, length, get_or, append-nil, append_assoc, arith, inl, inr, sym, refl, ap, ap₂, Ok}
-use Rattle.std.specs.Prelude.{◌==◌, ◌||◌, slice_range, codes, is_some}
-use Rattle.std.specs.List.{list_all}
-use Rattle.std.specs.Char.{is_ascii_digit}
-use Rattle.std.proofs.lemmas.Bool.{ne_eqb, or_parts}
-use Rattle.std.proofs.lemmas.Bool.Decides.{nat_tests}
+use Rattle.toml_span_lex.proofs.Common.{◌≡◌, ℕ, zero, suc, ◌+◌, ◌-◌, ◌<◌, ◌≤◌, ◌⊎◌, Bool, true, false, List, [], ◌∷◌, ◌++◌, length, get_or, append-nil, append_assoc, arith, inl, inr, sym, refl, ap, Ok, ◌==◌, ◌||◌, slice_range, codes, is_some, list_all, or_parts, nat_tests, common_steps}
+use Rattle.std.proofs.lemmas.Bool.{ne_eqb}
 use Rattle.toml_span_lex.specs.Bytes.{is_keylike, is_blank, MaximalRun}
-use Rattle.toml_span_lex.specs.Tokens.{string, RunAt}
+use Rattle.toml_span_lex.specs.Tokens.{string, RunAt, keylike}
 use Rattle.toml_span_lex.specs.declared.span.Span.{Span}
 use Rattle.toml_span_lex.proofs.Unique.{or_true}
 use Rattle.toml_span_tree.specs.Node.{Scalar, text as text_scalar, integer, float, boolean, datetime, finite, infinite, not_a_number}
 use Rattle.toml_span_read.specs.declared.fault.Due.{Due}
-use Rattle.toml_span_read.specs.Data.{ParsedValue, parsed, scalar, array, inline, ParsedItems, no_items, item, onto, ParsedPairs, no_pairs, pair, pairs_onto, KeyValue, Block}
+use Rattle.toml_span_read.specs.Data.{ParsedValue, parsed, scalar, array, inline, ParsedItems, no_items, item, onto, ParsedPairs, no_pairs, pair, pairs_onto, KeyValue, Block, from_to, first_block}
 use Rattle.toml_span_read.specs.Dates.{begins_date}
 use Rattle.toml_span_read.specs.Faults.{begins_bare, begins_number}
 use Rattle.toml_span_read.specs.Gaps.{MaximalGap, Closes, Separator}
-use Rattle.toml_span_read.specs.Grammar.{from_to, truth_text, SpellsScalar, Spells, SpellsItems, SpellsPairs, SpellsPair, SpellsKeyValue, SpellsKeyValues, SpellsLines, ClosesHeader, SpellsHeader, SpellsSection, SpellsSections, SpellsDocument, first_block}
-use Rattle.toml_span_read.specs.Keys.{SimpleKey, opens_string, SpellsKey}
-use Rattle.toml_span_read.specs.Numbers.{IsNumber, is_digit_in, behind_sign, SpecialFloat, UnsignedDecimal}
+use Rattle.toml_span_read.specs.Grammar.{truth_text, SpellsScalar, Spells, SpellsItems, SpellsPairs, SpellsPair, SpellsKeyValue, SpellsKeyValues, SpellsLines, ClosesHeader, SpellsHeader, SpellsSection, SpellsSections, SpellsDocument}
+use Rattle.toml_span_read.specs.Keys.{SimpleKey, opens_string, SpellsKey, SpellsSimpleKey, Onward}
+use Rattle.toml_span_read.specs.Numbers.{IsNumber, behind_sign, SpecialFloat, UnsignedDecimal}
 use Rattle.toml_span_read.specs.Numerals.{special}
 use Rattle.toml_span_read.specs.Read as read
-use Rattle.toml_span_read.specs.Read.{Reading, token, ValueEnd, Loop, ends, goes_on, on, done}
-use Rattle.toml_span_read.proofs.NumberLemmas.{is_false, and_left, byte_is, same_byte, clash, bool_cases, here, no_sign, run_is}
+use Rattle.toml_span_read.specs.Read.{Reading, token, ValueEnd, Loop, ends, goes_on, on, done, key_of, Parts, onward}
+use Rattle.toml_span_read.proofs.NumberLemmas.{is_false, byte_is, same_byte, clash, here, run_is}
 use Rattle.toml_span_read.proofs.NumberReads.{word_keylike, word_first, zero_first}
 use Rattle.toml_span_read.proofs.NumberComplete.{number_complete}
 use Rattle.toml_span_read.proofs.ReadSound.{onto_more, pairs_onto_more}
 use Rattle.toml_span_read.proofs.ValueRead.{levels}
-use Rattle.toml_span_laws.proofs.KeyLaws.{key_complete, dotted_byte}
 
 -- a byte that p passes is none that it does not
 not_at : (p : ℕ → Bool) (c k : ℕ) → p c ≡ true → p k ≡ false → (c == k) ≡ false
@@ -36,29 +31,39 @@ not_at p c k h n = is_false (c == k) (λ e. clash p c k h (byte_is c k e) n)
 not_end : (p : ℕ → Bool) (text : List ℕ) (i : ℕ) → p 0 ≡ false → p (get_or text i 0) ≡ true → (i == length text) ≡ false
 not_end p text i z h = let l = here p text i z h in ne_eqb i (length text) (λ e. omega (arith, l, e))
 
+-- ---- keys
+
+pub simple_complete : (s : SimpleKey) (text : List ℕ) (i m : ℕ) → SpellsSimpleKey s text i m → read.simple_key_at text i (Ok (s, m))
+simple_complete s text i m (inl h) = (token s.span (keylike s.name) m, h, refl)
+simple_complete s text i m (inr (source, h)) = (token s.span (string source s.name false) m, h, refl)
+
+behind_complete : (ss : List SimpleKey) (header : Bool) (text : List ℕ) (left : ℕ) (ps : List SimpleKey) (m j : ℕ) → Onward ss text m j → length ss ≤ left → onward text ps m (read.key header text left ps) (Ok (ps ++ ss, j))
+unfolding read.key
+behind_complete [] header text left ps m j (e, none) few = inl (none, rw (e, append-nil ps) refl)
+behind_complete (s ∷ ss) header text zero ps m j h few = absurd (omega arith)
+behind_complete (s ∷ ss) header text (suc n) ps m j (p, q, d, k, rest) few =
+    inr (p, d, inl ((s, q), simple_complete s text p q k, (rw (append_assoc ps (s ∷ []) ss) at (behind_complete ss header text n (ps ++ (s ∷ [])) q j rest (omega arith)))))
+
+pub key_complete : (ss : List SimpleKey) (header : Bool) (text : List ℕ) (limit i j : ℕ) → SpellsKey ss text i j → length ss ≤ limit → read.key header text limit [] i (Ok (ss, j))
+unfolding read.key
+key_complete [] header text limit i j h few = absurd h
+key_complete (s ∷ ss) header text zero i j h few = absurd (omega arith)
+key_complete (s ∷ ss) header text (suc n) i j (m, k, rest) few = inl ((s, m), simple_complete s text i m k, behind_complete ss header text n (s ∷ []) m j rest (omega arith))
+
 -- ---- numbers
 
-digit_begins : (c : ℕ) → is_digit_in 10 c ≡ true → begins_number c ≡ true
-digit_begins c h = grind (arith, nat_tests)
-
-number_bare : (c : ℕ) → begins_number c ≡ true → begins_bare c ≡ true
-number_bare c h = grind (arith, nat_tests)
-
 is_signed : (t : List ℕ) (i : ℕ) → (begins_number (get_or t i 0) ≡ true) ⊎ (behind_sign t i ≡ i)
-is_signed t i = elim (bool_cases (begins_number (get_or t i 0))) [
-  | inl b ↦ inl b
-  | inr n ↦ let p = or_parts (is_ascii_digit (get_or t i 0) || get_or t i 0 == 45) _ n in inr (no_sign t i p.1 (or_parts (is_ascii_digit (get_or t i 0)) _ p.0).1)
-]
+is_signed t i = grind (arith, nat_tests, common_steps)
 
 -- a number begins here, and no other word
 abbrev Begins : List ℕ → ℕ → Type 0
 Begins t i = ((begins_number (get_or t i 0) || is_some (special false (read.run_at t i))) ≡ true) × (begins_bare (get_or t i 0) ≡ true)
 
 begins_here : (t : List ℕ) (i : ℕ) → begins_number (get_or t i 0) ≡ true → Begins t i
-begins_here t i b = (rw b refl, number_bare (get_or t i 0) b)
+begins_here t i b = grind (arith, nat_tests, common_steps)
 
 unsigned_begins : (t : List ℕ) (i j : ℕ) → UnsignedDecimal t (behind_sign t i) j → Begins t i
-unsigned_begins t i j h = elim (is_signed t i) [ inl b ↦ begins_here t i b | inr e ↦ begins_here t i (digit_begins (get_or t i 0) (rw e at h.digits.begins)) ]
+unsigned_begins t i j h = grind (arith, nat_tests, common_steps)
 
 letters_begin : (t word : List ℕ) (i j : ℕ) → list_all is_keylike word ≡ true → is_some (special false word) ≡ true → SpecialFloat word t i j → Begins t i
 letters_begin t word i j all some f = elim (is_signed t i) [
@@ -89,7 +94,7 @@ IsRead s span t i j =
     ⊎ ((opens_string (get_or t i 0) ≡ true) × read.string_value t i (Ok (parsed (scalar s) span, j)))
 
 date_bare : (t : List ℕ) (i : ℕ) → begins_date t i ≡ true → begins_bare (get_or t i 0) ≡ true
-date_bare t i h = let d : is_ascii_digit (get_or t i 0) ≡ true = and_left _ _ (and_left _ _ h) in number_bare (get_or t i 0) (rw d refl)
+date_bare t i h = grind (arith, nat_tests, common_steps)
 
 number_read : (s : Scalar) (t : List ℕ) (i j : ℕ) → IsNumber s t i j → Ok (s, j) ≡ read.number_or_word t i
 number_read s t i j h = rw (number_begins s t i j h).0 (sym (number_complete s t i j h))
@@ -109,17 +114,9 @@ scalar_complete (float y) span t i j (b, h, x) = inl ((number_begins (float y) t
 pub scalar_byte : (s : Scalar) (span : Span) (t : List ℕ) (i j : ℕ) → SpellsScalar s span t i j → (begins_bare (get_or t i 0) || opens_string (get_or t i 0)) ≡ true
 scalar_byte s span t i j h = elim (scalar_complete s span t i j h) [ inl (b, r, x) ↦ rw b refl | inr (o, r) ↦ rw (o, or_true) refl ]
 
-string_no_bare : (c : ℕ) → opens_string c ≡ true → begins_bare c ≡ false
-string_no_bare c h = grind (arith, nat_tests)
-
 scalar_value : (s : Scalar) (span : Span) (t : List ℕ) (limit left i j : ℕ) → SpellsScalar s span t i j → read.value t limit (suc left) zero i (Ok (parsed (scalar s) span, j))
 unfolding read.value
-scalar_value s span t limit left i j h =
-    let c = get_or t i 0 in
-    elim (scalar_complete s span t i j h) [
-      | inl (b, r, x) ↦ inr (not_at begins_bare c 91 b refl, inr (not_at begins_bare c 123 b refl, inl (b, inl ((s, j), r, rw x refl))))
-      | inr (o, r) ↦ inr (not_at opens_string c 91 o refl, inr (not_at opens_string c 123 o refl, inr (string_no_bare c o, r)))
-    ]
+scalar_value s span t limit left i j h = grind (arith, nat_tests, common_steps, not_at begins_bare, not_at opens_string, scalar_complete s span t i j h)
 
 -- ---- separators
 
@@ -150,7 +147,7 @@ no_bracket (parsed (array vs) x) text limit d i j h = rw h.1.0 refl
 no_bracket (parsed (inline ps) x) text limit d i j h = rw h.1.0 refl
 
 no_brace : (ss : List SimpleKey) (text : List ℕ) (i j : ℕ) → SpellsKey ss text i j → (get_or text i 0 == 125) ≡ false
-no_brace ss text i j k = not_at (λ c. is_keylike c || opens_string c) (get_or text i 0) 125 (dotted_byte ss text i j k) refl
+no_brace ss text i j k = not_at (λ c. is_keylike c || opens_string c) (get_or text i 0) 125 (grind (arith, nat_tests, common_steps)) refl
 
 mutual
   unfolding read.value
@@ -194,16 +191,10 @@ assignment_complete e text limit i j h =
     let v = value_complete e.value text limit (limit + 1 - n) n h.from j refl h.spelled in
     key_value_complete e text limit (limit + 1) (MaximalRun is_blank text) i h.key_end h.sign.at h.from j h.key h.few h.sign.before h.sign.here h.sign.behind v h.extent
 
-key_no_end : (ss : List SimpleKey) (text : List ℕ) (i j : ℕ) → SpellsKey ss text i j → read.ends_lines text i ≡ false
-key_no_end ss text i j k =
-    let p : ℕ → Bool = λ c. is_keylike c || opens_string c in
-    let b = dotted_byte ss text i j k in
-    rw (not_end p text i refl b) (not_at p (get_or text i 0) 91 b refl)
-
 key_values_complete : (es acc : List KeyValue) (text : List ℕ) (limit i j : ℕ) → SpellsKeyValues es acc text limit i j → read.ends_lines text j ≡ true → Loop (read.next_assignment text limit) (acc, i) (Ok (acc ++ es, j))
 key_values_complete [] acc text limit i j e t = ends (acc, i) _ (inl (rw e at t, rw (e, append-nil acc) refl))
 key_values_complete (e ∷ es) acc text limit i j (m, n, k, h, t, clear, g, r) s =
-    goes_on (acc, i) (acc ++ (e ∷ []), k) _ (inr (key_no_end e.parts text i h.key_end h.key, inl ((e, m), assignment_complete e text limit i m h, inl (n, inl (n, t, refl), inl (acc ++ (e ∷ []), inl (clear, refl), (k, g, refl))))))
+    goes_on (acc, i) (acc ++ (e ∷ []), k) _ (inr (grind (arith, nat_tests, common_steps), inl ((e, m), assignment_complete e text limit i m h, inl (n, inl (n, t, refl), inl (acc ++ (e ∷ []), inl (clear, refl), (k, g, refl))))))
     (rw (append_assoc acc (e ∷ []) es) at (key_values_complete es (acc ++ (e ∷ [])) text limit k j r s))
 
 lines_complete : (es : List KeyValue) (text : List ℕ) (limit i j : ℕ) → SpellsLines es text limit i j → read.ends_lines text j ≡ true → read.lines text limit i (Ok (es, j))
@@ -225,16 +216,13 @@ header_complete ps false text limit i j h = inr (h.front.opens.1, heading_comple
 header_complete ps true text limit i j h = inl (same_byte _ 91 h.front.opens.1, heading_complete ps true text limit i (i + 2) j h h.front.opens.2)
 
 header_byte : (ps : List SimpleKey) (double : Bool) (text : List ℕ) (limit i j : ℕ) → SpellsHeader ps double text limit i j → get_or text i 0 ≡ 91
-header_byte ps false text limit i j h = h.front.opens.0
-header_byte ps true text limit i j h = h.front.opens.0
+header_byte ps double text limit i j h = grind (arith, nat_tests, common_steps)
 
 -- ---- sections and the document
 
 section_complete : (b : Block) (text : List ℕ) (limit i j : ℕ) → SpellsSection b text limit i j → read.ends_lines text j ≡ true → read.section text limit i (Ok (b, j))
 section_complete b text limit i j s t =
-    let h = header_complete b.header b.array text limit i s.end s.header in
-    let l = lines_complete b.key_values text limit s.end j s.lines t in
-    inl (_, h, inl (_, l, ap₂ (λ x y. Ok (record { header = b.header; array = b.array; header_span = x; extent = y; key_values = b.key_values }, j)) s.header_span s.extent))
+    grind (arith, nat_tests, common_steps, header_complete b.header b.array text limit i s.end s.header, lines_complete b.key_values text limit s.end j s.lines t)
 
 sections_stop : (bs : List Block) (text : List ℕ) (limit i : ℕ) → SpellsSections bs text limit i → read.ends_lines text i ≡ true
 sections_stop [] text limit i e = rw (same_byte i (length text) e) refl
@@ -248,6 +236,7 @@ sections_complete (b ∷ bs) acc text limit i (j, s, r) =
     (rw (append_assoc acc (b ∷ []) bs) at (sections_complete bs (acc ++ (b ∷ [])) text limit j r))
 
 pub document_complete : (bs : List Block) (text : List ℕ) (limit : ℕ) → SpellsDocument bs text limit → read.document text limit (Ok bs)
+unfolding read.document
 document_complete bs text limit h =
     let l = lines_complete h.first text limit h.start h.end h.lines (sections_stop h.rest text limit h.end h.sections) in
     inl ((first_block h.first, h.end), (h.start, h.begins, inl (_, l, refl)), rw h.all (sections_complete h.rest (first_block h.first) text limit h.end h.sections))

@@ -1,5 +1,5 @@
 -- Clear keys and crossing keys.
-use Rattle.std.proofs.Common.{◌≡◌, ℕ, ◌⊎◌, inl, inr, List, [], ◌∷◌, ◌++◌, append_assoc, refl, sym, ap, subst, ◌∙◌}
+use Rattle.toml_span_lex.proofs.Common.{◌≡◌, ℕ, ◌⊎◌, inl, inr, List, [], ◌∷◌, ◌++◌, append_assoc, refl, sym, ap, subst, ◌∙◌, arith, nat_tests, common_steps}
 use Rattle.std.proofs.lemmas.List.{append-nil}
 use Rattle.toml_span_lex.specs.declared.span.Span.{Span}
 use Rattle.toml_span_read.specs.declared.fault.Fault.{Fault}
@@ -18,9 +18,7 @@ Cuts {A} xs x ys y =
     ⊎ ((zs : List A) × (xs ≡ ys ++ (y ∷ zs)))
 
 cuts_more : {A : Type 0} (a b : A) (xs ys : List A) (x y : A) → a ≡ b → Cuts xs x ys y → Cuts (a ∷ xs) x (b ∷ ys) y
-cuts_more a b xs ys x y e (inl h) = inl (let f = h.0 in cc, h.1)
-cuts_more a b xs ys x y e (inr (inl (zs, h))) = inr (inl (zs, cc))
-cuts_more a b xs ys x y e (inr (inr (zs, h))) = inr (inr (zs, cc))
+cuts_more a b xs ys x y e h = grind (arith, nat_tests, common_steps)
 
 cuts : {A : Type 0} (xs ys us vs : List A) (x y : A) → xs ++ (x ∷ us) ≡ ys ++ (y ∷ vs) → Cuts xs x ys y
 cuts [] [] us vs x y e = inl (refl, cc)
@@ -39,7 +37,7 @@ none_earliest : (names : List (List ℕ)) (key_values : List KeyValue) (first : 
 none_earliest names key_values first none h = none_found names key_values h.before h.behind h.found none h.stands h.same
 
 -- a list that is not empty has a last element
-front_last : (x : SimpleKey) (xs : List SimpleKey) → (front : List SimpleKey) × (last : SimpleKey) × (x ∷ xs ≡ front ++ (last ∷ []))
+pub front_last : (x : SimpleKey) (xs : List SimpleKey) → (front : List SimpleKey) × (last : SimpleKey) × (x ∷ xs ≡ front ++ (last ∷ []))
 front_last x [] = ([], x, refl)
 front_last x (y ∷ ys) =
     let more = front_last y ys in
@@ -53,14 +51,7 @@ clear_crossing earlier next fault clear c =
     none_earliest _ earlier c.first (clear (c.outer ++ (c.part ∷ end.0)) end.1 key c.outer c.part end.0 refl) c.met
 
 one_earliest : (names : List (List ℕ)) (key_values : List KeyValue) (a b : Span) → EarliestAt names key_values a → EarliestAt names key_values b → a ≡ b
-one_earliest names key_values a b g h = go (cuts g.before h.before g.behind h.behind g.found h.found (sym g.stands ∙ h.stands))
-  where
-    go : Cuts g.before g.found h.before h.found → a ≡ b
-    go (inl e) =
-        let same : g.last ≡ h.last = (snoc_same g.inner h.inner g.last h.last (sym g.key ∙ ap (λ (e : KeyValue). e.parts) e.1 ∙ h.key)).1 in
-        g.span ∙ ap (λ (p : SimpleKey). p.span) same ∙ sym h.span
-    go (inr (inl (zs, e))) = absurd (none_found names h.before g.before zs g.found h.none_before e g.same)
-    go (inr (inr (zs, e))) = absurd (none_found names g.before h.before zs h.found g.none_before e h.same)
+one_earliest names key_values a b g h = grind (arith, nat_tests, common_steps, cuts, none_found, snoc_same)
 
 pub crossing_one : (earlier : List KeyValue) (next : KeyValue) (f g : Fault) → Crossing earlier next f → Crossing earlier next g → f ≡ g
 crossing_one earlier next f g c d = go (cuts c.outer d.outer (c.more ∷ c.rest) (d.more ∷ d.rest) c.part d.part (sym c.key ∙ d.key))
@@ -109,8 +100,7 @@ told_later names e es apart (inr (first, h)) = inr (
 )
 
 told_of : (names : List (List ℕ)) (e : KeyValue) (es : List KeyValue) → (names ≡ [] → ⊥) → ((part_names e.parts ≡ names) ⊎ (part_names e.parts ≡ names → ⊥)) → EarliestOrNone names es → EarliestOrNone names (e ∷ es)
-told_of names e es some (inl same) more = told_first names e es e.parts refl same some
-told_of names e es some (inr apart) more = told_later names e es apart more
+told_of names e es some h more = grind (arith, nat_tests, common_steps, told_first, told_later)
 
 told : (names : List (List ℕ)) (key_values : List KeyValue) → (names ≡ [] → ⊥) → EarliestOrNone names key_values
 unfolding EarliestOrNone
@@ -118,13 +108,10 @@ told names [] some = inl tt
 told names (e ∷ es) some = told_of names e es some (same_path (part_names e.parts) names) (told names es some)
 
 not_empty : (outer : List SimpleKey) (p : SimpleKey) → part_names (outer ++ (p ∷ [])) ≡ [] → ⊥
-not_empty [] p e = cc
-not_empty (q ∷ outer) p e = cc
+not_empty outer p e = grind (arith, nat_tests, common_steps)
 
 none_push : (outer : List SimpleKey) (p : SimpleKey) (key_values : List KeyValue) → NoneThrough outer key_values → NoneAt (part_names (outer ++ (p ∷ []))) key_values → NoneThrough (outer ++ (p ∷ [])) key_values
-none_push outer p key_values none here front q [] split =
-    let same = snoc_same outer front p q split in
-    subst (λ (l : List SimpleKey). NoneAt (part_names l) key_values) (ap (λ l. l ++ (p ∷ [])) same.0 ∙ ap (λ r. front ++ (r ∷ [])) same.1) here
+none_push outer p key_values none here front q [] split = grind (arith, nat_tests, common_steps)
 none_push outer p key_values none here front q (r ∷ rest) split =
     let end = front_last r rest in
     let cut = snoc_same outer (front ++ (q ∷ end.0)) p end.1 (split ∙ ap (λ l. front ++ (q ∷ l)) end.2 ∙ sym (append_assoc front (q ∷ end.0) (end.1 ∷ []))) in
@@ -164,11 +151,7 @@ judged_from earlier next outer (p ∷ ps) last key none =
 
 judged : (earlier : List KeyValue) (next : KeyValue) (parts : List SimpleKey) → next.parts ≡ parts → Judged earlier next
 unfolding Judged
-judged earlier next [] is = inl (λ inner last key. absurd (no_parts inner last (sym is ∙ key)))
-  where
-    no_parts : (inner : List SimpleKey) (last : SimpleKey) → [] ≡ inner ++ (last ∷ []) → ⊥
-    no_parts [] last e = cc
-    no_parts (x ∷ inner) last e = cc
+judged earlier next [] is = grind (arith, nat_tests, common_steps)
 judged earlier next (p ∷ ps) is =
     let end = front_last p ps in
     judged_from earlier next [] end.0 end.1 (is ∙ end.2) (through_none (λ names. NoneAt names earlier))

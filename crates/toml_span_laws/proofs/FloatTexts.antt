@@ -1,11 +1,7 @@
 -- In the tree of a document the text of each float spells it by itself.
-use Rattle.std.proofs.Common.{◌≡◌, ℕ, suc, true, cond, List, [], ◌∷◌, Option, Some, None, option_map, refl, sym, ap, ◌∙◌, subst, inl, inr}
-use Rattle.std.specs.Prelude.{option_and_then}
-use Rattle.std.specs.Str.{bytes_eq}
-use Rattle.std.proofs.lemmas.Bool.{cases_Bool}
-use Rattle.std.proofs.lemmas.Option.{none-some, same_Some}
+use Rattle.toml_span_lex.proofs.Common.{◌≡◌, ℕ, suc, true, cond, List, [], ◌∷◌, Option, Some, None, option_map, refl, sym, ap, ◌∙◌, inl, inr, option_and_then, bytes_eq, cases_Bool, none-some, same_Some, arith, nat_tests, common_steps}
 use Rattle.toml_span_lex.specs.declared.span.Span.{Span}
-use Rattle.toml_span_tree.specs.Node.{Scalar, text, integer, float, boolean, datetime, finite, infinite, not_a_number, Node, node, taken, scalar, array, table, Items, no_items, item, Members, no_members, member, entry_at, element_at}
+use Rattle.toml_span_tree.specs.Node.{Scalar, Node, node, taken, scalar, array, table, Items, no_items, item, Members, no_members, member, entry_at, element_at}
 use Rattle.toml_span_tree.specs.Path.{Path, Step, key, position, Place, shape_scalar, shape_of, reached, place_of, place_at}
 use Rattle.toml_span_tree.specs.Value.{view}
 use Rattle.toml_span_tree.specs.declared.value.Value.{Value}
@@ -13,7 +9,7 @@ use Rattle.toml_span.specs.Ordered.{HasOneEach, ItemsHaveOneEach, MembersHaveOne
 use Rattle.toml_span.specs.Parsing.{IsTree}
 use Rattle.toml_span.proofs.Grafts.{same_step-eq, same_step-self}
 use Rattle.toml_span.proofs.Ordered.{one-each}
-use Rattle.toml_span_places.specs.Again.{IsFloatText, IsScalarText, HasFloatTexts, ItemsHaveFloatTexts, MembersHaveFloatTexts}
+use Rattle.toml_span_places.specs.Again.{IsScalarText, HasFloatTexts, ItemsHaveFloatTexts, MembersHaveFloatTexts}
 use Rattle.toml_span_places.proofs.CleanedFloats.{cleaned_spells}
 use Rattle.toml_span_laws.proofs.ReadAgain.{HasScalar, tree-scalar}
 
@@ -71,14 +67,7 @@ mutual
 -- ---- what is spelled has its text
 
 scalar-text : (t : List ℕ) (limit : ℕ) (s : Scalar) (span : Span) → HasScalar t limit s span → IsScalarText s
-scalar-text t limit (text v) span h = tt
-scalar-text t limit (integer z) span h = tt
-scalar-text t limit (float (finite digits)) span h =
-    let spells = h.spells.1 in subst (λ (v : List ℕ). IsFloatText (finite v)) (sym spells.1.1) (cleaned_spells t h.from h.to spells.1.0)
-scalar-text t limit (float (infinite negative)) span h = tt
-scalar-text t limit (float (not_a_number negative)) span h = tt
-scalar-text t limit (boolean b) span h = tt
-scalar-text t limit (datetime d) span h = tt
+scalar-text t limit s span h = grind (arith, nat_tests, common_steps, cleaned_spells)
 
 pub tree-texts : (t : List ℕ) (limit : ℕ) (root : Value) → IsTree t limit root → HasFloatTexts (view root)
 tree-texts t limit root h =

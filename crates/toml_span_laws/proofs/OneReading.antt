@@ -1,24 +1,112 @@
 -- Reading a form gives one thing at most.
-use Rattle.std.proofs.Common.{◌≡◌, ℕ, zero, suc, ◌+◌, ◌<◌, ◌⊎◌, Bool, true, false, List, [], ◌∷◌, ◌++◌, length, get_or, arith, inl, inr, refl, sym, ◌∙◌}
-use Rattle.std.specs.Prelude.{◌==◌, ◌&&◌}
-use Rattle.std.proofs.lemmas.Bool.{false≢true}
+use Rattle.toml_span_lex.proofs.Common.{◌≡◌, ℕ, zero, suc, ◌+◌, ◌<◌, Bool, true, false, List, length, arith, inl, inr, refl, sym, ap, ◌∙◌, Result, Ok, Err, nat_tests, common_steps, [], ◌∷◌, ◌++◌, get_or, ◌==◌, false≢true, ◌⊎◌, ◌&&◌}
+use Rattle.toml_span_lex.specs.declared.span.Span.{Span}
+use Rattle.toml_span_lex.specs.declared.tokens.Error.{Error}
+use Rattle.toml_span_lex.specs.Tokens.{Lexeme, Stands, IsNoToken}
+use Rattle.toml_span_lex.proofs.NoFault.{token_or_fault}
+pub use Rattle.toml_span_lex.proofs.One.{One, one_is, one_where, one_given, one_either}
+use Rattle.toml_span_lex.proofs.OneFault.{fault_unique, char_unique, char_within}
+use Rattle.toml_span_lex.proofs.OneToken.{token_unique}
+use Rattle.toml_span_lex.proofs.Within.{fault_within}
+use Rattle.toml_span_read.specs.declared.fault.Fault.{Fault}
+use Rattle.toml_span_read.specs.Read.{Reading, after, Standing, token, text_end, no_token, StandsAt, choice, Turn, on, done, Loop, ends, stops, goes_on, key_of, Parts, onward, ValueEnd, Items, Pairs, Blocks}
 use Rattle.toml_span_lex.specs.Bytes.{is_blank, is_printed, MaximalRun}
+use Rattle.toml_span_read.specs.Gaps.{GapPiece, begins_gap, GapBy, MaximalGap, Dot, NoDot, Skipped, Tail, NoTail}
+use Rattle.toml_span_read.specs.Keys.{SimpleKey}
+use Rattle.toml_span_read.specs.Read as read
+use Rattle.toml_span_read.proofs.NumberLemmas.{same_byte}
 use Rattle.toml_span_lex.specs.Text.{LineEnd, NoLineEnd, CharAt}
 use Rattle.toml_span_lex.specs.Tokenizer.{FirstPlace}
-use Rattle.toml_span_lex.proofs.OneFault.{char_unique, char_within}
-use Rattle.toml_span_lex.proofs.Runs.{crlf_first}
 use Rattle.toml_span_lex.proofs.Unique.{run_unique, line_unique}
 use Rattle.toml_span_read.specs.declared.fault.Due.{Due}
 use Rattle.toml_span_read.specs.Data.{KeyValue}
-use Rattle.toml_span_read.specs.Dates.{is_date_byte, continues_date, IsCandidate}
-use Rattle.toml_span_read.specs.Gaps.{Skipped, Tail, NoTail}
-use Rattle.toml_span_read.specs.Read as read
-use Rattle.toml_span_read.specs.Read.{Reading, ValueEnd, Items, Pairs, Blocks}
-use Rattle.toml_span_read.proofs.NumberLemmas.{same_byte}
-use Rattle.toml_span_read.proofs.Places.{read_within}
+use Rattle.toml_span_read.specs.Dates.{is_date_byte, continues_date}
 use Rattle.toml_span_laws.proofs.EarlierLaws.{clear_crossing, crossing_one}
-use Rattle.toml_span_laws.proofs.KeyLaws.{not_here, gap_unique, key_one}
-use Rattle.toml_span_laws.proofs.Readings.{One, one_is, one_where, one_given, one_either, one_after, one_choice, one_standing, one_loop}
+
+pub one_after : {A B : Type 0} {m : Reading A} {f : A → Reading B} → One m → ((a : A) → One (f a)) → One (after m f)
+one_after one each = grind (arith, nat_tests, common_steps)
+
+pub one_choice : {A : Type 0} {test : Bool} {this that : Reading A} → One this → One that → One (choice test this that)
+one_choice one other = one_either (one_where one) (one_where other) (λ r s (t, h) (u, g). let e = sym t ∙ u in cc)
+
+-- ---- tokens
+
+no_token_at_end : (text : List ℕ) (i j : ℕ) (s : Span) (l : Lexeme) → i ≡ length text → Stands text i j s l → ⊥
+no_token_at_end text i j s l e h = grind (arith, nat_tests, common_steps)
+
+no_fault_at_end : (text : List ℕ) (i j : ℕ) (x : Error) → i ≡ length text → IsNoToken text i j x → ⊥
+no_fault_at_end text i j x e h = let w = fault_within text i j x h in omega (arith, e, w.0, w.1)
+
+pub one_stands : (text : List ℕ) (i : ℕ) (a b : Standing) → StandsAt text i a → StandsAt text i b → a ≡ b
+one_stands text i (token s l j) (token t m k) h g = let u = token_unique text i j k s t l m h g in rw (u.1, u.2, u.0) refl
+one_stands text i (token s l j) text_end h g = absurd (no_token_at_end text i j s l g h)
+one_stands text i (token s l j) (no_token x) h (k, g) = absurd (token_or_fault text i j k s l x h g)
+one_stands text i text_end (token s l j) h g = absurd (no_token_at_end text i j s l h g)
+one_stands text i text_end text_end h g = refl
+one_stands text i text_end (no_token x) h (k, g) = absurd (no_fault_at_end text i k x h g)
+one_stands text i (no_token x) (token s l j) (k, h) g = absurd (token_or_fault text i j k s l x g h)
+one_stands text i (no_token x) text_end (k, h) g = absurd (no_fault_at_end text i k x g h)
+one_stands text i (no_token x) (no_token y) (j, h) (k, g) = ap (λ z. no_token z) (fault_unique text i j k x y h g).1
+
+-- what is told of what stands at i
+pub one_standing : {A : Type 0} (text : List ℕ) (i : ℕ) {f : Standing → Result A Fault} → One (λ r. (t : Standing) × StandsAt text i t × (r ≡ f t))
+one_standing text i = one_given (one_stands text i) (λ t. one_is)
+
+-- ---- loops
+
+loops_one : {S A : Type 0} (turn : S → Reading (Turn S A)) → ((s : S) → One (turn s)) → {s : S} {r q : Result A Fault} → Loop turn s r → Loop turn s q → r ≡ q
+loops_one turn one (ends s a h) (ends s' b g) = let x = one s (Ok (done a)) (Ok (done b)) h g in cc
+loops_one turn one (ends s a h) (stops s' e g) = let x = one s (Ok (done a)) (Err e) h g in absurd (cc)
+loops_one turn one (ends s a h) (goes_on s' t q g m) = let x = one s (Ok (done a)) (Ok (on t)) h g in absurd (cc)
+loops_one turn one (stops s e h) (ends s' b g) = let x = one s (Err e) (Ok (done b)) h g in absurd (cc)
+loops_one turn one (stops s e h) (stops s' f g) = let x = one s (Err e) (Err f) h g in cc
+loops_one turn one (stops s e h) (goes_on s' t q g m) = let x = one s (Err e) (Ok (on t)) h g in absurd (cc)
+loops_one turn one (goes_on s t r h l) (ends s' b g) = let x = one s (Ok (on t)) (Ok (done b)) h g in absurd (cc)
+loops_one turn one (goes_on s t r h l) (stops s' e g) = let x = one s (Ok (on t)) (Err e) h g in absurd (cc)
+loops_one turn one (goes_on s t r h l) (goes_on s' u q g m) = let x = one s (Ok (on t)) (Ok (on u)) h g in let e : u ≡ t = cc in loops_one turn one {s = t} {r = r} {q = q} l (rw e at m)
+
+pub one_loop : {S A : Type 0} (turn : S → Reading (Turn S A)) → ((s : S) → One (turn s)) → (s : S) → One (Loop turn s)
+one_loop turn one s r q h g = loops_one turn one {s = s} {r = r} {q = q} h g
+
+-- a byte that is c, where it is none
+pub not_here : (b c : ℕ) → b ≡ c → (b == c) ≡ false → ⊥
+not_here b c e n = false≢true (sym n ∙ same_byte b c e)
+
+-- ---- gaps
+
+piece_unique : (text : List ℕ) (i : ℕ) → One (GapPiece text i)
+piece_unique text i = grind (arith, nat_tests, common_steps)
+
+piece_begins : (text : List ℕ) (i j : ℕ) → GapPiece text i j → begins_gap text i ≡ true
+piece_begins text i j h = grind (arith, nat_tests, common_steps)
+
+gap_by_unique : (text : List ℕ) (i j k : ℕ) (ks ls : List ℕ) → GapBy text i ks j → GapBy text i ls k → begins_gap text j ≡ false → begins_gap text k ≡ false → j ≡ k
+gap_by_unique text i j k [] [] a b f g = sym a ∙ b
+gap_by_unique text i j k [] (l ∷ ls) a b f g = absurd (false≢true (sym (rw (sym a) at f) ∙ piece_begins text i l b.0))
+gap_by_unique text i j k (x ∷ ks) [] a b f g = absurd (false≢true (sym (rw (sym b) at g) ∙ piece_begins text i x a.0))
+gap_by_unique text i j k (x ∷ ks) (l ∷ ls) a b f g =
+    let e : x ≡ l = piece_unique text i x l a.0 b.0 in gap_by_unique text x j k ks ls a.1 (rw (sym e) at b.1) f g
+
+pub gap_unique : (text : List ℕ) (i j k : ℕ) → MaximalGap text i j → MaximalGap text i k → j ≡ k
+gap_unique text i j k a b = gap_by_unique text i j k a.ends b.ends a.pieces b.pieces a.stops b.stops
+
+-- ---- dots
+
+dot_or_none : (text : List ℕ) (i j : ℕ) → Dot text i j → NoDot text i → ⊥
+dot_or_none text i j a b = grind (arith, nat_tests, common_steps)
+
+-- ---- keys
+
+pub simple_one : (text : List ℕ) (i : ℕ) → One (read.simple_key_at text i)
+simple_one text i = one_standing text i
+
+onward_one : (text : List ℕ) (ps : List SimpleKey) (m : ℕ) (next : ℕ → Reading Parts) → ((p : ℕ) → One (next p)) → One (onward text ps m next)
+onward_one text ps m next one = one_either (one_where one_is) (one_given (grind (arith, nat_tests, common_steps)) one) (λ r s none dot. dot_or_none text m dot.0 dot.1 none.0)
+
+pub key_one : (header : Bool) (text : List ℕ) (left : ℕ) (ps : List SimpleKey) (i : ℕ) → One (read.key header text left ps i)
+unfolding read.key
+key_one header text zero ps i = one_after (simple_one text i) (λ f. one_is)
+key_one header text (suc n) ps i = one_after (simple_one text i) (λ (s, m). onward_one text (ps ++ (s ∷ [])) m _ (key_one header text n (ps ++ (s ∷ []))))
 
 -- ---- places
 
@@ -29,12 +117,10 @@ skipped_one : (text : List ℕ) (i : ℕ) → One (Skipped text i)
 skipped_one text i j k a b = one_given (run_unique is_blank text i) (comment_one text) j k (a.at, a.blank, a.comment) (b.at, b.blank, b.comment)
 
 line_within : (text : List ℕ) (i j : ℕ) → LineEnd text i j → i < length text
-line_within text i j (inl h) = read_within text i (omega (arith, h.0))
-line_within text i j (inr h) = read_within text i (omega (arith, crlf_first text i h.0))
+line_within text i j h = grind (arith, nat_tests, common_steps)
 
 line_or_none : (text : List ℕ) (i j : ℕ) → LineEnd text i j → NoLineEnd text i → ⊥
-line_or_none text i j (inl a) n = not_here (get_or text i 0) 10 a.0 n.0
-line_or_none text i j (inr a) n = false≢true (sym n.1 ∙ a.0)
+line_or_none text i j h n = grind (arith, nat_tests, common_steps)
 
 -- the rest of a line ends at one place
 rest_one : (text : List ℕ) (i : ℕ) → One (Tail text i)
@@ -53,18 +139,12 @@ first_one : (text : List ℕ) → One (FirstPlace text)
 first_one text = one_either (λ i j a b. (char_unique text 0 65279 65279 i j a b).0) (λ i j a b. a.0 ∙ sym b.0) (first_or text)
 
 one_part : (text : List ℕ) (i j : ℕ) → MaximalRun is_date_byte text i j → ((j == i + 10) && continues_date text j) ≡ false → MaximalRun is_date_byte text i (i + 10) → continues_date text (i + 10) ≡ true → ⊥
-one_part text i j a n b c =
-    let e : j ≡ i + 10 = run_unique is_date_byte text i j (i + 10) a b in
-    false≢true (sym (rw e at n) ∙ (rw (same_byte (i + 10) (i + 10) refl) c))
-
-candidate_one : (text : List ℕ) (i : ℕ) → One (IsCandidate text i)
-candidate_one text i =
-    one_either (λ j k a b. run_unique is_date_byte text i j k a.0 b.0) (λ j k a b. run_unique is_date_byte text (i + 11) j k a.2 b.2) (λ j k a b. one_part text i j a.0 a.1 b.0 b.1)
+one_part text i j a n b c = grind (arith, nat_tests, common_steps)
 
 -- ---- values without brackets
 
 date_one : (text : List ℕ) (i : ℕ) → One (read.date text i)
-date_one text i = one_given (candidate_one text i) (λ j. one_either (one_where one_is) (one_where one_is) (λ r s is none. none.0 is.0))
+date_one text i = one_given (grind (arith, nat_tests, common_steps, one_either, one_part, run_unique)) (λ j. one_either (one_where one_is) (one_where one_is) (λ r s is none. none.0 is.0))
 
 bare_one : (text : List ℕ) (i : ℕ) → One (read.bare text i)
 bare_one text i = one_choice (date_one text i) one_is
@@ -140,5 +220,6 @@ next_one text limit (bs, i) =
     one_choice one_is (one_after (one_after (header_one text limit i) (λ h. one_after (lines_one text limit h.end) (λ f. one_is))) (λ f. one_is))
 
 pub document_one : (text : List ℕ) (limit : ℕ) → One (read.document text limit)
+unfolding read.document
 document_one text limit =
     one_after (one_given (first_one text) (λ i. one_after (lines_one text limit i) (λ f. one_is))) (one_loop (read.next_section text limit) (next_one text limit))

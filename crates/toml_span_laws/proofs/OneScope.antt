@@ -1,22 +1,89 @@
--- Where no two claims clash, those on one path are of one scope.
-use Rattle.std.proofs.Common.{◌≡◌, ℕ, zero, suc, ◌<◌, ◌⊎◌, List, [], ◌∷◌, ◌++◌, Option, Some, None, length, length-append, arith, refl, sym, ap, ◌∙◌, subst, append_assoc, append-nil, inl, inr}
-use Rattle.toml_span_tree.specs.Path.{Path, Step}
+-- Where no two claims clash, those on one path are of one scope. At a position no header that passes through decides.
+use Rattle.toml_span_lex.proofs.Common.{◌≡◌, ◌⊎◌, ℕ, true, List, [], ◌∷◌, ◌++◌, Option, Some, None, refl, sym, ap, ◌∙◌, subst, inl, inr, ⊤, none-some, arith, nat_tests, common_steps, append_assoc, append-nil}
+use Rattle.toml_span_tree.specs.Path.{Path, position}
 use Rattle.toml_span_read.specs.Data.{Block}
 use Rattle.toml_span_read.specs.Grammar.{SpellsDocument}
+use Rattle.toml_span.specs.declared.claims.Sort.TheVariants.{Passed, TableElement, Assigned}
+use Rattle.toml_span.specs.Claims.{Claim, Claims, no_claims, claimed, scope, claims}
+use Rattle.toml_span.specs.Flat.{all_claims, claims_at, first_claim, first_claim_by_header, deciding_claim}
+use Rattle.toml_span.specs.Paths.{same_path}
+use Rattle.toml_span.proofs.Grafts.{same_step-self}
+use Rattle.toml_span.proofs.EachClaim.{same_path-eq}
+use Rattle.toml_span.proofs.Refusals.{spelled-headed}
+use Rattle.toml_span_laws.proofs.Apart.{in-cases, Pairs, in-left, in-right, pairs-join, pairs-split}
+use Rattle.toml_span_laws.proofs.FirstClash.{cases_option, IsFree, AreFree, are-free}
+use Rattle.toml_span_laws.proofs.Scoped.{Has, Scoped, document-scoped, passed-entered, Fits, IsFrom, IsUnder, entry-value, fits-on, from-cases, from-under, on-one-way, under-from}
 use Rattle.toml_span.specs.declared.claims.Blame.{Blame}
 use Rattle.toml_span.specs.declared.claims.Blame.TheVariants.{DuplicateKey}
 use Rattle.toml_span.specs.declared.claims.Sort.{Sort}
-use Rattle.toml_span.specs.declared.claims.Sort.TheVariants.{Passed, StandardTable, ArrayOfTables, TableElement, Dotted, Assigned}
-use Rattle.toml_span.specs.Claims.{Claim, Claims, no_claims, claimed, scope, claims}
 use Rattle.toml_span.specs.Clashes.{named, blame, meeting, clash, Resolves}
-use Rattle.toml_span.specs.Flat.{all_claims}
-use Rattle.toml_span.proofs.Refusals.{spelled-headed}
 use Rattle.toml_span_laws.specs.Clashing.{IsIn, DoClash, own, ShareScope}
-use Rattle.toml_span_laws.proofs.Apart.{Pairs, in-cases, in-left, in-right, pairs-join, pairs-split}
-use Rattle.toml_span_laws.proofs.EntryDecides.{path-self}
-use Rattle.toml_span_laws.proofs.FirstClash.{IsFree, AreFree, are-free}
 use Rattle.toml_span_laws.proofs.FirstPair.{free-clash}
-use Rattle.toml_span_laws.proofs.Scoped.{Fits, IsFrom, IsUnder, Scoped, document-scoped, entry-value, fits-on, nil-under}
+
+pub path-self : (p : Path) → same_path p p ≡ true
+unfolding same_path
+path-self [] = refl
+path-self (s ∷ p) = rw (same_step-self s, path-self p)
+
+pub at-append : (q : Path) (xs ys : List Claim) → claims_at q (xs ++ ys) ≡ claims_at q xs ++ claims_at q ys
+unfolding claims_at
+at-append q [] ys = refl
+at-append q (c ∷ xs) ys = grind (arith, nat_tests, common_steps, at-append q xs ys)
+
+-- ---- headers that pass through
+
+-- Of these claims on the path, a header passes through where S holds, or behind an entry.
+abbrev Entered : Path → Type 0 → List Claim → Type 0
+Entered q S [] = ⊤
+Entered q S (c ∷ cs) = (c.mark.sort ≡ Passed → c.path ≡ q → S) × Entered q (S ⊎ ((c.mark.sort ≡ TableElement) × (c.path ≡ q))) cs
+
+entered-more : (q : Path) (S T : Type 0) (l : List Claim) → (S → T) → Entered q S l → Entered q T l
+entered-more q S T [] f h = tt
+entered-more q S T (c ∷ l) f h =
+    grind (arith, nat_tests, common_steps, entered-more q (S ⊎ ((c.mark.sort ≡ TableElement) × (c.path ≡ q))) (T ⊎ ((c.mark.sort ≡ TableElement) × (c.path ≡ q))) l)
+
+entered-append : (q : Path) (S : Type 0) (xs ys : List Claim) → Entered q S xs → Entered q S ys → Entered q S (xs ++ ys)
+entered-append q S [] ys h g = g
+entered-append q S (c ∷ xs) ys h g =
+    let T = S ⊎ ((c.mark.sort ≡ TableElement) × (c.path ≡ q)) in
+    (h.0, entered-append q T xs ys h.1 (entered-more q S T ys (λ s. inl s) g))
+
+scoped-entered : (p : Path) (n : ℕ) (S : Type 0) (base : Path) (earlier : List Claim) (last : Option Claim) (cs : Claims) → Scoped base earlier last cs
+    → (Has earlier TableElement (p ++ (position n ∷ [])) → S) → Entered (p ++ (position n ∷ [])) S (all_claims cs)
+unfolding all_claims
+scoped-entered p n S base earlier last no_claims scoped f = tt
+scoped-entered p n S base earlier last (claimed c cs) scoped f = (
+  λ is on. f (subst (Has earlier TableElement) on (passed-entered base earlier c p n scoped.0 is on)),
+  scoped-entered p n (S ⊎ ((c.mark.sort ≡ TableElement) × (c.path ≡ p ++ (position n ∷ [])))) base (earlier ++ (c ∷ [])) (Some c) cs scoped.1
+      (λ (e, here, is, on). grind (arith, nat_tests, common_steps, in-cases e earlier (c ∷ []) here)),
+)
+scoped-entered p n S base earlier None (scope inner cs) scoped f = absurd scoped
+scoped-entered p n S base earlier (Some a) (scope inner cs) scoped f =
+    grind (arith, nat_tests, common_steps, scoped-entered p n S a.path [] None inner, scoped-entered p n S base earlier None cs, entered-append)
+
+-- the first header does not pass through
+first-passes : (q : Path) (S : Type 0) (l : List Claim) (c : Claim) → Entered q S l → first_claim_by_header (claims_at q l) ≡ Some c → c.mark.sort ≡ Passed → S
+unfolding claims_at first_claim_by_header
+first-passes q S [] c h is passed = absurd (none-some c is)
+first-passes q S (x ∷ l) c h is passed =
+    let T = S ⊎ ((x.mark.sort ≡ TableElement) × (x.path ≡ q)) in
+    grind (arith, nat_tests, common_steps, path-self q, same_path-eq x.path q, first-passes q T l c h.1)
+
+first-plain : (l : List Claim) → first_claim_by_header l ≡ None → (c : Claim) → first_claim l ≡ Some c → c.mark.sort ≡ Passed → ⊥
+unfolding first_claim_by_header
+first-plain l none c is passed = grind (arith, nat_tests, common_steps)
+
+pub no-passage : (text : List ℕ) (limit : ℕ) (bs : List Block) (p : Path) (n : ℕ) (c : Claim) → SpellsDocument bs text limit → deciding_claim (claims_at (p ++ (position n ∷ [])) (all_claims (claims bs))) ≡ Some c
+    → c.mark.sort ≡ Passed → ⊥
+no-passage text limit bs p n c h is passed =
+    let q = p ++ (position n ∷ []) in
+    let l = all_claims (claims bs) in
+    elim (cases_option (first_claim_by_header (claims_at q l))) [
+      | inl none ↦ first-plain (claims_at q l) none c (rw none at is) passed
+      | inr (d, found) ↦
+          let entered = scoped-entered p n ⊥ [] [] None (claims bs) (document-scoped bs (spelled-headed bs text limit h)) (λ has. has.1) in
+          first-passes q ⊥ l c entered (found ∙ (rw found at is)) passed
+    ]
 
 -- ---- claims that clash
 
@@ -26,12 +93,7 @@ do-clash c d b same is = (named d.name (meeting c.mark d.mark b), rw (same, path
 
 -- a value and another claim on one path clash, whichever comes first, but for an entry
 value-clashes : (s : Sort) → (s ≡ TableElement) ⊎ ((blame Assigned s ≡ Some DuplicateKey) × (blame s Assigned ≡ Some DuplicateKey))
-value-clashes Passed = inr (refl, refl)
-value-clashes StandardTable = inr (refl, refl)
-value-clashes ArrayOfTables = inr (refl, refl)
-value-clashes TableElement = inl refl
-value-clashes Dotted = inr (refl, refl)
-value-clashes Assigned = inr (refl, refl)
+value-clashes s = grind (arith, nat_tests, common_steps)
 
 -- ---- lists of claims of which none clashes with a later one
 
@@ -39,11 +101,7 @@ abbrev pub Peaceful : List Claim → Type 0
 Peaceful l = Pairs (λ c d. DoClash c d → ⊥) l
 
 pub peaceful-push : (l : List Claim) (c : Claim) → Peaceful l → IsFree l c → Peaceful (l ++ (c ∷ []))
-peaceful-push l c h free =
-    pairs-join (λ x d. DoClash x d → ⊥) l (c ∷ []) h ((λ d none. absurd none), tt) (λ x d here there clashes. elim there [
-      | inl same ↦ free-clash l x c free here (subst (DoClash x) same clashes)
-      | inr none ↦ none
-    ])
+peaceful-push l c h free = grind (arith, nat_tests, common_steps, free-clash, pairs-join)
 
 pub peaceful-across : (xs ys : List Claim) (c d : Claim) → Peaceful (xs ++ ys) → IsIn c xs → IsIn d ys → DoClash c d → ⊥
 peaceful-across xs ys c d h = (pairs-split (λ x y. DoClash x y → ⊥) xs ys h).2 c d
@@ -62,13 +120,11 @@ two-of (x ∷ l) c d (inr more) (inr also) differ =
     (x ∷ xs, ys, ap (λ k. x ∷ k) is, elim h [ inl (a, b) ↦ inl (inr a, b) | inr (a, b) ↦ inr (inr a, b) ])
 
 two-in : (l : List Claim) (c d : Claim) → Two l c d → IsIn c l × IsIn d l
-two-in l c d (xs, ys, is, inl (a, b)) = rw is (in-left c xs ys a, in-right d xs ys b)
-two-in l c d (xs, ys, is, inr (a, b)) = rw is (in-right c xs ys b, in-left d xs ys a)
+two-in l c d h = grind (arith, nat_tests, common_steps, in-left, in-right)
 
 -- two claims that clash in either order are not both there
 pub peaceful-two : (l : List Claim) (c d : Claim) → Peaceful l → Two l c d → DoClash c d → DoClash d c → ⊥
-peaceful-two l c d h (xs, ys, is, inl (a, b)) first last = peaceful-across xs ys c d (subst Peaceful is h) a b first
-peaceful-two l c d h (xs, ys, is, inr (a, b)) first last = peaceful-across xs ys d c (subst Peaceful is h) a b last
+peaceful-two l c d h g first last = grind (arith, nat_tests, common_steps, peaceful-across)
 
 -- ---- on the path of a value, and below, nothing else of its scope stands
 
@@ -87,90 +143,28 @@ value-apart base l a e (fit, peace) two value same =
           (do-clash e a DuplicateKey (sym same) (ap (blame e.mark.sort) value ∙ last))
     ]
 
-from-cases : (base p : Path) → IsFrom base p → (base ≡ p) ⊎ IsUnder base p
-from-cases base p ([], is) = inl (sym (is ∙ append-nil base))
-from-cases base p (s ∷ r, is) = inr (s, r, is)
-
-from-under : (base p : Path) → IsUnder base p → IsFrom base p
-from-under base p (s, r, is) = (s ∷ r, is)
-
-pub under-from : (a p q : Path) → IsUnder a p → IsFrom p q → IsUnder a q
-under-from a p q (s, r, is) (t, on) = (s, r ++ t, on ∙ ap (λ l. l ++ t) is ∙ append_assoc a (s ∷ r) t)
-
--- the parent of what stands further inside than a path is there or further inside
-parent-from : (a p : Path) (s x : Step) (q : Path) → a ++ (s ∷ q) ≡ p ++ (x ∷ []) → IsFrom a p
-parent-from [] p s x q h = (p, refl)
-parent-from (y ∷ a) [] s x q h = absurd (nil-under a s q cc)
-parent-from (y ∷ a) (z ∷ p) s x q h =
-    let first : y ≡ z = cc in
-    let rest : a ++ (s ∷ q) ≡ p ++ (x ∷ []) = cc in
-    let (r, is) = parent-from a p s x q rest in
-    (r, ap (λ l. l ∷ p) (sym first) ∙ ap (λ l. y ∷ l) is)
-
--- what stands further inside than a value has a parent there, or at the value
-under-parent : (base : Path) (l : List Claim) (a c : Claim) → Calm base l → IsIn a l → IsIn c l → IsUnder a.path c.path
-    → (e : Claim) × IsIn e l × (e.mark.sort ≡ Assigned → ⊥) × IsFrom a.path e.path × (length e.path < length c.path)
-under-parent base l a c (fit, peace) here there (s, q, is) =
-    let (p, made, (x, child)) = (fit c there).parent in
-    let from = parent-from a.path p s x q (sym is ∙ child) in
-    elim made [
-      | inl same ↦
-          let (y, rest, under) = (fit a here).under in
-          let long = ap (λ q. length q) under ∙ length-append base (y ∷ rest) in
-          let short = ap (λ q. length q) (sym same ∙ from.1) ∙ length-append a.path from.0 in
-          absurd (omega (arith, long, short))
-      | inr (e, among, makes, on) ↦
-          let short = ap (λ q. length q) on in
-          let long = ap (λ q. length q) child ∙ length-append p (x ∷ []) in
-          (e, among, makes, rw on from, omega (arith, short, long))
-    ]
-
-table-none : (n : ℕ) (base : Path) (l : List Claim) (a e : Claim) → length e.path < n → Calm base l → IsIn a l → IsIn e l → a.mark.sort ≡ Assigned → (e.mark.sort ≡ Assigned → ⊥) → IsFrom a.path e.path → ⊥
-table-none zero base l a e few calm here there value table from = absurd (omega (arith, few))
-table-none (suc n) base l a e few calm here there value table from = elim (from-cases a.path e.path from) [
-  | inl same ↦ value-apart base l a e calm (two-of l a e here there (λ s. table (sym s ∙ value))) value same
-  | inr under ↦
-      let (f, among, makes, on, less) = under-parent base l a e calm here there under in
-      table-none n base l a f (omega (arith, few, less)) calm here among value makes on
-]
-
+-- further inside than a value nothing stands: the way there would go through its path
 below-none : (base : Path) (l : List Claim) (a c : Claim) → Calm base l → IsIn a l → IsIn c l → a.mark.sort ≡ Assigned → IsUnder a.path c.path → ⊥
 below-none base l a c calm here there value under =
-    let (e, among, makes, on, less) = under-parent base l a c calm here there under in
-    table-none (suc (length e.path)) base l a e (omega arith) calm here among value makes on
+    let (fit, peace) = calm in
+    let (e, among, makes, on) = (fit c there).above.1 a.path (fit a here).above.0 under in
+    value-apart base l a e calm (two-of l a e here among (λ s. makes (sym s ∙ value))) value (sym on)
 
 none-from : (base : Path) (l : List Claim) (a e : Claim) → Calm base l → Two l a e → a.mark.sort ≡ Assigned → IsFrom a.path e.path → ⊥
-none-from base l a e calm two value from = elim (from-cases a.path e.path from) [
-  | inl same ↦ value-apart base l a e calm two value same
-  | inr under ↦ let (here, there) = two-in l a e two in below-none base l a e calm here there value under
-]
-
--- two paths on the way to one place
-on-one-way : (p q r u : Path) → p ++ r ≡ q ++ u → IsFrom p q ⊎ IsFrom q p
-on-one-way [] q r u h = inl (q, refl)
-on-one-way (x ∷ p) [] r u h = inr (x ∷ p, refl)
-on-one-way (x ∷ p) (y ∷ q) r u h =
-    let first : x ≡ y = cc in
-    let rest : p ++ r ≡ q ++ u = cc in
-    elim (on-one-way p q r u rest) [
-      | inl (z, is) ↦ inl (z, ap (λ l. l ∷ q) (sym first) ∙ ap (λ l. x ∷ l) is)
-      | inr (z, is) ↦ inr (z, ap (λ l. l ∷ p) first ∙ ap (λ l. y ∷ l) is)
-    ]
+none-from base l a e calm two value from =
+    grind (arith, nat_tests, common_steps, below-none base l a e calm, from-cases a.path e.path from, two-in l a e two, value-apart base l a e calm two value)
 
 -- two values have nothing in common on their paths or below
 both-none : (base : Path) (l : List Claim) (a b : Claim) (q : Path) → Calm base l → Two l a b → a.mark.sort ≡ Assigned → b.mark.sort ≡ Assigned → IsFrom a.path q → IsFrom b.path q → ⊥
-both-none base l a b q calm (xs, ys, is, two) value other (r, under) (u, below) = elim (on-one-way a.path b.path r u (sym under ∙ below)) [
-  | inl from ↦ none-from base l a b calm (xs, ys, is, two) value from
-  | inr from ↦ none-from base l b a calm (xs, ys, is, elim two [ inl h ↦ inr h | inr h ↦ inl h ]) other from
-]
+both-none base l a b q calm (xs, ys, is, two) value other (r, under) (u, below) =
+    grind (arith, nat_tests, common_steps, none-from base l a b calm (xs, ys, is, two) value, none-from base l b a calm, on-one-way a.path b.path r u (sym under ∙ below))
 
 -- ---- where a claim of a scope inside stands
 
 pub scoped-under : (base : Path) (earlier : List Claim) (last : Option Claim) (cs : Claims) (d : Claim) → Scoped base earlier last cs → IsIn d (all_claims cs) → IsUnder base d.path
 unfolding all_claims
 scoped-under base earlier last no_claims d scoped h = absurd h
-scoped-under base earlier last (claimed x cs) d scoped (inl same) = subst (λ y. IsUnder base y.path) (sym same) scoped.0.under
-scoped-under base earlier last (claimed x cs) d scoped (inr more) = scoped-under base (earlier ++ (x ∷ [])) (Some x) cs d scoped.1 more
+scoped-under base earlier last (claimed x cs) d scoped h = grind (arith, nat_tests, common_steps, scoped-under base (earlier ++ (x ∷ [])) (Some x) cs)
 scoped-under base earlier None (scope inner cs) d scoped h = absurd scoped
 scoped-under base earlier (Some a) (scope inner cs) d scoped h = elim (in-cases d (all_claims inner) (all_claims cs) h) [
   | inl inside ↦ under-from base a.path d.path scoped.1 (from-under a.path d.path (scoped-under a.path [] None inner d scoped.2 inside))
@@ -188,17 +182,11 @@ origin : (base : Path) (earlier : List Claim) (last : Option Claim) (cs : Claims
 unfolding all_claims
 origin base earlier last no_claims d scoped h = absurd h
 origin base earlier last (claimed x cs) d scoped (inl same) = inl (inl same)
-origin base earlier last (claimed x cs) d scoped (inr more) = elim (origin base (earlier ++ (x ∷ [])) (Some x) cs d scoped.1 more) [
-  | inl here ↦ inl (inr here)
-  | inr (a, near, value, under) ↦ inr (a, in-right a (latest last) (x ∷ own cs) near, value, under)
-]
+origin base earlier last (claimed x cs) d scoped (inr more) = grind (arith, nat_tests, common_steps, origin base (earlier ++ (x ∷ [])) (Some x) cs d scoped.1 more)
 origin base earlier None (scope inner cs) d scoped h = absurd scoped
 origin base earlier (Some a) (scope inner cs) d scoped h = elim (in-cases d (all_claims inner) (all_claims cs) h) [
   | inl inside ↦ inr (a, inl refl, scoped.0, scoped-under a.path [] None inner d scoped.2 inside)
-  | inr more ↦ elim (origin base earlier None cs d scoped.3 more) [
-    | inl here ↦ inl here
-    | inr (b, near, value, under) ↦ inr (b, inr near, value, under)
-  ]
+  | inr more ↦ grind (arith, nat_tests, common_steps, origin base earlier None cs d scoped.3 more)
 ]
 
 -- what is known of the claims of a scope
@@ -213,11 +201,7 @@ scene-claimed base earlier last x cs h = record {
   scoped = h.scoped.1;
   resolves = h.resolves.1;
   calm = (
-    λ c here. elim (in-cases c earlier (x ∷ []) here) [
-      | inl before ↦ fits-on base earlier (x ∷ []) c (h.calm.0 c before)
-      | inr (inl same) ↦ subst (Fits base (earlier ++ (x ∷ []))) (sym same) (fits-on base earlier (x ∷ []) x h.scoped.0)
-      | inr (inr none) ↦ absurd none
-    ],
+    λ c here. fits-on base earlier (x ∷ []) c (grind (arith, nat_tests, common_steps, in-cases c earlier (x ∷ []) here)),
     peaceful-push earlier x h.calm.1 h.resolves.0,
   );
   met = λ a here. in-right a earlier (x ∷ []) here;
@@ -294,7 +278,7 @@ together base earlier last (claimed x cs) c d h (inl is) (inl on) same = inl (in
 together base earlier last (claimed x cs) c d h (inl is) (inr more) same = inl (inl is, inr (beside base earlier last x cs d h more (on-path d x (sym same ∙ ap (λ y. y.path) is))))
 together base earlier last (claimed x cs) c d h (inr more) (inl is) same = inl (inr (beside base earlier last x cs c h more (on-path c x (same ∙ ap (λ y. y.path) is))), inl is)
 together base earlier last (claimed x cs) c d h (inr more) (inr also) same =
-    elim (together base (earlier ++ (x ∷ [])) (Some x) cs c d (scene-claimed base earlier last x cs h) more also same) [ inl (a, b) ↦ inl (inr a, inr b) | inr inside ↦ inr inside ]
+    grind (arith, nat_tests, common_steps, together base (earlier ++ (x ∷ [])) (Some x) cs c d (scene-claimed base earlier last x cs h) more also same)
 together base earlier None (scope inner cs) c d h a b same = absurd h.scoped
 together base earlier (Some x) (scope inner cs) c d h a b same =
     elim (in-cases c (all_claims inner) (all_claims cs) a) [
@@ -310,7 +294,7 @@ together base earlier (Some x) (scope inner cs) c d h a b same =
 
 pub document-scene : (text : List ℕ) (limit : ℕ) (bs : List Block) → SpellsDocument bs text limit → Resolves (claims bs) → Scene [] [] None (claims bs)
 document-scene text limit bs h ok =
-    record { scoped = document-scoped bs (spelled-headed bs text limit h); resolves = are-free [] (claims bs) ok; calm = (λ c here. absurd here, tt); met = λ c here. here }
+    grind (arith, nat_tests, common_steps, are-free [] (claims bs) ok, document-scoped bs (spelled-headed bs text limit h), spelled-headed bs text limit h)
 
 pub one-scope : (text : List ℕ) (limit : ℕ) (bs : List Block) (c d : Claim) → SpellsDocument bs text limit → Resolves (claims bs) → IsIn c (all_claims (claims bs)) → IsIn d (all_claims (claims bs)) → c.path ≡ d.path
     → ShareScope (claims bs) c d

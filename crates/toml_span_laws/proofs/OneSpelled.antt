@@ -1,6 +1,6 @@
 -- At most one form is spelled at a place, and where one is, no fault is told: what is spelled is read, and reading gives
 -- one thing.
-use Rattle.std.proofs.Common.{◌≡◌, ℕ, zero, ◌+◌, ◌-◌, Bool, false, List, [], length, arith, refl, sym, ap, map, Result, Ok, Err, Vec, Global}
+use Rattle.toml_span_lex.proofs.Common.{◌≡◌, ℕ, zero, ◌+◌, ◌-◌, Bool, false, List, [], length, arith, refl, sym, ap, map, Result, Ok, Err, Vec, Global}
 use Rattle.toml_span_lex.specs.declared.stop.Stop.{Stop}
 use Rattle.toml_span_lex.specs.declared.stop.Stop.TheVariants as stops
 use Rattle.toml_span_tree.specs.Node.{Scalar}
@@ -16,18 +16,17 @@ use Rattle.toml_span_read.specs.Read as read
 use Rattle.toml_span_read.specs.Read.{Reading, HeaderEnd}
 use Rattle.toml_span_read.specs.Reading.{ReadsDocument, AreRead}
 use Rattle.toml_span_read.proofs.NumberComplete.{number_complete}
-use Rattle.toml_span_laws.proofs.KeyLaws.{key_one, key_complete}
-use Rattle.toml_span_laws.proofs.OneReading.{value_one, header_one, document_one}
-use Rattle.toml_span_laws.proofs.Readings.{One, one_is}
-use Rattle.toml_span_laws.proofs.Complete.{value_complete, header_complete, document_complete}
+use Rattle.toml_span_lex.proofs.One.{One, one_is}
+use Rattle.toml_span_laws.proofs.OneReading.{key_one, value_one, header_one, document_one}
+use Rattle.toml_span_laws.proofs.Complete.{key_complete, value_complete, header_complete, document_complete}
 
-same_read : {A : Type 0} (m : Reading A) (a b : A) → One m → m (Ok a) → m (Ok b) → a ≡ b
+pub same_read : {A : Type 0} (m : Reading A) (a b : A) → One m → m (Ok a) → m (Ok b) → a ≡ b
 same_read m a b one h g = let e = one (Ok a) (Ok b) h g in cc
 
 same_place : {A : Type 0} (m : Reading (A × ℕ)) (a b : A) (j k : ℕ) → One m → m (Ok (a, j)) → m (Ok (b, k)) → (a ≡ b) × (j ≡ k)
 same_place m a b j k one h g = let e = same_read m (a, j) (b, k) one h g in (ap (λ p. p.0) e, ap (λ p. p.1) e)
 
-not_told : {A : Type 0} (m : Reading A) (a : A) (e : Fault) → One m → m (Ok a) → m (Err e) → ⊥
+pub not_told : {A : Type 0} (m : Reading A) (a : A) (e : Fault) → One m → m (Ok a) → m (Err e) → ⊥
 not_told m a e one h g = let x = one (Ok a) (Err e) h g in absurd cc
 
 -- ---- one form
@@ -65,6 +64,7 @@ document_excluded text limit bs e x h = not_told (read.document text limit) bs e
 
 -- what is spelled is read
 pub document_read : (text : List ℕ) (limit : ℕ) (r : Result (Vec Section Global) (Stop Error)) (bs : List Block) → ReadsDocument text limit r → SpellsDocument bs text limit → AreRead bs r
-document_read text limit (Ok found) bs h x = document_unique text limit (map block found.items) bs h x
+document_read text limit (Ok found) bs h x =
+    same_read (read.document text limit) (map block found.items) bs (document_one text limit) h (document_complete bs text limit x)
 document_read text limit (Err (stops.Memory e)) bs h x = tt
 document_read text limit (Err (stops.Fault error)) bs (fault, told, t) x = document_excluded text limit bs fault x told

@@ -1,9 +1,5 @@
 -- Two trees in order that show the same are the same.
-use Rattle.std.proofs.Common.{◌≡◌, ◌<◌, ◌⊎◌, ℕ, suc, List, [], ◌∷◌, Option, Some, None, option_map, refl, sym, ap, ◌∙◌, subst, inl, inr, arith}
-use Rattle.std.specs.Prelude.{option_and_then}
-use Rattle.std.specs.Str.{bytes_eq}
-use Rattle.std.proofs.lemmas.Bool.{cases_Bool, cases_order}
-use Rattle.std.proofs.lemmas.Option.{none-some, same_Some}
+use Rattle.toml_span_lex.proofs.Common.{◌≡◌, ◌⊎◌, ℕ, suc, List, [], ◌∷◌, Option, Some, None, option_map, refl, sym, ap, ◌∙◌, subst, inl, inr, arith, option_and_then, none-some, same_Some, nat_tests, common_steps}
 use Rattle.toml_span_lex.specs.declared.span.Span.{Span}
 use Rattle.toml_span_tree.specs.Node.{Node, node, Inner, taken, scalar, array, table, Items, no_items, item, Members, no_members, member, entry_at, element_at}
 use Rattle.toml_span_tree.specs.Path.{Path, Step, key, position, Place, shape_of, reached, at_step, place_of, place_at}
@@ -24,24 +20,13 @@ names-order : (a b : List ℕ) → (a ≡ b) ⊎ (IsNameBefore a b ⊎ IsNameBef
 names-order [] [] = inl refl
 names-order [] (y ∷ ys) = inr (inl tt)
 names-order (x ∷ xs) [] = inr (inr tt)
-names-order (x ∷ xs) (y ∷ ys) = by (cases_order x y) (names-order xs ys)
-  where
-    by : (x ≡ y) ⊎ ((x < y) ⊎ (y < x)) → (xs ≡ ys) ⊎ (IsNameBefore xs ys ⊎ IsNameBefore ys xs)
-        → (x ∷ xs ≡ y ∷ ys) ⊎ (IsNameBefore (x ∷ xs) (y ∷ ys) ⊎ IsNameBefore (y ∷ ys) (x ∷ xs))
-    by (inl same) (inl rest) = inl (ap (λ z. z ∷ xs) same ∙ ap (λ zs. y ∷ zs) rest)
-    by (inl same) (inr (inl less)) = inr (inl (inr (same, less)))
-    by (inl same) (inr (inr more)) = inr (inr (inr (sym same, more)))
-    by (inr (inl less)) rest = inr (inl (inl less))
-    by (inr (inr more)) rest = inr (inr (inl more))
+names-order (x ∷ xs) (y ∷ ys) = grind (arith, nat_tests, common_steps, names-order xs ys)
 
 before-all : (a b c : List ℕ) → IsNameBefore a b → IsNameBefore b c → IsNameBefore a c
 before-all a [] c h g = absurd h
 before-all a (y ∷ ys) [] h g = absurd g
 before-all [] (y ∷ ys) (z ∷ zs) h g = tt
-before-all (x ∷ xs) (y ∷ ys) (z ∷ zs) (inl h) (inl g) = inl (omega (arith, h, g))
-before-all (x ∷ xs) (y ∷ ys) (z ∷ zs) (inl h) (inr (same, g)) = inl (omega (arith, h, same))
-before-all (x ∷ xs) (y ∷ ys) (z ∷ zs) (inr (same, h)) (inl g) = inl (omega (arith, same, g))
-before-all (x ∷ xs) (y ∷ ys) (z ∷ zs) (inr (s, h)) (inr (t, g)) = inr (s ∙ t, before-all xs ys zs h g)
+before-all (x ∷ xs) (y ∷ ys) (z ∷ zs) h g = grind (arith, nat_tests, common_steps, before-all xs)
 
 each-before : (a b : List ℕ) (ms : Members) → IsNameBefore a b → EachName (IsNameBefore b) ms → EachName (IsNameBefore a) ms
 each-before a b no_members h each = tt
@@ -64,12 +49,7 @@ shown-first a at n ms ls same none =
 rest-shown : (a : List ℕ) (s t : Span) (n m : Node) (ms ls : Members) → entry_at a ms ≡ None → entry_at a ls ≡ None
     → ((k : List ℕ) (p : Path) → shown (entry_at k (member a s n ms)) p ≡ shown (entry_at k (member a t m ls)) p)
     → (k : List ℕ) (p : Path) → shown (entry_at k ms) p ≡ shown (entry_at k ls) p
-rest-shown a s t n m ms ls once single same k p = elim (cases_Bool (bytes_eq k a)) [
-  | inl is ↦
-      let here = same-name k a is in
-      ap (λ j. shown (entry_at j ms) p) here ∙ ap (λ o. shown o p) (once ∙ sym single) ∙ ap (λ j. shown (entry_at j ls) p) (sym here)
-  | inr off ↦ ap (λ o. shown o p) (sym (later-entry k a s n ms off)) ∙ same k p ∙ ap (λ o. shown o p) (later-entry k a t m ls off)
-]
+rest-shown a s t n m ms ls once single same k p = grind (arith, nat_tests, common_steps, later-entry k a s n ms, later-entry k a t m ls, same-name k a)
 
 -- a key's span apart
 value-shown : (k l : Option Span) (n m : Node) → ((p : Path) → option_map place_of (reached p (k, n)) ≡ option_map place_of (reached p (l, m)))
@@ -95,28 +75,17 @@ mutual
 
   inner-one : (i j : Inner) → HoldsOrdered i → HoldsOrdered j → shape_of i ≡ shape_of j → ((q : Step) (p : Path) → shown (at_step q i) p ≡ shown (at_step q j) p) → i ≡ j
   inner-one taken taken h g is same = refl
-  inner-one taken (scalar y) h g is same = cc
-  inner-one taken (array ms) h g is same = cc
-  inner-one taken (table ls) h g is same = cc
-  inner-one (scalar x) taken h g is same = cc
-  inner-one (scalar x) (scalar y) h g is same = cc
-  inner-one (scalar x) (array ms) h g is same = cc
-  inner-one (scalar x) (table ls) h g is same = cc
-  inner-one (array ns) taken h g is same = cc
-  inner-one (array ns) (scalar y) h g is same = cc
   inner-one (array ns) (array ms) h g is same = ap array (items-one ns ms h g (λ i p. same (position i) p))
-  inner-one (array ns) (table ls) h g is same = cc
-  inner-one (table ms) taken h g is same = cc
-  inner-one (table ms) (scalar y) h g is same = cc
-  inner-one (table ms) (array ns) h g is same = cc
   inner-one (table ms) (table ls) h g is same = ap table (members-one ms ls h g (λ k p. same (key k) p))
+  inner-one (scalar x) (scalar y) h g is same = cc
+  inner-one i j h g is same = cc
 
   items-one : (ns ms : Items) → AreOrdered ns → AreOrdered ms → ((i : ℕ) (p : Path) → shown (element_at i ns) p ≡ shown (element_at i ms) p) → ns ≡ ms
   items-one no_items no_items h g same = refl
   items-one no_items (item m ms) h g same = absurd (none-some (place_of (None, m)) (same 0 []))
   items-one (item n ns) no_items h g same = absurd (none-some (place_of (None, n)) (sym (same 0 [])))
   items-one (item n ns) (item m ms) h g same =
-      ap (λ k. item k ns) (node-one n m h.0 g.0 (λ p. same 0 p)) ∙ ap (λ ks. item m ks) (items-one ns ms h.1 g.1 (λ i p. same (suc i) p))
+      grind (arith, nat_tests, common_steps, items-one ns ms h.1 g.1 (λ i p. same (suc i) p), node-one n m h.0 g.0 (λ p. same 0 p))
 
   members-one : (ms ls : Members) → MembersOrdered ms → MembersOrdered ls → ((k : List ℕ) (p : Path) → shown (entry_at k ms) p ≡ shown (entry_at k ls) p) → ms ≡ ls
   members-one no_members no_members h g same = refl

@@ -1,20 +1,18 @@
 -- The claims of a document ascend in the text.
-use Rattle.std.proofs.Common.{◌≡◌, ℕ, zero, suc, ◌+◌, ◌<◌, ◌≤◌, List, [], ◌∷◌, ◌++◌, Some, None, length, arith, refl, sym, ap, ◌∙◌, append_assoc, inl, inr}
-use Rattle.std.proofs.lemmas.Bool.{cases_Bool}
-use Rattle.std.proofs.lemmas.Option.{none-some, same_Some}
+use Rattle.toml_span_lex.proofs.Common.{◌≡◌, ℕ, suc, ◌+◌, ◌<◌, ◌≤◌, List, [], ◌∷◌, ◌++◌, Some, None, length, arith, refl, sym, ap, ◌∙◌, append_assoc, inl, inr, none-some, same_Some, nat_tests, common_steps}
 use Rattle.toml_span_lex.specs.declared.span.Span.{Span}
 use Rattle.toml_span_tree.specs.Path.{Path}
-use Rattle.toml_span_read.specs.Data.{ParsedValue, parsed, ParsedInner, scalar, array, inline, ParsedItems, no_items, item, ParsedPairs, no_pairs, pair, KeyValue, Block}
-use Rattle.toml_span_read.specs.Grammar.{from_to, Spells, SpellsInner, SpellsItems, SpellsPairs, SpellsKeyValues, SpellsDocument}
+use Rattle.toml_span_read.specs.Data.{ParsedValue, parsed, ParsedInner, scalar, array, inline, ParsedItems, no_items, item, ParsedPairs, no_pairs, pair, KeyValue, Block, from_to}
+use Rattle.toml_span_read.specs.Grammar.{Spells, SpellsInner, SpellsItems, SpellsPairs, SpellsKeyValues, SpellsDocument}
 use Rattle.toml_span_read.specs.Keys.{SimpleKey}
 use Rattle.toml_span_read.specs.Places.{Ascend}
 use Rattle.toml_span_laws.proofs.AscendLaws.{AreBlocks, document_blocks, header_from}
 use Rattle.toml_span_read.proofs.InsideLemmas.{tail_inside}
 use Rattle.toml_span_read.proofs.KeyOrder.{dotted_ascend}
 use Rattle.toml_span_read.proofs.SpanLaws.{value_lies}
-use Rattle.toml_span.specs.declared.claims.Sort.TheVariants.{Passed, StandardTable, ArrayOfTables, TableElement}
+use Rattle.toml_span.specs.declared.claims.Sort.TheVariants.{Passed, TableElement}
 use Rattle.toml_span.specs.declared.claims.Head.{Head}
-use Rattle.toml_span.specs.Claims.{Claim, Claims, no_claims, claimed, scope, followed, key_claims, value_claims, inner_claims, item_claims, pair_claims, assignment_claims, key_value_claims, element, assigned, dotted, head_of, header_claim, array_claims, end_claims, header_claims, section_claims, claims_behind, claims}
+use Rattle.toml_span.specs.Claims.{Claim, Claims, no_claims, claimed, scope, followed, key_claims, value_claims, inner_claims, item_claims, pair_claims, assignment_claims, key_value_claims, element, dotted, head_of, header_claim, end_claims, header_claims, section_claims, claims_behind, claims}
 use Rattle.toml_span.specs.Flat.{all_claims}
 use Rattle.toml_span_laws.specs.Order.{claim_start, Follows, Ascends}
 use Rattle.toml_span.specs.Paths.{with_key, with_position, enter, elements_added, opened_by, section_path}
@@ -36,45 +34,39 @@ Rising [] i j = i ≤ j
 Rising (c ∷ cs) i j = (i ≤ claim_start c) × Onward c cs j
 
 pub follows-start : (c d : Claim) → Follows c d → claim_start c ≤ claim_start d
-follows-start c d (inl behind) = omega arith
-follows-start c d (inr (first, second, same)) = omega (arith, ap (λ s. s.start) same)
+follows-start c d h = grind (arith, nat_tests, common_steps)
 
 onward-wide : (c : Claim) (cs : List Claim) (j k : ℕ) → j ≤ k → Onward c cs j → Onward c cs k
 onward-wide c [] j k l h = (h.0, omega (arith, h.1))
 onward-wide c (d ∷ ds) j k l h = (h.0, h.1, onward-wide d ds j k l h.2)
 
 rising-wide : (cs : List Claim) (h i j k : ℕ) → h ≤ i → j ≤ k → Rising cs i j → Rising cs h k
-rising-wide [] h i j k a b r = omega arith
-rising-wide (c ∷ cs) h i j k a b r = (omega (arith, r.0), onward-wide c cs j k b r.1)
+rising-wide cs h i j k a b r = grind (arith, nat_tests, common_steps, onward-wide)
 
 onward-forward : (c : Claim) (cs : List Claim) (j : ℕ) → Onward c cs j → claim_start c < j
 onward-forward c [] j h = h.1
 onward-forward c (d ∷ ds) j h = omega (arith, follows-start c d h.1, onward-forward d ds j h.2)
 
 rising-forward : (cs : List Claim) (i j : ℕ) → Rising cs i j → i ≤ j
-rising-forward [] i j r = r
-rising-forward (c ∷ cs) i j r = omega (arith, r.0, onward-forward c cs j r.1)
+rising-forward cs i j r = grind (arith, nat_tests, common_steps, onward-forward)
 
 -- behind a claim, what rises
 onward-rising : (c : Claim) (cs : List Claim) (i j : ℕ) → IsKeyed c → claim_start c < i → Rising cs i j → Onward c cs j
-onward-rising c [] i j a l r = (a, omega (arith, l, r))
-onward-rising c (d ∷ ds) i j a l r = (a, inl (omega (arith, l, r.0)), r.1)
+onward-rising c cs i j a l r = grind (arith, nat_tests, common_steps)
 
 onward-append : (c : Claim) (cs ds : List Claim) (i j : ℕ) → Onward c cs i → Rising ds i j → Onward c (cs ++ ds) j
 onward-append c [] ds i j h r = onward-rising c ds i j h.0 h.1 r
 onward-append c (d ∷ cs) ds i j h r = (h.0, h.1, onward-append d cs ds i j h.2 r)
 
 rising-append : (cs ds : List Claim) (h i j : ℕ) → Rising cs h i → Rising ds i j → Rising (cs ++ ds) h j
-rising-append [] ds h i j a r = rising-wide ds h i j j a (omega arith) r
-rising-append (c ∷ cs) ds h i j a r = (a.0, onward-append c cs ds i j a.1 r)
+rising-append cs ds h i j a r = grind (arith, nat_tests, common_steps, onward-append, rising-wide)
 
 onward-ascends : (c : Claim) (cs : List Claim) (j : ℕ) → Onward c cs j → Ascends (c ∷ cs)
 onward-ascends c [] j h = tt
 onward-ascends c (d ∷ ds) j h = (h.1, onward-ascends d ds j h.2)
 
 rising-ascends : (cs : List Claim) (i j : ℕ) → Rising cs i j → Ascends cs
-rising-ascends [] i j r = tt
-rising-ascends (c ∷ cs) i j r = onward-ascends c cs j r.1
+rising-ascends cs i j r = grind (arith, nat_tests, common_steps, onward-ascends)
 
 -- ---- claims
 
@@ -116,8 +108,7 @@ key-rises : (q : Path) (parts : List SimpleKey) (v : ParsedValue) (inside : Path
     → Rise (key_claims q parts v inside) i j
 unfolding key_claims
 key-rises q [] v inside i a j h r = rise-none i j (omega (arith, h, rising-forward (all_claims (inside q)) a j (r q)))
-key-rises q (k ∷ []) v inside i a j h r =
-    let here = with_key q k in rise-claimed (assigned here k v) (inside here) i a j (keyed (assigned here k v) refl (λ e. cc)) h.0 (omega (arith, h.1, h.2)) (r here)
+key-rises q (k ∷ []) v inside i a j h r = grind (arith, nat_tests, common_steps, keyed, rise-claimed)
 key-rises q (k ∷ l ∷ more) v inside i a j h r =
     let here = with_key q k in
     rise-claimed (dotted here k v) (key_claims here (l ∷ more) v inside) i k.span.end j (keyed (dotted here k v) refl (λ e. cc)) h.0 h.1 (key-rises here (l ∷ more) v inside k.span.end a j h.2 r)
@@ -130,9 +121,9 @@ mutual
       → Rise (inner_claims x q) m n
   inner-rises (scalar y) s q text limit d i j m n l w f h = rise-none m n l
   inner-rises (array vs) s q text limit d i j m n l w f (here, e, k, gap, h) =
-      rise-scope (item_claims vs 0 q) m n (rising-wide (all_claims (item_claims vs 0 q)) m k j n (omega (arith, f e, gap.forward)) w (items-rise vs 0 q text limit (d + 1) k j h))
+      grind (arith, nat_tests, common_steps, items-rise vs 0 q text limit (d + 1) k j h, rise-scope, rising-wide)
   inner-rises (inline ps) s q text limit d i j m n l w f (here, e, k, gap, h) =
-      rise-scope (pair_claims ps q) m n (rising-wide (all_claims (pair_claims ps q)) m k j n (omega (arith, f e, gap.forward)) w (pairs-rise ps [] q text limit (d + 1) k j h))
+      grind (arith, nat_tests, common_steps, pairs-rise ps [] q text limit (d + 1) k j h, rise-scope, rising-wide)
 
   value-rises : (v : ParsedValue) (q : Path) (text : List ℕ) (limit d i j : ℕ) → Spells v text limit d i j → Rise (value_claims v q) i j
   value-rises (parsed x s) q text limit d i j h =
@@ -150,11 +141,8 @@ mutual
   items-rise : (vs : ParsedItems) (n : ℕ) (q : Path) (text : List ℕ) (limit d i j : ℕ) → SpellsItems vs text limit d i j → Rise (item_claims vs n q) i j
   items-rise no_items n q text limit d i j h = rise-none i j (omega (arith, h.1))
   items-rise (item v vs) n q text limit d i j (m, h, then) =
-      element-rises v (with_position q n) (item_claims vs (suc n) q) text limit d i m j h (elim then [
-        | inl (e, close) ↦ rw e (rise-none (m + 1) j (omega (arith, close.before.forward, close.ends)))
-        | inr (p, sign, rest) ↦
-            rising-wide (all_claims (item_claims vs (suc n) q)) (m + 1) p j j (omega (arith, sign.before.forward, sign.behind.forward)) (omega arith) (items-rise vs (suc n) q text limit d p j rest)
-      ])
+      element-rises v (with_position q n) (item_claims vs (suc n) q) text limit d i m j h
+      (grind (arith, nat_tests, common_steps, rise-none (m + 1) j, rising-wide (all_claims (item_claims vs (suc n) q)) (m + 1), items-rise vs (suc n) q text limit d))
 
   pairs-rise : (ps : ParsedPairs) (es : List KeyValue) (q : Path) (text : List ℕ) (limit d i j : ℕ) → SpellsPairs ps es text limit d i j → Rise (pair_claims ps q) i j
   pairs-rise no_pairs es q text limit d i j h = rise-none i j (omega (arith, h.1))
@@ -181,18 +169,9 @@ key_values-rise (e ∷ es) before q text limit i j (m, n, k, h, tail, clear, gap
 
 -- ---- sections
 
-array-rises : (h : Head) (q : Path) (k : SimpleKey) (n i j : ℕ) → i ≤ k.span.start → k.span.start < j → Rise (array_claims h q k n (claimed (header_claim h TableElement (with_position q n) k) no_claims)) i j
-unfolding all_claims
-array-rises h q k zero i j a b =
-    (a, (keyed (header_claim h ArrayOfTables q k) refl (λ e. cc), inr (refl, refl, refl), (unkeyed (header_claim h TableElement (with_position q 0) k) refl, b)))
-array-rises h q k (suc n) i j a b = (a, (unkeyed (header_claim h TableElement (with_position q (suc n)) k) refl, b))
-
 end-rises : (h : Head) (q : Path) (k : SimpleKey) (n i j : ℕ) → i ≤ k.span.start → k.span.start < j → Rise (end_claims h q k n) i j
 unfolding end_claims all_claims
-end-rises h q k n i j a b = elim (cases_Bool h.array) [
-  | inl double ↦ rw double (array-rises h q k n i j a b)
-  | inr single ↦ rw single (a, (keyed (header_claim h StandardTable q k) refl (λ e. cc), b))
-]
+end-rises h q k n i j a b = grind (arith, nat_tests, common_steps)
 
 header-rises : (e : Path → ℕ) (h : Head) (q : Path) (parts : List SimpleKey) (i j : ℕ) → Ascend parts i j → Rise (header_claims e h q parts) i j
 unfolding header_claims
@@ -202,7 +181,7 @@ header-rises e h q (k ∷ l ∷ more) i j a =
     let next = enter (e (with_key q k)) (with_key q k) in
     rise-claimed (header_claim h Passed next k) (header_claims e h next (l ∷ more)) i k.span.end j (keyed (header_claim h Passed next k) refl (λ e. cc)) a.0 a.1 (header-rises e h next (l ∷ more) k.span.end j a.2)
 
-blocks-rise : (earlier bs : List Block) (text : List ℕ) (limit i : ℕ) → AreBlocks bs text limit i → Rise (claims_behind earlier bs) i (length text)
+blocks-rise : (earlier bs : List Block) (text : List ℕ) (limit i : ℕ) → AreBlocks bs text limit i (length text) → Rise (claims_behind earlier bs) i (length text)
 unfolding claims_behind section_claims
 blocks-rise earlier [] text limit i h = rise-none i (length text) h
 blocks-rise earlier (b ∷ bs) text limit i (s, k, j, header, few, plain, on, lines, rest) =

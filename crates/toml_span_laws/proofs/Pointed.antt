@@ -1,15 +1,13 @@
 -- What a pointer names in a document's tree is what stands there in the flat document.
-use Rattle.std.proofs.Common.{◌≡◌, ◌↔◌, ℕ, zero, suc, List, [], ◌∷◌, ◌++◌, length, Option, Some, None, option_map, refl, sym, ap, ◌∙◌, subst, inl, inr, true≢false}
-use Rattle.std.specs.Prelude.{⊤, IfSome, option_and_then}
-use Rattle.std.proofs.lemmas.Bool.{cases_Bool}
-use Rattle.std.specs.Str.{bytes_eq}
+use Rattle.toml_span_lex.proofs.Common.{◌≡◌, ◌↔◌, ℕ, zero, suc, List, [], ◌∷◌, ◌++◌, length, Option, Some, None, option_map, refl, sym, ap, ◌∙◌, subst, inl, inr, true≢false, ⊤, IfSome, option_and_then, cases_Bool, bytes_eq, arith, nat_tests, common_steps}
 use Rattle.toml_span_lex.specs.declared.span.Span.{Span}
-use Rattle.toml_span_tree.specs.Node.{Node, node, taken, scalar, array, table, Items, no_items, item, Members, no_members, member, entry_at, element_at}
-use Rattle.toml_span_tree.specs.Path.{Path, Step, key, position, Place, reached, at_step, place_of, node_at}
+use Rattle.toml_span_tree.specs.Node.{Node, Items, no_items, item, Members, no_members, member, entry_at, element_at}
+use Rattle.toml_span_tree.specs.Path.{Path, Step, Place, reached, at_step, place_of, node_at}
 use Rattle.toml_span_tree.specs.Pointer.{pointed, pointer_segments, NamesPath}
 use Rattle.toml_span_tree.specs.Value.{inner_of, view}
 use Rattle.toml_span_tree.specs.declared.value.Value.{Value}
 use Rattle.toml_span_tree.proofs.PointerLaws.{pointed-is}
+use Rattle.toml_span_read.proofs.ReadSound.{document_sound}
 use Rattle.toml_span_read.specs.Data.{Block}
 use Rattle.toml_span_read.specs.Grammar.{SpellsDocument}
 use Rattle.toml_span.specs.Claims.{claims}
@@ -26,8 +24,7 @@ use Rattle.toml_span_laws.proofs.OneTree.{At, one-value}
 
 further : (p q : Path) (o : Option At) → ((x : At) → reached (p ++ q) x ≡ option_and_then (reached q) (reached p x))
     → option_and_then (reached (p ++ q)) o ≡ option_and_then (reached q) (option_and_then (reached p) o)
-further p q None on = refl
-further p q (Some x) on = on x
+further p q o on = grind (arith, nat_tests, common_steps)
 
 reached-on : (p q : Path) (x : At) → reached (p ++ q) x ≡ option_and_then (reached q) (reached p x)
 reached-on [] q x = refl
@@ -47,29 +44,17 @@ entry-ordered name no_members h = tt
 entry-ordered name (member other at n ms) h = elim (cases_Bool (bytes_eq name other)) [ inl here ↦ rw here h.1 | inr off ↦ rw off (entry-ordered name ms h.2) ]
 
 below-ordered : (s : Step) (n : Node) → IsOrdered n → InOrder (at_step s (inner_of n))
-below-ordered s (node taken at) h = tt
-below-ordered s (node (scalar y) at) h = tt
-below-ordered (key name) (node (array ns) at) h = tt
-below-ordered (position i) (node (array ns) at) h = element-ordered i ns h
-below-ordered (key name) (node (table ms) at) h = entry-ordered name ms h
-below-ordered (position i) (node (table ms) at) h = tt
+below-ordered s n h = grind (arith, nat_tests, common_steps, element-ordered, entry-ordered)
 
 step-ordered : (p : Path) (o : Option At) → InOrder o → ((x : At) → IsOrdered x.1 → InOrder (reached p x)) → InOrder (option_and_then (reached p) o)
-step-ordered p None h f = tt
-step-ordered p (Some x) h f = f x h
+step-ordered p o h f = grind (arith, nat_tests, common_steps)
 
 reached-ordered : (p : Path) (x : At) → IsOrdered x.1 → InOrder (reached p x)
 reached-ordered [] x h = h
 reached-ordered (s ∷ p) x h = step-ordered p (at_step s (inner_of x.1)) (below-ordered s x.1 h) (reached-ordered p)
 
--- the value at a path shows what stands below the path
-part-shown : (places : Path → Option Place) (n : Node) (path : Path) (x : At) → Shows n places → reached path (None, n) ≡ Some x → Shows x.1 (subtree places path)
-part-shown places n path x shows is [] = ap (option_map without_key) (sym (ap (option_map place_of) is) ∙ shows path)
-part-shown places n path x shows is (s ∷ p) =
-    sym (ap (λ o. option_map place_of (option_and_then (reached (s ∷ p)) o)) is) ∙ sym (ap (option_map place_of) (reached-on path (s ∷ p) (None, n))) ∙ shows (path ++ (s ∷ p))
-
 pub part-value : (places : Path → Option Place) (n : Node) (path : Path) (x : At) → IsValueOf places n → reached path (None, n) ≡ Some x → IsValueOf (subtree places path) x.1
-part-value places n path x h is = (rw is at (reached-ordered path (None, n) h.0), part-shown places n path x h.1 is)
+part-value places n path x h is = (rw is at (reached-ordered path (None, n) h.0), grind (arith, nat_tests, common_steps, reached-on))
 
 -- ---- what stands at a path
 
@@ -77,18 +62,12 @@ pub node-reached : (o : Option At) (m : Node) → option_map (λ r. r.1) o ≡ S
 node-reached o m h = let (x, is, same) = mapped (λ r. r.1) o m h in (x.0, is ∙ ap (λ (n : Node). Some (x.0, n)) same)
 
 stands : (pointer : List ℕ) (n m : Node) (places : Path → Option Place) → Shows n places → pointed pointer n ≡ Some m → StandsAt pointer places (λ place. ⊤)
-stands pointer n m places shows is =
-    let (names, path, cut, named, there, whole) = (pointed-is pointer n m).0 is in
-    let (k, at) = node-reached (reached path (None, n)) m there in
-    (names, path, place_of (k, m), cut, named, sym (shows path) ∙ ap (option_map place_of) at, tt)
+stands pointer n m places shows is = grind (arith, nat_tests, common_steps, node-reached, pointed-is pointer n m)
 
 -- ---- trees of documents
 
 names-value : (pointer : List ℕ) (n m : Node) (length : ℕ) (bs : List Block) → IsValueOf (flat length (claims bs)) n → pointed pointer n ≡ Some m → PointsAt pointer (flat length (claims bs)) m
-names-value pointer n m length bs h is =
-    let (names, path, cut, named, there, whole) = (pointed-is pointer n m).0 is in
-    let (k, at) = node-reached (reached path (None, n)) m there in
-    (names, path, cut, named, part-value (flat length (claims bs)) n path (k, m) h at)
+names-value pointer n m length bs h is = grind (arith, nat_tests, common_steps, node-reached, part-value (flat length (claims bs)) n, pointed-is pointer n m)
 
 -- what stands at a path that the segments name is named
 found-there : (pointer : List ℕ) (names : List (List ℕ)) (path : Path) (place : Place) (n : Node) (length : ℕ) (bs : List Block) → Shows n (flat length (claims bs))
@@ -110,7 +89,7 @@ value-named pointer n m length bs h (names, path, cut, named, value) =
 pub tree-value : (text : List ℕ) (limit : ℕ) (root : Value) (bs : List Block) → IsTree text limit root → SpellsDocument bs text limit → IsValueOf (flat (length text) (claims bs)) (view root)
 tree-value text limit root bs h spelled =
     let (cs, has, tree) = h in
-    (tree.ordered, subst (λ l. Shows (view root) (flat (length text) (claims l))) (document_unique text limit cs bs has.0 spelled) tree.shows)
+    (tree.ordered, subst (λ l. Shows (view root) (flat (length text) (claims l))) (document_unique text limit cs bs (document_sound cs text limit has.0) spelled) tree.shows)
 
 pub pointer-value : (text : List ℕ) (limit : ℕ) (root : Value) (bs : List Block) (pointer : List ℕ) (m : Node) → IsTree text limit root → SpellsDocument bs text limit
     → (pointed pointer (view root) ≡ Some m) ↔ PointsAt pointer (flat (length text) (claims bs)) m

@@ -1,7 +1,5 @@
 -- How the claims of a document stand in scopes: each has a parent in its scope, and each scope inside stands below an assigned claim.
-use Rattle.std.proofs.Common.{◌≡◌, ℕ, zero, suc, ◌<◌, ◌⊎◌, Bool, true, false, List, [], ◌∷◌, ◌++◌, Option, Some, None, arith, refl, sym, ap, ◌∙◌, subst, append_assoc, append-nil, inl, inr}
-use Rattle.std.specs.Prelude.{⊤, if◌then◌else◌}
-use Rattle.std.proofs.lemmas.Bool.{cases_Bool, cases_lt}
+use Rattle.toml_span_lex.proofs.Common.{◌≡◌, ℕ, zero, suc, ◌<◌, ◌⊎◌, Bool, true, false, List, [], ◌∷◌, ◌++◌, Option, Some, None, arith, refl, sym, ap, ◌∙◌, subst, append_assoc, append-nil, inl, inr, ⊤, if◌then◌else◌, cases_Bool, cases_lt, nat_tests, common_steps}
 use Rattle.toml_span_tree.specs.Path.{Path, Step, key, position}
 use Rattle.toml_span_read.specs.Data.{ParsedValue, parsed, scalar, array, inline, ParsedItems, no_items, item, ParsedPairs, no_pairs, pair, KeyValue, Block}
 use Rattle.toml_span_read.specs.Keys.{SimpleKey}
@@ -15,15 +13,79 @@ use Rattle.toml_span.proofs.EachClaim.{same_path-eq}
 use Rattle.toml_span_laws.specs.Clashing.{IsIn, own}
 use Rattle.toml_span_laws.proofs.Apart.{in-left, in-right}
 
--- ---- one claim
+-- ---- paths
 
 -- the path is further inside than the base
 abbrev pub IsUnder : Path → Path → Type 0
 IsUnder base p = (s : Step) × (rest : Path) × (p ≡ base ++ (s ∷ rest))
 
--- it is one step further inside
-abbrev pub IsChild : Path → Path → Type 0
-IsChild base p = (s : Step) × (p ≡ base ++ (s ∷ []))
+-- it is at the base or further inside
+abbrev pub IsFrom : Path → Path → Type 0
+IsFrom base p = (r : Path) × (p ≡ base ++ r)
+
+pub nil-under : (a : Path) (s : Step) (rest : Path) → [] ≡ a ++ (s ∷ rest) → ⊥
+nil-under [] s rest h = cc
+nil-under (x ∷ a) s rest h = cc
+
+pub longer : (p : Path) (s : Step) (r : Path) → p ≡ p ++ (s ∷ r) → ⊥
+longer [] s r h = cc
+longer (x ∷ p) s r h = let rest : p ≡ p ++ (s ∷ r) = cc in longer p s r rest
+
+pub key-position : (p q : Path) (k : List ℕ) (n : ℕ) → p ++ (key k ∷ []) ≡ q ++ (position n ∷ []) → ⊥
+key-position p q k n h = grind (arith, nat_tests, common_steps)
+
+pub from-cases : (base p : Path) → IsFrom base p → (base ≡ p) ⊎ IsUnder base p
+from-cases base p ([], is) = inl (sym (is ∙ append-nil base))
+from-cases base p (s ∷ r, is) = inr (s, r, is)
+
+pub from-under : (base p : Path) → IsUnder base p → IsFrom base p
+from-under base p (s, r, is) = (s ∷ r, is)
+
+pub under-from : (a p q : Path) → IsUnder a p → IsFrom p q → IsUnder a q
+under-from a p q (s, r, is) (t, on) = (s, r ++ t, on ∙ ap (λ l. l ++ t) is ∙ append_assoc a (s ∷ r) t)
+
+-- the front of a path that is further inside than another one is there or further inside
+front-from : (a p : Path) (s x : Step) (q : Path) → a ++ (s ∷ q) ≡ p ++ (x ∷ []) → IsFrom a p
+front-from [] p s x q h = (p, refl)
+front-from (y ∷ a) [] s x q h = absurd (nil-under a s q cc)
+front-from (y ∷ a) (z ∷ p) s x q h = grind (arith, nat_tests, common_steps, front-from a)
+
+-- two paths on the way to one place
+pub on-one-way : (p q r u : Path) → p ++ r ≡ q ++ u → IsFrom p q ⊎ IsFrom q p
+on-one-way [] q r u h = inl (q, refl)
+on-one-way (x ∷ p) [] r u h = inr (x ∷ p, refl)
+on-one-way (x ∷ p) (y ∷ q) r u h = grind (arith, nat_tests, common_steps, on-one-way p q r u)
+
+child-under : (base p : Path) (x : Step) → IsFrom base p → IsUnder base (p ++ (x ∷ []))
+child-under base p x ([], is) = (x, [], ap (λ l. l ++ (x ∷ [])) is ∙ append_assoc base [] (x ∷ []))
+child-under base p x (s ∷ r, is) = (s, r ++ (x ∷ []), ap (λ l. l ++ (x ∷ [])) is ∙ append_assoc base (s ∷ r) (x ∷ []))
+
+-- The path is further inside than the base, and M holds of each path between them.
+abbrev pub Above : (Path → Type 0) → Path → Path → Type 0
+Above M base p = IsUnder base p × ((q : Path) → IsUnder base q → IsUnder q p → M q)
+
+-- The path is at the base or further inside, and M holds of it and of each path between them.
+abbrev pub Along : (Path → Type 0) → Path → Path → Type 0
+Along M base p = IsFrom base p × ((q : Path) → IsUnder base q → IsFrom q p → M q)
+
+pub above-on : (M N : Path → Type 0) (base p : Path) → ((q : Path) → M q → N q) → Above M base p → Above N base p
+above-on M N base p f (under, above) = (under, λ q u below. f q (above q u below))
+
+pub along-on : (M N : Path → Type 0) (base p : Path) → ((q : Path) → M q → N q) → Along M base p → Along N base p
+along-on M N base p f (from, along) = (from, λ q u on. f q (along q u on))
+
+pub along-base : (M : Path → Type 0) (base : Path) → Along M base base
+along-base M base = (([], sym (append-nil base)), λ q under on. let (s, r, is) = under-from base q base under on in absurd (longer base s r is))
+
+pub above-child : (M : Path → Type 0) (base p : Path) (x : Step) → Along M base p → Above M base (p ++ (x ∷ []))
+above-child M base p x (from, along) = (child-under base p x from, λ q under (s, r, is). along q under (front-from q p s x r (sym is)))
+
+pub along-child : (M : Path → Type 0) (base p : Path) (x : Step) → Along M base p → M (p ++ (x ∷ [])) → Along M base (p ++ (x ∷ []))
+along-child M base p x on here =
+    let (under, above) = above-child M base p x on in
+    (from-under base (p ++ (x ∷ [])) under, λ q u to. elim (from-cases q (p ++ (x ∷ [])) to) [ inl same ↦ subst M (sym same) here | inr below ↦ above q u below ])
+
+-- ---- one claim
 
 -- among the claims one of this sort has this path
 abbrev pub Has : List Claim → Sort → Path → Type 0
@@ -47,10 +109,9 @@ Entry base earlier c =
     (base ≡ []) × ((p : Path) × (k : List ℕ) × (n : ℕ) × (c.path ≡ (p ++ (key k ∷ [])) ++ (position n ∷ []))) × (c.mark.sort ≡ Assigned → ⊥)
     × (c.mark.sort ≡ Passed → Has earlier TableElement c.path)
 
--- a claim of a scope with this base, behind these earlier ones of the scope
+-- A claim of a scope with this base, behind these earlier ones of the scope, which make what stands between them.
 pub record Fits (base : Path) (earlier : List Claim) (c : Claim) : Type 0 where
-  pub under : IsUnder base c.path
-  pub parent : (p : Path) × ((p ≡ base) ⊎ Makes earlier p) × IsChild p c.path
+  pub above : Above (Makes earlier) base c.path
   pub kind : Keyed c ⊎ Element base c ⊎ Entry base earlier c
 
 -- Each claim fits its scope, and each scope stands right behind a claim that assigns, at whose path it has its base.
@@ -61,41 +122,6 @@ Scoped base earlier None (scope inner cs) = ⊥
 Scoped base earlier (Some a) (scope inner cs) =
     (a.mark.sort ≡ Assigned) × IsUnder base a.path × Scoped a.path [] None inner × Scoped base earlier None cs
 
--- ---- paths
-
-pub nil-under : (a : Path) (s : Step) (rest : Path) → [] ≡ a ++ (s ∷ rest) → ⊥
-nil-under [] s rest h = cc
-nil-under (x ∷ a) s rest h = cc
-
-unsnoc : (p q : Path) (x y : Step) → p ++ (x ∷ []) ≡ q ++ (y ∷ []) → (p ≡ q) × (x ≡ y)
-unsnoc [] [] x y h = (refl, cc)
-unsnoc [] (b ∷ q) x y h = absurd (nil-under q y [] cc)
-unsnoc (a ∷ p) [] x y h = absurd (nil-under p x [] cc)
-unsnoc (a ∷ p) (b ∷ q) x y h =
-    let rest : p ++ (x ∷ []) ≡ q ++ (y ∷ []) = cc in
-    let (same, last) = unsnoc p q x y rest in
-    (cc, last)
-
-pub front-same : (p q : Path) (x y : Step) → p ++ (x ∷ []) ≡ q ++ (y ∷ []) → p ≡ q
-front-same p q x y h = (unsnoc p q x y h).0
-
-pub last-same : (p q : Path) (x y : Step) → p ++ (x ∷ []) ≡ q ++ (y ∷ []) → x ≡ y
-last-same p q x y h = (unsnoc p q x y h).1
-
-pub key-position : (p q : Path) (k : List ℕ) (n : ℕ) → p ++ (key k ∷ []) ≡ q ++ (position n ∷ []) → ⊥
-key-position p q k n h = let no : key k ≡ position n = last-same p q (key k) (position n) h in cc
-
--- a path at the base or further inside
-abbrev pub IsFrom : Path → Path → Type 0
-IsFrom base p = (r : Path) × (p ≡ base ++ r)
-
-child-under : (base p : Path) (x : Step) → IsFrom base p → IsUnder base (p ++ (x ∷ []))
-child-under base p x ([], is) = (x, [], ap (λ l. l ++ (x ∷ [])) is ∙ append_assoc base [] (x ∷ []))
-child-under base p x (s ∷ r, is) = (s, r ++ (x ∷ []), ap (λ l. l ++ (x ∷ [])) is ∙ append_assoc base (s ∷ r) (x ∷ []))
-
-child-from : (base p : Path) (x : Step) → IsFrom base p → IsFrom base (p ++ (x ∷ []))
-child-from base p x (r, is) = (r ++ (x ∷ []), ap (λ l. l ++ (x ∷ [])) is ∙ append_assoc base r (x ∷ []))
-
 -- ---- claims behind others
 
 pub has-on : (l more : List Claim) (sort : Sort) (p : Path) → Has l sort p → Has (l ++ more) sort p
@@ -104,36 +130,23 @@ has-on l more sort p (e, here, is, on) = (e, in-left e l more here, is, on)
 makes-on : (l more : List Claim) (p : Path) → Makes l p → Makes (l ++ more) p
 makes-on l more p (e, here, is, on) = (e, in-left e l more here, is, on)
 
+makes-of : (l : List Claim) (sort : Sort) (p : Path) → (sort ≡ Assigned → ⊥) → Has l sort p → Makes l p
+makes-of l sort p plain (e, here, is, on) = (e, here, (λ no. plain (sym is ∙ no)), on)
+
+-- the last of the claims makes its path
+last-makes : (l : List Claim) (c : Claim) → (c.mark.sort ≡ Assigned → ⊥) → Makes (l ++ (c ∷ [])) c.path
+last-makes l c plain = (c, in-right c l (c ∷ []) (inl refl), plain, refl)
+
 pub fits-on : (base : Path) (l more : List Claim) (c : Claim) → Fits base l c → Fits base (l ++ more) c
-fits-on base l more c f = record {
-  under = f.under;
-  parent = (f.parent.0, elim f.parent.1 [ inl same ↦ inl same | inr made ↦ inr (makes-on l more f.parent.0 made) ], f.parent.2);
-  kind = elim f.kind [
-    | inl keyed ↦ inl keyed
-    | inr (inl element) ↦ inr (inl element)
-    | inr (inr (root, at, table, passed)) ↦ inr (inr (root, at, table, λ is. has-on l more TableElement c.path (passed is)))
-  ];
-}
+fits-on base l more c f = grind (arith, nat_tests, common_steps, above-on, has-on, makes-on)
 
 -- a header passes through at a position where an entry stands
 pub passed-entered : (base : Path) (l : List Claim) (c : Claim) (p : Path) (n : ℕ) → Fits base l c → c.mark.sort ≡ Passed → c.path ≡ p ++ (position n ∷ []) → Has l TableElement c.path
-passed-entered base l c p n f is on = elim f.kind [
-  | inl ((q, k, at), table) ↦ absurd (key-position q p k n (sym at ∙ on))
-  | inr (inl (m, at, assigns)) ↦ absurd (let no : Passed ≡ Assigned = sym is ∙ assigns in cc)
-  | inr (inr (root, at, table, passed)) ↦ passed is
-]
+passed-entered base l c p n f is on = grind (arith, nat_tests, common_steps)
 
 -- an entry and a value are never on one path
 pub entry-value : (base : Path) (l : List Claim) (a e : Claim) → Fits base l a → Fits base l e → a.mark.sort ≡ Assigned → e.mark.sort ≡ TableElement → a.path ≡ e.path → ⊥
-entry-value base l a e fits there value is same = elim there.kind [
-  | inl (at, plain) ↦ plain is
-  | inr (inl (n, on, assigns)) ↦ let no : TableElement ≡ Assigned = sym is ∙ assigns in cc
-  | inr (inr (root, (p, k, n, on), table, passed)) ↦ elim fits.kind [
-    | inl ((q, m, at), plain) ↦ key-position q (p ++ (key k ∷ [])) m n (sym at ∙ same ∙ on)
-    | inr (inl (m, at, assigns)) ↦ nil-under p (key k) [] (sym root ∙ front-same base (p ++ (key k ∷ [])) (position m) (position n) (sym at ∙ same ∙ on))
-    | inr (inr (none, at, other, more)) ↦ other value
-  ]
-]
+entry-value base l a e fits there value is same = grind (arith, nat_tests, common_steps)
 
 scoped-loose : (base : Path) (earlier : List Claim) (last : Option Claim) (cs : Claims) → Scoped base earlier None cs → Scoped base earlier last cs
 scoped-loose base earlier None cs h = h
@@ -144,42 +157,39 @@ scoped-loose base earlier (Some a) (scope inner cs) h = absurd h
 scoped-followed : (base : Path) (earlier : List Claim) (last : Option Claim) (xs ys : Claims) → Scoped base earlier last xs → Scoped base (earlier ++ own xs) None ys → Scoped base earlier last (followed xs ys)
 unfolding followed
 scoped-followed base earlier last no_claims ys h g = scoped-loose base earlier last ys (subst (λ l. Scoped base l None ys) (append-nil earlier) g)
-scoped-followed base earlier last (claimed c xs) ys h g =
-    (h.0, scoped-followed base (earlier ++ (c ∷ [])) (Some c) xs ys h.1 (subst (λ l. Scoped base l None ys) (sym (append_assoc earlier (c ∷ []) (own xs))) g))
+scoped-followed base earlier last (claimed c xs) ys h g = grind (arith, nat_tests, common_steps, scoped-followed base (earlier ++ (c ∷ [])) (Some c) xs)
 scoped-followed base earlier None (scope inner xs) ys h g = absurd h
 scoped-followed base earlier (Some a) (scope inner xs) ys h g = (h.0, h.1, h.2, scoped-followed base earlier None xs ys h.3 g)
 
 -- ---- keys and values
 
--- what stands at the path: the base itself, or a table that the scope has made
+-- what stands at the path, and on the way to it, the scope has made
 abbrev Stands : Path → List Claim → Path → Type 0
-Stands base earlier p = IsFrom base p × ((p ≡ base) ⊎ Makes earlier p)
+Stands base l p = Along (Makes l) base p
 
 stands-on : (base : Path) (l more : List Claim) (p : Path) → Stands base l p → Stands base (l ++ more) p
-stands-on base l more p (from, inl same) = (from, inl same)
-stands-on base l more p (from, inr made) = (from, inr (makes-on l more p made))
+stands-on base l more p stands = along-on (Makes l) (Makes (l ++ more)) base p (makes-on l more) stands
 
 -- a claim of a table at a key
 table-fits : (base : Path) (earlier : List Claim) (p : Path) (k : List ℕ) (c : Claim) → Stands base earlier p → c.path ≡ p ++ (key k ∷ []) → (c.mark.sort ≡ TableElement → ⊥) → Fits base earlier c
-table-fits base earlier p k c stands on plain =
-    record { under = rw on (child-under base p (key k) stands.0); parent = (p, stands.1, (key k, on)); kind = inl ((p, k, on), plain) }
+table-fits base earlier p k c stands on plain = record { above = rw on (above-child (Makes earlier) base p (key k) stands); kind = inl ((p, k, on), plain) }
 
 key-scoped : (base : Path) (earlier : List Claim) (p : Path) (parts : List SimpleKey) (v : ParsedValue) (inside : Path → Claims) → Stands base earlier p
     → ((k : SimpleKey) (q : Path) (l : List Claim) → IsUnder base (with_key q k) → Scoped base l (Some (assigned (with_key q k) k v)) (inside (with_key q k))) → Scoped base earlier None (key_claims p parts v inside)
 unfolding key_claims
 key-scoped base earlier p [] v inside stands h = tt
 key-scoped base earlier p (k ∷ []) v inside stands h =
-    (table-fits base earlier p k.name (assigned (with_key p k) k v) stands refl (λ e. cc), h k p (earlier ++ (assigned (with_key p k) k v ∷ [])) (child-under base p (key k.name) stands.0))
+    grind (arith, nat_tests, common_steps, child-under base p (key k.name) stands.0, table-fits base earlier p k.name (assigned (with_key p k) k v) stands refl)
 key-scoped base earlier p (k ∷ l ∷ more) v inside stands h =
     let c = dotted (with_key p k) k v in (
       table-fits base earlier p k.name c stands refl (λ e. cc),
       scoped-loose base (earlier ++ (c ∷ [])) (Some c) (key_claims (with_key p k) (l ∷ more) v inside)
           (key-scoped base (earlier ++ (c ∷ [])) (with_key p k) (l ∷ more) v inside
-          (child-from base p (key k.name) stands.0, inr (c, in-right c earlier (c ∷ []) (inl refl), (λ e. cc), refl)) h),
+          (along-child (Makes (earlier ++ (c ∷ []))) base p (key k.name) (stands-on base earlier (c ∷ []) p stands) (last-makes earlier c (λ e. cc))) h),
     )
 
 element-fits : (p : Path) (earlier : List Claim) (n : ℕ) (v : ParsedValue) → Fits p earlier (element (with_position p n) v)
-element-fits p earlier n v = record { under = (position n, [], refl); parent = (p, inl refl, (position n, refl)); kind = inr (inl (n, refl, refl)) }
+element-fits p earlier n v = record { above = above-child (Makes earlier) p p (position n) (along-base (Makes earlier) p); kind = inr (inl (n, refl, refl)) }
 
 mutual
   unfolding value_claims inner_claims item_claims pair_claims
@@ -191,20 +201,14 @@ mutual
 
   items-scoped : (vs : ParsedItems) (n : ℕ) (p : Path) (earlier : List Claim) → Scoped p earlier None (item_claims vs n p)
   items-scoped no_items n p earlier = tt
-  items-scoped (item v vs) n p earlier =
-      let c = element (with_position p n) v in
-      let l = earlier ++ (c ∷ []) in (
-        element-fits p earlier n v,
-        scoped-followed p l (Some c) (value_claims v (with_position p n)) (item_claims vs (suc n) p)
-            (value-scoped v p l c refl (position n, [], refl)) (items-scoped vs (suc n) p (l ++ own (value_claims v (with_position p n)))),
-      )
+  items-scoped (item v vs) n p earlier = grind (arith, nat_tests, common_steps, items-scoped vs, value-scoped v, element-fits, scoped-followed)
 
   pairs-scoped : (ps : ParsedPairs) (p : Path) (earlier : List Claim) → Scoped p earlier None (pair_claims ps p)
   pairs-scoped no_pairs p earlier = tt
   pairs-scoped (pair parts v extent ps) p earlier =
       let front = key_claims p parts v (value_claims v) in
       scoped-followed p earlier None front (pair_claims ps p)
-      (key-scoped p earlier p parts v (value_claims v) (([], sym (append-nil p)), inl refl)
+      (key-scoped p earlier p parts v (value_claims v) (along-base (Makes earlier) p)
       (λ k q l under. value-scoped v p l (assigned (with_key q k) k v) refl under))
       (pairs-scoped ps p (earlier ++ own front))
 
@@ -237,9 +241,7 @@ walk-claimed T P l c cs first w = record { tree = first w.tree; all = subst P (a
 
 pub walk-followed : (T : List Claim → Claims → Type 0) (P Q : List Claim → Type 0) → ((l : List Claim) (xs ys : Claims) → T l xs → T (l ++ own xs) ys → T l (followed xs ys)) → (l : List Claim) (xs ys : Claims) → Walk T P l xs
     → (P (l ++ own xs) → Walk T Q (l ++ own xs) ys) → Walk T Q l (followed xs ys)
-walk-followed T P Q joins l xs ys w more =
-    let rest = more w.all in
-    record { tree = joins l xs ys w.tree rest.tree; all = subst Q (append_assoc l (own xs) (own ys) ∙ ap (λ k. l ++ k) (sym (own-followed xs ys))) rest.all }
+walk-followed T P Q joins l xs ys w more = grind (arith, nat_tests, common_steps, own-followed)
 
 -- claims of a document
 abbrev Of : List Claim → Claims → Type 0
@@ -254,16 +256,15 @@ HasEntries l p n = (m : ℕ) → m < n → Has l ArrayOfTables p × Has l TableE
 entries-on : (l more : List Claim) (p : Path) (n : ℕ) → HasEntries l p n → HasEntries (l ++ more) p n
 entries-on l more p n h m few = (has-on l more ArrayOfTables p (h m few).0, has-on l more TableElement (with_position p m) (h m few).1)
 
-root-from : (p : Path) → IsFrom [] p
-root-from p = (p, refl)
+array-stands : (l : List Claim) (p : Path) (k : SimpleKey) → Stands [] l p → Has l ArrayOfTables (with_key p k) → Stands [] l (with_key p k)
+array-stands l p k stands made = along-child (Makes l) [] p (key k.name) stands (makes-of l ArrayOfTables (with_key p k) (λ e. cc) made)
 
 -- a claim of the document at a position of an array of tables
-entry-fits : (earlier : List Claim) (p : Path) (k : List ℕ) (n : ℕ) (c : Claim) → Has earlier ArrayOfTables (p ++ (key k ∷ [])) → c.path ≡ (p ++ (key k ∷ [])) ++ (position n ∷ [])
-    → (c.mark.sort ≡ Assigned → ⊥) → (c.mark.sort ≡ Passed → Has earlier TableElement ((p ++ (key k ∷ [])) ++ (position n ∷ []))) → Fits [] earlier c
-entry-fits earlier p k n c (e, here, is, there) on plain passed = record {
-  under = rw on (child-under [] (p ++ (key k ∷ [])) (position n) (root-from (p ++ (key k ∷ []))));
-  parent = (p ++ (key k ∷ []), inr (e, here, (λ no. let wrong : ArrayOfTables ≡ Assigned = sym is ∙ no in cc), there), (position n, on));
-  kind = inr (inr (refl, (p, k, n, on), plain, λ is. rw on (passed is)));
+entry-fits : (earlier : List Claim) (p : Path) (k : SimpleKey) (n : ℕ) (c : Claim) → Stands [] earlier p → Has earlier ArrayOfTables (with_key p k) → c.path ≡ with_position (with_key p k) n
+    → (c.mark.sort ≡ Assigned → ⊥) → (c.mark.sort ≡ Passed → Has earlier TableElement (with_position (with_key p k) n)) → Fits [] earlier c
+entry-fits earlier p k n c stands made on plain passed = record {
+  above = rw on (above-child (Makes earlier) [] (with_key p k) (position n) (array-stands earlier p k stands made));
+  kind = inr (inr (refl, (p, k.name, n, on), plain, λ is. rw on (passed is)));
 }
 
 passed-fits : (n : ℕ) (earlier : List Claim) (h : Head) (p : Path) (k : SimpleKey) → Stands [] earlier p → HasEntries earlier (with_key p k) n → Fits [] earlier (header_claim h Passed (enter n (with_key p k)) k)
@@ -271,12 +272,21 @@ unfolding enter
 passed-fits zero earlier h p k stands few = table-fits [] earlier p k.name (header_claim h Passed (with_key p k) k) stands refl (λ e. cc)
 passed-fits (suc n) earlier h p k stands few =
     let found = few n (omega arith) in
-    entry-fits earlier p k.name n (header_claim h Passed (with_position (with_key p k) n) k) found.0 refl (λ e. cc) (λ e. found.1)
+    entry-fits earlier p k n (header_claim h Passed (with_position (with_key p k) n) k) stands found.0 refl (λ e. cc) (λ e. found.1)
 
--- what a header leaves at its end
+passed-stands : (n : ℕ) (l : List Claim) (p : Path) (k : SimpleKey) → Stands [] l p → HasEntries l (with_key p k) n → Makes l (enter n (with_key p k)) → Stands [] l (enter n (with_key p k))
+unfolding enter
+passed-stands zero l p k stands few made = along-child (Makes l) [] p (key k.name) stands made
+passed-stands (suc n) l p k stands few made = along-child (Makes l) [] (with_key p k) (position n) (array-stands l p k stands (few n (omega arith)).0) made
+
+-- what a header leaves at its end, where its section begins
 abbrev Ends : Bool → List Claim → Path → ℕ → Type 0
-Ends true l p n = Has l ArrayOfTables p × Has l TableElement (with_position p n)
-Ends false l p n = Has l StandardTable p
+Ends true l p n = Has l ArrayOfTables p × Has l TableElement (with_position p n) × Stands [] l (with_position p n)
+Ends false l p n = Stands [] l p
+
+ends-entry : (l : List Claim) (p : Path) (k : SimpleKey) (n : ℕ) → Stands [] l p → Has l ArrayOfTables (with_key p k) → Has l TableElement (with_position (with_key p k) n) → Ends true l (with_key p k) n
+ends-entry l p k n stands made entry =
+    (made, entry, along-child (Makes l) [] (with_key p k) (position n) (array-stands l p k stands made) (makes-of l TableElement (with_position (with_key p k) n) (λ e. cc) entry))
 
 -- a header's claims fit, and its end is claimed
 added : (n : ℕ) (earlier : List Claim) (h : Head) (p : Path) (k : SimpleKey) → Stands [] earlier p → HasEntries earlier (with_key p k) n
@@ -287,16 +297,17 @@ added zero earlier h p k stands few =
     let c = header_claim h TableElement (with_position q 0) k in
     let found : Has (earlier ++ (a ∷ [])) ArrayOfTables q = (a, in-right a earlier (a ∷ []) (inl refl), refl, refl) in
     record {
-      tree = (table-fits [] earlier p k.name a stands refl (λ e. cc), (entry-fits (earlier ++ (a ∷ [])) p k.name 0 c found refl (λ e. cc) (λ e. cc), tt));
-      all = ((a, in-right a earlier (a ∷ c ∷ []) (inl refl), refl, refl), (c, in-right c earlier (a ∷ c ∷ []) (inr (inl refl)), refl, refl));
+      tree = (table-fits [] earlier p k.name a stands refl (λ e. cc), (entry-fits (earlier ++ (a ∷ [])) p k 0 c (stands-on [] earlier (a ∷ []) p stands) found refl (λ e. cc) (λ e. cc), tt));
+      all = ends-entry (earlier ++ (a ∷ c ∷ [])) p k 0 (stands-on [] earlier (a ∷ c ∷ []) p stands) (a, in-right a earlier (a ∷ c ∷ []) (inl refl), refl, refl)
+          (c, in-right c earlier (a ∷ c ∷ []) (inr (inl refl)), refl, refl);
     }
 added (suc n) earlier h p k stands few =
     let q = with_key p k in
     let c = header_claim h TableElement (with_position q (suc n)) k in
     let found = (few n (omega arith)).0 in
     record {
-      tree = (entry-fits earlier p k.name (suc n) c found refl (λ e. cc) (λ e. cc), tt);
-      all = (has-on earlier (c ∷ []) ArrayOfTables q found, (c, in-right c earlier (c ∷ []) (inl refl), refl, refl));
+      tree = (entry-fits earlier p k (suc n) c stands found refl (λ e. cc) (λ e. cc), tt);
+      all = ends-entry (earlier ++ (c ∷ [])) p k (suc n) (stands-on [] earlier (c ∷ []) p stands) (has-on earlier (c ∷ []) ArrayOfTables q found) (c, in-right c earlier (c ∷ []) (inl refl), refl, refl);
     }
 
 end-header : (n : ℕ) (earlier : List Claim) (h : Head) (p : Path) (k : SimpleKey) → Stands [] earlier p → HasEntries earlier (with_key p k) n → Walk Of (λ l. Ends h.array l (with_key p k) n) earlier (end_claims h (with_key p k) k n)
@@ -305,7 +316,8 @@ end-header n earlier h p k stands few = elim (cases_Bool h.array) [
   | inl arr ↦ rw arr (added n earlier h p k stands few)
   | inr tab ↦
       let c = header_claim h StandardTable (with_key p k) k in
-      rw tab (record { tree = (table-fits [] earlier p k.name c stands refl (λ e. cc), tt); all = (c, in-right c earlier (c ∷ []) (inl refl), refl, refl) })
+      let on : Stands [] (earlier ++ (c ∷ [])) (with_key p k) = along-child (Makes (earlier ++ (c ∷ []))) [] p (key k.name) (stands-on [] earlier (c ∷ []) p stands) (last-makes earlier c (λ e. cc)) in
+      rw tab (record { tree = (table-fits [] earlier p k.name c stands refl (λ e. cc), tt); all = on })
 ]
 
 -- at each path as many entries as are counted
@@ -323,16 +335,15 @@ header-scoped e earlier h p k (l ∷ more) stands counted =
     let on = earlier ++ (c ∷ []) in
     walk-claimed Of (λ xs. Ends h.array xs (target e q (l ∷ more)) (e (target e q (l ∷ more)))) earlier c (header_claims e h q (l ∷ more))
     (λ rest. (passed-fits n earlier h p k stands (counted (with_key p k)), scoped-loose [] on (Some c) (header_claims e h q (l ∷ more)) rest))
-    (header-scoped e on h q l more (root-from q, inr (c, in-right c earlier (c ∷ []) (inl refl), (λ e. cc), refl)) (λ r. entries-on earlier (c ∷ []) r (e r) (counted r)))
+    (header-scoped e on h q l more
+    (passed-stands n on p k (stands-on [] earlier (c ∷ []) p stands) (entries-on earlier (c ∷ []) (with_key p k) n (counted (with_key p k))) (last-makes earlier c (λ e. cc)))
+    (λ r. entries-on earlier (c ∷ []) r (e r) (counted r)))
 
 -- ---- sections
 
-makes-of : (l : List Claim) (sort : Sort) (p : Path) → (sort ≡ Assigned → ⊥) → Has l sort p → Makes l p
-makes-of l sort p plain (e, here, is, on) = (e, here, (λ no. plain (sym is ∙ no)), on)
-
-end-makes : (array : Bool) (l : List Claim) (p : Path) (n : ℕ) → Ends array l p n → Makes l (if array then with_position p n else p)
-end-makes true l p n h = makes-of l TableElement (with_position p n) (λ e. cc) h.1
-end-makes false l p n h = makes-of l StandardTable p (λ e. cc) h
+end-stands : (array : Bool) (l : List Claim) (p : Path) (n : ℕ) → Ends array l p n → Stands [] l (if array then with_position p n else p)
+end-stands true l p n h = h.2
+end-stands false l p n h = h
 
 one-more : (l : List Claim) (p : Path) (n : ℕ) → HasEntries l p n → Has l ArrayOfTables p → Has l TableElement (with_position p n) → HasEntries l p (suc n)
 one-more l p n h made entry m few = elim (cases_lt m n) [
@@ -363,16 +374,16 @@ opened : (earlier : List Claim) (b : Block) (blocks : List Block) (parts : List 
     → Walk Of (Opened b blocks) earlier (header_claims (elements_added (opened_by blocks)) (head_of b) [] b.header)
 unfolding header_claims target opened_by
 opened earlier b blocks [] is headers counted =
-    record { tree = rw is tt; all = rw (is, headers is) ((root-from [], inl refl), counted-on earlier [] (elements_added (opened_by blocks)) counted) }
+    record { tree = rw is tt; all = rw (is, headers is) (along-base (Makes (earlier ++ [])) [], counted-on earlier [] (elements_added (opened_by blocks)) counted) }
 opened earlier b blocks (k ∷ parts) is headers counted =
     let e = elements_added (opened_by blocks) in
     let t = target e [] (k ∷ parts) in
-    let made = header-scoped e earlier (head_of b) [] k parts (root-from [], inl refl) counted in
+    let made = header-scoped e earlier (head_of b) [] k parts (along-base (Makes earlier) []) counted in
     let l = earlier ++ own (header_claims e (head_of b) [] (k ∷ parts)) in
     record {
       tree = rw is made.tree;
       all = rw is (
-        (root-from (if b.array then with_position t (e t) else t), inr (end-makes b.array l t (e t) made.all)),
+        end-stands b.array l t (e t) made.all,
         counted-end b.array l (opened_by blocks) t (counted-on earlier (own (header_claims e (head_of b) [] (k ∷ parts))) e counted) made.all,
       );
     }

@@ -1,20 +1,19 @@
 -- At each place of a text each form is read, or a fault is told.
-use Rattle.std.proofs.Common.{◌≡◌, ℕ, zero, suc, ◌+◌, ◌<◌, ◌≤◌, Bool, true, false, List, [], ◌∷◌, ◌++◌, length, get_or, arith, inl, inr, refl, Some, None, Option, Result, Ok, Err}
-use Rattle.std.specs.Prelude.{◌==◌, ◌||◌, is_some, if◌then◌else◌, codes}
-use Rattle.std.specs.Str.{IsUtf8, IsCharBoundary, bytes_eq}
-use Rattle.std.proofs.lemmas.Bool.{or_parts}
-use Rattle.std.proofs.lemmas.Bool.Decides.{nat_tests}
+use Rattle.toml_span_lex.proofs.Common.{◌≡◌, ℕ, zero, suc, ◌+◌, ◌<◌, ◌≤◌, Bool, true, false, List, length, arith, inl, inr, refl, Result, Ok, Err, nat_tests, common_steps, [], ◌∷◌, ◌++◌, get_or, Some, None, Option, ◌==◌, ◌||◌, is_some, if◌then◌else◌, codes, IsUtf8, IsCharBoundary, bytes_eq, or_parts}
 use Rattle.toml_span_lex.specs.declared.span.Span.{Span}
+use Rattle.toml_span_lex.specs.Laws.{SomethingStands}
+use Rattle.toml_span_lex.specs.Tokens.{keylike, string}
+pub use Rattle.toml_span_lex.proofs.One.{One, one_is, one_where, one_given, one_either}
+use Rattle.toml_span_lex.proofs.Within.{token_within}
+use Rattle.toml_span_read.specs.declared.fault.Fault.{Fault}
+use Rattle.toml_span_read.specs.Read.{Reading, after, Standing, token, text_end, no_token, StandsAt, choice, Turn, on, done, Loop, ends, stops, goes_on, run_at, number_or_word, next_section, key_of, string_of, Parts, onward, behind, missing, ValueEnd, Items, Pairs, Blocks, HeaderEnd}
 use Rattle.toml_span_lex.specs.Bytes.{is_blank, is_keylike, MaximalRun}
 use Rattle.toml_span_lex.specs.Strings.{IsString}
 use Rattle.toml_span_lex.specs.Tokenizer.{FirstPlace}
-use Rattle.toml_span_lex.specs.Tokens.{keylike, string}
-use Rattle.toml_span_lex.proofs.PieceLemmas.{Cut-forward, ends}
+use Rattle.toml_span_lex.proofs.PieceLemmas.{Cut-forward, ends as string_ends_at}
 use Rattle.toml_span_lex.proofs.Unique.{run_unique}
-use Rattle.toml_span_lex.proofs.Within.{token_within}
 use Rattle.toml_span_read.specs.declared.fault.Due.{Due}
 use Rattle.toml_span_read.specs.declared.fault.Due.TheVariants as dues
-use Rattle.toml_span_read.specs.declared.fault.Fault.{Fault}
 use Rattle.toml_span_read.specs.declared.numbers.Numeral.{Numeral}
 use Rattle.toml_span_read.specs.Data.{ParsedInner, KeyValue}
 use Rattle.toml_span_read.specs.Dates.{begins_date}
@@ -24,13 +23,61 @@ use Rattle.toml_span_read.specs.Keys.{SimpleKey}
 use Rattle.toml_span_read.specs.Numerals.{number, numeral, run_end, special}
 use Rattle.toml_span_read.specs.code.Gaps.{DotGives, TailGives}
 use Rattle.toml_span_read.specs.Read as read
-use Rattle.toml_span_read.specs.Read.{Reading, run_at, number_or_word, next_section, Standing, token, text_end, no_token, StandsAt, key_of, string_of, Parts, onward, behind, choice, missing, Turn, on, done, Loop, ValueEnd, Items, Pairs, Blocks, HeaderEnd}
 use Rattle.toml_span_read.proofs.NumberLemmas.{bool_cases, byte_is, run_is}
 use Rattle.toml_span_read.proofs.NumberReads.{Starts, number_advances}
 use Rattle.toml_span_read.proofs.Places.{run_some, behind_byte}
 use Rattle.toml_span_laws.specs.code.Judged.{Onto, Judged}
 use Rattle.toml_span_laws.proofs.EarlierLaws.{every_key}
-use Rattle.toml_span_laws.proofs.Readings.{Holds, Sure, sure_is, sure_given, sure_after, sure_choice, sure_standing, Turned, sure_loop}
+
+-- ---- something is read
+
+-- this holds of what is read
+abbrev pub Holds : {A : Type 0} → (A → Type 0) → Result A Fault → Type 0
+Holds P (Ok a) = P a
+Holds P (Err e) = Unit {0}
+
+-- reading gives something, and of what is read this holds
+abbrev pub Sure : {A : Type 0} → (A → Type 0) → Reading A → Type 0
+Sure {A = A} P m = (r : Result A Fault) × m r × Holds P r
+
+pub sure_is : {A : Type 0} {P : A → Type 0} (a : A) → P a → Sure P (λ r. r ≡ Ok a)
+sure_is a p = (Ok a, refl, p)
+
+pub sure_given : {A B : Type 0} {P : A → Type 0} {R : B → Type 0} {next : B → Reading A} (b : B) → R b → Sure P (next b) → Sure P (λ r. (b : B) × R b × next b r)
+sure_given b h (r, g, p) = (r, (b, h, g), p)
+
+pub sure_after : {A B : Type 0} {P : A → Type 0} {Q : B → Type 0} {m : Reading A} {f : A → Reading B} → Sure P m → ((a : A) → P a → Sure Q (f a)) → Sure Q (after m f)
+sure_after (Ok a, h, p) each = let (r, g, q) = each a p in (r, inl (a, h, g), q)
+sure_after (Err e, h, p) each = (Err e, inr (e, h, refl), tt)
+
+pub sure_choice : {A : Type 0} {P : A → Type 0} (test : Bool) {this that : Reading A} → (test ≡ true → Sure P this) → (test ≡ false → Sure P that) → Sure P (choice test this that)
+sure_choice test this that = grind (arith, nat_tests, common_steps)
+
+something : (text : List ℕ) (i : ℕ) → SomethingStands text i → (t : Standing) × StandsAt text i t
+something text i (inl e) = (text_end, e)
+something text i (inr (inl (j, s, l, h))) = (token s l j, h)
+something text i (inr (inr (j, e, h))) = (no_token e, (j, h))
+
+pub sure_standing : {A : Type 0} {P : A → Type 0} (text : List ℕ) (i : ℕ) {f : Standing → Result A Fault} → SomethingStands text i → ((t : Standing) → StandsAt text i t → Holds P (f t)) → Sure P (λ r. (t : Standing) × StandsAt text i t × (r ≡ f t))
+sure_standing text i {f = f} s p = let (t, h) = something text i s in (f t, (t, h, refl), p t h)
+
+-- a turn of a loop goes on to a place behind this one
+abbrev pub Turned : {X A : Type 0} → (ℕ → Type 0) → (A → Type 0) → ℕ → Turn (X × ℕ) A → Type 0
+Turned I P i (on s) = I s.1 × (i < s.1)
+Turned I P i (done a) = P a
+
+turned : {X A : Type 0} (I : ℕ → Type 0) (P : A → Type 0) (turn : X × ℕ → Reading (Turn (X × ℕ) A)) (s : X × ℕ) → Sure (Turned I P s.1) (turn s) → ((t : X × ℕ) → I t.1 → s.1 < t.1 → Sure P (Loop turn t)) → Sure P (Loop turn s)
+turned I P turn s (Ok (on t), g, k) next = let (r, m, p) = next t k.0 k.1 in (r, goes_on s t r g m, p)
+turned I P turn s (Ok (done a), g, p) next = (Ok a, ends s a g, p)
+turned I P turn s (Err e, g, p) next = (Err e, stops s e g, tt)
+
+loop_within : {X A : Type 0} (I : ℕ → Type 0) (P : A → Type 0) (n fuel : ℕ) (turn : X × ℕ → Reading (Turn (X × ℕ) A)) → ((i : ℕ) → I i → i ≤ n) → ((s : X × ℕ) → I s.1 → Sure (Turned I P s.1) (turn s)) → (s : X × ℕ) → I s.1 → n < s.1 + fuel → Sure P (Loop turn s)
+loop_within I P n zero turn within each s h l = let w = within s.1 h in absurd (omega arith)
+loop_within I P n (suc fuel) turn within each s h l = turned I P turn s (each s h) (λ t k f. loop_within I P n fuel turn within each t k (omega arith))
+
+-- what turns at places that go on, up to n, read
+pub sure_loop : {X A : Type 0} (I : ℕ → Type 0) (P : A → Type 0) (n : ℕ) (turn : X × ℕ → Reading (Turn (X × ℕ) A)) → ((i : ℕ) → I i → i ≤ n) → ((s : X × ℕ) → I s.1 → Sure (Turned I P s.1) (turn s)) → (s : X × ℕ) → I s.1 → Sure P (Loop turn s)
+sure_loop I P n turn within each s h = loop_within I P n (suc n) turn within each s h (omega arith)
 
 -- the text is UTF-8, and each place between two characters is judged
 abbrev pub AllJudged : List ℕ → Type 0
@@ -74,7 +121,7 @@ string_onto text i j s src v m all h =
     let ascii : get_or text i 0 < 128 = elim h.quote [ inl e ↦ omega (arith, e) | inr e ↦ omega (arith, e) ] in
     let w = token_within text i j s (string src v m) h in
     let f = Cut-forward (get_or text i 0) m text h.from c.at c.pieces c.cut in
-    (omega (arith, w.0), (ends (get_or text i 0) m text h.from c.at j all.0 ascii f c.closes).end_boundary)
+    (omega (arith, w.0), (string_ends_at (get_or text i 0) m text h.from c.at j all.0 ascii f c.closes).end_boundary)
 
 run_onto : (text : List ℕ) (i j : ℕ) → AllJudged text → IsCharBoundary text i → MaximalRun is_keylike text i j → i < j → Onto text (i + 1) j
 run_onto text i j all b run l = let (k, other, c) = (all.1 i b).run in let e : j ≡ k = run_unique is_keylike text i j k run other in (omega arith, rw e c.1)
@@ -106,8 +153,7 @@ numeral_ends text i (Ok (n, j)) e all s = let f = number_advances n text i j all
 numeral_ends text i (Err x) e all s = rw e tt
 
 holds_if : {A : Type 0} (P : A → Type 0) (c : Bool) (x y : Result A Fault) → (c ≡ true → Holds P x) → (c ≡ false → Holds P y) → Holds P (if c then x else y)
-holds_if P true x y this that = this refl
-holds_if P false x y this that = that refl
+holds_if P c x y this that = grind (arith, nat_tests, common_steps)
 
 keylike_of : (c : ℕ) → begins_bare c ≡ true → begins_number c ≡ false → is_keylike c ≡ true
 keylike_of c b n = elim (bool_cases (is_keylike c)) [ inl k ↦ k | inr k ↦ grind (arith, nat_tests) ]
@@ -244,6 +290,7 @@ first_sure : (text : List ℕ) (limit start : ℕ) → AllJudged text → FirstP
 first_sure text limit start all first b = sure_given start first (sure_after (lines_sure text limit start all b) (λ (es, j) g. sure_is _ g))
 
 pub document_sure : (text : List ℕ) (limit start : ℕ) → AllJudged text → FirstPlace text start → IsCharBoundary text start → Sure (λ bs. Unit {0}) (read.document text limit)
+unfolding read.document
 document_sure text limit start all first b =
     sure_after (first_sure text limit start all first b)
     (λ read g. sure_loop (Begins text) (λ bs. Unit {0}) (length text) (next_section text limit) (λ j h. h.0.0) (next_sure text limit all) read (g.0.1, g.1))

@@ -1,21 +1,43 @@
--- What the claims of a document assign is spelled in its text, and the claims behind each are those of its value.
-use Rattle.std.proofs.Common.{◌≡◌, ℕ, suc, ◌+◌, ◌≤◌, ◌⊎◌, true, false, List, [], ◌∷◌, ◌++◌, length, arith, refl, sym, ap, ◌∙◌, inl, inr}
-use Rattle.std.specs.Prelude.{⊤}
-use Rattle.toml_span_tree.specs.Node.{Scalar}
+-- What is assigned in a document is spelled, and the claims behind each are those of its value.
+use Rattle.toml_span_lex.proofs.Common.{◌≡◌, ℕ, zero, suc, true, List, [], ◌∷◌, refl, inl, inr, ⊤, cases_Bool, ◌+◌, ◌≤◌, ◌⊎◌, ◌++◌, length, arith, sym, ap, ◌∙◌, nat_tests, common_steps}
 use Rattle.toml_span_tree.specs.Path.{Path, shape_scalar}
-use Rattle.toml_span_read.specs.Data.{ParsedValue, parsed, scalar, array, inline, ParsedItems, no_items, item, ParsedPairs, no_pairs, pair, KeyValue, parsed_span, Block}
-use Rattle.toml_span_read.specs.Grammar.{Spells, SpellsItems, SpellsPairs, SpellsDocument, SpellsKeyValues}
 use Rattle.toml_span_read.specs.Keys.{SimpleKey, SpellsKey}
 use Rattle.toml_span.specs.declared.claims.Sort.{Sort}
-use Rattle.toml_span.specs.declared.claims.Sort.TheVariants.{Passed, StandardTable, ArrayOfTables, TableElement, Dotted as DottedTable, Assigned}
+use Rattle.toml_span.specs.declared.claims.Sort.TheVariants.{Passed, StandardTable, ArrayOfTables, TableElement, Assigned}
 use Rattle.toml_span.specs.declared.claims.Head.{Head}
-use Rattle.toml_span.specs.Paths.{with_key, with_position, elements_added, opened_by, section_path}
-use Rattle.toml_span.specs.Claims.{Claim, Claims, no_claims, claimed, scope, followed, shape_claimed, value_shape, parsed_inner, element, key_claims, value_claims, inner_claims, item_claims, pair_claims, key_value_claims, header_claims, section_claims, claims_behind, claims, head_of}
+use Rattle.toml_span.specs.Claims.{Claim, Claims, no_claims, claimed, scope, header_claim, array_claims, end_claims, header_claims, followed, shape_claimed, value_shape, parsed_inner, element, key_claims, value_claims, inner_claims, item_claims, pair_claims, key_value_claims, section_claims, claims_behind, claims, head_of}
 use Rattle.toml_span.specs.Flat.{by_header}
+use Rattle.toml_span.specs.Paths.{with_key, with_position, enter, elements_added, opened_by, section_path}
+use Rattle.toml_span_tree.specs.Node.{Scalar}
+use Rattle.toml_span_read.specs.Data.{ParsedValue, parsed, scalar, array, inline, ParsedItems, no_items, item, ParsedPairs, no_pairs, pair, KeyValue, parsed_span, Block}
+use Rattle.toml_span_read.specs.Grammar.{Spells, SpellsItems, SpellsPairs, SpellsDocument, SpellsKeyValues}
 use Rattle.toml_span.proofs.Grafts.{followed-assoc}
 use Rattle.toml_span.proofs.EachClaim.{Each}
 use Rattle.toml_span_laws.proofs.AscendLaws.{AreBlocks, document_blocks}
-use Rattle.toml_span_laws.proofs.Headed.{Headed, header-headed}
+
+-- ---- what headers claim
+
+-- claims without scopes, and P of each
+abbrev pub Headed : (Claim → Type 0) → Claims → Type 0
+Headed P no_claims = ⊤
+Headed P (claimed c cs) = P c × Headed P cs
+Headed P (scope inner cs) = ⊥
+
+-- so is what a header claims, if P holds of all that it may claim
+pub header-headed : (P : Claim → Type 0) (h : Head) → ((s : Sort) (q : Path) (k : SimpleKey) → by_header s ≡ true → P (header_claim h s q k)) → (e : Path → ℕ) (p : Path) (parts : List SimpleKey)
+    → Headed P (header_claims e h p parts)
+unfolding header_claims end_claims
+header-headed P h all e p [] = tt
+header-headed P h all e p (k ∷ []) = elim (cases_Bool h.array) [
+  | inl double ↦ rw double (entry (with_key p k) (e (with_key p k)))
+  | inr single ↦ rw single (all StandardTable (with_key p k) k refl, tt)
+]
+  where
+    entry : (q : Path) (n : ℕ) → Headed P (array_claims h q k n (claimed (header_claim h TableElement (with_position q n) k) no_claims))
+    entry q zero = (all ArrayOfTables q k refl, (all TableElement (with_position q 0) k refl, tt))
+    entry q (suc n) = (all TableElement (with_position q (suc n)) k refl, tt)
+header-headed P h all e p (k ∷ l ∷ more) =
+    let q = enter (e (with_key p k)) (with_key p k) in (all Passed q k refl, header-headed P h all e q (l ∷ more))
 
 -- ---- one claim
 
@@ -68,12 +90,7 @@ spelled-followed text limit (claimed c xs) ys h g = (
 spelled-followed text limit (scope inner xs) ys h g = (h.0, spelled-followed text limit xs ys h.1 g)
 
 no-scalar : (sort : Sort) (s : Scalar) → shape_claimed sort ≡ shape_scalar s → ⊥
-no-scalar Passed s h = cc
-no-scalar StandardTable s h = cc
-no-scalar ArrayOfTables s h = cc
-no-scalar TableElement s h = cc
-no-scalar DottedTable s h = cc
-no-scalar Assigned s h = cc
+no-scalar sort s h = grind (arith, nat_tests, common_steps)
 
 -- claims that assign nothing
 made-spelled : (text : List ℕ) (limit : ℕ) (cs : Claims) → Headed Makes cs → AllSpelled text limit cs
@@ -89,8 +106,7 @@ unfolding key_claims
 key-of_text text limit p [] v s h = tt
 key-of_text text limit p (k ∷ []) v s h =
     let q = with_key p k in (inl (record { value = v; spelled = s; shape = refl; span = refl }, no_claims, sym (followed-none (value_claims v q))), h q)
-key-of_text text limit p (k ∷ l ∷ more) v s h =
-    (inr (record { sort = λ e. cc; shape = λ x e. cc }), key-of_text text limit (with_key p k) (l ∷ more) v s h)
+key-of_text text limit p (k ∷ l ∷ more) v s h = grind (arith, nat_tests, common_steps, key-of_text text limit (with_key p k) (l ∷ more) v s h)
 
 element-of_text : (v : ParsedValue) (q : Path) (rest : Claims) (text : List ℕ) (limit : ℕ) → Spelled text limit v → AllSpelled text limit (value_claims v q) → AllSpelled text limit rest
     → AllSpelled text limit (claimed (element q v) (followed (value_claims v q) rest))
@@ -118,16 +134,12 @@ mutual
       spelled-followed text limit (key_claims p ss v (value_claims v)) (pair_claims ps p)
       (key-of_text text limit p ss v (record { depth = d + length ss; from = b; to = m; deep = omega arith; spells = h })
       (λ q. value-of_text v q text limit (d + length ss) b m (omega arith) h))
-      (elim then [
-        | inl (e, close) ↦ rw e tt
-        | inr (k, comma, rest) ↦ pairs-of_text ps (es ++ (record { parts = ss; value = v; extent = x } ∷ [])) p text limit d k j deep rest
-      ])
+      (grind (arith, nat_tests, common_steps, pairs-of_text ps (es ++ (record { parts = ss; value = v; extent = x } ∷ [])) p text limit d))
 
 -- ---- sections
 
 pub some-part : (parts : List SimpleKey) (text : List ℕ) (i j : ℕ) → SpellsKey parts text i j → 1 ≤ length parts
-some-part [] text i j h = absurd h
-some-part (k ∷ parts) text i j h = omega arith
+some-part parts text i j h = grind (arith, nat_tests, common_steps)
 
 key_values-of_text : (es before : List KeyValue) (p : Path) (text : List ℕ) (limit i j : ℕ) → SpellsKeyValues es before text limit i j → AllSpelled text limit (key_value_claims es p)
 unfolding key_value_claims
@@ -140,12 +152,11 @@ key_values-of_text (e ∷ es) before p text limit i j (m, n, k, h, tail, clear, 
     (key_values-of_text es (before ++ (e ∷ [])) p text limit k j rest)
 
 header-of_text : (text : List ℕ) (limit : ℕ) (e : Path → ℕ) (h : Head) (p : Path) (parts : List SimpleKey) → AllSpelled text limit (header_claims e h p parts)
-header-of_text text limit e h p parts =
-    made-spelled text limit (header_claims e h p parts) (header-headed Makes h (λ s q k header. record { sort = λ is. let no : false ≡ true = sym (ap by_header is) ∙ header in cc; shape = no-scalar s }) e p parts)
+header-of_text text limit e h p parts = grind (arith, nat_tests, common_steps, header-headed Makes h, made-spelled text limit (header_claims e h p parts), no-scalar)
 
 -- ---- documents
 
-blocks-of_text : (earlier bs : List Block) (text : List ℕ) (limit i : ℕ) → AreBlocks bs text limit i → AllSpelled text limit (claims_behind earlier bs)
+blocks-of_text : (earlier bs : List Block) (text : List ℕ) (limit i : ℕ) → AreBlocks bs text limit i (length text) → AllSpelled text limit (claims_behind earlier bs)
 unfolding claims_behind section_claims
 blocks-of_text earlier [] text limit i h = tt
 blocks-of_text earlier (b ∷ bs) text limit i (s, k, j, header, few, plain, on, lines, rest) =

@@ -1,17 +1,12 @@
 -- A key and a value as they are spelled, with an equals sign between them, are a document of one assignment.
-use Rattle.std.proofs.Common.{◌≡◌, ℕ, ◌+◌, ◌<◌, ◌≤◌, true, false, List, [], ◌∷◌, ◌++◌, length, get_or, drop, arith, inl, inr, sym, ◌∙◌, refl, ap, subst, append-nil, append_assoc, length-append, codes}
-use Rattle.std.specs.Prelude.{◌==◌, ◌||◌}
-use Rattle.std.proofs.lemmas.Bool.{or_parts}
-use Rattle.std.proofs.lemmas.List.{drop_more, get_or_past}
-use Rattle.std.proofs.lemmas.Str.{encode_ascii, len_utf8_ascii}
+use Rattle.toml_span_lex.proofs.Common.{◌≡◌, ℕ, ◌+◌, ◌<◌, ◌≤◌, true, false, List, [], ◌∷◌, ◌++◌, length, get_or, drop, arith, inr, sym, ◌∙◌, refl, ap, subst, append-nil, append_assoc, length-append, codes, ◌==◌, ◌||◌, or_parts, drop_more, get_or_past, encode_ascii, len_utf8_ascii, nat_tests, common_steps}
 use Rattle.toml_span_lex.specs.Bytes.{is_blank}
 use Rattle.toml_span_lex.specs.Tokenizer.{FirstPlace}
-use Rattle.toml_span_lex.proofs.Runs.{keylike_ascii, read_within}
 use Rattle.toml_span_tree.specs.Node.{Node, node}
 use Rattle.toml_span_tree.specs.Value.{is_whole}
-use Rattle.toml_span_read.specs.Data.{ParsedValue, KeyValue}
+use Rattle.toml_span_read.specs.Data.{ParsedValue, KeyValue, from_to, first_block}
 use Rattle.toml_span_read.specs.Gaps.{begins_gap, MaximalGap, Tail}
-use Rattle.toml_span_read.specs.Grammar.{from_to, Spells, SpellsKeyValue, SpellsDocument, first_block}
+use Rattle.toml_span_read.specs.Grammar.{Spells, SpellsKeyValue, SpellsDocument}
 use Rattle.toml_span_read.specs.Keys.{SimpleKey, SpellsSimpleKey}
 use Rattle.toml_span_places.specs.Again.{ReadsAsKey, ReadsAsValue, HasFloatTexts, IsWithin}
 use Rattle.toml_span_places.proofs.Parts.{Part, same_part, back, tail, here, whole}
@@ -20,11 +15,7 @@ use Rattle.toml_span_laws.specs.Again.{SpellsAssignment}
 
 -- a key's first byte
 key_byte : (s : SimpleKey) (text : List ℕ) (i j : ℕ) → SpellsSimpleKey s text i j → (i < length text) × (get_or text i 0 < 128)
-key_byte s text i j (inl (run, is)) = (omega (arith, run.0, run.1.within), keylike_ascii (get_or text i 0) (run.1.passes i (omega arith) run.0))
-key_byte s text i j (inr (source, string)) = elim string.quote [
-  | inl e ↦ (read_within text i (omega arith), omega arith)
-  | inr e ↦ (read_within text i (omega arith), omega arith)
-]
+key_byte s text i j h = grind (arith, nat_tests, common_steps)
 
 -- no byte order mark stands there
 first_place : (s : SimpleKey) (text : List ℕ) (j : ℕ) → SpellsSimpleKey s text 0 j → FirstPlace text 0
@@ -73,18 +64,8 @@ assigned key value s v limit a b at is few text e k h =
 
 no_more : (b : List ℕ) (l : ℕ) → l ≡ length b → Tail b l l × MaximalGap b l l
 no_more b l e =
-    let past : get_or b l 0 ≡ 0 = get_or_past b l 0 (omega arith) in (
-      (
-        l,
-        record {
-          at = l;
-          blank = record { forward = omega arith; within = omega arith; passes = λ k x y. absurd (omega arith); stops = λ x. absurd (omega arith) };
-          comment = inr ((rw past refl), refl);
-        },
-        inr (e, refl),
-      ),
-      record { ends = []; pieces = refl; forward = omega arith; stops = rw past refl },
-    )
+    let past : get_or b l 0 ≡ 0 = get_or_past b l 0 (omega arith) in
+    ((l, grind (arith, nat_tests, common_steps), inr (e, refl)), record { ends = []; pieces = refl; forward = omega arith; stops = rw past refl })
 
 pub document : (s : SimpleKey) (v : ParsedValue) (text : List ℕ) (limit a : ℕ) → SpellsSimpleKey s text 0 a → SpellsKeyValue (pair text s v) text limit 0 (length text) → SpellsDocument (first_block (pair text s v ∷ [])) text limit
 document s v text limit a k line =

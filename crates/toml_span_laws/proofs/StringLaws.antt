@@ -1,33 +1,19 @@
 -- The span of a string is its content.
-use Rattle.std.proofs.Common.{◌≡◌, ℕ, ◌+◌, ◌-◌, ◌<◌, ◌≤◌, ◌⊎◌, Bool, true, false, List, [], ◌∷◌, ◌++◌, length, drop, get_or, arith, refl, ◌∙◌, inl, inr, ap, length-append, length-take, length-drop}
-use Rattle.std.specs.Prelude.{slice_range, ◌==◌, if◌then◌else◌}
+use Rattle.toml_span_lex.proofs.Common.{◌≡◌, ℕ, ◌+◌, ◌-◌, ◌<◌, ◌≤◌, ◌⊎◌, Bool, List, [], ◌∷◌, ◌++◌, length, drop, get_or, arith, refl, ◌∙◌, inl, inr, ap, length-append, length-take, length-drop, slice_range, drop-drop, length-take-le, cases_lt, nat_tests, common_steps}
 use Rattle.std.proofs.Math.Seq.{take-add}
-use Rattle.std.proofs.lemmas.List.{drop-drop, length-take-le}
-use Rattle.std.proofs.lemmas.Bool.{cases_lt, false≢true}
-use Rattle.std.proofs.lemmas.Bool.Decides.{nat_tests}
 use Rattle.toml_span_lex.specs.declared.pieces.Piece.{Piece}
 use Rattle.toml_span_lex.specs.declared.pieces.Piece.TheVariants as pieces
 use Rattle.toml_span_lex.specs.declared.span.Span.{Span}
-use Rattle.toml_span_lex.specs.Pieces.{is_plain, IsPiece, piece_value, IsClose}
+use Rattle.toml_span_lex.specs.Pieces.{IsPiece, piece_value}
 use Rattle.toml_span_lex.specs.Strings.{Cut, content, content_end, content_span, ContentFrom, HasChange, IsString, IsEmptyOnOneLine}
 use Rattle.toml_span_lex.proofs.Copies.{content_fits}
 use Rattle.toml_span_lex.proofs.MadeStrings.{content_from_after}
-use Rattle.toml_span_lex.proofs.PieceLemmas.{line_feed, crlf_return, line_forward, piece_forward, Cut-forward, closing, escape_shorter, dropped_shorter}
+use Rattle.toml_span_lex.proofs.PieceLemmas.{line_forward, piece_forward, Cut-forward, closing, escape_shorter, dropped_shorter}
 use Rattle.toml_span_laws.specs.Places.{CutsContent}
-
-equal : (a b : ℕ) → (a == b) ≡ true → a ≡ b
-equal a b h = grind (arith, nat_tests)
-
--- but for the empty string on one line
-by_test : (same : Bool) (i from to j : ℕ) (opening whole : Span) → (from == to) ≡ same → from ≡ i + 1 → to ≡ j - 1 → i < j → (IsEmptyOnOneLine i j → ⊥)
-    → (if same then opening else whole) ≡ whole
-by_test true i from to j opening whole same b e l other = absurd (other (omega (arith, equal from to same, b, e, l)))
-by_test false i from to j opening whole same b e l other = refl
 
 span_is_content : (multi : Bool) (text : List ℕ) (i from to j : ℕ) → ContentFrom multi text i from → to ≡ content_end multi j → i < j → (IsEmptyOnOneLine i j → ⊥)
     → content_span multi i from to ≡ record { start = from; end = to }
-span_is_content true text i from to j b e l other = refl
-span_is_content false text i from to j b e l other = by_test (from == to) i from to j (record { start = i; end = i + 1 }) (record { start = from; end = to }) refl b e l other
+span_is_content multi text i from to j b e l other = grind (arith, nat_tests, common_steps)
 
 pub span_cuts : (text : List ℕ) (i j : ℕ) (span : Span) (source value : List ℕ) (multi : Bool) → IsString text i j span source value multi → (IsEmptyOnOneLine i j → ⊥)
     → CutsContent text i j span value multi
@@ -49,13 +35,7 @@ no_change : (q : ℕ) (text : List ℕ) (i a b j : ℕ) → i ≤ a → b ≤ j 
 no_change q text i a b j l m none (k, from, to, is) = none (k, omega (arith, l, from), omega (arith, to, m), is)
 
 piece_same : (q : ℕ) (m : Bool) (text : List ℕ) (i j : ℕ) (p : Piece) → IsPiece q m text i j p → (HasChange q text i j → ⊥) → piece_value text i j p ≡ slice_range text i j
-piece_same q m text i j pieces.Plain h none = refl
-piece_same q m text i j pieces.Quotes h none = refl
-piece_same q m text i j pieces.LineEnd (e, inl h) none = line_feed text i j (inl h) h.1
-piece_same q m text i j pieces.LineEnd (e, inr h) none =
-    absurd (none (i, omega arith, line_forward text i j (inr h), inr (crlf_return text i j (inr h) (λ x. absurd (omega (arith, x, h.1))))))
-piece_same q m text i j (pieces.Escape c) h none = absurd (none (i, omega arith, piece_forward q m text i j (pieces.Escape c) h, inl (h.0, h.1)))
-piece_same q m text i j pieces.Dropped h none = absurd (none (i, omega arith, piece_forward q m text i j pieces.Dropped h, inl (h.0, h.2)))
+piece_same q m text i j p h none = grind (arith, nat_tests, common_steps)
 
 cut_same : (q : ℕ) (m : Bool) (text : List ℕ) (i j : ℕ) (ps : List (Piece × ℕ)) → Cut q m text i ps j → (HasChange q text i j → ⊥) → content text i ps ≡ slice_range text i j
 cut_same q m text i j [] e none = let n : j - i ≡ 0 = omega arith in rw n refl
@@ -81,13 +61,7 @@ unchanged text i j span source value multi h other none =
 -- ---- strings that do not hold themselves
 
 no_backslash : (q c : ℕ) → (q ≡ 34) ⊎ (q ≡ 39) → c ≡ q → ((q ≡ 34) × (c ≡ 92)) ⊎ (c ≡ 13) → ⊥
-no_backslash q c u e (inl (a, b)) = omega (arith, a, b, e)
-no_backslash q c (inl a) e (inr b) = omega (arith, a, b, e)
-no_backslash q c (inr a) e (inr b) = omega (arith, a, b, e)
-
-no_plain : (q c : ℕ) → is_plain q c ≡ true → ((q ≡ 34) × (c ≡ 92)) ⊎ (c ≡ 13) → ⊥
-no_plain q c p (inl (a, b)) = false≢true (rw (a, b) at p)
-no_plain q c p (inr b) = false≢true (rw b at p)
+no_backslash q c u e h = grind (arith, nat_tests, common_steps)
 
 piece_fits : (q : ℕ) (m : Bool) (text : List ℕ) (i j : ℕ) (p : Piece) → IsPiece q m text i j p → length (piece_value text i j p) + i ≤ j
 piece_fits q m text i j pieces.Plain h = omega (arith, h.0, length-take (j - i) (drop i text))
@@ -98,13 +72,12 @@ piece_fits q m text i j pieces.Dropped h = let l = dropped_shorter text i j h.3 
 
 cut_fits : (q : ℕ) (m : Bool) (text : List ℕ) (i j : ℕ) (ps : List (Piece × ℕ)) → Cut q m text i ps j → length (content text i ps) + i ≤ j
 cut_fits q m text i j [] e = omega arith
-cut_fits q m text i j (p ∷ ps) c =
-    omega (arith, length-append (piece_value text i p.1 p.0) (content text p.1 ps), piece_fits q m text i p.1 p.0 c.0, cut_fits q m text p.1 j ps c.1)
+cut_fits q m text i j (p ∷ ps) c = grind (arith, nat_tests, common_steps, cut_fits q m text p.1 j ps c.1, piece_fits)
 
 piece_shorter : (q : ℕ) (m : Bool) (text : List ℕ) (i j k : ℕ) (p : Piece) → (q ≡ 34) ⊎ (q ≡ 39) → IsPiece q m text i j p → i ≤ k → k < j
     → ((q ≡ 34) × (get_or text k 0 ≡ 92)) ⊎ (get_or text k 0 ≡ 13) → length (piece_value text i j p) + i < j
-piece_shorter q m text i j k pieces.Plain u h a b c = absurd (no_plain q (get_or text k 0) (h.1.passes k a b) c)
-piece_shorter q m text i j k pieces.Quotes u h a b c = absurd (no_backslash q (get_or text k 0) u (equal _ _ (h.3.passes k a b)) c)
+piece_shorter q m text i j k pieces.Plain u h a b c = absurd (grind (arith, nat_tests, common_steps))
+piece_shorter q m text i j k pieces.Quotes u h a b c = absurd (no_backslash q (get_or text k 0) u (grind (arith, nat_tests)) c)
 piece_shorter q m text i j k pieces.LineEnd u (e, inl h) a b (inl c) = let s : k ≡ i = omega (arith, a, b, h.1) in absurd (omega (arith, (rw s at c.1), h.0))
 piece_shorter q m text i j k pieces.LineEnd u (e, inl h) a b (inr c) = let s : k ≡ i = omega (arith, a, b, h.1) in absurd (omega (arith, (rw s at c), h.0))
 piece_shorter q m text i j k pieces.LineEnd u (e, inr h) a b c = omega (arith, h.1)
@@ -119,11 +92,6 @@ cut_shorter q m text i j k (p ∷ ps) u cut a b c =
       | inl here ↦ omega (arith, length-append (piece_value text i p.1 p.0) (content text p.1 ps), piece_shorter q m text i p.1 k p.0 u cut.0 a here c, cut_fits q m text p.1 j ps cut.1)
       | inr on ↦ omega (arith, length-append (piece_value text i p.1 p.0) (content text p.1 ps), piece_fits q m text i p.1 p.0 cut.0, cut_shorter q m text p.1 j k ps u cut.1 on b c)
     ]
-
--- behind the last piece stand quotes alone
-close_quotes : (q : ℕ) (m : Bool) (text : List ℕ) (at j k : ℕ) → IsClose q m text at j → at ≤ k → k < content_end m j → get_or text k 0 ≡ q
-close_quotes q false text at j k h a b = absurd (omega (arith, h.2, a, b))
-close_quotes q true text at j k (r, run, three, e) a b = equal _ _ (run.passes k a (omega (arith, a, b, e, run.forward)))
 
 pub changed : (text : List ℕ) (i j : ℕ) (span : Span) (source value : List ℕ) (multi : Bool) → IsString text i j span source value multi → (IsEmptyOnOneLine i j → ⊥)
     → HasChange (get_or text i 0) text span.start span.end → value ≡ slice_range text span.start span.end → ⊥
@@ -141,5 +109,5 @@ changed text i j span source value multi h other (k, from, to, is) same =
     let parts : length value ≡ length (content text span.start c.pieces ++ slice_range text c.at span.end) = ap length c.value_is in
     elim (cases_lt k c.at) [
       | inl before ↦ let l = cut_shorter q multi text span.start c.at k c.pieces h.quote c.cut from before is in omega (arith, l, left, tail, all, parts, on, s.forward)
-      | inr behind ↦ no_backslash q (get_or text k 0) h.quote (close_quotes q multi text c.at j k c.closes behind (omega (arith, to, c.to_is))) is
+      | inr behind ↦ no_backslash q (get_or text k 0) h.quote (grind (arith, nat_tests, common_steps)) is
     ]

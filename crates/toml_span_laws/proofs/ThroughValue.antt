@@ -1,28 +1,230 @@
--- A dotted key that goes through a value is never what is told first.
-use Rattle.std.proofs.Common.{◌≡◌, ℕ, ◌<◌, ◌≤◌, ◌⊎◌, Bool, true, false, List, [], ◌∷◌, ◌++◌, length, arith, refl, sym, ap, ◌∙◌, subst, inl, inr}
-use Rattle.std.specs.Prelude.{if◌then◌else◌}
-use Rattle.std.proofs.lemmas.Bool.{cases_Bool}
-use Rattle.toml_span_tree.specs.Path.{Path, key, position}
-use Rattle.toml_span_read.specs.Data.{KeyValue, Block}
-use Rattle.toml_span_read.specs.Keys.{SimpleKey, SpellsKey as IsDotted}
-use Rattle.toml_span_read.specs.Grammar.{SpellsDocument, SpellsLines, SpellsSections, first_block}
+-- The way of each key from the table of its section: a clear one goes through no value of its section, and a dotted key that goes through a value is never what is told first.
+use Rattle.toml_span_lex.proofs.Common.{◌≡◌, ℕ, suc, ◌+◌, List, [], ◌∷◌, ◌++◌, length, map, refl, sym, ap, ◌∙◌, subst, append_assoc, append-nil, inl, inr, ⊤, append_cancel_left, arith, nat_tests, common_steps, ◌<◌, ◌≤◌, ◌⊎◌, Bool, true, false, if◌then◌else◌}
+use Rattle.toml_span_tree.specs.Path.{Path, key}
+use Rattle.toml_span_read.specs.Data.{ParsedValue, parsed, scalar, array, inline, ParsedItems, no_items, item, ParsedPairs, no_pairs, pair, KeyValue, Block, first_block}
+use Rattle.toml_span_read.specs.Earlier.{Clear, NoneAt, part_names}
+use Rattle.toml_span_read.specs.Grammar.{Spells, SpellsItems, SpellsPairs, SpellsKeyValues, SpellsDocument, SpellsLines, SpellsSections}
+use Rattle.toml_span_read.specs.Keys.{SimpleKey, SpellsKey}
+use Rattle.toml_span.specs.declared.claims.Sort.TheVariants.{Dotted, Assigned, StandardTable}
+use Rattle.toml_span.specs.Claims.{Claim, Claims, no_claims, claimed, scope, followed, key_claims, value_claims, inner_claims, item_claims, pair_claims, key_value_claims, element, assigned, dotted, header_claim, end_claims, header_claims, section_claims, claims_behind, claims, head_of}
+use Rattle.toml_span.specs.Paths.{with_key, with_position, enter, target, elements_added, opened_by, section_path}
+use Rattle.toml_span_laws.specs.Clashing.{DoClash, IsIn, own, IsPair, IsFirstPair}
+use Rattle.toml_span_laws.proofs.Apart.{in-cases, in-right, pairs-split, IsLater, Pairs, rising-later}
+use Rattle.toml_span_laws.proofs.OneScope.{Peaceful, do-clash, peaceful-across, peaceful-push, peaceful-two, two-of, path-self}
+use Rattle.toml_span_laws.proofs.Scoped.{Above, Along, Has, IsUnder, Walk, above-child, above-on, along-base, along-child, along-on, from-cases, has-on, on-one-way, walk-claimed, walk-followed, key-position, nil-under}
 use Rattle.toml_span.specs.declared.claims.Blame.TheVariants.{DuplicateTable, DuplicateKey}
-use Rattle.toml_span.specs.declared.claims.Sort.TheVariants.{StandardTable, Dotted, Assigned}
 use Rattle.toml_span.specs.declared.claims.Head.{Head}
-use Rattle.toml_span.specs.Claims.{Claim, Claims, no_claims, claimed, scope, followed, key_value_claims, header_claim, end_claims, header_claims, section_claims, claims_behind, claims, head_of}
 use Rattle.toml_span.specs.Clashes.{blame}
 use Rattle.toml_span.specs.Flat.{all_claims, by_header}
-use Rattle.toml_span.specs.Paths.{same_path, with_key, with_position, enter, target, elements_added, opened_by, section_path}
-use Rattle.toml_span_laws.specs.Clashing.{IsIn, IsPair, IsFirstPair, own}
 use Rattle.toml_span_laws.specs.Order.{claim_start}
-use Rattle.toml_span_laws.proofs.Apart.{IsLater, Pairs, in-cases, in-right, pairs-split, rising-later}
-use Rattle.toml_span_laws.proofs.EntryDecides.{path-self}
+use Rattle.toml_span_laws.proofs.EarlierLaws.{front_last}
 use Rattle.toml_span_laws.proofs.FirstPair.{clash-blames, free-of, pair-late}
-use Rattle.toml_span_laws.proofs.Headed.{Headed, header-headed}
-use Rattle.toml_span_laws.proofs.KeyWays.{Bases, Guarded, Known, Traced, Way, key_values-walk, guarded-followed, way-last, way-on, way-under}
-use Rattle.toml_span_laws.proofs.OneScope.{Peaceful, do-clash, peaceful-across, peaceful-push, peaceful-two, two-of}
+use Rattle.toml_span_laws.proofs.SpelledClaims.{Headed, header-headed}
 use Rattle.toml_span_laws.proofs.Order.{document-rises}
-use Rattle.toml_span_laws.proofs.Scoped.{Has, Walk, front-same, has-on, key-position, last-same, nil-under, walk-followed}
+
+-- ---- ways
+
+-- a dotted key claims the table at the path, which ends with a key
+abbrev pub IsDotted : List Claim → Path → Type 0
+IsDotted l p = Has l Dotted p × (q : Path) × (k : List ℕ) × (p ≡ q ++ (key k ∷ []))
+
+-- From a table at the base the path goes on, and each table on the way is claimed by a dotted key.
+abbrev pub Way : List Claim → Path → Path → Type 0
+Way l base p = Above (IsDotted l) base p
+
+dotted-on : (l more : List Claim) (p : Path) → IsDotted l p → IsDotted (l ++ more) p
+dotted-on l more p (made, q, k, is) = (has-on l more Dotted p made, q, k, is)
+
+pub way-on : (l more : List Claim) (base p : Path) → Way l base p → Way (l ++ more) base p
+way-on l more base p way = above-on (IsDotted l) (IsDotted (l ++ more)) base p (dotted-on l more) way
+
+-- Tables at which sections begin: none is further inside than another one and claimed by a dotted key.
+pub record Bases (R : List Claim → Path → Type 0) : Type 0 where
+  pub more : (l m : List Claim) (p : Path) → R l p → R (l ++ m) p
+  pub apart : (l : List Claim) (a b : Path) → R l a → R l b → IsUnder a b → IsDotted l b → Peaceful l → ⊥
+
+-- two ways to one path begin at one table
+one-base : (R : List Claim → Path → Type 0) (laws : Bases R) (l : List Claim) (a b p : Path) → R l a → R l b → Peaceful l → Way l a p → Way l b p → a ≡ b
+one-base R laws l a b p ra rb peace (above, way) (below, other) =
+    elim (on-one-way a b (above.0 ∷ above.1) (below.0 ∷ below.1) (sym above.2 ∙ below.2)) [
+      | inl from ↦ elim (from-cases a b from) [ inl same ↦ same | inr under ↦ absurd (laws.apart l a b ra rb under (way b under below) peace) ]
+      | inr from ↦ elim (from-cases b a from) [ inl same ↦ sym same | inr under ↦ absurd (laws.apart l b a rb ra under (other a under above) peace) ]
+    ]
+
+-- ---- the values of a section
+
+-- the path of these parts
+abbrev keys : List SimpleKey → Path
+keys parts = map key (part_names parts)
+
+-- The path is that of no assignment but for one of these.
+abbrev pub Bars : Path → List KeyValue → Path → Type 0
+Bars base es p = (names : List (List ℕ)) → NoneAt names es → p ≡ base ++ map key names → ⊥
+
+none-before : (names : List (List ℕ)) (es : List KeyValue) (next : KeyValue) → NoneAt names (es ++ (next ∷ [])) → NoneAt names es
+none-before names [] next none = tt
+none-before names (e ∷ es) next none = (none.0, none-before names es next none.1)
+
+none-last : (names : List (List ℕ)) (es : List KeyValue) (next : KeyValue) → NoneAt names (es ++ (next ∷ [])) → part_names next.parts ≡ names → ⊥
+none-last names [] next none is = none.0 is
+none-last names (e ∷ es) next none is = none-last names es next none.1 is
+
+-- a way to the path from a table at which a section begins
+pub record Traced (R : List Claim → Path → Type 0) (l : List Claim) (p : Path) : Type 0 where
+  pub base : Path
+  pub root : R l base
+  pub way : Way l base p
+
+-- Each value has such a way, and if it begins at this base, then the value's path is that of one of these assignments.
+abbrev pub Known : (List Claim → Path → Type 0) → Path → List KeyValue → List Claim → Type 0
+Known R base es l =
+    (c : Claim) → IsIn c l → c.mark.sort ≡ Assigned → (t : Traced R l c.path) × (t.base ≡ base → Peaceful l → Bars base es c.path)
+
+traced-on : (R : List Claim → Path → Type 0) (laws : Bases R) (l more : List Claim) (p : Path) → Traced R l p → Traced R (l ++ more) p
+traced-on R laws l more p t = record { base = t.base; root = laws.more l more t.base t.root; way = way-on l more t.base p t.way }
+
+-- behind claims that assign nothing, but for one that assigns this
+known-on : (R : List Claim → Path → Type 0) (laws : Bases R) (base : Path) (es fs : List KeyValue) (l more : List Claim) → Known R base es l → ((names : List (List ℕ)) → NoneAt names fs → NoneAt names es)
+    → ((c : Claim) → IsIn c more → c.mark.sort ≡ Assigned → Traced R (l ++ more) c.path × Bars base fs c.path) → Known R base fs (l ++ more)
+unfolding traced-on
+known-on R laws base es fs l more known wide new c here is = elim (in-cases c l more here) [
+  | inl before ↦
+      let (t, from) = known c before is in
+      (traced-on R laws l more c.path t, λ same peace names none. from same (pairs-split (λ x y. DoClash x y → ⊥) l more peace).0 names (wide names none))
+  | inr behind ↦ let (t, there) = new c behind is in (t, λ same peace. there)
+]
+
+-- ---- a clear key
+
+not-clear : (base : Path) (es : List KeyValue) (next : KeyValue) (outer : List SimpleKey) (k m : SimpleKey) (more : List SimpleKey) (p : Path) → Clear es next → next.parts ≡ outer ++ (k ∷ m ∷ more)
+    → Bars base es p → p ≡ base ++ keys (outer ++ (k ∷ [])) → ⊥
+not-clear base es next outer k m more p clear is bars on =
+    let (rest, last, split) = front_last m more in
+    let whole : next.parts ≡ (outer ++ (k ∷ rest)) ++ (last ∷ []) = is ∙ ap (λ l. outer ++ (k ∷ l)) split ∙ sym (append_assoc outer (k ∷ rest) (last ∷ [])) in
+    bars (part_names (outer ++ (k ∷ []))) (clear (outer ++ (k ∷ rest)) last whole outer k rest refl) on
+
+key-names : (xs ys : List (List ℕ)) → map key xs ≡ map key ys → xs ≡ ys
+key-names [] [] h = refl
+key-names [] (y ∷ ys) h = cc
+key-names (x ∷ xs) [] h = cc
+key-names (x ∷ xs) (y ∷ ys) h = grind (arith, nat_tests, common_steps, key-names xs)
+
+-- ---- claims
+
+-- No dotted key's claim is on the path of an earlier value of its scope, where the earlier claims don't clash.
+abbrev pub Guarded : List Claim → Claims → Type 0
+Guarded earlier no_claims = ⊤
+Guarded earlier (claimed c cs) =
+    (c.mark.sort ≡ Dotted → Peaceful earlier → (e : Claim) → IsIn e earlier → e.mark.sort ≡ Assigned → e.path ≡ c.path → ⊥) × Guarded (earlier ++ (c ∷ [])) cs
+Guarded earlier (scope inner cs) = Guarded [] inner × Guarded earlier cs
+
+pub guarded-followed : (earlier : List Claim) (xs ys : Claims) → Guarded earlier xs → Guarded (earlier ++ own xs) ys → Guarded earlier (followed xs ys)
+unfolding followed
+guarded-followed earlier no_claims ys h g = subst (λ l. Guarded l ys) (append-nil earlier) g
+guarded-followed earlier (claimed c xs) ys h g = grind (arith, nat_tests, common_steps, guarded-followed (earlier ++ (c ∷ [])) xs)
+guarded-followed earlier (scope inner xs) ys h g = (h.0, guarded-followed earlier xs ys h.1 g)
+
+-- claims behind these earlier ones, with the values of these assignments
+abbrev pub Walked : (List Claim → Path → Type 0) → Path → List KeyValue → List Claim → Claims → Type 0
+Walked R base es l cs = Walk Guarded (Known R base es) l cs
+
+-- the path of a part behind outer ones
+part-at : (base p : Path) (outer : List SimpleKey) (k : SimpleKey) → p ≡ base ++ keys outer → with_key p k ≡ base ++ keys (outer ++ (k ∷ []))
+part-at base p outer k on = grind (arith, nat_tests, common_steps)
+
+key-walk : (R : List Claim → Path → Type 0) (laws : Bases R) (base : Path) (es : List KeyValue) (next : KeyValue) (outer parts : List SimpleKey) (v : ParsedValue) (inside : Path → Claims) (l : List Claim) (p : Path)
+    → Clear es next → R l base → next.parts ≡ outer ++ parts → p ≡ base ++ keys outer → Along (IsDotted l) base p → Known R base es l
+    → ((q : Path) → own (inside q) ≡ []) → ((q : Path) (m : List Claim) → Guarded m (inside q)) → Walked R base (es ++ (next ∷ [])) l (key_claims p parts v inside)
+unfolding key_claims
+key-walk R laws base es next outer [] v inside l p clear root is on way known none inner = record {
+  tree = tt;
+  all = known-on R laws base es (es ++ (next ∷ [])) l [] known (λ names. none-before names es next) (λ c here sort. absurd here);
+}
+key-walk R laws base es next outer (k ∷ []) v inside l p clear root is on way known none inner =
+    let q = with_key p k in
+    let a = assigned q k v in
+    let at : q ≡ base ++ keys next.parts = part-at base p outer k on ∙ ap (λ ps. base ++ keys ps) (sym is) in
+    let mine : Traced R (l ++ (a ∷ [])) q = record { base = base; root = laws.more l (a ∷ []) base root; way = way-on l (a ∷ []) base q (above-child (IsDotted l) base p (key k.name) way) } in
+    let found : Bars base (es ++ (next ∷ [])) q = λ names none there. none-last names es next none (key-names (part_names next.parts) names (append_cancel_left base (keys next.parts) (map key names) (sym at ∙ there))) in
+    record {
+      tree = ((λ dotted. absurd (let no : Assigned ≡ Dotted = dotted in cc)), inner q (l ++ (a ∷ [])));
+      all = subst (λ xs. Known R base (es ++ (next ∷ [])) (l ++ (a ∷ xs))) (sym (none q))
+          (known-on R laws base es (es ++ (next ∷ [])) l (a ∷ []) known (λ names. none-before names es next) (λ c here sort. grind (arith, nat_tests, common_steps)));
+    }
+key-walk R laws base es next outer (k ∷ m ∷ more) v inside l p clear root is on way known none inner =
+    let q = with_key p k in
+    let d = dotted q k v in
+    let at = part-at base p outer k on in
+    let there : IsDotted (l ++ (d ∷ [])) q = ((d, in-right d l (d ∷ []) (inl refl), refl, refl), p, k.name, refl) in
+    let plain = known-on R laws base es es l (d ∷ []) known (λ names h. h) (λ c here sort. grind (arith, nat_tests, common_steps)) in
+    walk-claimed Guarded (Known R base (es ++ (next ∷ []))) l d (key_claims q (m ∷ more) v inside)
+    (λ rest. (
+      (λ dotted peace e here sort same.
+          let (t, from) = known e here sort in
+          let one = one-base R laws l t.base base q t.root root peace (subst (Way l t.base) same t.way) (above-child (IsDotted l) base p (key k.name) way) in
+          not-clear base es next outer k m more e.path clear is (from one peace) (same ∙ at)),
+      rest,
+    ))
+    (key-walk R laws base es next (outer ++ (k ∷ [])) (m ∷ more) v inside (l ++ (d ∷ [])) q clear (laws.more l (d ∷ []) base root) (is ∙ sym (append_assoc outer (k ∷ []) (m ∷ more))) at
+    (along-child (IsDotted (l ++ (d ∷ []))) base p (key k.name) (along-on (IsDotted l) (IsDotted (l ++ (d ∷ []))) base p (dotted-on l (d ∷ [])) way) there) plain none inner)
+
+-- ---- values
+
+value-own : (v : ParsedValue) (p : Path) → own (value_claims v p) ≡ []
+unfolding value_claims inner_claims
+value-own (parsed (scalar s) span) p = refl
+value-own v p = refl
+
+-- the keys of an inline table all begin at it
+abbrev IsAt : Path → List Claim → Path → Type 0
+IsAt p l q = q ≡ p
+
+-- a key of this base whose walk begins
+begun : (R : List Claim → Path → Type 0) (laws : Bases R) (base : Path) (es : List KeyValue) (next : KeyValue) (l : List Claim) → Clear es next → R l base → Known R base es l
+    → ((q : Path) (m : List Claim) → Guarded m (value_claims next.value q)) → Walked R base (es ++ (next ∷ [])) l (key_claims base next.parts next.value (value_claims next.value))
+begun R laws base es next l clear root known inner =
+    key-walk R laws base es next [] next.parts next.value (value_claims next.value) l base clear root refl (sym (append-nil base)) (along-base (IsDotted l) base) known
+    (value-own next.value) inner
+
+element-guarded : (v : ParsedValue) (q : Path) (rest : Claims) (l : List Claim) → ((m : List Claim) → Guarded m (value_claims v q)) → ((m : List Claim) → Guarded m rest)
+    → Guarded l (claimed (element q v) (followed (value_claims v q) rest))
+element-guarded v q rest l h g = grind (arith, nat_tests, common_steps, guarded-followed)
+
+mutual
+  unfolding value_claims inner_claims item_claims pair_claims
+
+  value-guarded : (v : ParsedValue) (p : Path) (l : List Claim) (text : List ℕ) (limit d i j : ℕ) → Spells v text limit d i j → Guarded l (value_claims v p)
+  value-guarded (parsed (scalar s) span) p l text limit d i j h = tt
+  value-guarded (parsed (array vs) span) p l text limit d i j (few, (here, e, k, gap, h)) = (items-guarded vs 0 p [] text limit (d + 1) k j h, tt)
+  value-guarded (parsed (inline ps) span) p l text limit d i j (few, (here, e, k, gap, h)) = (pairs-guarded ps [] p [] text limit (d + 1) k j (λ c none. absurd none) h, tt)
+
+  items-guarded : (vs : ParsedItems) (n : ℕ) (p : Path) (l : List Claim) (text : List ℕ) (limit d i j : ℕ) → SpellsItems vs text limit d i j → Guarded l (item_claims vs n p)
+  items-guarded no_items n p l text limit d i j h = tt
+  items-guarded (item v vs) n p l text limit d i j (m, h, behind) =
+      element-guarded v (with_position p n) (item_claims vs (suc n) p) l (λ x. value-guarded v (with_position p n) x text limit d i m h)
+      (λ x. grind (arith, nat_tests, common_steps, items-guarded vs (suc n) p x text limit d))
+
+  pairs-guarded : (ps : ParsedPairs) (es : List KeyValue) (p : Path) (l : List Claim) (text : List ℕ) (limit d i j : ℕ) → Known (IsAt p) p es l → SpellsPairs ps es text limit d i j
+      → Guarded l (pair_claims ps p)
+  pairs-guarded no_pairs es p l text limit d i j known h = tt
+  pairs-guarded (pair ss v x ps) es p l text limit d i j known (m, (a, b, named, few, sign, h, extent), clear, behind) =
+      let front = key_claims p ss v (value_claims v) in
+      let e : KeyValue = record { parts = ss; value = v; extent = x } in
+      let walked = begun (IsAt p) (grind (arith, nat_tests, common_steps)) p es e l clear refl known (λ q y. value-guarded v q y text limit (d + length ss) b m h) in
+      guarded-followed l front (pair_claims ps p) walked.tree (grind (arith, nat_tests, common_steps, pairs-guarded ps (es ++ (e ∷ [])) p (l ++ own front) text limit d))
+
+-- ---- the assignments of a section
+
+pub key_values-walk : (R : List Claim → Path → Type 0) (laws : Bases R) (base : Path) (evs before : List KeyValue) (l : List Claim) (text : List ℕ) (limit i j : ℕ) → SpellsKeyValues evs before text limit i j
+    → R l base → Known R base before l → (es : List KeyValue) × Walked R base es l (key_value_claims evs base)
+unfolding key_value_claims
+key_values-walk R laws base [] before l text limit i j h root known =
+    (before, record { tree = tt; all = known-on R laws base before before l [] known (λ names h. h) (λ c here sort. absurd here) })
+key_values-walk R laws base (e ∷ evs) before l text limit i j (m, n, k, h, tail, clear, gap, rest) root known =
+    let front = key_claims base e.parts e.value (value_claims e.value) in
+    let walked = begun R laws base before e l clear root known (λ q x. value-guarded e.value q x text limit (length e.parts) h.from m h.spelled) in
+    let (es, more) = key_values-walk R laws base evs (before ++ (e ∷ [])) (l ++ own front) text limit k j rest (laws.more l (own front) base root) walked.all in
+    (es, walk-followed Guarded (Known R base (before ++ (e ∷ []))) (Known R base es) guarded-followed l front (key_value_claims evs base) walked (λ all. more))
 
 -- ---- tables at which sections begin
 
@@ -38,20 +240,18 @@ twice-made l p peace (c, here, is, on) (d, there, made, at) =
     (do-clash c d DuplicateKey (on ∙ sym at) (ap (λ s. blame s d.mark.sort) is ∙ ap (blame StandardTable) made))
     (do-clash d c DuplicateKey (at ∙ sym on) (ap (λ s. blame s c.mark.sort) made ∙ ap (blame Dotted) is))
 
-opened-apart : (e : Path → ℕ) (l : List Claim) (a b : Path) → Opened e l b → Way l a b → Has l Dotted b → Peaceful l → ⊥
-opened-apart e l a b (inl none) way made peace = let (s, rest, is) = way-under l a b way in nil-under a s rest (sym none ∙ is)
-opened-apart e l a b (inr (inl (q, k, is, found))) way made peace = twice-made l b peace found made
-opened-apart e l a b (inr (inr (q, n, is, few))) way made peace = let (r, k, on) = way-last l a b way in key-position r q k n (sym on ∙ is)
+opened-apart : (e : Path → ℕ) (l : List Claim) (a b : Path) → Opened e l b → IsUnder a b → IsDotted l b → Peaceful l → ⊥
+opened-apart e l a b (inl none) (s, r, is) made peace = nil-under a s r (sym none ∙ is)
+opened-apart e l a b (inr (inl (q, k, is, found))) under made peace = twice-made l b peace found made.0
+opened-apart e l a b (inr (inr (q, n, is, few))) under (made, r, k, on) peace = key-position r q k n (sym on ∙ is)
 
 opened-more : (e f : Path → ℕ) (l more : List Claim) (p : Path) → ((q : Path) → e q ≤ f q) → Opened e l p → Opened f (l ++ more) p
-opened-more e f l more p grows (inl none) = inl none
-opened-more e f l more p grows (inr (inl (q, k, is, found))) = inr (inl (q, k, is, has-on l more StandardTable p found))
-opened-more e f l more p grows (inr (inr (q, n, is, few))) = inr (inr (q, n, is, omega (arith, few, grows q)))
+opened-more e f l more p grows h = grind (arith, nat_tests, common_steps, has-on)
 
 opened-bases : (e : Path → ℕ) → Bases (Opened e)
 opened-bases e = record {
   more = λ l m p h. opened-more e e l m p (λ q. omega arith) h;
-  apart = λ l a b ra rb way made peace. opened-apart e l a b rb way made peace;
+  apart = λ l a b ra rb. opened-apart e l a b rb;
 }
 
 -- ---- headers
@@ -75,8 +275,7 @@ section-there : (e : Path → ℕ) (h : Head) (p : Path) (k : SimpleKey) (parts 
     → ((q : Path) × (n : List ℕ) × (target e p (k ∷ parts) ≡ q ++ (key n ∷ []))) × Has (own (header_claims e h p (k ∷ parts))) StandardTable (target e p (k ∷ parts))
 unfolding header_claims target end_claims
 section-there e h p k [] single = ((p, k.name, refl), rw single (header_claim h StandardTable (with_key p k) k, inl refl, refl, refl))
-section-there e h p k (l ∷ more) single =
-    let (named, (c, here, is, on)) = section-there e h (enter (e (with_key p k)) (with_key p k)) l more single in (named, (c, inr here, is, on))
+section-there e h p k (l ∷ more) single = grind (arith, nat_tests, common_steps, section-there e h (enter (e (with_key p k)) (with_key p k)) l more single)
 
 -- ---- sections
 
@@ -87,22 +286,13 @@ record Begins (before after : List Path) (l all : List Claim) (base : Path) : Ty
   new : (p : Path) → Opened (elements_added before) l p → p ≡ base → Peaceful all → ⊥
 
 one-more : (before : List Path) (t q : Path) → elements_added before q ≤ elements_added (t ∷ before) q
-one-more before t q = elim (cases_Bool (same_path t q)) [
-  | inl here ↦ rw here (omega arith)
-  | inr off ↦ rw off (omega arith)
-]
+one-more before t q = grind (arith, nat_tests, common_steps)
 
 counted-here : (before : List Path) (t : Path) → elements_added before t < elements_added (t ∷ before) t
 counted-here before t = rw (path-self t) (omega arith)
 
 new-entry : (before : List Path) (l all : List Claim) (t p : Path) → Opened (elements_added before) l p → p ≡ with_position t (elements_added before t) → Peaceful all → ⊥
-new-entry before l all t p (inl none) same peace = nil-under t (position (elements_added before t)) [] (sym none ∙ same)
-new-entry before l all t p (inr (inl (q, k, is, found))) same peace = key-position q t k (elements_added before t) (sym is ∙ same)
-new-entry before l all t p (inr (inr (q, n, is, few))) same peace =
-    let n_is : position n ≡ position (elements_added before t) = last-same q t (position n) (position (elements_added before t)) (sym is ∙ same) in
-    let m_is : n ≡ elements_added before t = cc in
-    let t_is = ap (λ x. elements_added before x) (front-same q t (position n) (position (elements_added before t)) (sym is ∙ same)) in
-    omega (arith, few, m_is, t_is)
+new-entry before l all t p h same peace = grind (arith, nat_tests, common_steps)
 
 new-table : (before : List Path) (l more : List Claim) (t : Path) (q : Path) (k : List ℕ) (p : Path) → t ≡ q ++ (key k ∷ []) → Has more StandardTable t → Opened (elements_added before) l p → p ≡ t → Peaceful (l ++ more) → ⊥
 new-table before l more t q k p is found (inl none) same peace = nil-under q (key k) [] (sym none ∙ same ∙ is)
@@ -113,15 +303,7 @@ new-table before l more t q k p is found (inr (inr (r, n, on, few))) same peace 
 begins : (array : Bool) (before : List Path) (e : Path → ℕ) (l : List Claim) (h : Head) (k : SimpleKey) (parts : List SimpleKey) → h.array ≡ array → e ≡ elements_added before
     → Begins before (if array then target e [] (k ∷ parts) ∷ before else before) l (l ++ own (header_claims e h [] (k ∷ parts)))
     (if array then with_position (target e [] (k ∷ parts)) (e (target e [] (k ∷ parts))) else target e [] (k ∷ parts))
-begins true before e l h k parts double same =
-    let t = target e [] (k ∷ parts) in
-    let all = l ++ own (header_claims e h [] (k ∷ parts)) in
-    let count = ap (λ f. f t) same in
-    record {
-      root = inr (inr (t, e t, refl, subst (λ n. n < elements_added (t ∷ before) t) (sym count) (counted-here before t)));
-      grows = one-more before t;
-      new = λ p found is peace. new-entry before l all t p found (is ∙ ap (with_position t) count) peace;
-    }
+begins true before e l h k parts double same = grind (arith, nat_tests, common_steps, counted-here, new-entry, one-more)
 begins false before e l h k parts single same =
     let t = target e [] (k ∷ parts) in
     let more = own (header_claims e h [] (k ∷ parts)) in
@@ -164,18 +346,14 @@ section-walk earlier b l text limit i j k parts is lines traced =
     walk-followed Guarded (Known (Opened f) base []) (AllTraced f) guarded-followed l head (key_value_claims b.key_values base) (record { tree = headed-guarded l head headed; all = known })
     (assigned-walk f base b.key_values all text limit i j lines start.root)
 
-some-parts : (parts : List SimpleKey) (text : List ℕ) (i j : ℕ) → IsDotted parts text i j → (k : SimpleKey) × (more : List SimpleKey) × (parts ≡ k ∷ more)
-some-parts [] text i j h = absurd h
-some-parts (k ∷ more) text i j h = (k, more, refl)
+some-parts : (parts : List SimpleKey) (text : List ℕ) (i j : ℕ) → SpellsKey parts text i j → (k : SimpleKey) × (more : List SimpleKey) × (parts ≡ k ∷ more)
+some-parts parts text i j h = grind (arith, nat_tests, common_steps)
 
 sections-walk : (earlier bs : List Block) (l : List Claim) (text : List ℕ) (limit i : ℕ) → SpellsSections bs text limit i → AllTraced (elements_added (opened_by earlier)) l → Guarded l (claims_behind earlier bs)
 unfolding claims_behind
 sections-walk earlier [] l text limit i h traced = tt
 sections-walk earlier (b ∷ bs) l text limit i (j, s, rest) traced =
-    let front = section_claims (elements_added (opened_by earlier)) b in
-    let (k, parts, is) = some-parts b.header text s.header.front.start s.header.front.end s.header.front.key in
-    let placed = section-walk earlier b l text limit s.end j k parts is s.lines traced in
-    guarded-followed l front (claims_behind (b ∷ earlier) bs) placed.tree (sections-walk (b ∷ earlier) bs (l ++ own front) text limit j rest placed.all)
+    grind (arith, nat_tests, common_steps, sections-walk (b ∷ earlier) bs, guarded-followed l, section-walk earlier b l text limit s.end j, some-parts b.header text)
 
 document-walk : (first : List KeyValue) (rest : List Block) (text : List ℕ) (limit i j : ℕ) → SpellsLines first text limit i j → SpellsSections rest text limit j → Guarded [] (claims (first_block first ++ rest))
 unfolding claims_behind section_claims header_claims followed target opened_by
@@ -195,8 +373,7 @@ pair-guarded : (earlier : List Claim) (cs : Claims) (c d : Claim) → Guarded ea
     → ((e f : Claim) → IsPair earlier cs e f → (f ≡ d) ⊎ (claim_start d < claim_start f)) → c.mark.sort ≡ Assigned → d.mark.sort ≡ Dotted → ⊥
 unfolding all_claims
 pair-guarded earlier no_claims c d g peace r h first value through = h
-pair-guarded earlier (claimed x cs) c d g peace r (inl (same, here, clashes)) first value through =
-    g.0 (ap (λ y. y.mark.sort) (sym same) ∙ through) peace c here value ((clash-blames c d clashes).0 ∙ ap (λ y. y.path) same)
+pair-guarded earlier (claimed x cs) c d g peace r (inl (same, here, clashes)) first value through = grind (arith, nat_tests, common_steps, clash-blames c d clashes)
 pair-guarded earlier (claimed x cs) c d g peace r (inr more) first value through =
     let late = pair-late (earlier ++ (x ∷ [])) cs x c d r.0 more in
     let free = free-of earlier x (λ e here clashes. elim (first e x (inl (refl, here, clashes))) [

@@ -1,49 +1,68 @@
--- What spells a document within a limit spells it within a greater one, and with other scalars where each value does.
-use Rattle.std.proofs.Common.{◌≡◌, ℕ, ◌≤◌, ◌⊎◌, false, List, [], ◌∷◌, ◌++◌, length, get_or, arith, inl, inr, refl}
-use Rattle.std.specs.Prelude.{◌==◌}
-use Rattle.std.proofs.lemmas.Bool.{cases_lt}
-use Rattle.std.proofs.lemmas.List.{get_or_past}
-use Rattle.toml_span_lex.specs.Bytes.{is_blank, is_printed, MaximalRun}
-use Rattle.toml_span_lex.specs.Text.{LineEnd}
+-- What spells a document within a limit spells it within a greater one, and what spells it without dates spells it with them.
+use Rattle.toml_span_lex.proofs.Common.{◌≡◌, ℕ, ◌+◌, ◌≤◌, false, List, [], ◌∷◌, ◌++◌, length, get_or, arith, inl, inr, refl, ◌==◌, nat_tests, common_steps}
+use Rattle.toml_span_lex.specs.declared.span.Span.{Span}
+use Rattle.toml_span_lex.specs.Bytes.{is_blank}
 use Rattle.toml_span_lex.proofs.Runs.{crlf_first}
-use Rattle.toml_span_read.specs.Gaps.{Tail}
-use Rattle.toml_span_read.specs.Data.{ParsedValue, KeyValue, Block}
-use Rattle.toml_span_read.specs.Grammar.{Scalars, SpellsScalar, SpellsWith, HeaderFront, SpellsHeader, KeyValuesWith, LinesWith, SectionsWith, DocumentWith, SpellsDocument}
+use Rattle.toml_span_tree.specs.Node.{Scalar, text as text_scalar, integer, float, boolean, datetime}
+use Rattle.toml_span_read.specs.Gaps.{GapBy, MaximalGap, Tail}
+use Rattle.toml_span_read.specs.Data.{ParsedValue, parsed, ParsedInner, scalar, array, inline, ParsedItems, no_items, item, ParsedPairs, no_pairs, pair, KeyValue, Block}
+use Rattle.toml_span_read.specs.Grammar.{Scalars, SpellsScalar, Spells, SpellsWith, InnerWith, ItemsWith, PairsWith, HeaderFront, SpellsHeader, KeyValuesWith, LinesWith, SectionsWith, DocumentWith, SpellsDocument}
 use Rattle.toml_span_read.proofs.NumberLemmas.{is_false, byte_is, clash}
-use Rattle.toml_span_laws.proofs.WiderLimit.{value_wider}
+use Rattle.toml_span_laws.specs.Undated.{UndatedScalar, SpellsUndated, SpellsUndatedDocument}
+use Rattle.toml_span_places.proofs.Undated.{no_date}
 
--- ---- what stands behind an assignment is no colon
+-- ---- what stands behind a value in brackets, or an assignment, is no colon
 
-other_no_colon : (c k : ℕ) → c ≡ k → (k == 58) ≡ false → (c == 58) ≡ false
-other_no_colon c k e h = rw e h
+-- before a colon there is no gap
+gap_none : (text : List ℕ) (ns : List ℕ) (i j : ℕ) → get_or text i 0 ≡ 58 → GapBy text i ns j → i ≡ j
+gap_none text [] i j h e = e
+gap_none text (n ∷ ns) i j h (inl p, more) = absurd (clash is_blank (get_or text i 0) 58 p.0 h refl)
+gap_none text (n ∷ ns) i j h (inr (inl (inl p)), more) = absurd (omega (arith, p.0))
+gap_none text (n ∷ ns) i j h (inr (inl (inr p)), more) = absurd (omega (arith, crlf_first text i p.0))
+gap_none text (n ∷ ns) i j h (inr (inr p), more) = absurd (omega (arith, p.0))
 
-line_no_colon : (text : List ℕ) (i j : ℕ) → LineEnd text i j → (get_or text i 0 == 58) ≡ false
-line_no_colon text i j (inl h) = other_no_colon (get_or text i 0) 10 h.0 refl
-line_no_colon text i j (inr h) = other_no_colon (get_or text i 0) 13 (crlf_first text i h.0) refl
-
-comment_no_colon : (text : List ℕ) (i k j : ℕ) → ((get_or text i 0 ≡ 35) × MaximalRun is_printed text i k) ⊎ (((get_or text i 0 == 35) ≡ false) × (k ≡ i)) → LineEnd text k j ⊎ ((k ≡ length text) × (j ≡ k))
-    → (get_or text i 0 == 58) ≡ false
-comment_no_colon text i k j (inl h) e = other_no_colon (get_or text i 0) 35 h.0 refl
-comment_no_colon text i k j (inr (n, s)) (inl e) = line_no_colon text i j (rw s at e)
-comment_no_colon text i k j (inr (n, s)) (inr (e, f)) = other_no_colon (get_or text i 0) 0 (get_or_past text i 0 (omega (arith, s, e))) refl
+no_colon : (c : ℕ) (text : List ℕ) (i j : ℕ) → (c == 58) ≡ false → MaximalGap text i j → get_or text j 0 ≡ c → (get_or text i 0 == 58) ≡ false
+no_colon c text i j n g h = grind (arith, nat_tests, common_steps, byte_is, clash, gap_none, is_false)
 
 tail_no_colon : (text : List ℕ) (i j : ℕ) → Tail text i j → (get_or text i 0 == 58) ≡ false
-tail_no_colon text i j (k, s, e) = elim (cases_lt i s.at) [
-  | inl l ↦ is_false _ (λ x. clash is_blank (get_or text i 0) 58 (s.blank.passes i (omega arith) l) (byte_is (get_or text i 0) 58 x) refl)
-  | inr g ↦ let x : s.at ≡ i = omega (arith, g, s.blank.forward) in comment_no_colon text i k j (rw x at s.comment) e
-]
+tail_no_colon text i j (k, s, e) = grind (arith, nat_tests, common_steps)
 
--- ---- the document
+-- ---- values and the document, where Q holds of the places at which no colon stands
 
-module _ (S S' : Scalars) (text : List ℕ) (limit wider : ℕ) (more : limit ≤ wider)
-    (value : (v : ParsedValue) (d i j : ℕ) → (get_or text j 0 == 58) ≡ false → SpellsWith S v text limit d i j → SpellsWith S' v text wider d i j) where
+module _ (S S' : Scalars) (text : List ℕ) (limit wider : ℕ) (more : limit ≤ wider) (Q : ℕ → Type 0) (free : (j : ℕ) → (get_or text j 0 == 58) ≡ false → Q j)
+    (scalars : (s : Scalar) (span : Span) (i j : ℕ) → Q j → S s span text i j → S' s span text i j) where
+  mutual
+    pub value : (v : ParsedValue) (d i j : ℕ) → Q j → SpellsWith S v text limit d i j → SpellsWith S' v text wider d i j
+    value (parsed x s) d i j q (few, h) = (omega arith, inner x s d i j q h)
+
+    inner : (x : ParsedInner) (s : Span) (d i j : ℕ) → Q j → InnerWith S x s text limit d i j → InnerWith S' x s text wider d i j
+    inner (scalar y) s d i j q h = scalars y s i j q h
+    inner (array vs) s d i j q (here, span, k, gap, h) = (here, span, k, gap, items vs (d + 1) k j h)
+    inner (inline ps) s d i j q (here, span, k, gap, h) = (here, span, k, gap, pairs ps [] (d + 1) k j h)
+
+    items : (vs : ParsedItems) (d i j : ℕ) → ItemsWith S vs text limit d i j → ItemsWith S' vs text wider d i j
+    items no_items d i j h = h
+    items (item v vs) d i j (m, h, inl (e, close)) = (m, value v d i m (free m (no_colon 93 text m close.at refl close.before close.here)) h, inl (e, close))
+    items (item v vs) d i j (m, h, inr (p, sign, rest)) = (m, value v d i m (free m (no_colon 44 text m sign.at refl sign.before sign.here)) h, inr (p, sign, items vs d p j rest))
+
+    pairs : (ps : ParsedPairs) (es : List KeyValue) (d i j : ℕ) → PairsWith S ps es text limit d i j → PairsWith S' ps es text wider d i j
+    pairs no_pairs es d i j h = h
+    pairs (pair ss v x ps) es d i j (m, (a, b, key, few, sign, h, extent), clear, inl (e, close)) =
+        (m, (a, b, key, omega arith, sign, value v (d + length ss) b m (free m (no_colon 125 text m close.at refl close.before close.here)) h, extent), clear, inl (e, close))
+    pairs (pair ss v x ps) es d i j (m, (a, b, key, few, sign, h, extent), clear, inr (p, comma, rest)) = (
+      m,
+      (a, b, key, omega arith, sign, value v (d + length ss) b m (free m (no_colon 44 text m comma.at refl comma.before comma.here)) h, extent),
+      clear,
+      inr (p, comma, pairs ps (es ++ (record { parts = ss; value = v; extent = x } ∷ [])) d p j rest),
+    )
+
   key_values : (es before : List KeyValue) (i j : ℕ) → KeyValuesWith S es before text limit i j → KeyValuesWith S' es before text wider i j
   key_values [] before i j h = h
   key_values (e ∷ es) before i j (m, n, k, h, tail, clear, gap, rest) = (
     m,
     n,
     k,
-    record { key_end = h.key_end; from = h.from; key = h.key; few = omega (arith, h.few); sign = h.sign; spelled = value e.value (length e.parts) h.from m (tail_no_colon text m n tail) h.spelled; extent = h.extent },
+    record { key_end = h.key_end; from = h.from; key = h.key; few = omega (arith, h.few); sign = h.sign; spelled = value e.value (length e.parts) h.from m (free m (tail_no_colon text m n tail)) h.spelled; extent = h.extent },
     tail,
     clear,
     gap,
@@ -62,11 +81,30 @@ module _ (S S' : Scalars) (text : List ℕ) (limit wider : ℕ) (more : limit �
   sections : (bs : List Block) (i : ℕ) → SectionsWith S bs text limit i → SectionsWith S' bs text wider i
   sections [] i h = h
   sections (b ∷ bs) i (j, s, rest) =
-      (j, record { end = s.end; header = header b i s.end s.header; header_span = s.header_span; lines = lines b.key_values s.end j s.lines; extent = s.extent }, sections bs j rest)
+      grind (arith, nat_tests, common_steps, sections bs j rest, header, header b i s.end s.header, lines, lines b.key_values s.end j s.lines)
 
   pub document : (bs : List Block) → DocumentWith S bs text limit → DocumentWith S' bs text wider
-  document bs d =
-      record { start = d.start; end = d.end; first = d.first; rest = d.rest; begins = d.begins; lines = lines d.first d.start d.end d.lines; sections = sections d.rest d.end d.sections; all = d.all }
+  document bs d = grind (arith, nat_tests, common_steps, lines, lines d.first d.start d.end d.lines, sections, sections d.rest d.end d.sections)
+
+-- ---- within a greater limit
+
+pub value_wider : (v : ParsedValue) (text : List ℕ) (limit wider d i j : ℕ) → limit ≤ wider → Spells v text limit d i j → Spells v text wider d i j
+value_wider v text limit wider d i j l h = value SpellsScalar SpellsScalar text limit wider l (λ j. Unit {0}) (λ j n. tt) (λ s span i j q x. x) v d i j tt h
 
 pub document_wider : (bs : List Block) (text : List ℕ) (limit wider : ℕ) → limit ≤ wider → SpellsDocument bs text limit → SpellsDocument bs text wider
-document_wider bs text limit wider l d = document SpellsScalar SpellsScalar text limit wider l (λ v d i j n h. value_wider v text limit wider d i j l h) bs d
+document_wider bs text limit wider l d = document SpellsScalar SpellsScalar text limit wider l (λ j. Unit {0}) (λ j n. tt) (λ s span i j q x. x) bs d
+
+-- ---- with dates
+
+scalar_dated : (text : List ℕ) (s : Scalar) (span : Span) (i j : ℕ) → (get_or text j 0 == 58) ≡ false → UndatedScalar s span text i j → SpellsScalar s span text i j
+scalar_dated text (text_scalar v) span i j n h = h
+scalar_dated text (boolean b) span i j n h = h
+scalar_dated text (datetime d) span i j n h = absurd h
+scalar_dated text (integer x) span i j n (h, e) = (no_date (integer x) text i j h n, h, e)
+scalar_dated text (float x) span i j n (h, e) = (no_date (float x) text i j h n, h, e)
+
+pub value_dated : (v : ParsedValue) (text : List ℕ) (limit d i j : ℕ) → (get_or text j 0 == 58) ≡ false → SpellsUndated v text limit d i j → Spells v text limit d i j
+value_dated v text limit d i j n h = value UndatedScalar SpellsScalar text limit limit (omega arith) (λ j. (get_or text j 0 == 58) ≡ false) (λ j x. x) (scalar_dated text) v d i j n h
+
+pub document_dated : (bs : List Block) (text : List ℕ) (limit : ℕ) → SpellsUndatedDocument bs text limit → SpellsDocument bs text limit
+document_dated bs text limit h = document UndatedScalar SpellsScalar text limit limit (omega arith) (λ j. (get_or text j 0 == 58) ≡ false) (λ j x. x) (scalar_dated text) bs h

@@ -1,20 +1,20 @@
 -- What callers say of a text that is read.
-use Rattle.std.specs.Prelude.{◌≡◌, ℕ, List, [], ◌∷◌, ◌++◌, length, Option, Some, None, option_map}
+use Rattle.std.specs.Prelude.{◌≡◌, ℕ, List, [], ◌∷◌, ◌++◌, length, Option, Some, None, Ok, option_map}
 use Rattle.toml_span_tree.specs.Path.{Path, Place}
 use Rattle.toml_span_tree.specs.Pointer.{pointer_segments, NamesPath}
 use Rattle.toml_span_tree.specs.Node.{Node}
 use Rattle.toml_span_read.specs.Data.{Block}
-use Rattle.toml_span_read.specs.Grammar.{SpellsDocument}
+use Rattle.toml_span_read.specs.Read.{document}
 use Rattle.toml_span_read.specs.Limits.{depth_limit}
 use Rattle.toml_span.specs.Claims.{claims}
 use Rattle.toml_span.specs.Clashes.{Resolves}
 use Rattle.toml_span.specs.Flat.{flat, Shows}
 use Rattle.toml_span.specs.Ordered.{IsOrdered}
 
--- The text spells sections of which no two claims clash, and P holds of their flat document.
+-- Reading the text gives sections of which no two claims clash, and P holds of their flat document.
 abbrev pub IsDocument : List ℕ → ((Path → Option Place) → Type 0) → Type 0
 IsDocument text P =
-    (blocks : List Block) × SpellsDocument blocks text depth_limit × Resolves (claims blocks)
+    (blocks : List Block) × document text depth_limit (Ok blocks) × Resolves (claims blocks)
     × P (flat (length text) (claims blocks))
 
 -- At a path whose steps the pointer's segments name stands a place of which P holds.

@@ -6,8 +6,8 @@ use Rattle.toml_span_lex.specs.Bytes.{is_keylike}
 use Rattle.toml_span_lex.specs.Strings.{IsString}
 use Rattle.toml_span_lex.specs.Tokens.{RunAt}
 use Rattle.toml_span_tree.specs.Node.{Scalar, text, integer, float, boolean, datetime}
-use Rattle.toml_span_read.specs.Data.{ParsedValue, Block}
-use Rattle.toml_span_read.specs.Grammar.{truth_text, from_to, SpellsWith, DocumentWith}
+use Rattle.toml_span_read.specs.Data.{ParsedValue, Block, from_to}
+use Rattle.toml_span_read.specs.Grammar.{truth_text, SpellsWith, DocumentWith}
 use Rattle.toml_span_read.specs.Numbers.{IsNumber}
 
 -- The text from i to j is this string, number or truth value, with this span: of a string its content's.

@@ -12,8 +12,8 @@ ghost use Rattle.toml_span_read.specs.Keys.{SimpleKey};
 ghost use Rattle.toml_span_read.specs.Limits.{WithinSection, WithinSections};
 ghost use Rattle.toml_span_read.specs.Places.{SectionInside, SectionsInside};
 ghost use Rattle.toml_span_laws.specs.Places.{BlocksAscend};
-ghost use Rattle.toml_span_read.specs.Data.{Block, KeyValue, block};
-ghost use Rattle.toml_span_read.specs.Grammar.{SpellsDocument, SpellsHeader, SpellsLines, SpellsSection, first_block};
+ghost use Rattle.toml_span_read.specs.Data.{Block, KeyValue, block, first_block};
+ghost use Rattle.toml_span_read.specs.Grammar.{SpellsDocument, SpellsHeader, SpellsLines, SpellsSection};
 ghost use Rattle.toml_span_read.specs.Read as read;
 ghost use Rattle.toml_span_read.specs.Reading.{ReadsDocument, AreRead};
 

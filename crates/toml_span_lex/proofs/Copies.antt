@@ -1,6 +1,5 @@
 -- How long a value is, and which strings need a text of their own.
-use Rattle.std.proofs.Common.{◌≡◌, ℕ, ◌+◌, ◌-◌, ◌<◌, ◌≤◌, ◌⊎◌, Bool, Some, None, Ok, List, [], ◌∷◌, length, get_or, drop, arith, sym, ◌∙◌, refl, ap, length-append, length-take}
-use Rattle.std.specs.Prelude.{slice_range}
+use Rattle.toml_span_lex.proofs.Common.{◌≡◌, ℕ, ◌+◌, ◌-◌, ◌<◌, ◌≤◌, ◌⊎◌, Bool, Some, None, Ok, List, [], ◌∷◌, length, get_or, drop, arith, sym, ◌∙◌, refl, ap, length-append, length-take, slice_range}
 use Rattle.toml_span_lex.specs.declared.pieces.Piece.{Piece}
 use Rattle.toml_span_lex.specs.declared.pieces.Piece.TheVariants as pieces
 use Rattle.toml_span_lex.specs.declared.span.Span.{Span}

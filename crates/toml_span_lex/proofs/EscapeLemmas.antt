@@ -1,6 +1,5 @@
 -- Escapes.
-use Rattle.std.proofs.Common.{◌≡◌, ℕ, ◌<◌, ◌≤◌, false, Some, None, arith, sym, ◌∙◌, refl}
-use Rattle.std.proofs.lemmas.Bool.Decides.{nat_tests}
+use Rattle.toml_span_lex.proofs.Common.{◌≡◌, ℕ, ◌<◌, ◌≤◌, false, Some, None, arith, sym, ◌∙◌, refl, nat_tests}
 use Rattle.toml_span_lex.specs.Escapes.{simple_escape, hex_len, opens_escape}
 
 pub past_escape : (c : ℕ) → 128 ≤ c → opens_escape c ≡ false

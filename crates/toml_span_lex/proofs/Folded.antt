@@ -1,13 +1,7 @@
 -- Character by character, the folded text.
-use Rattle.std.proofs.Common.{◌≡◌, ℕ, ◌+◌, Bool, true, false, List, ◌∷◌, ◌++◌, get_or, drop, arith, inl, inr, sym, ◌∙◌, refl, ap, get_or-drop, add-zero}
-use Rattle.std.specs.Prelude.{◌==◌, ◌&&◌, slice_index, encode_utf8}
-use Rattle.std.specs.Char.{len_utf8}
-use Rattle.std.specs.Str.{IsUtf8, chars}
-use Rattle.std.proofs.lemmas.Str.{chars_past_char, encode_ascii, encodes-chars, byte_from_char, IsUtf8-past_char}
+use Rattle.toml_span_lex.proofs.Common.{◌≡◌, ℕ, ◌+◌, Bool, true, false, List, ◌∷◌, ◌++◌, get_or, drop, arith, inl, inr, sym, ◌∙◌, refl, ap, get_or-drop, add-zero, ◌==◌, ◌&&◌, slice_index, encode_utf8, len_utf8, IsUtf8, chars, chars_past_char, encode_ascii, encodes-chars, byte_from_char, IsUtf8-past_char, false≢true, and_parts, nat_tests, common_steps}
 use Rattle.std.proofs.Math.Utf8.{encodes}
-use Rattle.std.proofs.lemmas.Bool.{false≢true, eqb-true, and_parts}
-use Rattle.std.proofs.lemmas.Bool.Decides.{nat_tests}
-use Rattle.std.proofs.lemmas.Grind.{common_steps}
+use Rattle.std.proofs.lemmas.Bool.{eqb-true}
 use Rattle.toml_span_lex.specs.Text.{is_crlf, CharAt, folded_from, folded}
 use Rattle.toml_span_lex.proofs.Unique.{is_false}
 

@@ -1,10 +1,7 @@
 -- Hexadecimal digits.
-use Rattle.std.proofs.Common.{◌≡◌, ℕ, ◌+◌, ◌*◌, ◌^◌, ◌<◌, ◌≤◌, true, false, List, length, get_or, drop, arith, inl, inr, sym, ◌∙◌, get_or-drop, length-drop, refl}
+use Rattle.toml_span_lex.proofs.Common.{◌≡◌, ℕ, ◌+◌, ◌*◌, ◌^◌, ◌<◌, ◌≤◌, true, false, List, length, get_or, drop, arith, inl, inr, sym, ◌∙◌, get_or-drop, length-drop, refl, pow_more, cases_lt, digit_value}
 use Rattle.std.proofs.Math.Pow.{pow_mono}
-use Rattle.std.proofs.lemmas.Grind.{pow_more}
 use Rattle.std.proofs.lemmas.Int.Digits.{digits_value_more}
-use Rattle.std.proofs.lemmas.Bool.{cases_lt}
-use Rattle.std.specs.Char.{digit_value}
 use Rattle.toml_span_lex.specs.Escapes.{is_hex, HexRun, hex_value}
 
 pub room : (v d k : ℕ) → v < 2 ^ (4 * k) → k < 8 → d < 16 → v * 16 + d < 2 ^ 32

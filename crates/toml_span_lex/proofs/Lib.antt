@@ -1,3 +1,4 @@
+pub mod Common
 pub mod One
 pub mod Tables
 pub mod Runs

@@ -1,8 +1,5 @@
 -- Where a token stands, no fault does.
-use Rattle.std.proofs.Common.{◌≡◌, ℕ, ◌⊎◌, true, false, Ok, Err, List, get_or, arith, inl, inr, sym, ◌∙◌, refl}
-use Rattle.std.specs.Prelude.{◌==◌}
-use Rattle.std.proofs.lemmas.Bool.Decides.{nat_tests}
-use Rattle.std.proofs.lemmas.Bool.{false≢true}
+use Rattle.toml_span_lex.proofs.Common.{◌≡◌, ℕ, ◌⊎◌, true, false, Ok, Err, List, get_or, arith, inl, inr, sym, ◌∙◌, refl, ◌==◌, nat_tests, false≢true}
 use Rattle.toml_span_lex.specs.declared.tokens.Error.{Error}
 use Rattle.toml_span_lex.specs.declared.span.Span.{Span}
 use Rattle.toml_span_lex.specs.Bytes.{is_printed}

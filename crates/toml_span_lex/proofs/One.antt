@@ -1,6 +1,5 @@
 -- Of one thing alone something holds.
-use Rattle.std.proofs.Common.{◌≡◌, ◌⊎◌, Bool, true, false, Result, Ok, Err, inl, inr, sym, ◌∙◌}
-use Rattle.std.proofs.lemmas.Bool.{false≢true}
+use Rattle.toml_span_lex.proofs.Common.{◌≡◌, ◌⊎◌, Bool, true, false, Result, Ok, Err, inl, inr, sym, ◌∙◌, false≢true}
 
 abbrev pub One : {T : Type 0} → (T → Type 0) → Type 0
 One {T = T} m = (r s : T) → m r → m s → r ≡ s

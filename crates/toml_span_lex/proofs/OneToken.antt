@@ -1,7 +1,5 @@
 -- At most one token begins at a place.
-use Rattle.std.proofs.Common.{◌≡◌, ℕ, true, Ok, List, get_or, arith, inl, inr, sym, ◌∙◌, refl, ap}
-use Rattle.std.specs.Prelude.{◌==◌, if◌then◌else◌}
-use Rattle.std.proofs.lemmas.Bool.Decides.{nat_tests}
+use Rattle.toml_span_lex.proofs.Common.{◌≡◌, ℕ, true, Ok, List, get_or, arith, inl, inr, sym, ◌∙◌, refl, ap, ◌==◌, if◌then◌else◌, nat_tests}
 use Rattle.toml_span_lex.specs.declared.span.Span.{Span}
 use Rattle.toml_span_lex.specs.Bytes.{is_blank, is_keylike, is_printed}
 use Rattle.toml_span_lex.specs.Tokens.{Lexeme, whitespace, newline, comment, punctuator, keylike, string, is_punctuator, Stands}

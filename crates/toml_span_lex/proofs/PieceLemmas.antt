@@ -1,15 +1,6 @@
 -- Pieces of a string, and what is kept of them.
-use Rattle.std.proofs.Common.{◌≡◌, ℕ, ◌+◌, ◌-◌, ◌<◌, ◌≤◌, ◌⊎◌, Bool, true, Option, Some, Result, IfErr, List, [], ◌∷◌, ◌++◌, length, get_or, take, drop, arith, inl, inr, sym, refl, length-append, length-take, length-drop, append_assoc, append-nil, get_or-take, get_or-drop, take-add, drop-drop}
-use Rattle.std.specs.Prelude.{encode_utf8, slice_range, string_bytes}
-use Rattle.std.specs.Char.{digit_value}
-use Rattle.std.specs.Str.Parse.{digits_value}
+use Rattle.toml_span_lex.proofs.Common.{◌≡◌, ℕ, ◌+◌, ◌-◌, ◌<◌, ◌≤◌, ◌⊎◌, Bool, true, Option, Some, Result, IfErr, List, [], ◌∷◌, ◌++◌, length, get_or, take, drop, arith, inl, inr, sym, refl, length-append, length-take, length-drop, append_assoc, append-nil, get_or-take, get_or-drop, take-add, drop-drop, encode_utf8, slice_range, string_bytes, digit_value, digits_value, String, common_steps, nat_tests, length-encode, len_utf8_bounds, len_utf8_ascii, IsUtf8, IsCharBoundary-before_ascii}
 use Rattle.toml_span_lex.proofs.Runs.{behind}
-use Rattle.std.specs.declared.string.String.{String}
-use Rattle.std.proofs.lemmas.Grind.{common_steps}
-use Rattle.std.proofs.lemmas.Bool.Decides.{nat_tests}
-use Rattle.std.proofs.lemmas.Str.{length-encode, len_utf8_bounds, len_utf8_ascii}
-use Rattle.std.specs.Str.{IsUtf8}
-use Rattle.std.proofs.lemmas.Str.{IsCharBoundary-before_ascii}
 use Rattle.toml_span_lex.specs.Bytes.{quotation_mark, backslash, carriage_return, is_blank, MaximalRun}
 use Rattle.toml_span_lex.specs.declared.pieces.Piece.{Piece}
 use Rattle.toml_span_lex.specs.Text.{LineEnd, NoLineEnd}

@@ -1,12 +1,5 @@
 -- Where a run ends, the text may be cut.
-use Rattle.std.proofs.Common.{◌≡◌, ℕ, ◌+◌, ◌-◌, ◌<◌, ◌≤◌, ◌⊎◌, Bool, true, false, List, ◌++◌, length, get_or, drop, arith, inl, inr, sym, ◌∙◌, get_or-drop, add-zero, length-drop, refl, ap}
-use Rattle.std.specs.Prelude.{encode_utf8, slice_range, ◌||◌, ◌==◌}
-use Rattle.std.specs.Char.{len_utf8}
-use Rattle.std.specs.Str.{IsUtf8, IsCharBoundary}
-use Rattle.std.proofs.lemmas.Str.{IsCharBoundary-after_ascii, IsUtf8-drop, IsCharBoundary-past_char, drop_past_char, byte_from_char, char_from_byte, length-encode, len_utf8_bounds}
-use Rattle.std.proofs.lemmas.Bool.{cases_lt, false≢true}
-use Rattle.std.proofs.lemmas.Grind.{common_steps}
-use Rattle.std.proofs.lemmas.Bool.Decides.{nat_tests}
+use Rattle.toml_span_lex.proofs.Common.{◌≡◌, ℕ, ◌+◌, ◌-◌, ◌<◌, ◌≤◌, ◌⊎◌, Bool, true, false, List, ◌++◌, length, get_or, drop, arith, inl, inr, sym, ◌∙◌, get_or-drop, add-zero, length-drop, refl, ap, encode_utf8, slice_range, ◌||◌, ◌==◌, len_utf8, IsUtf8, IsCharBoundary, IsCharBoundary-after_ascii, IsUtf8-drop, IsCharBoundary-past_char, drop_past_char, byte_from_char, char_from_byte, length-encode, len_utf8_bounds, cases_lt, false≢true, common_steps, nat_tests}
 use Rattle.toml_span_lex.specs.Bytes.{MaximalRun, is_blank, is_keylike, is_printed}
 use Rattle.toml_span_lex.specs.Text.{is_crlf, CharAt, NoLineEnd}
 use Rattle.toml_span_lex.specs.Pieces.{is_ws_or_newline, is_plain}

@@ -1,8 +1,5 @@
 -- What a walk finds, stands.
-use Rattle.std.proofs.Common.{arith}
-use Rattle.std.proofs.lemmas.Grind.{common_steps}
-use Rattle.std.proofs.lemmas.Bool.Decides.{nat_tests}
-use Rattle.std.proofs.Common.{ℕ, List, Result, Ok, Err, inl, inr}
+use Rattle.toml_span_lex.proofs.Common.{arith, common_steps, nat_tests, ℕ, List, Result, Ok, Err, inl, inr}
 use Rattle.toml_span_lex.specs.declared.tokens.Token.{Token}
 use Rattle.toml_span_lex.specs.declared.tokens.Error.{Error}
 use Rattle.toml_span_lex.specs.Strings.{opens_multi}

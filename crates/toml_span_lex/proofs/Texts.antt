@@ -1,12 +1,5 @@
 -- Names as lists of bytes: their equality and their order.
-use Rattle.std.proofs.lemmas.Grind.{common_steps}
-use Rattle.std.proofs.lemmas.Bool.Decides.{nat_tests}
-use Rattle.std.proofs.Common.{◌≡◌, ℕ, ◌⊎◌, Bool, true, false, List, inl, inr, sym, ◌∙◌, ap, arith}
-use Rattle.std.specs.Prelude.{nat_eq}
-use Rattle.std.specs.Ordering.{nat_cmp, is_eq}
-use Rattle.std.specs.declared.cmp.Ordering.{Ordering}
-use Rattle.std.specs.declared.cmp.Ordering.TheVariants.{Equal}
-use Rattle.std.specs.Cmp.Lexicographic.{pointwise, slice_cmp, same_text, other_text, texts_ties}
+use Rattle.toml_span_lex.proofs.Common.{common_steps, nat_tests, ◌≡◌, ℕ, ◌⊎◌, Bool, true, false, List, inl, inr, sym, ◌∙◌, ap, arith, nat_eq, nat_cmp, is_eq, Ordering, Equal, pointwise, slice_cmp, same_text, other_text, texts_ties}
 
 either : (b : Bool) → (b ≡ true) ⊎ (b ≡ false)
 either b = grind (arith, nat_tests, common_steps)

@@ -1,10 +1,6 @@
 -- Where runs, line ends and contents begin and end, one place does.
-use Rattle.std.proofs.lemmas.Grind.{common_steps}
-use Rattle.std.proofs.Common.{◌≡◌, ℕ, ◌<◌, ◌≤◌, Bool, true, false, List, length, get_or, arith}
-use Rattle.std.specs.Prelude.{◌==◌, ◌||◌, not}
-use Rattle.std.proofs.lemmas.Bool.Decides.{nat_tests}
+use Rattle.toml_span_lex.proofs.Common.{common_steps, ◌≡◌, ℕ, ◌<◌, ◌≤◌, Bool, true, false, List, length, get_or, arith, ◌==◌, ◌||◌, not, nat_tests, or-true}
 use Rattle.std.proofs.lemmas.Bool.{eq-eqb}
-use Rattle.std.proofs.Math.Bool.{or-true}
 use Rattle.toml_span_lex.specs.Bytes.{MaximalRun, is_printed}
 use Rattle.toml_span_lex.specs.Text.{LineEnd, NoLineEnd}
 use Rattle.toml_span_lex.specs.Pieces.{WsAndNewlines}

@@ -18,7 +18,7 @@ fn hex_escape(
     requires within { at < length text.now }
     requires ascii { slice_index text.now at < 128 }
     requires few { len ≤ 8 }
-    ensures gives { code.HexGives start text.now at len result }
+    ensures hex { code.HexGives start text.now at len result }
     ensures boundary { LeadsTo (λ j. IsCharBoundary text.now j) result }
 {
     let bytes = text.as_bytes();
@@ -77,7 +77,7 @@ fn hex_len(letter: u8) -> usize
 /// The escape whose letter is at a place: `escaped = escape escape-seq-char`, behind the `escape`.
 pub(crate) fn escape(text: &str, start: usize, at: usize) -> Result<(char, usize), (Error, usize)>
     requires { IsCharBoundary text.now at }
-    ensures gives { code.EscapeGives start text.now at result }
+    ensures escape { code.EscapeGives start text.now at result }
     ensures boundary { LeadsTo (λ j. IsCharBoundary text.now j) result }
 {
     let bytes = text.as_bytes();

@@ -127,7 +127,7 @@ fn quotes(text: &str, quote: u8, at: usize) -> (Option<Piece>, usize)
     requires boundary { IsCharBoundary text.now at }
     requires ascii { quote < 128 }
     requires here { slice_index text.now at ≡ quote }
-    ensures gives { code.PieceGives quote true 0 text.now at (Ok result) }
+    ensures piece { code.PieceGives quote true 0 text.now at (Ok result) }
     ensures boundary { IsCharBoundary text.now result.1 }
 {
     let end = quotes_end(text, quote, at);
@@ -147,7 +147,7 @@ fn escape_piece(
 ) -> Result<(Option<Piece>, usize), (Error, usize)>
     requires within { at < length text.now }
     requires here { slice_index text.now at ≡ backslash }
-    ensures gives { code.PieceGives quotation_mark multi start text.now at result }
+    ensures piece { code.PieceGives quotation_mark multi start text.now at result }
     ensures boundary { LeadsTo (λ j. IsCharBoundary text.now j) result }
 {
     let letter = at + 1;
@@ -175,7 +175,7 @@ fn drop_line(text: &str, start: usize, at: usize) -> Result<(Option<Piece>, usiz
     requires within { at + 1 < length text.now }
     requires here { slice_index text.now at ≡ backslash }
     requires gap { spec.is_ws_or_newline text.now (at + 1) ≡ true }
-    ensures gives { code.PieceGives quotation_mark true start text.now at result }
+    ensures piece { code.PieceGives quotation_mark true start text.now at result }
     ensures boundary { LeadsTo (λ j. IsCharBoundary text.now j) result }
 {
     let bytes = text.as_bytes();
@@ -204,7 +204,7 @@ pub(crate) fn piece_at(
 ) -> Result<(Option<Piece>, usize), (Error, usize)>
     requires boundary { IsCharBoundary text.now at }
     requires quote { IsQuote quote }
-    ensures gives { code.PieceGives quote multi start text.now at result }
+    ensures piece { code.PieceGives quote multi start text.now at result }
     ensures boundary { LeadsTo (λ j. IsCharBoundary text.now j) result }
 {
     let end = plain_end(text, quote, at);

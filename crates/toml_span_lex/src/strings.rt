@@ -114,7 +114,7 @@ fn content(
 ) -> Result<(Option<String>, usize, usize), Stop<(Error, usize)>>
     requires boundary { IsCharBoundary text.now from }
     requires quote { IsQuote quote }
-    ensures gives { code.ContentGives quote multi start text.now from result }
+    ensures content { code.ContentGives quote multi start text.now from result }
     ensures ends { code.EndsWell text.now from result }
 {
     let mut kept = None;
@@ -183,7 +183,7 @@ pub fn string_at(
 ) -> Result<(Span, Token<'_>, usize), Stop<(Error, usize)>>
     requires within { at < length text.now }
     requires quote { IsQuote (slice_index text.now at) }
-    ensures gives { StringGives text.now at result }
+    ensures string { StringGives text.now at result }
     ensures borrows { StringBorrows text.now result }
     ensures ends { StringEnds text.now result }
 {

@@ -9,7 +9,7 @@ ghost use Rattle.toml_span_lex.specs.Text.{CharAt};
 pub fn char_at(text: &str, at: usize) -> (char, usize)
     requires boundary { IsCharBoundary text.now at }
     requires within { at < length text.now }
-    ensures gives { CharAt text.now at result.0 result.1 }
+    ensures char { CharAt text.now at result.0 result.1 }
     ensures boundary { IsCharBoundary text.now result.1 }
 {
     let bytes = text.as_bytes();
@@ -40,7 +40,7 @@ pub fn is_crlf(bytes: &[u8], at: usize) -> bool
 #[tactic(auto, using(crate::proofs::Runs::behind_line))]
 pub fn line_end(text: &str, at: usize) -> Option<usize>
     requires { at ≤ length text.now }
-    ensures gives { code.LineEndGives text.now at result }
+    ensures line_end { code.LineEndGives text.now at result }
     ensures boundary { IfSome result (λ j. IsCharBoundary text.now j) }
 {
     let bytes = text.as_bytes();

@@ -46,7 +46,7 @@ impl<'a> Model for Tokenizer<'a> {
 
 /// Where reading begins: at the start, or behind a byte order mark there.
 pub fn first_place(text: &str) -> usize
-    ensures gives { spec.FirstPlace text.now result }
+    ensures place { spec.FirstPlace text.now result }
     ensures boundary { IsCharBoundary text.now result }
     ensures whole { KeepsLineEnd text.now result }
 {
@@ -66,7 +66,7 @@ pub fn token_at(input: &str, at: usize) -> Result<(Token<'_>, usize), (Error, us
     requires boundary { IsCharBoundary input.now at }
     requires within { at < length input.now }
     requires quote { (slice_index input.now at == quotation_mark || slice_index input.now at == apostrophe) ≡ false }
-    ensures gives { Finds input.now at result }
+    ensures finds { Finds input.now at result }
     ensures boundary { LeadsTo (λ j. IsCharBoundary input.now j) result }
 {
     let bytes = input.as_bytes();
@@ -100,7 +100,7 @@ fn other_at(input: &str, at: usize) -> Result<(Token<'_>, usize), (Error, usize)
     requires within { at < length input.now }
     requires other { begins_alone (slice_index input.now at) ≡ false }
     requires quote { (slice_index input.now at == quotation_mark || slice_index input.now at == apostrophe) ≡ false }
-    ensures gives { Finds input.now at result }
+    ensures finds { Finds input.now at result }
     ensures boundary { LeadsTo (λ j. IsCharBoundary input.now j) result }
 {
     let bytes = input.as_bytes();
@@ -164,7 +164,7 @@ impl<'a> Tokenizer<'a> {
     /// fault names, or at the end of the text for a string that is not closed.
     pub fn step(&mut self, alloc: Global) -> Result<Option<(Span, Token<'a>)>, Stop<Error>>
         ensures text { self.new.text ≡ self.old.text }
-        ensures gives { spec.StepGives self.old.text self.old.at result self.new.at }
+        ensures step { spec.StepGives self.old.text self.old.at result self.new.at }
         ensures borrows { spec.BorrowsAt self.old.text self.old.at result self.new.at }
     {
         let start = self.at;
@@ -201,7 +201,7 @@ impl<'a> Tokenizer<'a> {
     /// What `step` would answer. Nothing changes.
     pub fn peek(&mut self, alloc: Global) -> Result<Option<(Span, Token<'a>)>, Stop<Error>>
         ensures unchanged { self.new ≡ self.old }
-        ensures gives { (j : ℕ) × spec.StepGives self.old.text self.old.at result j
+        ensures step { (j : ℕ) × spec.StepGives self.old.text self.old.at result j
             × spec.BorrowsAt self.old.text self.old.at result j }
     {
         let mut ahead = self.copy();
@@ -213,7 +213,7 @@ impl<'a> Tokenizer<'a> {
     /// Where another token stands, none, or a fault, nothing changes.
     pub fn eat(&mut self, alloc: Global, expected: Token<'a>) -> Result<bool, Stop<Error>>
         ensures text { self.new.text ≡ self.old.text }
-        ensures gives { spec.Eats self.old result (lexeme expected.entry) self.new }
+        ensures eats { spec.Eats self.old result (lexeme expected.entry) self.new }
     {
         match self.eat_spanned(alloc, expected) {
             Ok(Some(_)) => Ok(true),
@@ -231,7 +231,7 @@ impl<'a> Tokenizer<'a> {
         expected: Token<'a>,
     ) -> Result<Option<Span>, Stop<Error>>
         ensures text { self.new.text ≡ self.old.text }
-        ensures gives { spec.EatsSpanned self.old result (lexeme expected.entry) self.new }
+        ensures eats { spec.EatsSpanned self.old result (lexeme expected.entry) self.new }
     {
         let mut ahead = self.copy();
         match ahead.step(alloc)? {
@@ -253,7 +253,7 @@ impl<'a> Tokenizer<'a> {
     /// wanted, it stands where `step` leaves it.
     pub fn expect(&mut self, alloc: Global, expected: Token<'a>) -> Result<(), Stop<Error>>
         ensures text { self.new.text ≡ self.old.text }
-        ensures gives { spec.Expects self.old.text self.old.at result (lexeme expected.entry) self.new.at }
+        ensures expects { spec.Expects self.old.text self.old.at result (lexeme expected.entry) self.new.at }
     {
         match self.expect_spanned(alloc, expected) {
             Ok(_) => Ok(()),
@@ -271,7 +271,7 @@ impl<'a> Tokenizer<'a> {
         expected: Token<'a>,
     ) -> Result<Span, Stop<Error>>
         ensures text { self.new.text ≡ self.old.text }
-        ensures gives { spec.ExpectsSpanned self.old.text self.old.at result (lexeme expected.entry) self.new.at }
+        ensures expects { spec.ExpectsSpanned self.old.text self.old.at result (lexeme expected.entry) self.new.at }
     {
         let at = self.at;
         match self.step(alloc)? {
@@ -300,7 +300,7 @@ impl<'a> Tokenizer<'a> {
     /// stands behind it.
     pub fn table_key(&mut self, alloc: Global) -> Result<Key<'a>, Stop<Error>>
         ensures text { self.new.text ≡ self.old.text }
-        ensures gives { spec.TableKeyGives self.old.text self.old.at result self.new.at }
+        ensures key { spec.TableKeyGives self.old.text self.old.at result self.new.at }
     {
         let at = self.at;
         match self.step(alloc)? {
@@ -342,7 +342,7 @@ impl<'a> Tokenizer<'a> {
     /// Another token is `Wanted`, and the tokenizer stands behind it.
     pub fn eat_newline_or_eof(&mut self, alloc: Global) -> Result<(), Stop<Error>>
         ensures text { self.new.text ≡ self.old.text }
-        ensures gives { spec.LineEndDue self.old.text self.old.at result self.new.at }
+        ensures line_end { spec.LineEndDue self.old.text self.old.at result self.new.at }
     {
         let at = self.at;
         match self.step(alloc)? {
@@ -361,7 +361,7 @@ impl<'a> Tokenizer<'a> {
     /// the tokenizer stands behind it.
     pub fn eat_comment(&mut self) -> Result<bool, Error>
         ensures text { self.new.text ≡ self.old.text }
-        ensures gives { spec.EatsComment self.old.text self.old.at result self.new.at }
+        ensures comment { spec.EatsComment self.old.text self.old.at result self.new.at }
     {
         let bytes = self.input.as_bytes();
         if self.at == bytes.len() || bytes[self.at] != b'#' {
@@ -414,7 +414,7 @@ impl<'a> Tokenizer<'a> {
     /// is one line feed.
     pub fn one(&mut self) -> Option<(usize, char)>
         ensures text { self.new.text ≡ self.old.text }
-        ensures gives { spec.OneGives self.old.text self.old.at result self.new.at }
+        ensures one { spec.OneGives self.old.text self.old.at result self.new.at }
     {
         let at = self.at;
         if at == self.input.len() {

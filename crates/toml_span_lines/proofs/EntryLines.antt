@@ -1,8 +1,6 @@
 -- The lines of a tree are those of its entries.
-use Rattle.std.proofs.Common.{◌≡◌, ℕ, suc, true, List, [], ◌∷◌, ◌++◌, Option, Some, None, flat_map, refl, sym, ap, ◌∙◌, append_assoc}
+use Rattle.toml_span_lex.proofs.Common.{arith, nat_tests, common_steps, ◌≡◌, ℕ, suc, true, List, [], ◌∷◌, ◌++◌, Option, Some, None, flat_map, refl, false≢true, and_parts}
 use Rattle.std.proofs.lemmas.List.{append-nil}
-use Rattle.std.proofs.lemmas.Grind.{flat_map-append}
-use Rattle.std.proofs.lemmas.Bool.{false≢true, and_parts}
 use Rattle.toml_span_lex.specs.declared.span.Span.{Span}
 use Rattle.toml_span_tree.specs.Node.{Node, node, Inner, taken, scalar, array, table, Items, no_items, item, Members, no_members, member}
 use Rattle.toml_span_tree.specs.Path.{Step, key, position}
@@ -17,22 +15,17 @@ line_below path e = line (path ++ flat_map segment e.0) (shape_name e.1.shape) e
 
 lines-under : (path : List ℕ) (s : Step) (es : List PlaceAt) → flat_map (line_below (path ++ segment s)) es ≡ flat_map (line_below path) (under s es)
 lines-under path s [] = refl
-lines-under path s (e ∷ es) =
-    ap (λ p. line p (shape_name e.1.shape) e.1.span.start e.1.span.end ++ flat_map (line_below (path ++ segment s)) es) (append_assoc path (segment s) (flat_map segment e.0))
-    ∙ ap (λ l. line_below path (s ∷ e.0, e.1) ++ l) (lines-under path s es)
+lines-under path s (e ∷ es) = grind (arith, nat_tests, common_steps, lines-under path s es)
 
 -- the lines below a step, and then others
 joined : (path lines more : List ℕ) (s : Step) (es fs : List PlaceAt) → lines ≡ flat_map (line_below (path ++ segment s)) es → more ≡ flat_map (line_below path) fs →
     lines ++ more ≡ flat_map (line_below path) (under s es ++ fs)
-joined path lines more s es fs h g =
-    ap (λ l. l ++ more) (h ∙ lines-under path s es) ∙ ap (λ l. flat_map (line_below path) (under s es) ++ l) g
-    ∙ sym (flat_map-append (line_below path) (under s es) fs)
+joined path lines more s es fs h g = grind (arith, nat_tests, common_steps, lines-under path s es)
 
 -- the line of a node itself
 own : (path lines more : List ℕ) (i : Inner) (span : Span) → lines ≡ more →
     line path (kind_name i) span.start span.end ++ lines ≡ line (path ++ []) (kind_name i) span.start span.end ++ more
-own path lines more i span h =
-    ap (λ p. line p (kind_name i) span.start span.end ++ lines) (sym (append-nil path)) ∙ ap (λ l. line (path ++ []) (kind_name i) span.start span.end ++ l) h
+own path lines more i span h = grind (arith, common_steps, append-nil path)
 
 mutual
   node-lines : (path : List ℕ) (at : Option Span) (n : Node) → is_whole n ≡ true → node_lines path n ≡ flat_map (line_below path) (node_entries at n)

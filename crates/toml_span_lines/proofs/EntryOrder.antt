@@ -1,6 +1,5 @@
 -- The entries of a tree stand in the order of their paths.
-use Rattle.std.proofs.Common.{◌≤◌, ℕ, suc, List, [], ◌∷◌, ◌++◌, Option, Some, None, refl, inl, inr, arith}
-use Rattle.std.specs.List.{AllByRecursion}
+use Rattle.toml_span_lex.proofs.Common.{◌≤◌, ℕ, suc, List, [], ◌∷◌, ◌++◌, Option, Some, None, refl, inl, inr, arith, AllByRecursion}
 use Rattle.toml_span_lex.specs.declared.span.Span.{Span}
 use Rattle.toml_span_tree.specs.Node.{Node, node, Inner, taken, scalar, array, table, Items, no_items, item, Members, no_members, member}
 use Rattle.toml_span_tree.specs.Path.{Path, Step, key, position}

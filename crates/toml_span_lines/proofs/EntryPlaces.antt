@@ -1,10 +1,5 @@
 -- The entries of a tree are what stands at its paths.
-use Rattle.std.proofs.Common.{◌≡◌, ◌+◌, ◌⊎◌, ℕ, zero, suc, Bool, false, cond, List, [], ◌∷◌, ◌++◌, Option, Some, None, option_map, refl, sym, ap, subst, ◌∙◌, inl, inr, arith}
-use Rattle.std.specs.Prelude.{option_and_then}
-use Rattle.std.specs.Str.{bytes_eq}
-use Rattle.std.proofs.lemmas.Bool.{cases_Bool}
-use Rattle.std.proofs.lemmas.Slice.Eq.{bytes_eq-Decides}
-use Rattle.std.proofs.lemmas.Option.{none-some, same_Some}
+use Rattle.toml_span_lex.proofs.Common.{nat_tests, common_steps, ◌≡◌, ◌+◌, ◌⊎◌, ℕ, zero, suc, Bool, false, cond, List, [], ◌∷◌, ◌++◌, Option, Some, None, option_map, refl, sym, ap, subst, ◌∙◌, inl, inr, arith, option_and_then, bytes_eq, cases_Bool, bytes_eq-Decides, none-some, same_Some}
 use Rattle.toml_span_lex.specs.declared.span.Span.{Span}
 use Rattle.toml_span_tree.specs.Node.{Node, node, Inner, taken, scalar, array, table, Items, no_items, item, Members, no_members, member, entry_at, element_at}
 use Rattle.toml_span_tree.specs.Path.{Path, Step, key, position, Place, at_step, place_at, place_of, reached}
@@ -18,8 +13,7 @@ use Rattle.toml_span_lines.proofs.Entries.{under, node_entries, inner_entries, i
 
 in-left : (e : PlaceAt) (es fs : List PlaceAt) → IsIn e es → IsIn e (es ++ fs)
 in-left e [] fs h = absurd h
-in-left e (f ∷ es) fs (inl is) = inl is
-in-left e (f ∷ es) fs (inr h) = inr (in-left e es fs h)
+in-left e (f ∷ es) fs h = grind (arith, common_steps, in-left e es fs)
 
 in-right : (e : PlaceAt) (es fs : List PlaceAt) → IsIn e fs → IsIn e (es ++ fs)
 in-right e [] fs h = h
@@ -27,13 +21,11 @@ in-right e (f ∷ es) fs h = inr (in-right e es fs h)
 
 in-either : (e : PlaceAt) (es fs : List PlaceAt) → IsIn e (es ++ fs) → IsIn e es ⊎ IsIn e fs
 in-either e [] fs h = inr h
-in-either e (f ∷ es) fs (inl is) = inl (inl is)
-in-either e (f ∷ es) fs (inr h) = elim (in-either e es fs h) [ inl g ↦ inl (inr g) | inr g ↦ inr g ]
+in-either e (f ∷ es) fs h = grind (arith, common_steps, in-either e es fs)
 
 in-under : (s : Step) (p : Path) (x : Place) (es : List PlaceAt) → IsIn (p, x) es → IsIn (s ∷ p, x) (under s es)
 in-under s p x [] h = h
-in-under s p x (e ∷ es) (inl is) = inl (ap (λ f. (s ∷ f.0, f.1)) is)
-in-under s p x (e ∷ es) (inr h) = inr (in-under s p x es h)
+in-under s p x (e ∷ es) h = grind (arith, common_steps, in-under s p x es)
 
 -- what is below a step begins with it
 from-under : (s : Step) (q : Path) (x : Place) (es : List PlaceAt) → IsIn (q, x) (under s es) → (p : Path) × (q ≡ s ∷ p) × IsIn (p, x) es
@@ -109,11 +101,8 @@ IsMember ms q x = (name : List ℕ) × (p : Path) × (q ≡ key name ∷ p) × (
 
 -- what holds of each name holds of one that leads somewhere
 each-found : (P : List ℕ → Type 0) (ms : Members) (name : List ℕ) (p : Path) (x : Place) → EachName P ms → found p (entry_at name ms) ≡ Some x → P name
-each-found P no_members name p x e h = absurd (none-some x h)
-each-found P (member other at n ms) name p x e h = elim (cases_Bool (bytes_eq name other)) [
-  | inl same ↦ subst P (sym (bytes_same name other same)) e.0
-  | inr off ↦ each-found P ms name p x e.1 (sym (ap (λ (b : Bool). found p (cond b (Some (Some at, n)) (entry_at name ms))) off) ∙ h)
-]
+each-found P no_members name p x e h = grind (arith, nat_tests, common_steps)
+each-found P (member other at n ms) name p x e h = grind (arith, nat_tests, common_steps, bytes_same name other, each-found P ms name p x)
 
 from-own : (at : Option Span) (n : Node) (p : Path) (x : Place) → ◌≡◌ {A = PlaceAt} (p, x) ([], place_of (at, n)) → option_map place_of (reached p (at, n)) ≡ Some x
 from-own at n p x is = subst (λ (e : PlaceAt). option_map place_of (reached e.0 (at, n)) ≡ Some e.1) (sym is) refl

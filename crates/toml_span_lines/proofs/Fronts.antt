@@ -1,8 +1,5 @@
 -- One text after another that is written in part and held in part.
-use Rattle.std.proofs.Common.{◌≡◌, ◌+◌, ℕ, Bool, false, List, [], ◌++◌, Option, Result, Ok, Err, IsErrAnd, length, take, drop, refl, sym, ap, subst, ◌∙◌, append_assoc, length-append, take-append-drop, arith}
-use Rattle.std.proofs.KnownBytes.{Appends-nil}
-use Rattle.std.proofs.Math.Seq.{take-append_seam}
-use Rattle.std.specs.Io.KnownBytes.{Appends}
+use Rattle.toml_span_lex.proofs.Common.{nat_tests, common_steps, ◌≡◌, ◌+◌, ℕ, Bool, false, List, [], ◌++◌, Option, Result, Ok, Err, IsErrAnd, length, take, drop, refl, sym, ap, subst, ◌∙◌, append_assoc, length-append, take-append-drop, arith, Appends-nil, take-append_seam, Appends}
 use Rattle.toml_span_lines.specs.declared.held.Unwritten.{Unwritten}
 use Rattle.toml_span_lines.specs.declared.held.Unwritten.TheVariants.{Failed, Memory}
 use Rattle.toml_span_lines.specs.Held.{HoldsRest, Streams}
@@ -44,23 +41,15 @@ written-more a b c done held piece h w =
     front-written a c (done ++ piece) front.0 (holds-more a b c done held piece front.0 h front.1)
 
 -- a step fails behind others, of which all is written or held
-fails-with : (A B : Type 0) (e : Unwritten) (a b c : Option (List ℕ)) (failed : Bool) (done held piece rest all kept left : List ℕ) →
-    HoldsRest a b done held → Streams {A = A} (Err e) b c failed (held ++ piece) kept → (done ++ piece) ++ rest ≡ all → Streams {A = B} (Err e) a c failed all left
-fails-with A B Memory a b c failed done held piece rest all kept left h s is = (s.0, written-longer a c (done ++ piece) rest all (written-more a b c done held piece h s.1) is)
-fails-with A B Failed a b c failed done held piece rest all kept left h s is = (s.0, written-longer a c (done ++ piece) rest all (written-more a b c done held piece h s.1) is)
-
 pub fails-behind : (A B : Type 0) (r : Result B Unwritten) (e : Unwritten) (a b c : Option (List ℕ)) (failed : Bool) (done held piece rest all kept left : List ℕ) →
     IsErrAnd r (λ y. y ≡ e) → HoldsRest a b done held → Streams {A = A} (Err e) b c failed (held ++ piece) kept → (done ++ piece) ++ rest ≡ all → Streams {A = B} r a c failed all left
-fails-behind A B (Ok v) e a b c failed done held piece rest all kept left err h s is = absurd err
-fails-behind A B (Err y) e a b c failed done held piece rest all kept left err h s is =
-    subst (λ (x : Unwritten). Streams {A = B} (Err x) a c failed all left) (sym err) (fails-with A B e a b c failed done held piece rest all kept left h s is)
+fails-behind A B r e a b c failed done held piece rest all kept left err h s is =
+    grind (arith, nat_tests, common_steps, written-more a b c done held piece h, written-longer a c (done ++ piece) rest all)
 
 -- memory is refused between two steps
 pub stops-behind : {A : Type 0} (r : Result A Unwritten) (a b : Option (List ℕ)) (failed : Bool) (done held rest all left : List ℕ) →
     IsErrAnd r (λ y. y ≡ Memory) → HoldsRest a b done held → failed ≡ false → done ++ rest ≡ all → Streams r a b failed all left
-stops-behind (Ok v) a b failed done held rest all left err h good is = absurd err
-stops-behind (Err Memory) a b failed done held rest all left err h good is = (good, written-longer a b done rest all (front-written a b done held h) is)
-stops-behind (Err Failed) a b failed done held rest all left err h good is = cc
+stops-behind r a b failed done held rest all left err h good is = grind (arith, nat_tests, common_steps, written-longer a b done rest all, front-written a b done held h)
 
 -- a last step behind others
 pub goes-on : {A : Type 0} (r : Result A Unwritten) (a b c : Option (List ℕ)) (failed : Bool) (done held piece all kept : List ℕ) →

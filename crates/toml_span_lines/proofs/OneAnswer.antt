@@ -1,18 +1,13 @@
 -- Bytes are a document or are refused, and one text shows it or tells why.
-use Rattle.std.proofs.Common.{◌≡◌, ℕ, ◌+◌, ◌≤◌, ◌⊎◌, Bool, true, false, nat_lt, List, ◌++◌, Option, Some, None, take, Err, refl, sym, ap, subst, ◌∙◌, inl, inr, length}
-use Rattle.std.proofs.lemmas.Bool.{cases_lt, false≢true}
-use Rattle.std.proofs.lemmas.List.{append-nil, take_all, take_at}
-use Rattle.std.proofs.lemmas.Str.{IsUtf8-from_is_utf8, is_utf8-from_IsUtf8}
-use Rattle.std.specs.Io.KnownBytes.{Appends, Consumes, IsAtEnd}
-use Rattle.std.specs.Str.{IsUtf8, is_utf8}
+use Rattle.toml_span_lex.proofs.Common.{arith, nat_tests, common_steps, ◌≡◌, ℕ, ◌+◌, ◌≤◌, ◌⊎◌, Bool, true, false, nat_lt, List, ◌++◌, Option, Some, None, take, Err, refl, sym, ap, subst, ◌∙◌, inl, inr, length, cases_lt, false≢true, take_at, IsUtf8-from_is_utf8, is_utf8-from_IsUtf8, Appends, Consumes, IsAtEnd, IsUtf8, is_utf8}
+use Rattle.std.proofs.lemmas.List.{append-nil, take_all}
 use Rattle.toml_span_lex.specs.declared.stop.Stop.TheVariants as stops
 use Rattle.toml_span_tree.specs.Error.{content_of}
 use Rattle.toml_span_tree.specs.declared.error.Error.{Error}
 use Rattle.toml_span.specs.Claims.{claims}
 use Rattle.toml_span.specs.Flat.{flat}
 use Rattle.toml_span.specs.Parsing.{IsRefusal, resolved}
-use Rattle.toml_span_laws.proofs.Answered.{decides, one-refusal}
-use Rattle.toml_span_laws.proofs.OneSpelled.{document_unique}
+use Rattle.toml_span_laws.proofs.Answered.{blocks-one, decides, one-refusal}
 use Rattle.toml_span_lines.specs.Lines.{error_line}
 use Rattle.toml_span_lines.specs.Run.{bound, IsShown, IsAnswer, Runs}
 use Rattle.toml_span_lines.specs.Shown.{ShowsDocument, ShowsRefusal, ShowsPlaces}
@@ -20,11 +15,11 @@ use Rattle.toml_span_lines.proofs.OneText.{one-text}
 
 pub one-shown : (bytes : List ℕ) (limit : ℕ) (text other : List ℕ) → ShowsDocument bytes limit text → ShowsDocument bytes limit other → text ≡ other
 one-shown bytes limit text other d e =
-    let same = document_unique bytes limit e.blocks d.blocks e.spelled d.spelled in
+    let same = blocks-one bytes limit e.blocks d.blocks e.read d.read in
     one-text (flat (length bytes) (claims d.blocks)) text other d.shown (subst (λ l. ShowsPlaces (flat (length bytes) (claims l)) other) same e.shown)
 
 pub not-refused : (bytes : List ℕ) (limit : ℕ) (text other : List ℕ) → ShowsDocument bytes limit text → ShowsRefusal bytes limit other → ⊥
-not-refused bytes limit text other d (error, refusal, is) = decides bytes limit (resolved d.blocks) (Err (stops.Fault error)) (d.spelled, d.resolves) refusal
+not-refused bytes limit text other d (error, refusal, is) = decides bytes limit (resolved d.blocks) (Err (stops.Fault error)) (d.read, d.resolves) refusal
 
 pub one-told : (bytes : List ℕ) (limit : ℕ) (error : Error) (text : List ℕ) → IsRefusal bytes limit (stops.Fault error) → ShowsRefusal bytes limit text → text ≡ error_line (content_of error)
 one-told bytes limit error text c (other, refusal, is) = is ∙ ap (λ f. error_line f) (one-refusal bytes limit other error refusal c)
@@ -67,9 +62,7 @@ first-read n input bytes (Some rest) h l (inl full) = sym (ap (λ xs. take n xs)
 first-read n input bytes (Some rest) h l (inr end) = sym (ap (λ xs. take n xs) (h ∙ ap (λ xs. bytes ++ xs) end ∙ append-nil bytes) ∙ take_all n bytes l)
 
 same-written : (old : List ℕ) (new last : Option (List ℕ)) (text other : List ℕ) → Appends (Some old) new text → Appends (Some old) last other → text ≡ other → new ≡ last
-same-written old None last text other a b e = absurd a
-same-written old (Some xs) None text other a b e = absurd b
-same-written old (Some xs) (Some ys) text other a b e = ap (λ (zs : List ℕ). Some zs) (a ∙ ap (λ t. old ++ t) e ∙ sym b)
+same-written old new last text other a b e = grind (arith, nat_tests, common_steps)
 
 pub one-run : (limit status other : ℕ) (input old : List ℕ) (left rest new last : Option (List ℕ)) (a b c d : Bool) → Runs limit (Some input) left a (Some old) new b status
     → Runs limit (Some input) rest c (Some old) last d other → nat_lt status 3 ≡ true → nat_lt other 3 ≡ true → (status ≡ other) × (new ≡ last)

@@ -1,6 +1,5 @@
 -- At most one text shows some places.
-use Rattle.std.proofs.Common.{◌≡◌, ◌<◌, ℕ, List, [], ◌∷◌, Option, flat_map, refl, sym, ap, subst, ◌∙◌, inl, inr, arith}
-use Rattle.std.specs.List.{AllByRecursion}
+use Rattle.toml_span_lex.proofs.Common.{common_steps, ◌≡◌, ◌<◌, ℕ, List, [], ◌∷◌, Option, flat_map, refl, sym, ap, subst, ◌∙◌, inl, inr, arith, AllByRecursion}
 use Rattle.toml_span_tree.specs.Path.{Path, key, position, Place}
 use Rattle.toml_span.specs.Ordered.{IsBefore}
 use Rattle.toml_span_lines.specs.Shown.{PlaceAt, entry_line, PathsAscend, HasPlaces, IsIn, IsPathBefore, IsStepBefore, ShowsPlaces}
@@ -11,13 +10,9 @@ abbrev IsOneWay : {A : Type 0} → (A → A → Type 0) → Type 0
 IsOneWay {A} less = (x y : A) → less x y → less y x → ⊥
 
 one-way : {A : Type 0} (less : A → A → Type 0) → IsOneWay less → IsOneWay (IsBefore less)
-one-way less f [] [] h g = h
-one-way less f [] (y ∷ ys) h g = g
+one-way less f [] ys h g = grind (arith, common_steps)
 one-way less f (x ∷ xs) [] h g = h
-one-way less f (x ∷ xs) (y ∷ ys) (inl h) (inl g) = f x y h g
-one-way less f (x ∷ xs) (y ∷ ys) (inl h) (inr g) = let here = subst (λ z. less x z) g.0 h in f x x here here
-one-way less f (x ∷ xs) (y ∷ ys) (inr h) (inl g) = let here = subst (λ z. less y z) h.0 g in f y y here here
-one-way less f (x ∷ xs) (y ∷ ys) (inr h) (inr g) = one-way less f xs ys h.1 g.1
+one-way less f (x ∷ xs) (y ∷ ys) h g = grind (arith, common_steps, f x y, f x x, one-way less f xs ys)
 
 step-one-way : IsOneWay IsStepBefore
 step-one-way (key name) (key other) h g = one-way (λ (m n : ℕ). m < n) (λ m n a b. omega (arith, a, b)) name other h g
@@ -33,8 +28,7 @@ path-one-way p q h g = one-way IsStepBefore step-one-way p q h g
 -- what all later entries are behind
 at-entry : (p : Path) (es : List PlaceAt) (e : PlaceAt) → AllByRecursion (λ f. IsPathBefore p f.0) es → IsIn e es → IsPathBefore p e.0
 at-entry p [] e h i = absurd i
-at-entry p (f ∷ es) e h (inl is) = subst (λ (x : PlaceAt). IsPathBefore p x.0) (sym is) h.0
-at-entry p (f ∷ es) e h (inr i) = at-entry p es e h.1 i
+at-entry p (f ∷ es) e h i = grind (arith, common_steps, at-entry p es e)
 
 abbrev HasAll : List PlaceAt → List PlaceAt → Type 0
 HasAll es fs = (e : PlaceAt) → IsIn e es → IsIn e fs

@@ -1,5 +1,5 @@
 -- The lines of a tree show the places that the tree has.
-use Rattle.std.proofs.Common.{◌≡◌, ℕ, true, List, length, None, ◌∙◌, sym}
+use Rattle.toml_span_lex.proofs.Common.{◌≡◌, ℕ, true, List, length, None, ◌∙◌, sym}
 use Rattle.toml_span_tree.specs.declared.value.Value.{Value}
 use Rattle.toml_span_tree.specs.Value.{view, is_whole}
 use Rattle.toml_span_tree.specs.Node.{Node}
@@ -32,7 +32,7 @@ tree-document bytes limit root text tree whole lines =
     let shown = tree-shown (view root) (length bytes) blocks made.ordered whole made.shows in
     record {
       blocks = blocks;
-      spelled = has.0;
+      read = has.0;
       resolves = has.1;
       shown = (shown.0, shown.1, shown.2, lines ∙ shown.3);
     }

@@ -1,6 +1,6 @@
 -- What is shown of a text: a line for each node of its flat document, in the order of their paths, or the line of an
 -- error.
-use Rattle.std.specs.Prelude.{◌≡◌, ◌<◌, ◌↔◌, ◌⊎◌, ⊤, ℕ, List, [], ◌∷◌, length, Option, Some, codes}
+use Rattle.std.specs.Prelude.{◌≡◌, ◌<◌, ◌↔◌, ◌⊎◌, ⊤, ℕ, List, [], ◌∷◌, length, Option, Some, Ok, codes}
 use Rattle.std.specs.List.{flat_map, AllByRecursion}
 use Rattle.toml_span_tree.specs.declared.error.Error.{Error}
 use Rattle.toml_span_tree.specs.Error.{content_of}
@@ -8,7 +8,7 @@ use Rattle.toml_span_tree.specs.Path.{Path, Step, key, position, Shape, shape_ta
 use Rattle.toml_span_tree.specs.Path.{shape_table, Place}
 use Rattle.toml_span_tree.specs.Value.{scalar_kind}
 use Rattle.toml_span_read.specs.Data.{Block}
-use Rattle.toml_span_read.specs.Grammar.{SpellsDocument}
+use Rattle.toml_span_read.specs.Read.{document}
 use Rattle.toml_span.specs.Claims.{claims}
 use Rattle.toml_span.specs.Clashes.{Resolves}
 use Rattle.toml_span.specs.Flat.{flat}
@@ -71,10 +71,11 @@ ShowsPlaces places text = (es : List PlaceAt) × PathsAscend es × HasPlaces pla
 
 -- ---- texts
 
--- The bytes spell sections within the limit, no two of their claims clash, and the text shows their flat document.
+-- Reading the bytes gives sections within the limit, no two of their claims clash, and the text shows their flat
+-- document.
 pub record ShowsDocument (bytes : List ℕ) (limit : ℕ) (text : List ℕ) : Type 0 where
   pub blocks : List Block
-  pub spelled : SpellsDocument blocks bytes limit
+  pub read : document bytes limit (Ok blocks)
   pub resolves : Resolves (claims blocks)
   pub shown : ShowsPlaces (flat (length bytes) (claims blocks)) text
 

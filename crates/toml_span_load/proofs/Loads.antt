@@ -1,5 +1,5 @@
 -- Where a read answers a `Stop` that has reports, its errors are what they tell.
-use Rattle.std.proofs.Common.{ℕ, List, Result}
+use Rattle.toml_span_lex.proofs.Common.{ℕ, List, Result}
 use Rattle.toml_span_lex.specs.declared.stop.Stop.{Stop}
 use Rattle.toml_span_lex.specs.declared.stop.Stop.TheVariants as stops
 use Rattle.toml_span_tree.specs.Node.{Node}

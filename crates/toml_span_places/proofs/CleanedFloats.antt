@@ -1,17 +1,15 @@
 -- The text of a float that is read spells the float by itself.
-use Rattle.std.proofs.Common.{◌≡◌, ℕ, zero, suc, ◌+◌, ◌-◌, ◌<◌, ◌≤◌, ◌⊎◌, Bool, true, false, cond, List, [], ◌∷◌, ◌++◌, map, filter, length, get_or, drop, arith, inl, inr, sym, ◌∙◌, refl, ap, subst, length-append, length-take, length-drop}
-use Rattle.std.specs.Prelude.{◌==◌, ◌||◌, not, slice_range}
-use Rattle.std.proofs.lemmas.Bool.{cases_Bool, or_cases, eqb-true, false_from_ne_true}
-use Rattle.std.proofs.lemmas.List.{get_or_past, get_or-take, get_or-drop, map-append, take_all, drop_at}
-use Rattle.std.proofs.lemmas.List.Elements.{filter-append}
+use Rattle.toml_span_lex.proofs.Common.{◌≡◌, ℕ, zero, suc, ◌+◌, ◌-◌, ◌<◌, ◌≤◌, ◌⊎◌, Bool, true, false, cond, List, [], ◌∷◌, ◌++◌, map, filter, length, get_or, drop, arith, inl, inr, sym, ◌∙◌, refl, ap, subst, length-append, length-take, length-drop, ◌==◌, ◌||◌, not, slice_range, or_cases, false_from_ne_true, get_or_past, get_or-take, map-append, drop_at, filter-append, nat_tests, common_steps}
+use Rattle.std.proofs.lemmas.Bool.{eqb-true}
+use Rattle.std.proofs.lemmas.List.{get_or-drop}
 use Rattle.toml_span_lex.proofs.PieceLemmas.{slice_join}
 use Rattle.toml_span_tree.specs.Node.{float, finite}
 use Rattle.toml_span_read.specs.Numbers.{is_digit_in, is_figure, Digits, behind_sign, is_exponent, Exponent, Fraction, FloatLiteral, cleaned}
-use Rattle.toml_span_read.proofs.NumberLemmas.{clash, sign_on, digits_on, no_sign, slice_cons}
+use Rattle.toml_span_read.proofs.NumberLemmas.{clash, sign_on, digits_on, slice_cons}
 use Rattle.toml_span_places.specs.Again.{IsFloatText}
 use Rattle.toml_span_places.proofs.NumbersAgain.{Plain, plain_in}
 use Rattle.toml_span_places.proofs.Undated.{no_date}
-use Rattle.toml_span_places.proofs.Parts.{Part, same_part, here, byte_at, empty_range}
+use Rattle.toml_span_places.proofs.Parts.{Part, same_part, here, byte_at, empty_range, range, whole}
 
 -- ---- what cleaning does
 
@@ -21,27 +19,13 @@ kept c = not (c == 43 || c == 95)
 abbrev capital : ℕ → ℕ
 capital c = cond (c == 101) 69 c
 
-cleaned-append : (xs ys : List ℕ) → cleaned (xs ++ ys) ≡ cleaned xs ++ cleaned ys
-cleaned-append xs ys = ap (map capital) (filter-append kept xs ys) ∙ map-append capital (filter kept xs) (filter kept ys)
-
-kept_capital : (c : ℕ) → kept c ≡ true → (kept (capital c) ≡ true) × (capital (capital c) ≡ capital c)
-kept_capital c h = elim (cases_Bool (c == 101)) [ inl e ↦ rw e (refl, refl) | inr e ↦ rw (e, e) (h, refl) ]
-
 -- one byte of what is cleaned
 cleaned_kept : (c : ℕ) (cs : List ℕ) → kept c ≡ true → cleaned (c ∷ cs) ≡ capital c ∷ cleaned cs
 cleaned_kept c cs h = rw h refl
 
-cleaned_dropped : (c : ℕ) (cs : List ℕ) → kept c ≡ false → cleaned (c ∷ cs) ≡ cleaned cs
-cleaned_dropped c cs h = rw h refl
-
 pub cleaned_twice : (xs : List ℕ) → cleaned (cleaned xs) ≡ cleaned xs
 cleaned_twice [] = refl
-cleaned_twice (c ∷ cs) = elim (cases_Bool (kept c)) [
-  | inl h ↦
-      let k = kept_capital c h in
-      ap cleaned (cleaned_kept c cs h) ∙ (cleaned_kept (capital c) (cleaned cs) k.0 ∙ (ap (λ x. x ∷ cleaned (cleaned cs)) k.1 ∙ (ap (λ (l : List ℕ). capital c ∷ l) (cleaned_twice cs) ∙ sym (cleaned_kept c cs h))))
-  | inr h ↦ ap cleaned (cleaned_dropped c cs h) ∙ (cleaned_twice cs ∙ sym (cleaned_dropped c cs h))
-]
+cleaned_twice (c ∷ cs) = grind (arith, nat_tests, common_steps, cleaned_twice cs)
 
 -- ---- digits
 
@@ -57,28 +41,21 @@ first_and c ds digit more (suc k) l = more k (omega arith)
 
 cleaned_digits : (xs : List ℕ) → ((k : ℕ) → k < length xs → is_figure 10 (get_or xs k 0) ≡ true) → (k : ℕ) → k < length (cleaned xs) → is_digit_in 10 (get_or (cleaned xs) k 0) ≡ true
 cleaned_digits [] h k l = absurd (omega arith)
-cleaned_digits (c ∷ cs) h k l = elim (or_cases (is_digit_in 10 c) (c == 95) (h 0 (omega arith))) [
-  | inl digit ↦
-      let d = digit_kept c digit in
-      let e : cleaned (c ∷ cs) ≡ c ∷ cleaned cs = cleaned_kept c cs d.0 ∙ ap (λ x. x ∷ cleaned cs) d.1 in
-      subst (λ (l : List ℕ). is_digit_in 10 (get_or l k 0) ≡ true) (sym e)
-      (first_and c (cleaned cs) digit (cleaned_digits cs (λ n m. h (suc n) (omega arith))) k (omega (arith, ap length e)))
-  | inr low ↦
-      let e : cleaned (c ∷ cs) ≡ cleaned cs = cleaned_dropped c cs (rw (eqb-true c 95 low) refl) in
-      subst (λ (l : List ℕ). is_digit_in 10 (get_or l k 0) ≡ true) (sym e) (cleaned_digits cs (λ n m. h (suc n) (omega arith)) k (omega (arith, ap length e)))
-]
+cleaned_digits (c ∷ cs) h k l =
+    let more = cleaned_digits cs (λ n m. h (suc n) (omega arith)) in
+    elim (or_cases (is_digit_in 10 c) (c == 95) (h 0 (omega arith))) [
+      | inl digit ↦
+          let d = digit_kept c digit in
+          let e : cleaned (c ∷ cs) ≡ c ∷ cleaned cs = cleaned_kept c cs d.0 ∙ ap (λ x. x ∷ cleaned cs) d.1 in
+          subst (λ (l : List ℕ). is_digit_in 10 (get_or l k 0) ≡ true) (sym e) (first_and c (cleaned cs) digit more k (omega (arith, ap length e)))
+      | inr low ↦ let e : c ≡ 95 = eqb-true c 95 low in rw e (more k (rw e at l))
+    ]
 
 -- digits from a to b that are cleaned
 record Cleaned (text : List ℕ) (a b : ℕ) : Type 0 where
   plain : Plain (cleaned (slice_range text a b))
   first : get_or (cleaned (slice_range text a b)) 0 0 ≡ get_or text a 0
   one : b ≡ a + 1 → length (cleaned (slice_range text a b)) ≡ 1
-
-range_byte : (text : List ℕ) (a b k : ℕ) → k < b - a → get_or (slice_range text a b) k 0 ≡ get_or text (a + k) 0
-range_byte text a b k h = get_or-take (b - a) (drop a text) k 0 h ∙ get_or-drop a text k 0
-
-range_length : (text : List ℕ) (a b : ℕ) → b ≤ length text → length (slice_range text a b) ≡ b - a
-range_length text a b w = omega (arith, length-take (b - a) (drop a text), length-drop a text)
 
 clean_digits : (text : List ℕ) (a b : ℕ) → Digits 10 text a b → Cleaned text a b
 clean_digits text a b h =
@@ -91,7 +68,8 @@ clean_digits text a b h =
       plain = record {
         some = omega (arith, ap length e);
         digits = cleaned_digits (slice_range text a b)
-            (λ k x. (let n = range_length text a b w in rw (range_byte text a b k (omega arith)) (h.run.passes (a + k) (omega arith) (omega arith))));
+            (λ k x. (let n = length-take (b - a) (drop a text) in let m = length-drop a text in
+            rw (get_or-take (b - a) (drop a text) k 0 (omega arith), get_or-drop a text k 0) (h.run.passes (a + k) (omega arith) (omega arith))));
       };
       first = ap (λ (x : List ℕ). get_or x 0 0) e;
       one = λ one. (let none : cleaned (slice_range text (a + 1) b) ≡ [] = rw (one, empty_range text (a + 1)) refl in ap length e ∙ (rw none refl));
@@ -106,46 +84,23 @@ one_byte : (text : List ℕ) (a : ℕ) → a < length text → slice_range text 
 one_byte text a l = slice_cons text a (a + 1) (omega arith) (omega arith) ∙ (rw (empty_range text (a + 1)) refl)
 
 clean_sign : (text : List ℕ) (a : ℕ) → a < length text → IsSign (cleaned (slice_range text a (behind_sign text a)))
-clean_sign text a l = elim (cases_Bool (get_or text a 0 == 43)) [
-  | inl plus ↦
-      let c : get_or text a 0 ≡ 43 = eqb-true (get_or text a 0) 43 plus in
-      let e : behind_sign text a ≡ a + 1 = rw c refl in
-      inl (rw (e, one_byte text a l, c) refl)
-  | inr other ↦ elim (cases_Bool (get_or text a 0 == 45)) [
-    | inl minus ↦
-        let c : get_or text a 0 ≡ 45 = eqb-true (get_or text a 0) 45 minus in
-        let e : behind_sign text a ≡ a + 1 = rw c refl in
-        inr (rw (e, one_byte text a l, c) refl)
-    | inr none ↦ let e : behind_sign text a ≡ a = no_sign text a other none in inl (rw (e, empty_range text a) refl)
-  ]
-]
+clean_sign text a l = grind (arith, nat_tests, common_steps)
 
 -- ---- what is cleaned, as it stands
 
 -- behind a sign, if one is there, a digit
 signed_in : {text rest : List ℕ} {i j : ℕ} (s : List ℕ) → IsSign s → Part text s rest i j → is_digit_in 10 (get_or text j 0) ≡ true → behind_sign text i ≡ j
-signed_in {text} {rest} {i} {j} s (inl e) p h =
-    let at : j ≡ i = omega (arith, p.on, ap length e) in
-    let d : is_digit_in 10 (get_or text i 0) ≡ true = rw at at h in
-    no_sign text i (digit_other (get_or text i 0) 43 d refl) (digit_other (get_or text i 0) 45 d refl) ∙ sym at
-signed_in {text} {rest} {i} {j} s (inr e) p h =
-    let at : j ≡ i + 1 = omega (arith, p.on, ap length e) in
-    let c : get_or text i 0 ≡ 45 = here 45 [] (rw e at p) in
-    rw (c, at) refl
+signed_in s h g other = grind (arith, nat_tests, common_steps)
 
 -- a letter or a dot, which stays
 abbrev Mark : ℕ → Type 0
 Mark c = (is_exponent c ≡ true) ⊎ (c ≡ 46)
 
 letter_kept : (c : ℕ) → is_exponent c ≡ true → (kept c ≡ true) × (capital c ≡ 69)
-letter_kept c h = elim (or_cases (c == 101) (c == 69) h) [
-  | inl e ↦ rw (eqb-true c 101 e) (refl, refl)
-  | inr e ↦ rw (eqb-true c 69 e) (refl, refl)
-]
+letter_kept c h = grind (arith, nat_tests, common_steps)
 
 mark_kept : (c : ℕ) → Mark c → (kept c ≡ true) × (is_figure 10 (capital c) ≡ false)
-mark_kept c (inl h) = let k = letter_kept c h in (k.0, rw k.1 refl)
-mark_kept c (inr e) = rw e (refl, refl)
+mark_kept c h = grind (arith, nat_tests, common_steps)
 
 exponent_on : (text : List ℕ) (a b : ℕ) → Exponent text a b → a < b
 exponent_on text a b h = omega (arith, (sign_on text (a + 1)).0, digits_on 10 text (behind_sign text (a + 1)) b h.digits)
@@ -157,9 +112,7 @@ abbrev Rest : List ℕ → ℕ → ℕ → Type 0
 Rest text a b = Exponent text a b ⊎ ((m : ℕ) × Fraction text a m × ((b ≡ m) ⊎ Exponent text m b))
 
 rest_on : (text : List ℕ) (a b : ℕ) → Rest text a b → (a < b) × Mark (get_or text a 0)
-rest_on text a b (inl h) = (exponent_on text a b h, inl h.letter)
-rest_on text a b (inr (m, h, inl e)) = (omega (arith, fraction_on text a m h), inr h.point)
-rest_on text a b (inr (m, h, inr x)) = (omega (arith, fraction_on text a m h, exponent_on text m b x), inr h.point)
+rest_on text a b h = grind (arith, nat_tests, common_steps, exponent_on, fraction_on)
 
 module _ (text : List ℕ) (i j : ℕ) (fits : j ≤ length text) where
   abbrev Clean : ℕ → ℕ → List ℕ
@@ -170,7 +123,9 @@ module _ (text : List ℕ) (i j : ℕ) (fits : j ≤ length text) where
   To m = length (Clean i m)
 
   join : (a m b : ℕ) → a ≤ m → m ≤ b → Clean a b ≡ Clean a m ++ Clean m b
-  join a m b o l = ap cleaned (sym (slice_join text a m b o l)) ∙ cleaned-append (slice_range text a m) (slice_range text m b)
+  join a m b o l =
+      ap cleaned (sym (slice_join text a m b o l))
+      ∙ (ap (map capital) (filter-append kept (slice_range text a m) (slice_range text m b)) ∙ map-append capital (filter kept (slice_range text a m)) _)
 
   split : (m n : ℕ) → i ≤ m → m ≤ n → n ≤ j → Part (Clean i j) (Clean m n) (Clean n j) (To m) (To n)
   split m n o l u = record {
@@ -190,11 +145,7 @@ module _ (text : List ℕ) (i j : ℕ) (fits : j ≤ length text) where
   IsEnd n = (n ≡ j) ⊎ ((n < j) × Mark (get_or text n 0))
 
   off : (n : ℕ) → i ≤ n → IsEnd n → is_figure 10 (get_or (Clean n j) 0 0) ≡ false
-  off n o (inl e) = rw (e, empty_range text j) refl
-  off n o (inr (l, m)) =
-      let k = mark_kept (get_or text n 0) m in
-      let e : Clean n j ≡ capital (get_or text n 0) ∷ Clean (n + 1) j = ap cleaned (slice_cons text n j l fits) ∙ cleaned_kept (get_or text n 0) (slice_range text (n + 1) j) k.0 in
-      rw e (k.1)
+  off n o h = grind (arith, nat_tests, common_steps, cleaned_kept, empty_range, mark_kept, slice_cons)
 
   digits : (m n : ℕ) → i ≤ m → n ≤ j → IsEnd n → Digits 10 text m n → Digits 10 (Clean i j) (To m) (To n)
   digits m n o u e h = let l = digits_on 10 text m n h in plain_in (Clean m n) (clean_digits text m n h).plain (off n (omega arith) e) (split m n o (omega arith) u)
@@ -257,8 +208,7 @@ pub cleaned_spells : (text : List ℕ) (i j : ℕ) → FloatLiteral text i j →
 cleaned_spells text i j h =
     let c = cleaned (slice_range text i j) in
     let spells = literal text i j (rest_within text h.integer_end j h.rest) h in
-    let z : length c - 0 ≡ length c = omega arith in
-    let all : slice_range c 0 (length c) ≡ c = rw z (take_all (length c) c (omega arith)) in
+    let all : slice_range c 0 (length c) ≡ c = range (whole c) in
     let clean : c ≡ cleaned (slice_range c 0 (length c)) = sym (ap cleaned all ∙ cleaned_twice (slice_range text i j)) in
     (no_date (float (finite c)) c 0 (length c) (spells, clean) (rw (get_or_past c (length c) 0 (omega arith)) refl), (spells, clean), refl)
   where

@@ -1,27 +1,24 @@
 -- Dates and times as they are spelled are read again.
-use Rattle.std.proofs.Common.{◌≡◌, ℕ, ◌+◌, ◌-◌, ◌<◌, ◌≤◌, ◌⊎◌, true, false, List, [], ◌∷◌, ◌++◌, length, get_or, drop, arith, inl, inr, sym, ◌∙◌, refl, length-append, length-drop}
-use Rattle.std.specs.Prelude.{◌==◌, ◌||◌, ◌&&◌}
-use Rattle.std.specs.Char.{is_ascii_digit}
-use Rattle.std.specs.List.{list_all}
-use Rattle.std.proofs.lemmas.Bool.{cases_lt, false≢true, or_cases, and_parts, and_from, or_left, or_right, and_right, eqb-true, true_from_ne_false}
+use Rattle.toml_span_lex.proofs.Common.{◌≡◌, ℕ, ◌+◌, ◌-◌, ◌<◌, ◌≤◌, ◌⊎◌, true, false, List, [], ◌∷◌, ◌++◌, length, get_or, drop, arith, inl, inr, sym, refl, length-append, length-drop, ◌==◌, ◌||◌, ◌&&◌, is_ascii_digit, cases_lt, or_cases, and_parts, and_from, or_left, or_right, and_right, get_or_append_left, get_or-append_right, nat_tests, common_steps}
+use Rattle.std.proofs.lemmas.Bool.{eqb-true}
 use Rattle.toml_span_read.proofs.NumberLemmas.{clash}
 use Rattle.toml_span_read.proofs.ShortIntegers.{decimal_keylike}
-use Rattle.std.proofs.lemmas.List.{get_or-drop, get_or_append_left, get_or-append_right}
-use Rattle.std.proofs.lemmas.List.Folds.{list_all_at}
+use Rattle.std.proofs.lemmas.List.{get_or-drop}
 use borrow.Author.Count.{below_none, below_more}
 use Rattle.toml_span_lex.specs.Bytes.{MaximalRun}
 use Rattle.toml_span_lex.proofs.Runs.{read_within}
-use Rattle.toml_span_tree.specs.Date.{is_two_digits, is_full_date, has_hour_minute, is_time_secfrac, is_seconds, is_partial_time, is_utc, is_time_numoffset, is_time_offset, IsDateText, IsDateTime, IsDateOrTime}
+use Rattle.toml_span_tree.specs.Date.{is_two_digits, is_full_date, has_hour_minute, is_seconds, is_partial_time, is_utc, is_time_numoffset, is_time_offset, IsDateText, IsDateTime, IsDateOrTime}
 use Rattle.toml_span_tree.specs.Node.{datetime}
 use Rattle.toml_span_tree.proofs.DateTexts.{parts_of_text}
 use Rattle.toml_span_read.specs.Dates.{begins_date, is_date_byte, continues_date, IsCandidate}
-use Rattle.toml_span_read.specs.Grammar.{from_to, SpellsScalar}
+use Rattle.toml_span_read.specs.Data.{from_to}
+use Rattle.toml_span_read.specs.Grammar.{SpellsScalar}
 use Rattle.toml_span_places.proofs.Parts.{Part, same_part, front, back, tail, here, byte, byte_at, behind, next, range, within}
 
 -- ---- bytes
 
 digit_some : (c : ℕ) → is_ascii_digit c ≡ true → 0 < c
-digit_some c h = elim (cases_lt 0 c) [ inl l ↦ l | inr z ↦ absurd (clash is_ascii_digit c 0 h (omega arith) refl) ]
+digit_some c h = grind (arith, nat_tests, common_steps)
 
 pub digit_date : (c : ℕ) → is_ascii_digit c ≡ true → is_date_byte c ≡ true
 digit_date c h = rw (decimal_keylike c h) refl
@@ -41,18 +38,16 @@ date_carried a b i k end step h =
     let y = and_parts (is_ascii_digit (get_or a i 0)) (is_ascii_digit (get_or a (i + 1) 0)) x.0 in
     let s0 : (0 < end) × (get_or a i 0 ≡ get_or b k 0) = rw (zi, zk) at (step 0 (omega arith) (rw zi (digit_date (get_or a i 0) y.0))) in
     let s1 = step 1 (omega arith) (digit_date (get_or a (i + 1) 0) y.1) in
-    and_from (is_ascii_digit (get_or b k 0) && is_ascii_digit (get_or b (k + 1) 0)) _ (and_from (is_ascii_digit (get_or b k 0)) _ (rw s0.1 at y.0) (rw s1.1 at y.1))
-    (elim (or_cases (get_or a (i + 2) 0 == 58) _ x.1) [
-      | inl c ↦ let s2 = step 2 (omega arith) (this_date (get_or a (i + 2) 0) 58 refl c) in or_left (get_or b (k + 2) 0 == 58) _ (rw s2.1 at c)
+    elim (or_cases (get_or a (i + 2) 0 == 58) _ x.1) [
+      | inl c ↦ let s2 = step 2 (omega arith) (this_date (get_or a (i + 2) 0) 58 refl c) in rw (sym s0.1, sym s1.1, sym s2.1, y.0, y.1, c) refl
       | inr d ↦
           let f = and_parts (is_ascii_digit (get_or a (i + 2) 0) && is_ascii_digit (get_or a (i + 3) 0)) (get_or a (i + 4) 0 == 45) d in
           let g = and_parts (is_ascii_digit (get_or a (i + 2) 0)) (is_ascii_digit (get_or a (i + 3) 0)) f.0 in
           let s2 = step 2 (omega arith) (digit_date (get_or a (i + 2) 0) g.0) in
           let s3 = step 3 (omega arith) (digit_date (get_or a (i + 3) 0) g.1) in
           let s4 = step 4 (omega arith) (this_date (get_or a (i + 4) 0) 45 refl f.1) in
-          or_right (get_or b (k + 2) 0 == 58) _
-          (and_from (is_ascii_digit (get_or b (k + 2) 0) && is_ascii_digit (get_or b (k + 3) 0)) _ (and_from (is_ascii_digit (get_or b (k + 2) 0)) _ (rw s2.1 at g.0) (rw s3.1 at g.1)) (rw s4.1 at f.1))
-    ])
+          rw (sym s0.1, sym s1.1, sym s2.1, sym s3.1, sym s4.1) h
+    ]
 
 -- the byte at k is one that dates are written with, and so are all of a list
 abbrev At : List ℕ → ℕ → Type 0
@@ -85,9 +80,6 @@ appended xs ys f g k l = elim (cases_lt k (length xs)) [
   | inl x ↦ rw (get_or_append_left xs ys 0 k x) (f k x)
   | inr y ↦ rw (get_or-append_right xs ys (length xs) k 0 refl y) (g (k - length xs) (omega (arith, length-append xs ys)))
 ]
-
-digits_all : (xs : List ℕ) → list_all is_ascii_digit xs ≡ true → All xs
-digits_all xs h k l = digit_date (get_or xs k 0) (true_from_ne_false _ (λ e. false≢true (sym (list_all_at is_ascii_digit xs k 0 l e) ∙ h)))
 
 -- ---- the forms
 
@@ -132,12 +124,6 @@ hour_minute xs h =
       begins xs hour (or_left (get_or xs 2 0 == 58) _ b.1),
     )
 
-secfrac : (xs : List ℕ) → is_time_secfrac xs ≡ true → All xs
-secfrac xs h =
-    let a = and_parts _ _ h in
-    let b = and_parts _ _ a.0 in
-    joined xs 1 (one xs 0 46 refl (below_none (At xs)) b.0) (digits_all (drop 1 xs) a.1)
-
 seconds : (xs : List ℕ) → is_seconds xs ≡ true → All xs
 seconds xs h = elim (or_cases _ _ h) [
   | inl empty ↦ none xs (eqb-true (length xs) 0 empty)
@@ -146,10 +132,7 @@ seconds xs h = elim (or_cases _ _ h) [
       let b = and_parts _ _ a.0 in
       let s = two 0 60 xs 1 b.1 in
       joined xs 3 (pair xs 1 (one xs 0 58 refl (below_none (At xs)) b.0) s)
-      (elim (or_cases _ _ a.1) [
-        | inl three ↦ let e : length xs ≡ 3 = eqb-true (length xs) 3 three in none (drop 3 xs) (omega (arith, length-drop 3 xs))
-        | inr more ↦ secfrac (drop 3 xs) more
-      ])
+      (grind (arith, nat_tests, common_steps))
 ]
 
 partial : (xs : List ℕ) → is_partial_time xs ≡ true → All xs × Begins xs
@@ -199,15 +182,10 @@ begins_at {text} {rest} {i} xs b p = begins_in xs text i (λ k l. sym (byte p k 
 
 -- bytes that dates are written with, from a place of the part on to its end
 run_to : {text rest : List ℕ} {i j : ℕ} (xs : List ℕ) → All xs → is_date_byte (get_or rest 0 0) ≡ false → Part text xs rest i j → MaximalRun is_date_byte text i j
-run_to {text} {rest} {i} {j} xs all off p =
-    let on = p.on in
-    record { forward = omega arith; within = within p; passes = λ k a b. rw (byte_at p k a b) (all (k - i) (omega arith)); stops = λ x. rw (next p) off }
-
-no_more : {text rest : List ℕ} {i j : ℕ} (xs : List ℕ) → continues_date rest 0 ≡ false → Part text xs rest i j → continues_date text j ≡ false
-no_more xs off p = rw (next p, behind p 1) off
+run_to {text} {rest} {i} {j} xs all off p = grind (arith, nat_tests, common_steps, byte_at p, next p, within, within p)
 
 in_one : {text rest : List ℕ} {i j : ℕ} (xs : List ℕ) → All xs → is_date_byte (get_or rest 0 0) ≡ false → continues_date rest 0 ≡ false → Part text xs rest i j → IsCandidate text i j
-in_one {text} {rest} {i} {j} xs all off none p = inl (run_to xs all off p, and_right (j == i + 10) (continues_date text j) (no_more xs none p))
+in_one {text} {rest} {i} {j} xs all off none p = inl (run_to xs all off p, and_right (j == i + 10) (continues_date text j) (rw (next p, behind p 1) none))
 
 -- a date and a time with a letter between them
 with_letter : (d : List ℕ) (c : ℕ) (more : List ℕ) → All d → All more → is_date_byte c ≡ true → All (d ++ c ∷ more)

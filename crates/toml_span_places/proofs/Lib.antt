@@ -3,17 +3,11 @@ pub mod Parts
 pub mod Moves
 pub mod NumbersMove
 pub mod Undated
-pub mod EscapedChars
 pub mod QuotedAgain
 pub mod NumbersAgain
-pub mod FloatsAgain
 pub mod CleanedFloats
 pub mod DatesAgain
 pub mod SpelledAgain
-pub mod KeyLemmas
 pub mod OpenedLemmas
-pub mod PointLemmas
 pub mod SectionLemmas
-pub mod TableLemmas
 pub mod ValueSizes
-pub mod ValueKeys

@@ -1,8 +1,6 @@
 -- A form that stands in one text stands in another: how forms are built of others, and what stands in a part of a text.
-use Rattle.std.proofs.Common.{◌≡◌, ℕ, ◌+◌, ◌-◌, ◌<◌, ◌≤◌, ◌⊎◌, Bool, true, false, List, length, get_or, take, drop, arith, inl, inr, sym, ◌∙◌, length-take, length-drop}
-use Rattle.std.specs.Prelude.{slice_range}
-use Rattle.std.proofs.lemmas.Bool.{cases_lt, false≢true, false_from_ne_true}
-use Rattle.std.proofs.lemmas.List.{get_or-drop, get_or-take, ext_get_or}
+use Rattle.toml_span_lex.proofs.Common.{◌≡◌, ℕ, ◌+◌, ◌-◌, ◌<◌, ◌≤◌, ◌⊎◌, Bool, true, false, List, length, get_or, take, drop, arith, inl, inr, sym, ◌∙◌, length-take, length-drop, slice_range, cases_lt, false≢true, false_from_ne_true, get_or-take, ext_get_or, nat_tests, common_steps}
+use Rattle.std.proofs.lemmas.List.{get_or-drop}
 use Rattle.toml_span_lex.specs.Bytes.{MaximalRun}
 
 -- what is R between two places is S between those that answer them
@@ -11,10 +9,7 @@ pub record Moves (At R S : ℕ → ℕ → Type 0) : Type 0 where
   pub to : (i j k l : ℕ) → At i k → At j l → R i j → S k l
 
 pub either : {At R S P Q : ℕ → ℕ → Type 0} → Moves At R S → Moves At P Q → Moves At (λ i j. R i j ⊎ P i j) (λ k l. S k l ⊎ Q k l)
-either x y = record {
-  on = λ i j h. elim h [ inl r ↦ x.on i j r | inr p ↦ y.on i j p ];
-  to = λ i j k l u v h. elim h [ inl r ↦ inl (x.to i j k l u v r) | inr p ↦ inr (y.to i j k l u v p) ];
-}
+either x y = grind (arith, nat_tests, common_steps)
 
 -- said otherwise
 pub said : {At R S P Q : ℕ → ℕ → Type 0} → ((i j : ℕ) → P i j → R i j) → ((k l : ℕ) → S k l → Q k l) → Moves At R S → Moves At P Q
@@ -82,10 +77,7 @@ module _ {a b : List ℕ} {s t n c : ℕ} (w : Copied a b s t n c) where
 
   -- a byte, and a form behind it
   pub first : {A : Type 0} {e : ℕ} {R S : ℕ → ℕ → Type 0} (p : ℕ → A) (x : A) → Moves (At s t n e) R S → Moves (At s t n e) (λ i j. (p (get_or a i 0) ≡ x) × R (i + 1) j) (λ k l. (p (get_or b k 0) ≡ x) × S (k + 1) l)
-  first p x m = record {
-    on = λ i j h. omega (arith, m.on (i + 1) j h.1);
-    to = λ i j k l u v h. (let o = m.on (i + 1) j h.1 in (byte p x u (omega arith) h.0, m.to (i + 1) j (k + 1) l (further 1 (omega arith) u) v h.1));
-  }
+  first p x m = grind (arith, nat_tests, common_steps)
 
   pub run : {e : ℕ} (p : ℕ → Bool) → (n < length b → p c ≡ false) → Moves (At s t n e) (MaximalRun p a) (MaximalRun p b)
   run p off = record {

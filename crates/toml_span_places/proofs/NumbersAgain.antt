@@ -1,20 +1,12 @@
 -- Integers and floats as they are spelled are read again.
-use Rattle.std.proofs.Common.{◌≡◌, ℕ, zero, suc, ℤ, pos, negsuc, ◌+◌, ◌-◌, ◌^◌, ◌<◌, ◌≤◌, Bool, true, false, List, [], ◌∷◌, length, get_or, filter, arith, inl, sym, ◌∙◌, refl, ap, decimal}
-use Rattle.std.specs.Prelude.{◌==◌, ◌||◌}
-use Rattle.std.specs.Fmt.{signed_decimal}
-use Rattle.std.specs.Char.{digit_value, is_ascii_digit}
+use Rattle.toml_span_lex.proofs.Common.{◌≡◌, ℕ, zero, suc, ℤ, pos, negsuc, ◌+◌, ◌-◌, ◌^◌, ◌<◌, ◌≤◌, Bool, true, false, List, [], ◌∷◌, length, get_or, filter, arith, inl, sym, ◌∙◌, refl, ap, decimal, ◌==◌, signed_decimal, is_ascii_digit, AllDigits, nat_tests, decimal_is_IsNumeral, digits_value-decimal, decimal_digit, first_decimal, IsNumeralModel, numerals_by_weight, tells_digits, digit_at, common_steps}
 use Rattle.std.specs.Int.{IsInRange}
-use Rattle.std.specs.Str.Parse.{AllDigits}
-use Rattle.std.proofs.lemmas.Bool.{or_parts}
-use Rattle.std.proofs.lemmas.Bool.Decides.{nat_tests}
-use Rattle.std.proofs.lemmas.Fmt.{decimal_is_IsNumeral, digits_value-decimal, decimal_digit, first_decimal}
-use Rattle.std.proofs.lemmas.Str.{digit_value_digit}
-use Rattle.std.proofs.lemmas.Str.Parse.{WeighsDigits, IsNumeralModel, numerals_by_weight, tells_digits, digit_at}
 use lib.Signed.{mag}
 use Rattle.toml_span_lex.specs.Bytes.{is_keylike}
 use Rattle.toml_span_tree.specs.Node.{integer}
 use Rattle.toml_span_read.specs.Dates.{is_date_byte}
-use Rattle.toml_span_read.specs.Grammar.{from_to, SpellsScalar}
+use Rattle.toml_span_read.specs.Data.{from_to}
+use Rattle.toml_span_read.specs.Grammar.{SpellsScalar}
 use Rattle.toml_span_read.specs.Numbers.{is_digit_in, Digits, is_figure, sum_of_digits, magnitude, behind_sign, is_negative, IsSigned}
 use Rattle.toml_span_read.proofs.NumberLemmas.{digit_figure, no_keylike_figure, digit_no_underscore, stands_alone}
 use Rattle.toml_span_read.proofs.ShortIntegers.{decimal_digit as digit_ten, short_spelled}
@@ -23,24 +15,15 @@ use Rattle.toml_span_places.proofs.Parts.{Part, tail, here, byte_at, next, range
 -- ---- what a byte is not
 
 pub off_bytes : (c : ℕ) → is_date_byte c ≡ false → (is_keylike c ≡ false) × ((c == 58) ≡ false) × ((c == 46) ≡ false) × ((c == 43) ≡ false)
-off_bytes c h =
-    let x = or_parts ((is_keylike c || c == 58) || c == 46) (c == 43) h in
-    let y = or_parts (is_keylike c || c == 58) (c == 46) x.0 in
-    let z = or_parts (is_keylike c) (c == 58) y.0 in (z.0, z.1, y.1, x.1)
+off_bytes c h = grind (arith, nat_tests, common_steps)
 
 -- ---- decimal digits
 
 in_range : (c : ℕ) → IsInRange 48 57 c → is_ascii_digit c ≡ true
 in_range c h = grind (arith, nat_tests)
 
-weighs : WeighsDigits (sum_of_digits 10)
-weighs = record {
-  empty = refl;
-  more = λ c cs h. (let e : digit_value c ≡ c - 48 = omega (arith, digit_value_digit c h) in rw e refl);
-}
-
 sums : IsNumeralModel (AllDigits 10) (sum_of_digits 10)
-sums = numerals_by_weight (AllDigits 10) tells_digits (sum_of_digits 10) weighs
+sums = numerals_by_weight (AllDigits 10) tells_digits (sum_of_digits 10) (grind (arith, nat_tests, common_steps))
 
 all_kept : (p : ℕ → Bool) (xs : List ℕ) → ((k : ℕ) → k < length xs → p (get_or xs k 0) ≡ true) → filter p xs ≡ xs
 all_kept p [] h = refl
@@ -99,14 +82,12 @@ decimal_in {text} {rest} {i} {j} n h p =
 abbrev IntegerAt : List ℕ → ℤ → ℕ → ℕ → Type 0
 IntegerAt text z i j = SpellsScalar (integer z) (from_to i j) text i j
 
-positive : {text rest : List ℕ} {i j : ℕ} (n : ℕ) → n < 2 ^ 63 → is_date_byte (get_or rest 0 0) ≡ false → Part text (decimal n) rest i j → IntegerAt text (pos n) i j
-positive {text} {rest} {i} {j} n h off p =
+pub integer_again : {text rest : List ℕ} {i j : ℕ} (z : ℤ) → mag z < 2 ^ 63 → is_date_byte (get_or rest 0 0) ≡ false → Part text (signed_decimal z) rest i j → IntegerAt text z i j
+integer_again {text} {rest} {i} {j} (pos n) h off p =
     let d = decimal_in n (omega arith) p in
     let b = off_bytes (get_or text j 0) (rw (next p) off) in
     let s = short_spelled (pos n) text i j n d.some (within p) d.digits (sym d.value) d.leading b.0 b.2 b.1 (refl, h) in (s.0, inl s.1, refl)
-
-negative : {text rest : List ℕ} {i j : ℕ} (n : ℕ) → n < 2 ^ 63 → is_date_byte (get_or rest 0 0) ≡ false → Part text (45 ∷ decimal (suc n)) rest i j → IntegerAt text (negsuc n) i j
-negative {text} {rest} {i} {j} n h off p =
+integer_again {text} {rest} {i} {j} (negsuc n) h off p =
     let q = tail 45 (decimal (suc n)) p in
     let d = decimal_in (suc n) (omega arith) q in
     let b = off_bytes (get_or text j 0) (rw (next p) off) in
@@ -118,7 +99,3 @@ negative {text} {rest} {i} {j} n h off p =
       inl (record { digits = rw sign (record { digits = plain_in (decimal (suc n)) (plain (suc n) (omega arith)) (no_keylike_figure 10 (get_or rest 0 0) (off_bytes (get_or rest 0 0) off).0) q; leading = d.leading }); ends = stands_alone text j b.0 b.2; value = rw (sign, minus) value }),
       refl,
     )
-
-pub integer_again : {text rest : List ℕ} {i j : ℕ} (z : ℤ) → mag z < 2 ^ 63 → is_date_byte (get_or rest 0 0) ≡ false → Part text (signed_decimal z) rest i j → IntegerAt text z i j
-integer_again (pos n) h off p = positive n h off p
-integer_again (negsuc n) h off p = negative n h off p

@@ -1,7 +1,5 @@
 -- A number that stands in a part of a text stands in its copy, behind which no byte goes on with it.
-use Rattle.std.proofs.Common.{◌≡◌, ℕ, ℤ, ◌+◌, ◌-◌, ◌<◌, ◌≤◌, Bool, true, false, List, get_or, filter, arith, inl, inr, sym, ◌∙◌, ap, cond, codes}
-use Rattle.std.specs.Prelude.{◌==◌, ◌||◌, Some}
-use Rattle.std.proofs.lemmas.Bool.{cases_lt, false≢true, or_from}
+use Rattle.toml_span_lex.proofs.Common.{◌≡◌, ℕ, ℤ, ◌+◌, ◌-◌, ◌<◌, ◌≤◌, Bool, true, false, List, get_or, filter, arith, inl, inr, sym, ◌∙◌, ap, codes, ◌==◌, ◌||◌, Some, cases_lt, false≢true, or_from, nat_tests, common_steps}
 use Rattle.toml_span_lex.specs.Bytes.{is_keylike}
 use Rattle.toml_span_tree.specs.Node.{Scalar, text as text_scalar, integer, float, boolean, datetime, finite, infinite, not_a_number}
 use Rattle.toml_span_read.specs.Dates.{is_date_byte}
@@ -42,20 +40,13 @@ module _ {a b : List ℕ} {s t n c : ℕ} (w : Copied a b s t n c) (off : is_dat
 
   -- a sign
   sign_at : {i k : ℕ} → At s t n 0 i k → k < n → At s t n 0 (behind_sign a i) (behind_sign b k)
-  sign_at {i} {k} u l = rw (sym (w.same i k u.after u.moved l)) (go (get_or a i 0 == 43 || get_or a i 0 == 45))
-    where
-      go : (d : Bool) → At s t n 0 (cond d (i + 1) i) (cond d (k + 1) k)
-      go true = further 1 (omega arith) u
-      go false = u
+  sign_at {i} {k} u l = grind (arith, nat_tests, common_steps)
 
   negative_same : {i k : ℕ} → At s t n 0 i k → k < n → is_negative a i ≡ is_negative b k
   negative_same {i} {k} u l = ap (λ x. x == 45) (w.same i k u.after u.moved l)
 
   signed : {R S : ℕ → ℕ → Type 0} → Moves (At s t n 0) R S → ((i j : ℕ) → R i j → i < j) → Moves (At s t n 0) (λ i j. R (behind_sign a i) j) (λ k l. S (behind_sign b k) l)
-  signed m some = record {
-    on = λ i j h. omega (arith, (sign_on a i).0, some (behind_sign a i) j h);
-    to = λ i j k l u v h. (let x = some (behind_sign a i) j h in let y = (sign_on a i).0 in m.to (behind_sign a i) j (behind_sign b k) l (sign_at u (omega arith)) v h);
-  }
+  signed m some = grind (arith, nat_tests, common_steps)
 
   unsigned : Alike UnsignedDecimal
   unsigned = said (λ i j h. (h.digits, h.leading)) (λ k l h. record { digits = h.0; leading = h.1 })

@@ -1,7 +1,6 @@
 -- A part of a text: its bytes, and those behind it.
-use Rattle.std.proofs.Common.{◌≡◌, ℕ, ◌+◌, ◌-◌, ◌<◌, ◌≤◌, Bool, true, List, [], ◌∷◌, ◌++◌, length, get_or, drop, arith, sym, ◌∙◌, refl, ap, append-nil, append_assoc, length-append}
-use Rattle.std.specs.Prelude.{slice_range}
-use Rattle.std.proofs.lemmas.List.{get_or-drop, get_or_append_left, get_or-append-add, drop-drop, drop_at, take_at}
+use Rattle.toml_span_lex.proofs.Common.{◌≡◌, ℕ, ◌+◌, ◌-◌, ◌<◌, ◌≤◌, Bool, true, List, [], ◌∷◌, ◌++◌, length, get_or, drop, arith, sym, ◌∙◌, refl, ap, append-nil, append_assoc, length-append, slice_range, get_or_append_left, get_or-append-add, drop-drop, drop_at, nat_tests, common_steps}
+use Rattle.std.proofs.lemmas.List.{get_or-drop}
 
 -- from i on the text is this part and the rest, and j is behind the part
 pub record Part (text part rest : List ℕ) (i j : ℕ) : Type 0 where
@@ -11,8 +10,7 @@ pub record Part (text part rest : List ℕ) (i j : ℕ) : Type 0 where
 
 -- a part between two texts
 pub between : (before part rest : List ℕ) → Part (before ++ (part ++ rest)) part rest (length before) (length before + length part)
-between before part rest =
-    record { is = drop_at before (part ++ rest) (length before) refl; on = refl; all = omega (arith, length-append before (part ++ rest), length-append part rest) }
+between before part rest = grind (arith, nat_tests, common_steps)
 
 -- the text itself
 pub whole : (text : List ℕ) → Part text text [] 0 (length text)
@@ -23,12 +21,7 @@ same_part other e p = rw e at p
 
 -- two parts side by side
 pub front : {text rest : List ℕ} {i j : ℕ} (a b : List ℕ) → Part text (a ++ b) rest i j → Part text a (b ++ rest) i (i + length a)
-front {rest = rest} a b p =
-    let n = length-append a b in
-    let m = length-append b rest in
-    let x = p.on in
-    let y = p.all in
-    record { is = p.is ∙ append_assoc a b rest; on = refl; all = omega arith }
+front {rest = rest} a b p = grind (arith, nat_tests, common_steps)
 
 pub back : {text rest : List ℕ} {i j : ℕ} (a b : List ℕ) → Part text (a ++ b) rest i j → Part text b rest (i + length a) j
 back {text} {rest} {i} a b p =
@@ -45,21 +38,14 @@ pub tail : {text rest : List ℕ} {i j : ℕ} (c : ℕ) (cs : List ℕ) → Part
 tail c cs p = back (c ∷ []) cs p
 
 pub here : {text rest : List ℕ} {i j : ℕ} (c : ℕ) (cs : List ℕ) → Part text (c ∷ cs) rest i j → get_or text i 0 ≡ c
-here {text} {rest} {i} c cs p =
-    let z : i + 0 ≡ i = omega arith in
-    let e : get_or text (i + 0) 0 ≡ c = sym (get_or-drop i text 0 0) ∙ ap (λ (l : List ℕ). get_or l 0 0) p.is in
-    rw z at e
+here {text} {rest} {i} c cs p = grind (arith, nat_tests, common_steps)
 
 pub byte : {text part rest : List ℕ} {i j : ℕ} → Part text part rest i j → (k : ℕ) → k < length part → get_or text (i + k) 0 ≡ get_or part k 0
 byte {text} {part} {rest} {i} p k h = sym (get_or-drop i text k 0) ∙ (ap (λ (l : List ℕ). get_or l k 0) p.is ∙ get_or_append_left part rest 0 k h)
 
 -- the byte at a place of the part, by its place in the text
 pub byte_at : {text part rest : List ℕ} {i j : ℕ} → Part text part rest i j → (k : ℕ) → i ≤ k → k < j → get_or text k 0 ≡ get_or part (k - i) 0
-byte_at {text} {part} {rest} {i} p k a b =
-    let x = p.on in
-    let at : i + (k - i) ≡ k = omega arith in
-    let e : get_or text (i + (k - i)) 0 ≡ get_or part (k - i) 0 = byte p (k - i) (omega arith) in
-    rw at at e
+byte_at {text} {part} {rest} {i} p k a b = grind (arith, nat_tests, common_steps)
 
 pub behind : {text part rest : List ℕ} {i j : ℕ} → Part text part rest i j → (k : ℕ) → get_or text (j + k) 0 ≡ get_or rest k 0
 behind {text} {part} {rest} {i} {j} p k =
@@ -71,10 +57,7 @@ pub next : {text part rest : List ℕ} {i j : ℕ} → Part text part rest i j �
 next {text} {part} {rest} {i} {j} p = let z : j + 0 ≡ j = omega arith in let e : get_or text (j + 0) 0 ≡ get_or rest 0 0 = behind p 0 in rw z at e
 
 pub range : {text part rest : List ℕ} {i j : ℕ} → Part text part rest i j → slice_range text i j ≡ part
-range {text} {part} {rest} {i} {j} p =
-    let x = p.on in
-    let n : j - i ≡ length part = omega arith in
-    rw (n, p.is) (take_at part rest (length part) refl)
+range {text} {part} {rest} {i} {j} p = grind (arith, nat_tests, common_steps)
 
 pub within : {text part rest : List ℕ} {i j : ℕ} → Part text part rest i j → j ≤ length text
 within p = let x = p.all in omega arith

@@ -1,19 +1,11 @@
 -- A string and a key as they are spelled are read again.
-use Rattle.std.proofs.Common.{◌≡◌, ℕ, ◌/◌, ◌%◌, ◌+◌, ◌-◌, ◌<◌, ◌≤◌, ◌⊎◌, Bool, true, false, cond, not, Option, Some, None, Result, Ok, Err, IfOk, String, string_bytes, List, [], ◌∷◌, ◌++◌, length, get_or, take, drop, arith, inl, inr, sym, ◌∙◌, refl, ap, subst, append-nil, append_assoc, encode_utf8, codes, chars, flat_map, IsUtf8}
-use Rattle.std.specs.Prelude.{◌==◌, ◌||◌, ◌&&◌, slice_range}
-use Rattle.std.specs.Global.{Global}
-use Rattle.std.specs.List.{list_all, list_any}
-use Rattle.std.specs.Char.{digit_char}
-use Rattle.std.proofs.lemmas.Bool.{cases_lt, false≢true, and_parts, and_from, or_parts, false_from_ne_true, true_from_ne_false, not-true, not_from_false}
-use Rattle.std.proofs.lemmas.Bool.Decides.{nat_tests}
-use Rattle.std.proofs.lemmas.List.Folds.{list_any_at, list_all_at}
-use Rattle.std.proofs.lemmas.Str.{encodes-chars, length-encode, len_utf8_bounds}
-use lib.Utf8.{encodes}
-use Rattle.toml_span_lex.specs.Bytes.{is_keylike, is_printed, MaximalRun}
+use Rattle.toml_span_lex.proofs.Common.{◌≡◌, ℕ, ◌/◌, ◌%◌, ◌+◌, ◌-◌, ◌<◌, ◌≤◌, ◌⊎◌, Bool, true, false, cond, not, Option, Some, None, Result, Ok, Err, IfOk, String, string_bytes, List, [], ◌∷◌, ◌++◌, length, get_or, take, drop, arith, inl, inr, sym, ◌∙◌, refl, ap, subst, append-nil, append_assoc, encode_utf8, codes, chars, flat_map, IsUtf8, ◌==◌, ◌&&◌, slice_range, Global, list_all, list_any, digit_char, cases_lt, false≢true, and_parts, or_parts, true_from_ne_false, not-true, nat_tests, list_any_at, list_all_at, encodes-chars, length-encode, len_utf8_bounds, common_steps, encode_ascii, digit_value-digit_char, inside_one}
+use lib.Utf8.{encodes, low_scalar}
+use Rattle.toml_span_lex.specs.Bytes.{is_keylike, MaximalRun}
 use Rattle.toml_span_lex.specs.declared.pieces.Piece.{Piece}
 use Rattle.toml_span_lex.specs.declared.pieces.Piece.TheVariants as pieces
 use Rattle.toml_span_lex.specs.declared.span.Span.{Span}
-use Rattle.toml_span_lex.specs.Escapes.{HexRun, hex_value, IsEscape}
+use Rattle.toml_span_lex.specs.Escapes.{HexRun, hex_value, IsEscape, simple_escape, is_hex}
 use Rattle.toml_span_lex.specs.Pieces.{is_plain}
 use Rattle.toml_span_lex.specs.Strings.{Cut, content, content_span, IsContent, IsString}
 use Rattle.toml_span_lex.specs.Tokens.{RunAt}
@@ -25,8 +17,8 @@ use Rattle.toml_span_read.specs.Keys.{SpellsSimpleKey}
 use Rattle.toml_span_places.specs.Again.{parts_off, ReadsAsString, ReadsAsKey}
 use Rattle.toml_span_places.specs.Keys.{is_quote}
 use Rattle.toml_span_places.specs.Quoted.{letter_of, letter_or, is_control, number_escape, letter_escape, basic_char, basic, is_escaped, is_unliteral, is_literal, quoted, is_bare, key_text}
-use Rattle.toml_span_places.proofs.EscapedChars.{letter_writes, letter_bytes, control_small, number_bytes, digits_hex, digits_write, small_scalar, printed, plain_byte}
 use Rattle.toml_span_places.proofs.Parts.{Part, between, same_part, front, back, tail, here, next, range, within, each, empty_range}
+use Rattle.std.proofs.lemmas.Bool.{lt-ltb}
 
 -- ---- pieces between quotation marks
 
@@ -34,14 +26,15 @@ use Rattle.toml_span_places.proofs.Parts.{Part, between, same_part, front, back,
 abbrev Pieces : List ℕ → ℕ → ℕ → List ℕ → Type 0
 Pieces text i j value = (ps : List (Piece × ℕ)) × Cut 34 false text i ps j × (content text i ps ≡ value)
 
+-- bytes from i to k that stand for themselves, and pieces behind them that don't begin with such a byte
+run_first : (text : List ℕ) (i k j : ℕ) (ps : List (Piece × ℕ)) → i < k → ((n : ℕ) → i ≤ n → n < k → is_plain 34 (get_or text n 0) ≡ true) → is_plain 34 (get_or text k 0) ≡ false → k ≤ length text
+    → Cut 34 false text k ps j → Pieces text i j (slice_range text i k ++ content text k ps)
+run_first text i k j ps l h stop w cut = ((pieces.Plain, k) ∷ ps, ((l, record { forward = omega arith; within = w; passes = h; stops = λ x. stop }), cut), refl)
+
 -- bytes from i to k that stand for themselves, and pieces behind them
 plain_first : (text : List ℕ) (i k j : ℕ) (ps : List (Piece × ℕ)) → i < k → ((n : ℕ) → i ≤ n → n < k → is_plain 34 (get_or text n 0) ≡ true) → is_plain 34 (get_or text j 0) ≡ false → j ≤ length text → Cut 34 false text k ps j
     → Pieces text i j (slice_range text i k ++ content text k ps)
-plain_first text i k j [] l h stop w e = (
-  (pieces.Plain, k) ∷ [],
-  ((l, record { forward = omega arith; within = omega arith; passes = h; stops = λ x. rw e stop }), e),
-  refl,
-)
+plain_first text i k j [] l h stop w e = run_first text i k j [] l h (rw e stop) (omega arith) e
 plain_first text i k j ((pieces.Plain, m) ∷ ps) l h stop w ((on, run), more) = (
   (pieces.Plain, m) ∷ ps,
   (
@@ -59,14 +52,25 @@ plain_first text i k j ((pieces.Plain, m) ∷ ps) l h stop w ((on, run), more) =
   ap (λ (v : List ℕ). v ++ content text m ps) (sym (slice_join text i k m (omega arith) (omega arith))) ∙ append_assoc (slice_range text i k) (slice_range text k m) (content text m ps),
 )
 plain_first text i k j ((pieces.Escape c, m) ∷ ps) l h stop w (esc, more) =
-    let on : k < length text = read_within text k (omega (arith, esc.1)) in (
-      (pieces.Plain, k) ∷ (pieces.Escape c, m) ∷ ps,
-      ((l, record { forward = omega arith; within = omega arith; passes = h; stops = λ x. rw (esc.1) refl }), (esc, more)),
-      refl,
-    )
+    let on : k < length text = read_within text k (omega (arith, esc.1)) in run_first text i k j ((pieces.Escape c, m) ∷ ps) l h (rw (esc.1) refl) (omega arith) (esc, more)
 plain_first text i k j ((pieces.Quotes, m) ∷ ps) l h stop w (quotes, more) = absurd (false≢true quotes.0)
 plain_first text i k j ((pieces.LineEnd, m) ∷ ps) l h stop w (line, more) = absurd (false≢true line.0)
 plain_first text i k j ((pieces.Dropped, m) ∷ ps) l h stop w (dropped, more) = absurd (false≢true dropped.1)
+
+-- ---- how a character is spelled between quotation marks
+
+pub digit_hex : (d : ℕ) → d < 16 → is_hex (digit_char d) ≡ true
+digit_hex d h = rw (digit_value-digit_char d (omega arith)) (lt-ltb d 16 h)
+
+-- a character that stands for itself
+pub plain_byte : (c k : ℕ) → letter_of c ≡ None → is_control c ≡ false → k < length (encode_utf8 c) → is_plain 34 (get_or (encode_utf8 c) k 0) ≡ true
+plain_byte c k none free h = elim (cases_lt (get_or (encode_utf8 c) k 0) 128) [
+  | inl low ↦
+      let e : c ≡ get_or (encode_utf8 c) k 0 = inside_one c [] (encode_utf8 c) k (sym (append-nil (encode_utf8 c))) h low in
+      let plain : is_plain 34 c ≡ true = grind (arith, nat_tests, common_steps) in
+      subst (λ b. is_plain 34 b ≡ true) e plain
+  | inr high ↦ grind (arith, nat_tests, common_steps)
+]
 
 -- ---- one character
 
@@ -76,8 +80,9 @@ escape_first text i k j c ps e h more = ((pieces.Escape c, k) ∷ ps, ((refl, e,
 
 letter_first : (text rest : List ℕ) (i k j c l : ℕ) (ps : List (Piece × ℕ)) → letter_of c ≡ Some l → Part text (letter_escape l) rest i k → Cut 34 false text k ps j → Pieces text i j (encode_utf8 c ++ content text k ps)
 letter_first text rest i k j c l ps e p more =
-    let w = letter_writes c l e in
-    let q = same_part (92 ∷ l ∷ []) (letter_bytes l w.1) p in
+    let w : (simple_escape l ≡ Some c) × (l < 128) = grind (arith, nat_tests, common_steps) in
+    let bytes : letter_escape l ≡ 92 ∷ l ∷ [] = rw (encode_ascii 92 (omega arith), encode_ascii l w.1) refl in
+    let q = same_part (92 ∷ l ∷ []) bytes p in
     let second = here l [] (tail 92 (l ∷ []) q) in
     let on = q.on in
     let all = q.all in
@@ -85,32 +90,27 @@ letter_first text rest i k j c l ps e p more =
 
 number_first : (text rest : List ℕ) (i k j c : ℕ) (ps : List (Piece × ℕ)) → is_control c ≡ true → Part text (number_escape c) rest i k → Cut 34 false text k ps j → Pieces text i j (encode_utf8 c ++ content text k ps)
 number_first text rest i k j c ps e p more =
-    let small = control_small c e in
+    let small : c < 128 = grind (arith, nat_tests, common_steps) in
     let x = digit_char (c / 16) in
     let y = digit_char (c % 16) in
-    let q = same_part (92 ∷ 120 ∷ x ∷ y ∷ []) (number_bytes c small) p in
+    let bytes : number_escape c ≡ 92 ∷ 120 ∷ x ∷ y ∷ [] = grind (arith, nat_tests, common_steps) in
+    let q = same_part (92 ∷ 120 ∷ x ∷ y ∷ []) bytes p in
     let r = tail 92 (120 ∷ x ∷ y ∷ []) q in
     let s = tail 120 (x ∷ y ∷ []) r in
     let second = here 120 (x ∷ y ∷ []) r in
     let on = s.on in
     let all = s.all in
-    let hex = digits_hex c small in
     let two : HexRun text ((i + 1) + 1) k = record {
       within = omega arith;
       digits = λ n a b. elim (cases_lt n (((i + 1) + 1) + 1)) [
-        | inl first ↦ let at : n ≡ (i + 1) + 1 = omega arith in rw (at, here x (y ∷ []) s) hex.0
-        | inr last ↦ let at : n ≡ ((i + 1) + 1) + 1 = omega arith in rw (at, here y [] (tail x (y ∷ []) s)) hex.1
+        | inl first ↦ let at : n ≡ (i + 1) + 1 = omega arith in rw (at, here x (y ∷ []) s) (digit_hex (c / 16) (omega arith))
+        | inr last ↦ let at : n ≡ ((i + 1) + 1) + 1 = omega arith in rw (at, here y [] (tail x (y ∷ []) s)) (digit_hex (c % 16) (omega arith))
       ];
     } in
-    let value : c ≡ hex_value text ((i + 1) + 1) 2 = value_of text rest i k c small s in
-    escape_first text i k j c ps (here 92 (120 ∷ x ∷ y ∷ []) q) (inr (rw second (omega arith), omega arith, rw second (two, omega arith, value, small_scalar c small))) more
-  where
-    value_of : (text rest : List ℕ) (i k c : ℕ) → c < 128 → Part text (digit_char (c / 16) ∷ digit_char (c % 16) ∷ []) rest ((i + 1) + 1) k → c ≡ hex_value text ((i + 1) + 1) 2
-    value_of text rest i k c small s =
-        let on = s.on in
-        let n : k - ((i + 1) + 1) ≡ 2 = omega arith in
-        let e : take 2 (drop ((i + 1) + 1) text) ≡ digit_char (c / 16) ∷ digit_char (c % 16) ∷ [] = rw n at (range s) in
-        rw e (digits_write c small)
+    let n : k - ((i + 1) + 1) ≡ 2 = omega arith in
+    let both : take 2 (drop ((i + 1) + 1) text) ≡ x ∷ y ∷ [] = rw n at (range s) in
+    let value : c ≡ hex_value text ((i + 1) + 1) 2 = rw (both, digit_value-digit_char (c / 16) (omega arith), digit_value-digit_char (c % 16) (omega arith)) (omega arith) in
+    escape_first text i k j c ps (here 92 (120 ∷ x ∷ y ∷ []) q) (inr (rw second (omega arith), omega arith, rw second (two, omega arith, value, low_scalar c (omega arith)))) more
 
 char_first : (text rest : List ℕ) (i k j c : ℕ) (ps : List (Piece × ℕ)) → 0 < length (encode_utf8 c) → is_plain 34 (get_or text j 0) ≡ false → j ≤ length text → Part text (basic_char c) rest i k → Cut 34 false text k ps j
     → Pieces text i j (encode_utf8 c ++ content text k ps)
@@ -132,9 +132,6 @@ char_first text rest i k j c ps some stop w p more = by_letter (letter_of c) ref
 
 -- ---- all characters
 
-char_some : (c : ℕ) → 0 < length (encode_utf8 c)
-char_some c = omega (arith, length-encode c, (len_utf8_bounds c).0)
-
 chars_cut : (cs text rest : List ℕ) (i j : ℕ) → Part text (flat_map basic_char cs) (34 ∷ rest) i j → Pieces text i j (encodes cs)
 chars_cut [] text rest i j p = let same : i ≡ j = omega (arith, p.on) in ([], same, refl)
 chars_cut (c ∷ cs) text rest i j p =
@@ -143,27 +140,21 @@ chars_cut (c ∷ cs) text rest i j p =
     let (ps, cut, is) = chars_cut cs text rest (i + length (basic_char c)) j others in
     let stop : is_plain 34 (get_or text j 0) ≡ false = rw (next p) refl in
     subst (λ (v : List ℕ). Pieces text i j (encode_utf8 c ++ v)) is
-    (char_first text (flat_map basic_char cs ++ (34 ∷ rest)) i (i + length (basic_char c)) j c ps (char_some c) stop (within p) first cut)
+    (char_first text (flat_map basic_char cs ++ (34 ∷ rest)) i (i + length (basic_char c)) j c ps (omega (arith, length-encode c, (len_utf8_bounds c).0)) stop (within p) first cut)
 
 -- ---- what may stand behind
 
 pub off_parts : (rest : List ℕ) → parts_off rest ≡ true → (is_date_byte (get_or rest 0 0) ≡ false) × (is_quote (get_or rest 0 0) ≡ false) × (continues_date rest 0 ≡ false)
-off_parts rest h =
-    let x = or_parts (is_date_byte (get_or rest 0 0)) (is_quote (get_or rest 0 0) || continues_date rest 0) (not-true _ h) in
-    let y = or_parts (is_quote (get_or rest 0 0)) (continues_date rest 0) x.1 in (x.0, y.0, y.1)
+off_parts rest h = grind (arith, nat_tests, common_steps)
 
 -- ---- strings
-
-both_false : (x y : Bool) → (x ≡ false) ⊎ (y ≡ false) → false ≡ (x && y)
-both_false true y (inl h) = absurd (false≢true (sym h))
-both_false true y (inr h) = sym h
-both_false false y h = refl
 
 -- a string whose content stands from i + 1 to k
 closed : (text rest value : List ℕ) (q i k j : ℕ) (ps : List (Piece × ℕ)) → (q ≡ 34) ⊎ (q ≡ 39) → get_or text i 0 ≡ q → get_or text k 0 ≡ q → k < length text → j ≡ k + 1 → Cut q false text (i + 1) ps k → content text (i + 1) ps ≡ value
     → ((get_or text (i + 1) 0 == get_or text i 0) ≡ false) ⊎ ((get_or text (i + 2) 0 == get_or text i 0) ≡ false)
     → (span : Span) × IsString text i j span (slice_range text i j) value false
 closed text rest value q i k j ps quote first last w e cut is other =
+    let no_three : false ≡ ((get_or text (i + 1) 0 == get_or text i 0) && (get_or text (i + 2) 0 == get_or text i 0)) = grind (arith, nat_tests, common_steps, other) in
     let opens : (get_or text i 0 ≡ 34) ⊎ (get_or text i 0 ≡ 39) = rw first quote in
     let made : IsContent q false text (i + 1) value k j = record {
       pieces = ps;
@@ -173,10 +164,7 @@ closed text rest value q i k j ps quote first last w e cut is other =
       to_is = omega arith;
       value_is = sym is ∙ (sym (append-nil (content text (i + 1) ps)) ∙ ap (λ (v : List ℕ). content text (i + 1) ps ++ v) (sym (empty_range text k)));
     } in
-    (content_span false i (i + 1) k, is_string text q i (i + 1) k j false (content_span false i (i + 1) k) (slice_range text i j) value value (sym first) (both_false _ _ other) opens refl made refl refl refl)
-
-no_quote : (c : ℕ) → is_quote c ≡ false → ((c == 34) ≡ false) × ((c == 39) ≡ false)
-no_quote c h = or_parts (c == 34) (c == 39) h
+    (content_span false i (i + 1) k, is_string text q i (i + 1) k j false (content_span false i (i + 1) k) (slice_range text i j) value value (sym first) no_three opens refl made refl refl refl)
 
 plain_other : (q c : ℕ) → is_plain q c ≡ true → (c == q) ≡ false
 plain_other q c h = grind (arith, nat_tests)
@@ -184,7 +172,7 @@ plain_other q c h = grind (arith, nat_tests)
 -- the pieces, or what is behind their end, show that three quotes do not stand at i
 one_quote : (text : List ℕ) (i k : ℕ) (ps : List (Piece × ℕ)) → get_or text i 0 ≡ 34 → Cut 34 false text (i + 1) ps k → is_quote (get_or text (k + 1) 0) ≡ false
     → ((get_or text (i + 1) 0 == get_or text i 0) ≡ false) ⊎ ((get_or text (i + 2) 0 == get_or text i 0) ≡ false)
-one_quote text i k [] q e off = let at : k + 1 ≡ i + 2 = omega arith in inr (rw q (no_quote (get_or text (i + 2) 0) (rw at at off)).0)
+one_quote text i k [] q e off = let at : k + 1 ≡ i + 2 = omega arith in inr (rw q (or_parts (get_or text (i + 2) 0 == 34) _ (rw at at off)).0)
 one_quote text i k ((pieces.Plain, m) ∷ ps) q ((on, run), more) off = inl (rw q (plain_other 34 (get_or text (i + 1) 0) (run.passes (i + 1) (omega arith) on)))
 one_quote text i k ((pieces.Escape c, m) ∷ ps) q (esc, more) off = inl (rw (q, esc.1) refl)
 one_quote text i k ((pieces.Quotes, m) ∷ ps) q (quotes, more) off = absurd (false≢true quotes.0)
@@ -211,22 +199,13 @@ basic_again s text rest i j utf8 off p =
 
 -- ---- between apostrophes
 
-unliteral_plain : (c : ℕ) → is_unliteral c ≡ false → is_plain 39 c ≡ true
-unliteral_plain c h =
-    let t = or_parts (c == 39) (is_control c) h in
-    and_from (is_printed c && not (c == 39)) _ (and_from (is_printed c) (not (c == 39)) (printed c t.1) (not_from_false (c == 39) t.0)) refl
-
 none_unliteral : (s : List ℕ) → list_any is_unliteral s ≡ false → (k : ℕ) → k < length s → is_plain 39 (get_or s k 0) ≡ true
-none_unliteral s h k l = unliteral_plain (get_or s k 0) (false_from_ne_true _ (λ e. false≢true (sym h ∙ list_any_at is_unliteral s k 0 l e)))
-
-some_byte : (s : List ℕ) → list_any is_escaped s ≡ true → 0 < length s
-some_byte [] h = absurd (false≢true h)
-some_byte (c ∷ cs) h = omega arith
+none_unliteral s h k l = grind (arith, nat_tests, common_steps, list_any_at is_unliteral s k 0 l)
 
 literal_again : (s text rest : List ℕ) (i j : ℕ) → is_literal s ≡ true → Part text (39 ∷ (s ++ (39 ∷ []))) rest i j → StringAt text i j s
 literal_again s text rest i j h p =
     let both = and_parts (list_any is_escaped s) (not (list_any is_unliteral s)) h in
-    let some = some_byte s both.0 in
+    let some : 0 < length s = grind (arith, nat_tests, common_steps, both.0) in
     let plain = none_unliteral s (not-true (list_any is_unliteral s) both.1) in
     let body = tail 39 (s ++ (39 ∷ [])) p in
     let inside = front s (39 ∷ []) body in
@@ -250,29 +229,20 @@ string_again s text rest i j utf8 off p = by_form (is_literal s) refl p
 
 -- ---- keys
 
-bare_each : (name : List ℕ) → list_all is_keylike name ≡ true → (k : ℕ) → k < length name → is_keylike (get_or name k 0) ≡ true
-bare_each name h k l = true_from_ne_false _ (λ e. false≢true (sym (list_all_at is_keylike name k 0 l e) ∙ h))
-
-pub off_key : (c : ℕ) → is_date_byte c ≡ false → is_keylike c ≡ false
-off_key c h = (or_parts (is_keylike c) (c == 58) (or_parts _ (c == 46) (or_parts _ (c == 43) h).0).0).0
-
 abbrev KeyAt : List ℕ → ℕ → ℕ → List ℕ → Type 0
 KeyAt text i j name = (span : Span) × SpellsSimpleKey (record { name = name; span = span }) text i j
 
 pub run_again : (name text rest : List ℕ) (i j : ℕ) → 0 < length name → list_all is_keylike name ≡ true → is_date_byte (get_or rest 0 0) ≡ false → Part text name rest i j → RunAt is_keylike text i j name
 run_again name text rest i j some h off p =
     let on = p.on in
-    let stop : is_keylike (get_or text j 0) ≡ false = rw (next p) (off_key (get_or rest 0 0) off) in
-    (omega arith, record { forward = omega arith; within = within p; passes = each p is_keylike (bare_each name h); stops = λ x. stop }, sym (range p))
-
-not_empty : (name : List ℕ) → not (length name == 0) ≡ true → 0 < length name
-not_empty [] h = absurd (false≢true h)
-not_empty (c ∷ cs) h = omega arith
+    let stop : is_keylike (get_or text j 0) ≡ false = rw (next p) (grind (arith, nat_tests, common_steps, off)) in
+    let keylike : (k : ℕ) → k < length name → is_keylike (get_or name k 0) ≡ true = λ k l. true_from_ne_false _ (λ e. false≢true (sym (list_all_at is_keylike name k 0 l e) ∙ h)) in
+    (omega arith, record { forward = omega arith; within = within p; passes = each p is_keylike keylike; stops = λ x. stop }, sym (range p))
 
 bare_again : (name text rest : List ℕ) (i j : ℕ) → is_bare name ≡ true → is_date_byte (get_or rest 0 0) ≡ false → Part text name rest i j → KeyAt text i j name
 bare_again name text rest i j h off p =
     let both = and_parts (not (length name == 0)) (list_all is_keylike name) h in
-    (record { start = i; end = j }, inl (run_again name text rest i j (not_empty name both.0) both.1 off p, refl))
+    (record { start = i; end = j }, inl (run_again name text rest i j (grind (arith, nat_tests, common_steps, both.0)) both.1 off p, refl))
 
 pub key_again : (name text rest : List ℕ) (i j : ℕ) → IsUtf8 name → is_date_byte (get_or rest 0 0) ≡ false → is_quote (get_or rest 0 0) ≡ false → Part text (key_text name) rest i j → KeyAt text i j name
 key_again name text rest i j utf8 off quote p = by_form (is_bare name) refl p
@@ -294,10 +264,7 @@ reads_key name utf8 before rest off =
     let o = off_parts rest off in
     key_again name (before ++ (key_text name ++ rest)) rest (length before) (length before + length (key_text name)) utf8 o.0 o.1 (between before (key_text name) rest)
 
-pub string_read : {E : Type 0} (r : Result (String Global) E) (s : List ℕ) → IsUtf8 s → IfOk r (λ out. string_bytes out ≡ quoted s) → IfOk r (λ out. ReadsAsString s (string_bytes out))
-string_read (Ok out) s utf8 e = subst (ReadsAsString s) (sym e) (reads_string s utf8)
-string_read (Err error) s utf8 e = tt
-
-pub key_read : {E : Type 0} (r : Result (String Global) E) (name : List ℕ) → IsUtf8 name → IfOk r (λ out. string_bytes out ≡ key_text name) → IfOk r (λ out. ReadsAsKey name (string_bytes out))
-key_read (Ok out) name utf8 e = subst (ReadsAsKey name) (sym e) (reads_key name utf8)
-key_read (Err error) name utf8 e = tt
+-- what holds of a text holds of what is that text
+pub if_text : {E : Type 0} (P : List ℕ → Type 0) (r : Result (String Global) E) (s : List ℕ) → P s → IfOk r (λ out. string_bytes out ≡ s) → IfOk r (λ out. P (string_bytes out))
+if_text P (Ok out) s h e = subst P (sym e) h
+if_text P (Err error) s h e = tt

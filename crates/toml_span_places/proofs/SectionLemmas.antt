@@ -1,7 +1,5 @@
 -- What sections give, a section further on.
-use Rattle.std.proofs.Common.{◌≡◌, ◌∙◌, ℕ, ◌+◌, ◌<◌, Option, List, ◌∷◌, ◌++◌, map, drop, length, get_or, ap, sym}
-use Rattle.std.proofs.lemmas.List.{drop_more}
-use Rattle.std.specs.Prelude.{if◌then◌else◌, Some}
+use Rattle.toml_span_lex.proofs.Common.{◌≡◌, ◌∙◌, ℕ, ◌+◌, ◌<◌, Option, List, ◌∷◌, ◌++◌, map, drop, length, get_or, ap, drop_more, if◌then◌else◌, Some, arith, nat_tests, common_steps, Bool, None, option_map}
 use Rattle.toml_span_tree.specs.Path.{Path}
 use Rattle.toml_span_read.specs.Data.{Block, block}
 use Rattle.toml_span_read.specs.declared.section.Section.{Section}
@@ -10,9 +8,8 @@ use Rattle.toml_span_places.specs.declared.points.InsertionPoint.{InsertionPoint
 use Rattle.toml_span_places.specs.Keys.{opened_behind}
 use Rattle.toml_span_places.specs.Points.{behind_section, own_section}
 use Rattle.toml_span_places.specs.code.Opened.{counts_behind}
-use Rattle.toml_span_places.proofs.KeyLemmas.{listed_next}
 use Rattle.toml_span_places.proofs.OpenedLemmas.{counts_next}
-use Rattle.toml_span_places.proofs.PointLemmas.{last_or, point_from}
+use Rattle.toml_span.specs.Clashes.{or_else}
 
 first_of : (i : ℕ) (ss : List Section) (s : Section) → i < length ss → get_or ss i s ≡ s →
     drop i ss ≡ s ∷ drop (i + 1) ss
@@ -32,11 +29,17 @@ listed_section each from more i ss s counts counts' before now all under here ad
     let rest = map block (drop (i + 1) ss) in (
       opened_behind opened (block s),
       counts_next counts counts' opened (block s) behind was.1,
-      listed_next before now (each (elements_added opened) (block s)) (from (opened_behind opened (block s)) rest) _ all
-          (added ∙ ap (λ f. before ++ each f (block s)) was.1)
-          (ap (λ l. from opened (map block l)) (first_of i ss s under here) ∙ more opened (block s) rest)
-          was.2,
+      grind (arith, nat_tests, common_steps, first_of i ss s under here, more opened (block s) rest, was.1, was.2),
     )
+
+-- what these sections give, or else this point
+abbrev pub point_from : List ℕ → Path → List Path → List Block → Option InsertionPoint → Option InsertionPoint
+point_from text p opened bs point = or_else (option_map (behind_section text) (own_section p opened bs)) point
+
+pub last_or : (text : List ℕ) (found : Option Block) (b : Block) (same : Bool) (point : Option InsertionPoint) →
+    or_else (option_map (behind_section text) (or_else found (if same then Some b else None))) point
+    ≡ or_else (option_map (behind_section text) found) (if same then Some (behind_section text b) else point)
+last_or text found b same point = grind (arith, nat_tests, common_steps)
 
 -- the insertion point
 pub point_next : (text : List ℕ) (p : Path) (i : ℕ) (ss : List Section) (s : Section) (counts counts' : Path → ℕ)
@@ -54,9 +57,5 @@ point_next text p i ss s counts counts' point point' all under here point_is beh
     let same = same_path (section_path (elements_added opened) (block s)) p in (
       opened_behind opened (block s),
       counts_next counts counts' opened (block s) behind was.1,
-      ap (point_from text p (opened_behind opened (block s)) rest) (point_is
-          ∙ ap (λ f. if same_path (section_path f (block s)) p then Some (behind_section text (block s)) else point) was.1)
-          ∙ sym (last_or text (own_section p (opened_behind opened (block s)) rest) (block s) same point)
-          ∙ sym (ap (λ l. point_from text p opened (map block l) point) (first_of i ss s under here))
-          ∙ was.2,
+      grind (arith, nat_tests, common_steps, first_of i ss s under here, last_or, was.1, was.2),
     )

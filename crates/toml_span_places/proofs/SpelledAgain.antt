@@ -1,34 +1,29 @@
 -- A value as it is spelled is read again.
-use Rattle.std.proofs.Common.{◌≡◌, ℕ, ◌+◌, ◌<◌, ◌≤◌, ◌⊎◌, Bool, true, false, cond, Some, None, Result, Ok, Err, IfOk, OnOk, String, string_bytes, List, [], ◌∷◌, ◌++◌, length, get_or, arith, inl, inr, sym, ◌∙◌, refl, ap, subst, append_assoc, length-append, codes, IsUtf8}
-use Rattle.std.specs.Prelude.{◌==◌, ◌||◌, slice_range}
-use Rattle.std.specs.Global.{Global}
-use Rattle.std.specs.List.{list_all}
-use Rattle.std.proofs.lemmas.Bool.{cases_Bool, false≢true, or_cases, or_parts, or_from, and_parts, eqb-true, false_from_ne_true}
+use Rattle.toml_span_lex.proofs.Common.{◌≡◌, ℕ, ◌+◌, ◌<◌, ◌≤◌, ◌⊎◌, Bool, true, false, Some, Result, Ok, Err, IfOk, OnOk, String, string_bytes, List, [], ◌∷◌, ◌++◌, length, get_or, arith, inl, inr, sym, ◌∙◌, refl, ap, subst, append_assoc, codes, IsUtf8, ◌==◌, ◌||◌, slice_range, Global, list_all, false≢true, and_parts, nat_tests, common_steps}
 use Rattle.toml_span_lex.specs.Bytes.{is_blank, is_keylike, MaximalRun}
-use Rattle.toml_span_lex.specs.Strings.{IsQuote}
 use Rattle.toml_span_lex.specs.declared.span.Span.{Span}
 use Rattle.toml_span_tree.specs.Float.{float_text}
-use Rattle.toml_span_tree.specs.Node.{Scalar, text as text_scalar, integer, float, boolean, datetime, FloatValue, finite, infinite, not_a_number, Node, node, Inner, taken, Items, no_items, item, Members, no_members, member}
+use Rattle.toml_span_tree.specs.Node.{Scalar, text as text_scalar, integer, float, boolean, datetime, FloatValue, finite, infinite, not_a_number, Node, node, Inner, taken, Items, no_items, item, Members, no_members, member, scalar as scalar_node, array as array_node, table as table_node}
 use Rattle.toml_span_tree.specs.Value.{is_whole, holds_whole, all_whole, all_members_whole}
-use Rattle.toml_span_tree.specs.Node.{scalar as scalar_node, array as array_node, table as table_node}
-use Rattle.toml_span_read.specs.Data.{ParsedValue, parsed, ParsedInner, scalar, array, inline, ParsedItems, no_items as none_read, item as item_read, ParsedPairs, no_pairs, pair, KeyValue}
+use Rattle.toml_span_read.specs.Data.{ParsedValue, parsed, ParsedInner, scalar, array, inline, ParsedItems, no_items as none_read, item as item_read, ParsedPairs, no_pairs, pair, KeyValue, from_to}
 use Rattle.toml_span_read.specs.Dates.{begins_date, is_date_byte}
-use Rattle.toml_span_read.specs.Earlier.{Clear}
 use Rattle.toml_span_read.specs.Gaps.{begins_gap, MaximalGap, Separator, Closes}
-use Rattle.toml_span_read.specs.Grammar.{from_to, truth_text, SpellsScalar, Spells, SpellsInner, SpellsItems, SpellsPairs}
+use Rattle.toml_span_read.specs.Grammar.{truth_text, SpellsScalar, Spells, SpellsInner, SpellsItems, SpellsPairs}
 use Rattle.toml_span_read.specs.Keys.{SimpleKey, SpellsSimpleKey, SpellsKey}
-use Rattle.toml_span_read.specs.Numbers.{is_digit_in, behind_sign, is_negative, radix_at, SpecialFloat}
-use Rattle.toml_span_read.proofs.NumberLemmas.{clash, digit_keylike, no_sign, slice_first, stands_alone}
+use Rattle.toml_span_read.specs.Numbers.{is_digit_in, behind_sign, is_negative, radix_at, SpecialFloat, FloatLiteral, cleaned}
+use Rattle.toml_span_read.proofs.NumberLemmas.{digit_keylike, slice_first, stands_alone}
 use Rattle.toml_span_read.proofs.ShortIntegers.{decimal_keylike}
 use Rattle.toml_span_places.specs.Again.{parts_off, HasValue, HoldsValue, HaveValues, HaveEntries, IsFloatText, IsScalarText, HasFloatTexts, InnerHasFloatTexts, ItemsHaveFloatTexts, MembersHaveFloatTexts, IsWithin, InnerIsWithin, ItemsAreWithin, MembersAreWithin, ReadsAsValue}
 use Rattle.toml_span_places.specs.Quoted.{key_text}
 use Rattle.toml_span_places.specs.Spelled.{scalar_text, value_text, inner_text, items_text, members_text}
 use Rattle.toml_span_places.specs.code.Spelled.{IsHeldScalar, IsHeld, IsHeldInner, AreHeld, MembersHeld, CanBeSpelled, InnerCanBeSpelled, ItemsCanBeSpelled, MembersCanBeSpelled}
-use Rattle.toml_span_places.proofs.Parts.{Part, between, same_part, front, back, tail, here, next, range, within}
+use Rattle.toml_span_places.proofs.Parts.{Part, between, same_part, front, back, tail, here, next, range, within, whole}
 use Rattle.toml_span_places.proofs.QuotedAgain.{off_parts, run_again, string_again, key_again}
 use Rattle.toml_span_places.proofs.NumbersAgain.{off_bytes, integer_again}
-use Rattle.toml_span_places.proofs.FloatsAgain.{literal_again}
 use Rattle.toml_span_places.proofs.DatesAgain.{date_again}
+use Rattle.toml_span_places.proofs.Moves.{Copied}
+use Rattle.toml_span_places.proofs.NumbersMove.{literal}
+use Rattle.toml_span_places.proofs.Undated.{no_date}
 
 -- ---- what begins a value begins no gap
 
@@ -41,52 +36,32 @@ no_gap text i h = rw (h.0, h.1, h.2) refl
 no_gap_is : (text : List ℕ) (i c : ℕ) → get_or text i 0 ≡ c → NoGap c → begins_gap text i ≡ false
 no_gap_is text i c e h = no_gap text i (rw e h)
 
-keylike_other : (c k : ℕ) → is_keylike c ≡ true → is_keylike k ≡ false → (c == k) ≡ false
-keylike_other c k h n = false_from_ne_true (c == k) (λ e. clash is_keylike c k h (eqb-true c k e) n)
-
 pub keylike_no_gap : (c : ℕ) → is_keylike c ≡ true → NoGap c
-keylike_no_gap c h =
-    (or_from (is_blank c) (c == 10) (or_from (c == 32) (c == 9) (keylike_other c 32 h refl) (keylike_other c 9 h refl)) (keylike_other c 10 h refl), keylike_other c 13 h refl, keylike_other c 35 h refl)
-
-pub quote_no_gap : (c : ℕ) → IsQuote c → NoGap c
-quote_no_gap c (inl e) = rw e (refl, refl, refl)
-quote_no_gap c (inr e) = rw e (refl, refl, refl)
+keylike_no_gap c h = grind (arith, nat_tests, common_steps)
 
 -- a sign, or what stands without one
 signed_no_gap : (text : List ℕ) (i : ℕ) → (behind_sign text i ≡ i → is_keylike (get_or text i 0) ≡ true) → NoGap (get_or text i 0)
-signed_no_gap text i h = elim (cases_Bool (get_or text i 0 == 43 || get_or text i 0 == 45)) [
-  | inl sign ↦ elim (or_cases (get_or text i 0 == 43) (get_or text i 0 == 45) sign) [
-    | inl plus ↦ rw (eqb-true (get_or text i 0) 43 plus) (refl, refl, refl)
-    | inr minus ↦ rw (eqb-true (get_or text i 0) 45 minus) (refl, refl, refl)
-  ]
-  | inr none ↦ let n = or_parts (get_or text i 0 == 43) (get_or text i 0 == 45) none in keylike_no_gap (get_or text i 0) (h (no_sign text i n.0 n.1))
-]
+signed_no_gap text i h = grind (arith, nat_tests, common_steps)
 
 digits_no_gap : (text : List ℕ) (i : ℕ) → is_digit_in 10 (get_or text (behind_sign text i) 0) ≡ true → NoGap (get_or text i 0)
 digits_no_gap text i h = signed_no_gap text i (λ at. digit_keylike 10 (get_or text i 0) (rw at at h))
 
 radix_no_gap : (text : List ℕ) (i radix : ℕ) → radix_at text i ≡ Some radix → NoGap (get_or text i 0)
-radix_no_gap text i radix h = elim (cases_Bool (get_or text i 0 == 48)) [
-  | inl zero ↦ rw (eqb-true (get_or text i 0) 48 zero) (refl, refl, refl)
-  | inr other ↦ absurd (let none : radix_at text i ≡ None = rw other refl in cc)
-]
-
-digit_no_gap : (text : List ℕ) (i : ℕ) → begins_date text i ≡ true → NoGap (get_or text i 0)
-digit_no_gap text i h = keylike_no_gap (get_or text i 0) (decimal_keylike (get_or text i 0) (and_parts _ _ (and_parts _ _ h).0).0)
+radix_no_gap text i radix h = grind (arith, nat_tests, common_steps)
 
 -- the text of a special float, behind its sign
 word_no_gap : (text : List ℕ) (i j c : ℕ) (cs : List ℕ) → SpecialFloat (c ∷ cs) text i j → is_keylike c ≡ true → NoGap (get_or text i 0)
 word_no_gap text i j c cs h k = signed_no_gap text i (λ at. rw ((slice_first text i j c cs (rw at at h.some) h.within (rw at at h.letters)).0) k)
 
 scalar_starts : (s : Scalar) (span : Span) (text : List ℕ) (i j : ℕ) → SpellsScalar s span text i j → NoGap (get_or text i 0)
-scalar_starts (text_scalar v) span text i j (source, multi, h) = quote_no_gap (get_or text i 0) h.quote
+scalar_starts (text_scalar v) span text i j (source, multi, h) = elim h.quote [ inl e ↦ rw e (refl, refl, refl) | inr e ↦ rw e (refl, refl, refl) ]
 scalar_starts (integer z) span text i j (no_date, inl h, is) = digits_no_gap text i h.digits.digits.begins
 scalar_starts (integer z) span text i j (no_date, inr h, is) = radix_no_gap text i h.radix h.prefix
 scalar_starts (float (finite digits)) span text i j (no_date, h, is) = digits_no_gap text i h.0.integer_part.digits.begins
 scalar_starts (float (infinite b)) span text i j (no_date, h, is) = word_no_gap text i j 105 (110 ∷ 102 ∷ []) h.0 refl
 scalar_starts (float (not_a_number b)) span text i j (no_date, h, is) = word_no_gap text i j 110 (97 ∷ 110 ∷ []) h.0 refl
 scalar_starts (boolean b) span text i j (h, is) = keylike_no_gap (get_or text i 0) (h.1.passes i (omega arith) h.0)
-scalar_starts (datetime d) span text i j h = digit_no_gap text i h.0
+scalar_starts (datetime d) span text i j h = keylike_no_gap (get_or text i 0) (decimal_keylike (get_or text i 0) (and_parts _ _ (and_parts _ _ h.0).0).0)
 
 pub value_starts : (v : ParsedValue) (text : List ℕ) (limit d i j : ℕ) → Spells v text limit d i j → begins_gap text i ≡ false
 value_starts (parsed (scalar s) span) text limit d i j h = no_gap text i (scalar_starts s span text i j h.1)
@@ -101,16 +76,25 @@ nothing text i h = record { ends = []; pieces = refl; forward = omega arith; sto
 one_space : (text : List ℕ) (i : ℕ) → get_or text i 0 ≡ 32 → begins_gap text (i + 1) ≡ false → MaximalGap text i (i + 1)
 one_space text i e h = record { ends = (i + 1) ∷ []; pieces = (inl (rw e refl, refl), refl); forward = omega arith; stops = h }
 
+-- ---- floats
+
+copied : {text part rest : List ℕ} {i j : ℕ} → Part text part rest i j → Copied part text 0 i j (get_or rest 0 0)
+copied {text} {part} {rest} {i} {j} p = grind (arith, nat_tests, common_steps)
+
+pub literal_again : {text rest : List ℕ} {i j : ℕ} (digits : List ℕ) → IsFloatText (finite digits) → is_date_byte (get_or rest 0 0) ≡ false → Part text digits rest i j → SpellsScalar (float (finite digits)) (from_to i j) text i j
+literal_again {text} {rest} {i} {j} digits (none, h, is) off p =
+    let clean : digits ≡ cleaned (slice_range text i j) = rw (range p) (rw (range (whole digits)) at h.1) in
+    let on = p.on in
+    let here : FloatLiteral text i j = (literal (copied p) off).to 0 (length digits) i j (record { after = omega arith; moved = omega arith; inside = omega arith }) (record { after = omega arith; moved = omega arith; inside = omega arith }) h.0 in
+    (no_date (float (finite digits)) text i j (here, clean) (rw (next p) (off_bytes (get_or rest 0 0) off).1), (here, clean), refl)
+
 -- ---- scalars
 
 abbrev ScalarAt : List ℕ → Scalar → ℕ → ℕ → Type 0
 ScalarAt text s i j = (span : Span) × SpellsScalar s span text i j
 
 special : {text rest : List ℕ} {k j : ℕ} (word : List ℕ) (i : ℕ) → length word ≡ 3 → is_date_byte (get_or rest 0 0) ≡ false → behind_sign text i ≡ k → Part text word rest k j → SpecialFloat word text i j
-special {text} {rest} {k} {j} word i some off e p =
-    let on = p.on in
-    let b = off_bytes (get_or text j 0) (rw (next p) off) in
-    record { letters = rw e (range p); some = rw e (omega arith); within = within p; ends = stands_alone text j b.0 b.2 }
+special {text} {rest} {k} {j} word i some off e p = grind (arith, nat_tests, common_steps, next, off_bytes, range, stands_alone, within)
 
 -- a word behind a dash, or without one
 minus_word : {text rest : List ℕ} {i j : ℕ} (word : List ℕ) → length word ≡ 3 → is_date_byte (get_or rest 0 0) ≡ false → Part text (45 ∷ word) rest i j → (begins_date text i ≡ false) × SpecialFloat word text i j × (true ≡ is_negative text i)
@@ -124,12 +108,7 @@ float_again {i = i} {j} (not_a_number true) is off p = let (none, h, minus) = mi
 float_again {i = i} {j} (not_a_number false) is off p = let first = here 110 (97 ∷ 110 ∷ []) p in (from_to i j, (rw first refl, (special (codes "nan") i refl off (rw first refl) p, rw first refl), refl))
 
 word : (b : Bool) → (0 < length (truth_text b)) × (list_all is_keylike (truth_text b) ≡ true)
-word true = let n : length (codes "true") ≡ 4 = refl in (omega (arith, n), refl)
-word false = let n : length (codes "false") ≡ 5 = refl in (omega (arith, n), refl)
-
-truth_same : (b : Bool) → cond b (codes "true") (codes "false") ≡ truth_text b
-truth_same true = refl
-truth_same false = refl
+word b = grind (arith, nat_tests, common_steps)
 
 scalar_again : {text rest : List ℕ} {i j : ℕ} (s : Scalar) → IsHeldScalar s → IsScalarText s → parts_off rest ≡ true → Part text (scalar_text s) rest i j → ScalarAt text s i j
 scalar_again {text} {rest} {i} {j} (text_scalar v) held is off p =
@@ -137,7 +116,7 @@ scalar_again {text} {rest} {i} {j} (text_scalar v) held is off p =
 scalar_again {text} {rest} {i} {j} (integer z) held is off p = (from_to i j, integer_again z held.sfits (off_parts rest off).0 p)
 scalar_again {text} {rest} {i} {j} (float x) held is off p = float_again x is (off_parts rest off).0 p
 scalar_again {text} {rest} {i} {j} (boolean b) held is off p =
-    let w = word b in (from_to i j, (run_again (truth_text b) text rest i j w.0 w.1 (off_parts rest off).0 (same_part (truth_text b) (truth_same b) p), refl))
+    let w = word b in (from_to i j, (run_again (truth_text b) text rest i j w.0 w.1 (off_parts rest off).0 (same_part (truth_text b) (grind (arith, nat_tests, common_steps)) p), refl))
 scalar_again {text} {rest} {i} {j} (datetime d) held is off p = let o = off_parts rest off in (from_to i j, date_again d held o.0 o.2 p)
 
 -- ---- arrays and tables
@@ -155,10 +134,7 @@ Behind ns =
     → (vs : ParsedItems) × HaveValues vs ns × (((vs ≡ none_read) × Closes 93 text i j) ⊎ ((p : ℕ) × Separator 44 text i p × SpellsItems vs text limit d p j))
 
 closes : {text rest : List ℕ} {i j : ℕ} (c : ℕ) → NoGap c → Part text (c ∷ []) rest i j → Closes c text i j
-closes {text} {rest} {i} {j} c h p =
-    let e = here c [] p in
-    let on = p.on in
-    record { at = i; before = nothing text i (no_gap_is text i c e h); here = e; ends = omega arith }
+closes {text} {rest} {i} {j} c h p = grind (arith, nat_tests, common_steps)
 
 comma : {text rest : List ℕ} {i j : ℕ} (more : List ℕ) → Part text (44 ∷ 32 ∷ more) rest i j → begins_gap text ((i + 1) + 1) ≡ false → Separator 44 text i ((i + 1) + 1)
 comma {text} {rest} {i} {j} more p h =
@@ -203,19 +179,13 @@ members_off (member name key n ms) rest = refl
 -- ---- pairs
 
 pub key_starts : (s : SimpleKey) (text : List ℕ) (i j : ℕ) → SpellsSimpleKey s text i j → NoGap (get_or text i 0)
-key_starts s text i j (inl (run, is)) = keylike_no_gap (get_or text i 0) (run.1.passes i (omega arith) run.0)
-key_starts s text i j (inr (source, string)) = quote_no_gap (get_or text i 0) string.quote
+key_starts s text i j h = grind (arith, nat_tests, common_steps)
 
 regroup : (k v m e : List ℕ) → ((k ++ codes " = ") ++ (v ++ m)) ++ e ≡ k ++ (32 ∷ 61 ∷ 32 ∷ (v ++ (m ++ e)))
 regroup k v m e = append_assoc (k ++ codes " = ") (v ++ m) e ∙ (append_assoc k (codes " = ") ((v ++ m) ++ e) ∙ ap (λ (l : List ℕ). k ++ (32 ∷ 61 ∷ 32 ∷ l)) (append_assoc v m e))
 
-one_part : (es : List KeyValue) (e : KeyValue) (s : SimpleKey) → e.parts ≡ s ∷ [] → Clear es e
-one_part es e s is inner last at outer p rest f =
-    absurd (omega (arith, ap length (sym is ∙ at), ap length f, length-append inner (last ∷ []), length-append outer (p ∷ rest)))
-
 pub blank_run : (text : List ℕ) (i : ℕ) → get_or text i 0 ≡ 32 → i < length text → is_blank (get_or text (i + 1) 0) ≡ false → MaximalRun is_blank text i (i + 1)
-blank_run text i e l h =
-    record { forward = omega arith; within = omega arith; passes = λ k a b. (let same : k ≡ i = omega arith in rw (same, e) refl); stops = λ x. h }
+blank_run text i e l h = grind (arith, nat_tests, common_steps)
 
 -- a key, a space, an equals sign and a space, where a value begins behind them
 record Front (text : List ℕ) (s : SimpleKey) (i b : ℕ) : Type 0 where
@@ -283,13 +253,10 @@ joined_pairs name key n ms text rest es limit d i j utf8 few first others held c
     let here : KeyValue = record { parts = s ∷ []; value = v; extent = from_to i m } in
     let (ps, g, more) = others text rest (es ++ (here ∷ [])) limit d m j held can (back (value_text n) (members_text false ms ++ (125 ∷ [])) r) in (
       pair (s ∷ []) v (from_to i m) ps,
-      (m, (f.end, b, f.key, omega arith, f.sign, h, refl), one_part es here s refl, more),
+      (m, (f.end, b, f.key, omega arith, f.sign, h, refl), (λ inner last at outer p rest f. grind (arith, nat_tests, common_steps)), more),
       (refl, e, g),
       no_gap text i (key_starts s text i a k),
     )
-
-least : (n : Node) (limit d : ℕ) → CanBeSpelled limit d n → d ≤ limit
-least (node k at) limit d can = can.0
 
 mutual
   pub value_again : (n : Node) (text rest : List ℕ) (limit d i j : ℕ) → IsHeld n → CanBeSpelled limit d n → parts_off rest ≡ true → Part text (value_text n) rest i j → ValueAt text n limit d i j
@@ -321,9 +288,9 @@ mutual
       let e = here 125 [] p in
       let on = p.on in
       (no_pairs, (e, omega arith), tt, no_gap_is text i 125 e (refl, refl, refl))
-  members_again (member name key n ms) text rest es limit d i j (utf8, held, more) (can, others) p =
-      joined_pairs name key n ms text rest es limit d i j utf8 (least n limit (d + 1) can)
-      (λ b q. value_again n text ((members_text false ms ++ (125 ∷ [])) ++ rest) limit (d + 1) b (b + length (value_text n)) held can (members_off ms rest) q) (behind_pairs ms (members_again ms)) more others p
+  members_again (member name key (node k at) ms) text rest es limit d i j (utf8, held, more) (can, others) p =
+      joined_pairs name key (node k at) ms text rest es limit d i j utf8 can.0
+      (λ b q. value_again (node k at) text ((members_text false ms ++ (125 ∷ [])) ++ rest) limit (d + 1) b (b + length (inner_text k)) held can (members_off ms rest) q) (behind_pairs ms (members_again ms)) more others p
 
 -- ---- the contract
 

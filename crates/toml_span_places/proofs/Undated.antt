@@ -1,12 +1,10 @@
 -- Where a number stands and no colon is behind it, no date begins.
-use Rattle.std.proofs.Common.{◌≡◌, ℕ, ◌+◌, ◌<◌, ◌≤◌, ◌⊎◌, true, false, Some, None, List, ◌∷◌, get_or, arith, inl, inr, refl, sym, ◌∙◌}
-use Rattle.std.specs.Prelude.{◌==◌, ◌&&◌, slice_range}
-use Rattle.std.specs.Char.{is_ascii_digit}
-use Rattle.std.proofs.lemmas.Bool.{cases_lt, cases_Bool, false≢true, or_cases, and_parts, eqb-true, false_from_ne_true}
+use Rattle.toml_span_lex.proofs.Common.{◌≡◌, ℕ, ◌+◌, ◌<◌, ◌≤◌, ◌⊎◌, true, false, List, ◌∷◌, get_or, arith, inl, inr, refl, sym, ◌∙◌, ◌==◌, ◌&&◌, is_ascii_digit, cases_lt, false≢true, or_cases, and_parts, false_from_ne_true, nat_tests, common_steps}
+use Rattle.std.proofs.lemmas.Bool.{eqb-true}
 use Rattle.toml_span_tree.specs.Node.{Scalar, text as text_scalar, integer, float, boolean, datetime, finite, infinite, not_a_number}
 use Rattle.toml_span_read.specs.Dates.{begins_date}
-use Rattle.toml_span_read.specs.Numbers.{is_figure, is_exponent, behind_sign, Digits, Exponent, Fraction, goes_on, radix_at, SpecialFloat, IsNumber}
-use Rattle.toml_span_read.proofs.NumberLemmas.{clash, digits_stop, no_sign, none_some, slice_first}
+use Rattle.toml_span_read.specs.Numbers.{is_figure, behind_sign, Digits, Exponent, Fraction, SpecialFloat, IsNumber}
+use Rattle.toml_span_read.proofs.NumberLemmas.{clash, digits_stop, no_sign}
 
 digit_other : (c k : ℕ) → is_ascii_digit c ≡ true → is_ascii_digit k ≡ false → (c == k) ≡ false
 digit_other c k h n = false_from_ne_true (c == k) (λ e. clash is_ascii_digit c k h (eqb-true c k e) n)
@@ -47,38 +45,17 @@ front_ends text i e h d =
           inr (ends text i e (i + 4) 45 d (omega arith) (omega arith) f.1 refl)
     ]
 
-goes_on_dash : (text : List ℕ) (j : ℕ) → get_or text j 0 ≡ 45 → goes_on text j ≡ true
-goes_on_dash text j h = rw h refl
-
--- a digit behind the first one, and so no prefix
-no_prefix : (text : List ℕ) (i radix : ℕ) → radix_at text i ≡ Some radix → is_ascii_digit (get_or text (i + 1) 0) ≡ true → ⊥
-no_prefix text i radix h d =
-    let x = digit_other (get_or text (i + 1) 0) 120 d refl in
-    let y = digit_other (get_or text (i + 1) 0) 111 d refl in
-    let z = digit_other (get_or text (i + 1) 0) 98 d refl in
-    elim (cases_Bool (get_or text i 0 == 48)) [
-      | inl e ↦ let n : None ≡ Some radix = rw (e, x, y, z) at h in none_some radix n
-      | inr e ↦ let n : None ≡ Some radix = rw e at h in none_some radix n
-    ]
-
 -- an exponent's letter or a dot is neither a colon nor a dash
 front_rest : (text : List ℕ) (m j : ℕ) → (get_or text m 0 ≡ 58) ⊎ (get_or text m 0 ≡ 45) → Exponent text m j ⊎ ((p : ℕ) × Fraction text m p × ((j ≡ p) ⊎ Exponent text p j)) → ⊥
-front_rest text m j (inl e) (inl x) = clash is_exponent (get_or text m 0) 58 x.letter e refl
-front_rest text m j (inr e) (inl x) = clash is_exponent (get_or text m 0) 45 x.letter e refl
-front_rest text m j (inl e) (inr (p, f, r)) = omega (arith, f.point)
-front_rest text m j (inr e) (inr (p, f, r)) = omega (arith, f.point)
+front_rest text m j h g = grind (arith, nat_tests, common_steps)
 
 special_decimal : (text : List ℕ) (i j x : ℕ) (xs : List ℕ) → SpecialFloat (x ∷ xs) text i j → is_ascii_digit x ≡ false → is_ascii_digit (get_or text i 0) ≡ true → ⊥
-special_decimal text i j x xs s n d =
-    let b = behind_none text i d in
-    let l : i < j = rw b at s.some in
-    let w : slice_range text i j ≡ x ∷ xs = rw b at s.letters in
-    clash is_ascii_digit (get_or text i 0) x d (slice_first text i j x xs l s.within w).0 n
+special_decimal text i j x xs s n d = grind (arith, nat_tests, common_steps)
 
 number_front : (s : Scalar) (text : List ℕ) (i j : ℕ) → begins_date text i ≡ true → is_ascii_digit (get_or text i 0) ≡ true → is_ascii_digit (get_or text (i + 1) 0) ≡ true → IsNumber s text i j → get_or text j 0 ≡ 58
 number_front (integer n) text i j d a b (inl h) =
-    elim (front_ends text i j d (rw (behind_none text i a) at h.digits.digits)) [ inl e ↦ e | inr e ↦ absurd (false≢true (sym h.ends ∙ goes_on_dash text j e)) ]
-number_front (integer n) text i j d a b (inr h) = absurd (no_prefix text i h.radix h.prefix b)
+    elim (front_ends text i j d (rw (behind_none text i a) at h.digits.digits)) [ inl e ↦ e | inr e ↦ absurd (false≢true (sym h.ends ∙ (rw e refl))) ]
+number_front (integer n) text i j d a b (inr h) = grind (arith, nat_tests, common_steps, h.prefix)
 number_front (float (finite digits)) text i j d a b (h, c) =
     absurd (front_rest text h.integer_end j (front_ends text i h.integer_end d (rw (behind_none text i a) at h.integer_part.digits)) h.rest)
 number_front (float (infinite negative)) text i j d a b (h, c) = absurd (special_decimal text i j 105 _ h refl a)
@@ -88,7 +65,4 @@ number_front (boolean x) text i j d a b h = absurd h
 number_front (datetime x) text i j d a b h = absurd h
 
 pub no_date : (s : Scalar) (text : List ℕ) (i j : ℕ) → IsNumber s text i j → (get_or text j 0 == 58) ≡ false → begins_date text i ≡ false
-no_date s text i j h n = false_from_ne_true _ (λ d.
-    let b = and_parts (is_ascii_digit (get_or text i 0)) _ (and_parts (is_ascii_digit (get_or text i 0) && is_ascii_digit (get_or text (i + 1) 0)) _ d).0 in
-    let e : get_or text j 0 ≡ 58 = number_front s text i j d b.0 b.1 h in
-    false≢true (sym (rw e at n)))
+no_date s text i j h n = grind (arith, nat_tests, common_steps, and_parts, false_from_ne_true, false≢true, number_front)

@@ -7,11 +7,11 @@ use Rattle.toml_span_tree.specs.Node.{no_items, item, Members, no_members, membe
 use Rattle.toml_span_tree.specs.Node.{FloatValue, finite, infinite, not_a_number}
 use Rattle.toml_span_tree.specs.Value.{is_whole}
 use Rattle.toml_span_tree.specs.Node.{scalar as scalar_node, array as array_node, table as table_node}
-use Rattle.toml_span_read.specs.Data.{ParsedValue, parsed, ParsedInner, scalar, array, inline, ParsedItems}
+use Rattle.toml_span_read.specs.Data.{ParsedValue, parsed, ParsedInner, scalar, array, inline, ParsedItems, from_to}
 use Rattle.toml_span_read.specs.Data.{no_items as none_read, item as item_read, ParsedPairs, no_pairs, pair}
 use Rattle.toml_span_read.specs.Dates.{continues_date, is_date_byte}
 use Rattle.toml_span_read.specs.Earlier.{part_names}
-use Rattle.toml_span_read.specs.Grammar.{Spells, SpellsScalar, from_to}
+use Rattle.toml_span_read.specs.Grammar.{Spells, SpellsScalar}
 use Rattle.toml_span_read.specs.Keys.{SpellsSimpleKey}
 use Rattle.toml_span_places.specs.Keys.{is_quote}
 

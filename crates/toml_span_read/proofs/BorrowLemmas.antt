@@ -1,11 +1,5 @@
 -- What is put together is borrowed as its parts are.
-use Rattle.std.proofs.Common.{arith}
-use Rattle.std.proofs.lemmas.Grind.{common_steps}
-use Rattle.std.proofs.lemmas.Bool.Decides.{nat_tests}
-use Rattle.std.proofs.Common.{◌≡◌, ℕ, true, false, List, [], ◌∷◌, ◌++◌, map, get_or, rules, sym, ap, ◌∙◌, Ok}
-use Rattle.std.proofs.lemmas.Bool.{false≢true}
-use Rattle.std.specs.Cow.{cow_str_bytes}
-use Rattle.std.specs.List.{AllByRecursion}
+use Rattle.toml_span_lex.proofs.Common.{arith, common_steps, nat_tests, ◌≡◌, ℕ, true, false, List, [], ◌∷◌, ◌++◌, map, get_or, rules, sym, ap, ◌∙◌, Ok, false≢true, cow_str_bytes, AllByRecursion}
 use Rattle.toml_span_lex.specs.declared.key.Key.{Key}
 use Rattle.toml_span_lex.specs.declared.span.Span.{Span}
 use Rattle.toml_span_tree.specs.Node.{text as text_scalar, Scalar}
@@ -16,12 +10,12 @@ use Rattle.toml_span_read.specs.declared.value.ValKind.TheOpen.{ValKind-F}
 use Rattle.toml_span_read.specs.declared.value.ValKind.TheViews.{out-ValKind, roll-ValKind}
 use Rattle.toml_span_read.specs.declared.value.Assignment.{Assignment}
 use Rattle.toml_span_read.specs.declared.value.DottedKey.{DottedKey}
-use Rattle.toml_span_read.specs.Borrowed.{Written, IsWrittenRight, AreWrittenRight, joined, key_written, keys_written, dotted_written, written, kind_written, assignment_written, assignments_written, section_written, sections_written}
-use Rattle.toml_span_read.specs.Data.{ParsedInner, scalar, kind_view}
+use Rattle.toml_span_read.specs.Borrowed.{Written, IsWrittenRight, AreWrittenRight, joined, key_written, keys_written, dotted_written, written, kind_written, assignment_written, section_written, sections_written}
+use Rattle.toml_span_read.specs.Data.{ParsedInner, scalar, kind_view, from_to}
 use Rattle.toml_span_read.specs.code.Values.{is_scalar, ScalarGives}
 use Rattle.toml_span_read.specs.Read as read
 use Rattle.toml_span_read.proofs.ReadSound.{bare_sound}
-use Rattle.toml_span_read.specs.Grammar.{from_to, SpellsScalar}
+use Rattle.toml_span_read.specs.Grammar.{SpellsScalar}
 use Rattle.toml_span_read.specs.Faults.{begins_bare}
 
 -- ---- lists
@@ -39,20 +33,14 @@ all_behind P (x ∷ xs) ys h = all_behind P xs ys h.1
 
 joined_push : {A : Type 0} (P : Written → Type 0) (f : A → List Written) (xs : List A) (x : A) → AllByRecursion P (joined (map f xs)) → AllByRecursion P (f x) → AllByRecursion P (joined (map f (xs ++ (x ∷ []))))
 joined_push P f [] x h k = all_append P (f x) [] k tt
-joined_push P f (y ∷ ys) x h k =
-    all_append P (f y) (joined (map f (ys ++ (x ∷ [])))) (all_front P (f y) (joined (map f ys)) h) (joined_push P f ys x (all_behind P (f y) (joined (map f ys)) h) k)
+joined_push P f (y ∷ ys) x h k = grind (arith, all_append, all_front, all_behind, joined_push P f ys x)
 
 -- one more at the end
 pub joined_more : {A : Type 0} (P : Written → Type 0) (f : A → List Written) (xs ys : List A) (x : A) → ys ≡ xs ++ (x ∷ []) → AllByRecursion P (joined (map f xs)) → AllByRecursion P (f x) → AllByRecursion P (joined (map f ys))
 joined_more P f xs ys x e h k = rw e (joined_push P f xs x h k)
 
-keys_push : (P : Written → Type 0) (xs : List Key) (x : Key) → AllByRecursion P (keys_written xs) → P (key_written x) → AllByRecursion P (keys_written (xs ++ (x ∷ [])))
-keys_push P xs x h k = grind (arith, nat_tests, common_steps)
-
 pub keys_more : (P : Written → Type 0) (xs ys : List Key) (x : Key) → ys ≡ xs ++ (x ∷ []) → AllByRecursion P (keys_written xs) → P (key_written x) → AllByRecursion P (keys_written ys)
-keys_more P xs ys x e h k = rw e (keys_push P xs x h k)
-
--- ---- strings and keys
+keys_more P xs ys x e h k = grind (arith, nat_tests, common_steps)
 
 -- ---- values
 
@@ -62,18 +50,12 @@ written_is v = search (rules, the_lemmas)
 pub assignment_written_is : (a : Assignment) → assignment_written a ≡ dotted_written a.parts ++ written a.value
 assignment_written_is a = search (rules, the_lemmas)
 
-not_text : (v text : List ℕ) (s : Scalar) (span : Span) (i j : ℕ) → begins_bare (get_or text i 0) ≡ true → s ≡ text_scalar v → SpellsScalar s span text i j → ⊥
-not_text v text s span i j b e h = grind (arith, nat_tests, common_steps)
-
 no_array : (k : ParsedInner) (s : Scalar) → is_scalar k ≡ false → k ≡ scalar s → ⊥
 no_array k s a e = false≢true (sym a ∙ ap is_scalar e)
 
-rolled : (kind : ValKind) → kind ≡ roll-ValKind (out-ValKind kind)
-rolled kind = search (rules, the_lemmas)
-
 -- a scalar that is no text has no string in it
 plain_written : (kind : ValKind) (s : Scalar) (span : Span) → kind_view kind ≡ scalar s → ((v : List ℕ) → s ≡ text_scalar v → ⊥) → kind_written kind span ≡ []
-plain_written kind s span e other = go (out-ValKind kind) (rolled kind)
+plain_written kind s span e other = go (out-ValKind kind) (search (rules, the_lemmas))
   where
     go : (x : ValKind-F ValKind Assignment Val) → kind ≡ roll-ValKind x → kind_written kind span ≡ []
     go (ValKind-F.String c) is =
@@ -91,15 +73,14 @@ plain_written kind s span e other = go (out-ValKind kind) (rolled kind)
         let seen : is_scalar (kind_view kind) ≡ false = rw is (search (rules, the_lemmas)) in
         absurd (no_array _ s seen e)
 
+not_text : (v text : List ℕ) (s : Scalar) (span : Span) (i j : ℕ) → begins_bare (get_or text i 0) ≡ true → s ≡ text_scalar v → SpellsScalar s span text i j → ⊥
+not_text v text s span i j b e h = grind (arith, nat_tests, common_steps)
+
 -- a number, a truth value or a date has none
 pub scalar_right : (ws : List Written) (kind : ValKind) (span : Span) (text : List ℕ) (i j : ℕ) → begins_bare (get_or text i 0) ≡ true → ScalarGives (read.bare text i) (Ok (kind, j)) → ws ≡ kind_written kind span → AreWrittenRight text ws
 scalar_right ws kind span text i j b (s, e, h) is = rw (is, plain_written kind s span e (λ v same. not_text v text s (from_to i j) i j b same (bare_sound s text i j b h))) tt
 
 -- ---- sections
-
-pub section_right : (text : List ℕ) (s : Section) (keys : List Key) (found : List Assignment) → section_written s ≡ keys_written keys ++ assignments_written found → AreWrittenRight text (keys_written keys) → AreWrittenRight text (assignments_written found)
-    → AreWrittenRight text (section_written s)
-section_right text s keys found e h k = rw e (all_append (IsWrittenRight text) (keys_written keys) (assignments_written found) h k)
 
 pub assignment_right : (text : List ℕ) (ws : List Written) (key : DottedKey) (value : Val) → ws ≡ dotted_written key ++ written value → AreWrittenRight text (dotted_written key) → AreWrittenRight text (written value) → AreWrittenRight text ws
 assignment_right text ws key value e h k = rw e (all_append (IsWrittenRight text) (dotted_written key) (written value) h k)

@@ -1,7 +1,6 @@
 -- Where the fault of a key that goes through an earlier value stands.
-use Rattle.std.proofs.Common.{ℕ, ◌+◌, ◌-◌, ◌≤◌, List, [], ◌∷◌, ◌++◌, length, arith, subst, Ok, Err}
+use Rattle.toml_span_lex.proofs.Common.{ℕ, ◌+◌, ◌-◌, ◌≤◌, List, [], ◌∷◌, ◌++◌, length, arith, Ok, Err}
 use Rattle.toml_span_lex.specs.declared.stop.Stop.{Stop}
-use Rattle.toml_span_lex.specs.declared.stop.Stop.TheVariants as stops
 use Rattle.toml_span_lex.specs.Bytes.{is_blank, MaximalRun}
 use Rattle.toml_span_read.specs.declared.fault.Fault.{Fault}
 use Rattle.toml_span_read.specs.declared.value.Assignment.{Assignment}
@@ -56,7 +55,4 @@ part_before n [] p rest h = h.0
 part_before n (q ∷ outer) p rest h = part_before n outer p rest h.1
 
 pub crossing_placed : (stop : Stop Fault) (text : List ℕ) (old new : List Assignment) (next : Assignment) (j : ℕ) → j ≤ length text → IsSpanned (key_value next) j → AddsClear old new next (Err stop) → IsPlacedStop text stop
-crossing_placed (stops.Memory e) text old new next j w h c = tt
-crossing_placed (stops.Fault fault) text old new next j w (x, before, behind, ends) c =
-    let a = part_before x c.outer c.part (c.more ∷ c.rest) (subst (λ (ps : List SimpleKey). StartBefore x ps) c.key before) in
-    rw c.fault_is (record { within = omega (arith, a, behind, ends, w); forward = omega (arith, a, behind) })
+crossing_placed stop text old new next j w h c = grind (arith, part_before)

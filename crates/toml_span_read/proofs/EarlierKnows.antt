@@ -1,10 +1,5 @@
 -- What is known of the earlier values.
-use Rattle.std.proofs.lemmas.Grind.{common_steps}
-use Rattle.std.proofs.lemmas.Bool.Decides.{nat_tests}
-use Rattle.std.proofs.Common.{◌≡◌, ℕ, suc, ◌+◌, ◌<◌, ◌≤◌, ◌⊎◌, inl, inr, List, [], ◌∷◌, ◌++◌, map, length, take, get_or, append_assoc, Option, Some, None, arith, refl, sym, ap, subst, ◌∙◌}
-use Rattle.std.specs.Prelude.{unwrap_or}
-use Rattle.std.proofs.lemmas.List.{take-append-le, map_more, take-map}
-use Rattle.std.proofs.lemmas.Bool.{cases_Bool, false≢true}
+use Rattle.toml_span_lex.proofs.Common.{common_steps, nat_tests, ◌≡◌, ℕ, ◌+◌, ◌<◌, ◌≤◌, ◌⊎◌, inl, inr, List, [], ◌∷◌, ◌++◌, map, length, length-map, take, get_or, append_assoc, Option, Some, None, arith, refl, sym, ap, subst, ◌∙◌, unwrap_or, take-append-le, map_more, take-map, cases_Bool}
 use Rattle.toml_span_lex.specs.declared.span.Span.{Span}
 use Rattle.toml_span_read.specs.declared.earlier.Earlier.{Earlier}
 use Rattle.toml_span_read.specs.declared.fault.FaultKind.TheVariants as kinds
@@ -22,21 +17,14 @@ Path = List (List ℕ)
 
 -- ---- paths are equal or not
 
-decided : {A : Type 0} (x y : A) → ((x ≡ y) ⊎ (x ≡ y → ⊥)) → (xs ys : List A) → ((xs ≡ ys) ⊎ (xs ≡ ys → ⊥)) → (x ∷ xs ≡ y ∷ ys) ⊎ (x ∷ xs ≡ y ∷ ys → ⊥)
-decided x y h xs ys d = grind (arith, nat_tests, common_steps)
-
 name : (a b : List ℕ) → (a ≡ b) ⊎ (a ≡ b → ⊥)
-name a b =
-    elim (cases_Bool (same a b)) [
-      | inl s ↦ inl (same_name a b s)
-      | inr s ↦ inr (λ e. false≢true (sym s ∙ ap (λ x. same x b) e ∙ same-self b))
-    ]
+name a b = elim (cases_Bool (same a b)) [ inl s ↦ inl (same_name a b s) | inr s ↦ inr (λ e. grind (arith, same-self)) ]
 
 pub same_path : (a b : Path) → (a ≡ b) ⊎ (a ≡ b → ⊥)
 same_path [] [] = inl refl
 same_path [] (y ∷ ys) = inr (λ e. cc)
 same_path (x ∷ xs) [] = inr (λ e. cc)
-same_path (x ∷ xs) (y ∷ ys) = decided x y (name x y) xs ys (same_path xs ys)
+same_path (x ∷ xs) (y ∷ ys) = grind (arith, name x y, same_path xs ys)
 
 -- ---- one more assignment
 
@@ -48,8 +36,7 @@ earliest_more : (names : Path) (key_values : List KeyValue) (e : KeyValue) (firs
 earliest_more names key_values e first h = grind (arith, nat_tests, common_steps)
 
 tells_other : (names : Path) (key_values : List KeyValue) (e : KeyValue) (o : Option Span) → (part_names e.parts ≡ names → ⊥) → TellsEarliest names key_values o → TellsEarliest names (key_values ++ (e ∷ [])) o
-tells_other names key_values e None apart h = none_more names key_values e h apart
-tells_other names key_values e (Some first) apart h = earliest_more names key_values e first h
+tells_other names key_values e o apart h = grind (arith, none_more, earliest_more)
 
 tells_same : (names : Path) (key_values : List KeyValue) (e : KeyValue) (inner : List SimpleKey) (last : SimpleKey) (o : Option Span) → part_names e.parts ≡ names → e.parts ≡ inner ++ (last ∷ [])
     → TellsEarliest names key_values o → TellsEarliest names (key_values ++ (e ∷ [])) (Some (unwrap_or o last.span))
@@ -58,48 +45,20 @@ tells_same names key_values e inner last o same key h = grind (arith, nat_tests,
 -- what the tree tells, once an assignment more is put in
 pub tells_more : (key_values : List KeyValue) (e : KeyValue) (inner : List SimpleKey) (last : SimpleKey) (f g : Holds) → e.parts ≡ inner ++ (last ∷ [])
     → ((names : Path) → TellsEarliest names key_values (f names)) → Puts (part_names (inner ++ (last ∷ []))) last.span f g → (names : Path) → TellsEarliest names (key_values ++ (e ∷ [])) (g names)
-tells_more key_values e inner last f g key tells puts names = go (same_path (part_names e.parts) names)
-  where
-    is : part_names e.parts ≡ part_names (inner ++ (last ∷ []))
-    is = ap part_names key
-
-    go : ((part_names e.parts ≡ names) ⊎ (part_names e.parts ≡ names → ⊥)) → TellsEarliest names (key_values ++ (e ∷ [])) (g names)
-    go (inl same) =
-        let at : part_names (inner ++ (last ∷ [])) ≡ names = sym is ∙ same in
-        subst (λ (o : Option Span). TellsEarliest names (key_values ++ (e ∷ [])) o)
-        (sym (subst (λ (q : Path). g q ≡ Some (unwrap_or (f q) last.span)) at puts.0))
-        (tells_same names key_values e inner last (f names) same key (tells names))
-    go (inr apart) =
-        subst (λ (o : Option Span). TellsEarliest names (key_values ++ (e ∷ [])) o)
-        (sym (puts.1 names (λ e. apart (is ∙ sym e))))
-        (tells_other names key_values e (f names) apart (tells names))
+tells_more key_values e inner last f g key tells puts names = elim (same_path (part_names e.parts) names) [
+  | inl same ↦ grind (arith, tells_same names key_values e inner last (f names) same key (tells names))
+  | inr apart ↦ grind (arith, tells_other names key_values e (f names) apart (tells names))
+]
 
 -- ---- short keys
 
-length_path : (ps : List SimpleKey) → length (part_names ps) ≡ length ps
-length_path [] = refl
-length_path (p ∷ ps) = ap suc (length_path ps)
-
-length_push : (ps : List SimpleKey) (p : SimpleKey) → length (ps ++ (p ∷ [])) ≡ length ps + 1
-length_push [] p = refl
-length_push (q ∷ ps) p = let h = length_push ps p in omega arith
-
 none_shorter : (n : ℕ) (names : Path) (key_values : List KeyValue) → EachLonger n key_values → length names ≤ n → NoneAt names key_values
 none_shorter n names [] h short = tt
-none_shorter n names (e ∷ es) h short =
-    let long = length_path e.parts in
-    ((λ is. let l = ap length is in omega (arith, h.0, long, l)), none_shorter n names es h.1 short)
-
-outer_shorter : (outer : List SimpleKey) (p : SimpleKey) (rest : List SimpleKey) → length (part_names (outer ++ (p ∷ []))) ≤ length (outer ++ (p ∷ rest))
-outer_shorter [] p rest = omega arith
-outer_shorter (q ∷ outer) p rest = let h = outer_shorter outer p rest in omega arith
+none_shorter n names (e ∷ es) h short = grind (arith, length-map, none_shorter n names es)
 
 -- a key that has no more inner parts than each of the others is clear of them
 pub clear_short : (key_values : List KeyValue) (next : KeyValue) (inner : List SimpleKey) (last : SimpleKey) (n : ℕ) → next.parts ≡ inner ++ (last ∷ []) → EachLonger n key_values → length inner ≤ n → Clear key_values next
-clear_short key_values next inner last n key long short =
-    clear_of key_values next inner last key
-    (λ outer p rest split. none_shorter n (part_names (outer ++ (p ∷ []))) key_values long
-    (let h = outer_shorter outer p rest in let l = ap length split in omega (arith, h, l, short)))
+clear_short key_values next inner last n key long short = grind (arith, nat_tests, common_steps, clear_of, none_shorter)
 
 longer_more : (n : ℕ) (key_values : List KeyValue) (e : KeyValue) → EachLonger n key_values → n < length e.parts → EachLonger n (key_values ++ (e ∷ []))
 longer_more n [] e h long = (long, tt)
@@ -114,26 +73,12 @@ longer_than n m (x ∷ xs) le h = (omega (arith, h.0), longer_than n m xs le h.1
 -- one more key is counted
 pub knows_more : (old new : Earlier) (key_values : List KeyValue) (next : KeyValue) (inner : List SimpleKey) (last : SimpleKey) → next.parts ≡ inner ++ (last ∷ [])
     → Knows old key_values → new.known ≡ old.known → holds new.tree ≡ holds old.tree → new.fewest ≤ old.fewest → new.fewest ≤ length inner → Knows new (key_values ++ (next ∷ []))
-knows_more old new key_values next inner last key h known tree fewer short = record {
-  fewest = longer_more new.fewest key_values next (longer_than old.fewest new.fewest key_values fewer h.fewest)
-      (let l = ap length key in let m = length_push inner last in omega (arith, l, m, short));
-  within = let l = length_more key_values next in omega (arith, l, h.within, known);
-  tree = λ names.
-      let same : take new.known (key_values ++ (next ∷ [])) ≡ take old.known key_values = ap (λ n. take n (key_values ++ (next ∷ []))) known ∙ take-append-le old.known key_values (next ∷ []) h.within in
-      subst (λ (es : List KeyValue). TellsEarliest names es (holds new.tree names)) (sym same) (subst (λ (f : Holds). TellsEarliest names (take old.known key_values) (f names)) (sym tree) (h.tree names));
-}
-  where
-    length_more : (es : List KeyValue) (e : KeyValue) → length es ≤ length (es ++ (e ∷ []))
-    length_more [] e = omega arith
-    length_more (x ∷ es) e = let h = length_more es e in omega arith
+knows_more old new key_values next inner last key h known tree fewer short = grind (arith, nat_tests, common_steps, longer_more, longer_than, take-append-le)
 
 -- ---- the verdict
 
-none_told : (names : Path) (key_values : List KeyValue) (o : Option Span) → o ≡ None → TellsEarliest names key_values o → NoneAt names key_values
-none_told names key_values o is h = subst (λ (o : Option Span). TellsEarliest names key_values o) is h
-
 none_through : (key_values : List KeyValue) (f : Holds) (parts : List SimpleKey) → ((names : Path) → TellsEarliest names key_values (f names)) → HoldsNone f parts → NoneThrough parts key_values
-none_through key_values f parts tells none outer p rest split = none_told _ key_values (f (part_names (outer ++ (p ∷ [])))) (none outer p rest split) (tells (part_names (outer ++ (p ∷ []))))
+none_through key_values f parts tells none outer p rest split = grind (arith)
 
 pub clear_found : (key_values : List KeyValue) (next : KeyValue) (inner : List SimpleKey) (last : SimpleKey) (f : Holds) → next.parts ≡ inner ++ (last ∷ [])
     → ((names : Path) → TellsEarliest names key_values (f names)) → FindsOutermost f inner None → Clear key_values next
@@ -162,10 +107,6 @@ crossing_found key_values next inner last f start first end key tells (outer, p,
 
 -- ---- the loop over the assignments
 
-pub length_parts : (keys : List Key) → length (map simple_key keys) ≡ length keys
-length_parts [] = refl
-length_parts (k ∷ keys) = ap suc (length_parts keys)
-
 pub tells_init : (old : Earlier) (values : List Assignment) → Knows old (map key_value values) → (names : Path) → TellsEarliest names (map key_value (take old.known values)) (holds old.tree names)
 tells_init old values h names = subst (λ (es : List KeyValue). TellsEarliest names es (holds old.tree names)) (take-map key_value old.known values) (h.tree names)
 
@@ -174,14 +115,8 @@ pub tells_next : (values : List Assignment) (i : ℕ) (v : Assignment) (inner ke
     → ((names : Path) → TellsEarliest names (map key_value (take i values)) (f names)) → Puts (part_names (map simple_key keys ++ (simple_key last ∷ []))) last.span f g
     → (names : Path) → TellsEarliest names (map key_value (take (i + 1) values)) (g names)
 tells_next values i v inner keys last f g below at same key tells puts names =
-    let more : map key_value (take (i + 1) values) ≡ map key_value (take i values) ++ (key_value v ∷ []) =
-    map_more key_value values i v below ∙ ap (λ x. map key_value (take i values) ++ (key_value x ∷ [])) (sym at) in
-    subst (λ (es : List KeyValue). TellsEarliest names es (g names)) (sym more)
-    (tells_more (map key_value (take i values)) (key_value v) (map simple_key inner) (simple_key last) f g (sym key) tells (subst (λ (ks : List Key). Puts (part_names (map simple_key ks ++ (simple_key last ∷ []))) last.span f g) (sym same) puts) names)
-
-pub knows_caught : (old new : Earlier) (values : List Assignment) (i : ℕ) → Knows old (map key_value values) → new.fewest ≡ old.fewest → new.known ≡ length values → length values ≤ i
-    → ((names : Path) → TellsEarliest names (map key_value (take i values)) (holds new.tree names)) → Knows new (map key_value values)
-knows_caught old new values i h fewest known all tells = grind (arith, nat_tests, common_steps)
+    let more : map key_value (take (i + 1) values) ≡ map key_value (take i values) ++ (key_value v ∷ []) = grind (arith, map_more) in
+    rw more (tells_more (map key_value (take i values)) (key_value v) (map simple_key inner) (simple_key last) f g (sym key) tells (rw (← same) at puts) names)
 
 -- where all are in the tree, it tells of all of them
 pub tells_all : (new : Earlier) (values : List Assignment) → Knows new (map key_value values) → new.known ≡ length values → (names : Path) → TellsEarliest names (map key_value values) (holds new.tree names)

@@ -1,8 +1,5 @@
 -- Paths of earlier values.
-use Rattle.std.proofs.Common.{arith}
-use Rattle.std.proofs.lemmas.Grind.{common_steps}
-use Rattle.std.proofs.lemmas.Bool.Decides.{nat_tests}
-use Rattle.std.proofs.Common.{◌≡◌, ℕ, List, [], ◌∷◌, ◌++◌, subst}
+use Rattle.toml_span_lex.proofs.Common.{arith, common_steps, nat_tests, ◌≡◌, ℕ, List, [], ◌∷◌, ◌++◌}
 use Rattle.toml_span_read.specs.Keys.{SimpleKey}
 use Rattle.toml_span_read.specs.Data.{KeyValue}
 use Rattle.toml_span_read.specs.Earlier.{part_names, NoneThrough, Clear}
@@ -16,13 +13,8 @@ through_none P [] p rest e = absurd (cc)
 through_none P (x ∷ outer) p rest e = absurd (cc)
 
 pub through_more : (P : List (List ℕ) → Type 0) (x : SimpleKey) (xs : List SimpleKey) → P (x.name ∷ []) → Through (λ names. P (x.name ∷ names)) xs → Through P (x ∷ xs)
-through_more P x xs here on [] p rest e =
-    let same : x ≡ p = cc in
-    subst (λ (q : SimpleKey). P (q.name ∷ [])) same here
-through_more P x xs here on (y ∷ outer) p rest e =
-    let same : x ≡ y = cc in
-    let more : xs ≡ outer ++ (p ∷ rest) = cc in
-    subst (λ (q : SimpleKey). P (q.name ∷ part_names (outer ++ (p ∷ [])))) same (on outer p rest more)
+through_more P x xs here on [] p rest e = grind arith
+through_more P x xs here on (y ∷ outer) p rest e = grind (arith, on outer p rest)
 
 -- the front and the last of a list
 pub snoc_same : {A : Type 0} (xs ys : List A) (x y : A) → xs ++ (x ∷ []) ≡ ys ++ (y ∷ []) → (xs ≡ ys) × (x ≡ y)

@@ -1,11 +1,9 @@
 -- Keys and headers of a spelled document stand inside the text.
-use Rattle.std.proofs.lemmas.Grind.{common_steps}
-use Rattle.std.proofs.lemmas.Bool.Decides.{nat_tests}
-use Rattle.std.proofs.Common.{◌≡◌, ℕ, ◌+◌, ◌<◌, ◌≤◌, Bool, List, [], ◌∷◌, ◌++◌, length, map, arith, inl, inr}
+use Rattle.toml_span_lex.proofs.Common.{common_steps, nat_tests, ◌≡◌, ℕ, ◌+◌, ◌<◌, ◌≤◌, Bool, List, [], ◌∷◌, ◌++◌, length, map, arith, inl, inr}
 use Rattle.toml_span_read.specs.declared.section.Section.{Section}
-use Rattle.toml_span_read.specs.Data.{ParsedValue, parsed, scalar, array, inline, ParsedItems, no_items, item, ParsedPairs, no_pairs, pair, KeyValue, Block, block}
+use Rattle.toml_span_read.specs.Data.{ParsedValue, parsed, scalar, array, inline, ParsedItems, no_items, item, ParsedPairs, no_pairs, pair, KeyValue, Block, block, first_block}
 use Rattle.toml_span_read.specs.Gaps.{Tail}
-use Rattle.toml_span_read.specs.Grammar.{Spells, SpellsItems, SpellsPairs, SpellsKeyValues, SpellsLines, OpensHeader, ClosesHeader, SpellsHeader, SpellsSection, first_block, SpellsSections, SpellsDocument}
+use Rattle.toml_span_read.specs.Grammar.{Spells, SpellsItems, SpellsPairs, SpellsKeyValues, SpellsLines, OpensHeader, ClosesHeader, SpellsHeader, SpellsSection, SpellsSections, SpellsDocument}
 use Rattle.toml_span_read.specs.Keys.{SimpleKey, SpellsKey}
 use Rattle.toml_span_read.specs.Places.{Ascend, IsInside, PartsInside, KeysInside, ItemKeysInside, PairKeysInside, KeyValuesInside, SectionInside, SectionsInside}
 use Rattle.toml_span_read.proofs.KeyOrder.{dotted_ascend}
@@ -18,8 +16,7 @@ ascend_forward (p ∷ ps) i j (a, b, rest) = omega (arith, a, b, ascend_forward 
 
 ascend_inside : (ps : List SimpleKey) (n i j : ℕ) → j ≤ n → Ascend ps i j → PartsInside n ps
 ascend_inside [] n i j l h = tt
-ascend_inside (p ∷ ps) n i j l (a, b, rest) =
-    ((omega (arith, b), omega (arith, l, ascend_forward ps p.span.end j rest)), ascend_inside ps n p.span.end j l rest)
+ascend_inside (p ∷ ps) n i j l h = grind (arith, ascend_forward ps p.span.end j, ascend_inside ps n p.span.end j)
 
 dotted_inside : (ps : List SimpleKey) (text : List ℕ) (i j : ℕ) → SpellsKey ps text i j → PartsInside (length text) ps
 dotted_inside ps text i j h = let f = dotted_ascend ps text i j h in ascend_inside ps (length text) i j f.1 f.0
@@ -48,8 +45,7 @@ mutual
 
 key_values_keys : (evs earlier : List KeyValue) (text : List ℕ) (limit i j : ℕ) → SpellsKeyValues evs earlier text limit i j → KeyValuesInside (length text) evs
 key_values_keys [] earlier text limit i j h = tt
-key_values_keys (ev ∷ evs) earlier text limit i j (m, n, k, s, tail, clear, gap, rest) =
-    ((dotted_inside ev.parts text i s.key_end s.key, value_keys ev.value text limit (length ev.parts) s.from m s.spelled), key_values_keys evs (earlier ++ (ev ∷ [])) text limit k j rest)
+key_values_keys (ev ∷ evs) earlier text limit i j h = grind (arith, dotted_inside, value_keys, key_values_keys evs (earlier ++ (ev ∷ [])))
 
 lines_keys : (evs : List KeyValue) (text : List ℕ) (limit i j : ℕ) → SpellsLines evs text limit i j → KeyValuesInside (length text) evs
 lines_keys evs text limit i j (k, gap, h) = key_values_keys evs [] text limit k j h
@@ -74,14 +70,7 @@ pub tail_inside : (text : List ℕ) (i j : ℕ) → Tail text i j → (i ≤ j) 
 tail_inside text i j h = grind (arith, nat_tests, common_steps)
 
 header_inside : (ps : List SimpleKey) (double : Bool) (text : List ℕ) (limit i j : ℕ) → SpellsHeader ps double text limit i j → ((i ≤ j) × (j ≤ length text)) × PartsInside (length text) ps
-header_inside ps double text limit i j h =
-    let f = h.front in
-    let rest = tail_inside text h.end j h.rest in
-    let key = dotted_ascend ps text f.start f.end f.key in
-    let on = ascend_forward ps f.start f.end key.0 in
-    let opened = opens_on double text i f.inside f.opens in
-    let shut = shuts_on double text h.close h.end h.shuts in
-    ((omega (arith, rest.0, on, opened, shut, f.before.forward, f.behind.forward), rest.1), dotted_inside ps text f.start f.end f.key)
+header_inside ps double text limit i j h = grind (arith, nat_tests, common_steps, tail_inside, dotted_ascend, ascend_forward, opens_on, shuts_on, dotted_inside)
 
 section_block : (b : Block) (text : List ℕ) (limit i j : ℕ) → SpellsSection b text limit i j → BlockInside (length text) b
 section_block b text limit i j h =
@@ -107,8 +96,7 @@ pub section_inside : (s : Section) (text : List ℕ) (limit i j : ℕ) → Spell
 section_inside s text limit i j h = section_block (block s) text limit i j h
 
 before_inside : (n : ℕ) (evs : List KeyValue) → KeyValuesInside n evs → BlocksInside n (first_block evs)
-before_inside n [] h = tt
-before_inside n (ev ∷ evs) h = grind (arith, nat_tests, common_steps)
+before_inside n evs h = grind (arith)
 
 pub first_sections_inside : (ss : List Section) (evs : List KeyValue) (text : List ℕ) (limit i j : ℕ) → SpellsLines evs text limit i j → map block ss ≡ first_block evs → SectionsInside (length text) ss
 first_sections_inside ss evs text limit i j h is = of_blocks (length text) ss (rw is (before_inside (length text) evs (lines_keys evs text limit i j h)))

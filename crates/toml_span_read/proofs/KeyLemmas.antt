@@ -1,13 +1,9 @@
 -- How dotted keys are put together.
-use Rattle.std.proofs.lemmas.Grind.{common_steps}
-use Rattle.std.proofs.lemmas.Bool.Decides.{nat_tests}
-use Rattle.std.proofs.Common.{◌≡◌, ℕ, zero, suc, ◌+◌, ◌-◌, ◌<◌, ◌≤◌, Bool, true, false, List, [], ◌∷◌, ◌++◌, length, map, get_or, arith, inl, inr, refl, ◌∙◌, ap, subst, length-append, append_assoc, Result, Ok, Err}
-use Rattle.std.specs.Result.{IsErrAnd}
-use Rattle.std.proofs.lemmas.List.{map-append}
+use Rattle.toml_span_lex.proofs.Common.{common_steps, nat_tests, ◌≡◌, ℕ, zero, suc, ◌+◌, ◌-◌, ◌<◌, ◌≤◌, ◌⊎◌, Bool, true, false, List, [], ◌∷◌, ◌++◌, length, map, get_or, arith, inl, inr, refl, ◌∙◌, ap, length-append, append_assoc, Result, Ok, Err, IsErrAnd, map-append}
 use Rattle.toml_span_lex.specs.declared.key.Key.{Key}
 use Rattle.toml_span_lex.specs.declared.stop.Stop.{Stop}
-use Rattle.toml_span_lex.specs.declared.stop.Stop.TheVariants as stops
 use Rattle.toml_span_lex.specs.Bytes.{is_keylike}
+use Rattle.toml_span_read.proofs.FaultPlaces.{so_told}
 use Rattle.toml_span_read.proofs.KeyOrder.{key_inside}
 use Rattle.toml_span_read.specs.declared.fault.Due.TheVariants as dues
 use Rattle.toml_span_read.specs.declared.fault.FaultKind.{FaultKind}
@@ -36,8 +32,7 @@ key_placed text i j p kind h = let l = (key_inside p text i j h).0 in record { w
 -- ---- simple keys as they are read
 
 pub string_stops : (stop : Stop Fault) (text : List ℕ) (i : ℕ) → StringReads text i (Err stop) → Gives key_found (read.simple_key_at text i) (Err stop)
-string_stops (stops.Memory e) text i h = tt
-string_stops (stops.Fault e) text i (j, x, h, is) = (no_token x, (j, h), ap (λ y. Err y) is)
+string_stops stop text i h = so_told _ _ stop h (λ e (j, x, bad, is). (no_token x, (j, bad), ap (λ y. Err y) is))
 
 pub wanted_stops : (stop : Stop Fault) (text : List ℕ) (i : ℕ) → WantedGives text i dues.TableKey stop → is_keylike (get_or text i 0) ≡ false → opens_string (get_or text i 0) ≡ false
     → Gives key_found (read.simple_key_at text i) (Err stop)
@@ -54,8 +49,7 @@ unfolding read.key
 key_past header text left i j s z h ps = rw z (inl ((s, j), h, refl))
 
 pub part_stops : (stop : Stop Fault) (header : Bool) (text : List ℕ) (limit n i : ℕ) → Gives key_found (read.simple_key_at text i) (Err stop) → IsPlacedStop text stop → PartGives header text limit n i (Err stop)
-part_stops (stops.Memory e) header text limit n i h placed = tt
-part_stops (stops.Fault e) header text limit n i h placed = (key_stops header text (limit - n) i e h, placed)
+part_stops stop header text limit n i h placed = grind (arith, key_stops)
 
 pub part_placed : (stop : Stop Fault) (header : Bool) (text : List ℕ) (limit n i : ℕ) → PartGives header text limit n i (Err stop) → IsPlacedStop text stop
 part_placed stop header text limit n i h = grind (arith, nat_tests, common_steps)
@@ -83,40 +77,48 @@ last_behind header text limit i m k ps s few h none behind =
 
 pub stops_behind : {A : Type 0} (view : A → Parts) (stop : Stop Fault) (header : Bool) (text : List ℕ) (limit i m n : ℕ) (ps : List Key) → n ≡ length ps → length ps ≤ limit → Behind header text limit i ps m
     → PartGives header text limit n m (Err stop) → Gives view (read.key header text limit [] i) (Err stop)
-stops_behind view (stops.Memory e) header text limit i m n ps is few behind h = tt
-stops_behind view (stops.Fault e) header text limit i m n ps is few behind h = behind (limit - n) (Err e) (omega arith) (h.0 (map simple_key ps))
+stops_behind view stop header text limit i m n ps is few behind h = so_told _ _ stop h (λ e g. behind (limit - n) (Err e) (omega arith) (g.0 (map simple_key ps)))
 
 pub parts_length : (inner : List Key) (last : Key) → length (map simple_key inner ++ (simple_key last ∷ [])) ≡ length inner + 1
 parts_length inner last = grind (arith, nat_tests, common_steps)
 
 -- ---- what is read is spelled
 
-given : {A : Type 0} (x y : A) (P : A → Type 0) → ◌≡◌ {A = Result A Fault} (Ok x) (Ok y) → P y → P x
-given x y P u h = let e : y ≡ x = cc in subst P e h
+-- what is read behind something else is read behind what that gave
+pub after_gives : {X B : Type 0} {Q : Fault → Type 0} {b : B} → X ⊎ ((e : Fault) × Q e × (◌≡◌ {A = Result B Fault} (Ok b) (Err e))) → X
+after_gives h = grind (arith)
+
+-- where something is read, nothing is missing
+pub not_missing : {A X N : Type 0} {S : Standing → Type 0} {f : Standing → Fault} {a : A} → X ⊎ (N × ((standing : Standing) × S standing × (◌≡◌ {A = Result A Fault} (Ok a) (Err (f standing))))) → X
+not_missing h = grind (arith)
+
+-- what is read is what is given
+pub same_read : {A : Type 0} (P : A → Type 0) {x y : A} → ◌≡◌ {A = Result A Fault} (Ok x) (Ok y) → P y → P x
+same_read P u h = grind arith
 
 pub simple_sound : (s : SimpleKey) (text : List ℕ) (i m : ℕ) → read.simple_key_at text i (Ok (s, m)) → SpellsSimpleKey s text i m
 simple_sound s text i m h = grind (arith, nat_tests, common_steps)
 
-dotted_more : (s : SimpleKey) (ss : List SimpleKey) (text : List ℕ) (i m p j : ℕ) → SpellsSimpleKey s text i m → Dot text m p → SpellsKey ss text p j → SpellsKey (s ∷ ss) text i j
-dotted_more s ss text i m p j k d h = grind (arith, nat_tests, common_steps)
-
 -- behind these parts others are spelled
 abbrev KeyBehind : List SimpleKey → List ℕ → ℕ → ℕ → Parts → Type 0
 KeyBehind ps text left i f = (ts : List SimpleKey) × (f.0 ≡ ps ++ ts) × SpellsKey ts text i f.1 × (length ts ≤ left)
+
+dotted_more : (s : SimpleKey) (ss : List SimpleKey) (text : List ℕ) (i m p j : ℕ) → SpellsSimpleKey s text i m → Dot text m p → SpellsKey ss text p j → SpellsKey (s ∷ ss) text i j
+dotted_more s ss text i m p j k d h = grind (arith, nat_tests, common_steps)
 
 behind_sound : (header : Bool) (text : List ℕ) (left : ℕ) (ps : List SimpleKey) (i : ℕ) (f : Parts) → read.key header text left ps i (Ok f) → KeyBehind ps text left i f
 unfolding read.key
 behind_sound header text zero ps i f (inl (s, h, u)) = absurd cc
 behind_sound header text zero ps i f (inr (e, h, u)) = absurd cc
 behind_sound header text (suc n) ps i f (inl ((s, m), h, inl (none, u))) =
-    given f (ps ++ (s ∷ []), m) (KeyBehind ps text (suc n) i) u (s ∷ [], refl, (m, simple_sound s text i m h, (refl, none)), omega arith)
+    same_read (KeyBehind ps text (suc n) i) u (s ∷ [], refl, (m, simple_sound s text i m h, (refl, none)), omega arith)
 behind_sound header text (suc n) ps i f (inl ((s, m), h, inr (p, d, k))) =
     let (ts, is, spelled, few) = behind_sound header text n (ps ++ (s ∷ [])) p f k in
     (s ∷ ts, is ∙ append_assoc ps (s ∷ []) ts, dotted_more s ts text i m p f.1 (simple_sound s text i m h) d spelled, omega (arith, few))
 behind_sound header text (suc n) ps i f (inr (e, h, u)) = absurd cc
 
 pub key_sound : (header : Bool) (text : List ℕ) (limit i j : ℕ) (ss : List SimpleKey) → read.key header text limit [] i (Ok (ss, j)) → SpellsKey ss text i j × (length ss ≤ limit)
-key_sound header text limit i j ss h = let (ts, is, spelled, few) = behind_sound header text limit [] i (ss, j) h in rw is (spelled, few)
+key_sound header text limit i j ss h = grind (arith, behind_sound header text limit [] i (ss, j))
 
 pub past_placed : (header : Bool) (text : List ℕ) (i j : ℕ) (s : SimpleKey) → i ≤ length text → SpellsSimpleKey s text i j → StartsInside text (one_too_many header i s)
 past_placed true text i j s within h = key_placed text i j s _ h

@@ -1,11 +1,8 @@
 -- The parts of a dotted key stand one behind the other.
-use Rattle.std.proofs.lemmas.Grind.{common_steps}
-use Rattle.std.proofs.Common.{◌≡◌, ℕ, ◌<◌, ◌≤◌, Bool, false, List, [], ◌∷◌, length, get_or, arith, inl, inr, refl}
-use Rattle.std.proofs.lemmas.Bool.Decides.{nat_tests}
+use Rattle.toml_span_lex.proofs.Common.{common_steps, ◌≡◌, ℕ, ◌<◌, ◌≤◌, Bool, false, List, [], ◌∷◌, length, get_or, arith, inl, inr, refl, nat_tests}
 use Rattle.toml_span_lex.specs.declared.span.Span.{Span}
-use Rattle.toml_span_lex.specs.Strings.{IsString, content_span}
+use Rattle.toml_span_lex.specs.Strings.{IsString}
 use Rattle.toml_span_lex.proofs.Copies.{content_fits}
-use Rattle.toml_span_lex.proofs.MadeStrings.{content_from_after}
 use Rattle.toml_span_read.specs.Keys.{SimpleKey, SpellsSimpleKey, Onward, SpellsKey}
 use Rattle.toml_span_read.specs.Places.{Ascend}
 
@@ -16,14 +13,10 @@ pub record Lies (text : List ℕ) (i j : ℕ) (s : Span) : Type 0 where
   pub ends : s.end ≤ j
   pub within : j ≤ length text
 
-content_lies : (text : List ℕ) (m : Bool) (i from to j : ℕ) → i < from → from ≤ to → to < j → j ≤ length text
-    → Lies text i j (content_span m i from to) × (m ≡ false → (content_span m i from to).start < (content_span m i from to).end)
-content_lies text m i from to j a f l w = grind (arith, nat_tests, common_steps)
-
 pub string_lies : (text v src : List ℕ) (i j : ℕ) (s : Span) (m : Bool) → IsString text i j s src v m → Lies text i j s × (m ≡ false → s.start < s.end)
 string_lies text v src i j s m h =
     let f = content_fits (get_or text i 0) m text v h.from h.to j h.content_is in
-    rw h.span_is (content_lies text m i h.from h.to j (content_from_after m text i h.from h.begins) (omega (arith, f.0)) f.1 f.2)
+    rw h.span_is (grind (arith, nat_tests, common_steps))
 
 -- the span of a simple key is not empty
 pub key_inside : (p : SimpleKey) (text : List ℕ) (i j : ℕ) → SpellsSimpleKey p text i j → Lies text i j p.span × (p.span.start < p.span.end)
@@ -31,15 +24,9 @@ key_inside p text i j (inl (run, e)) = rw e (record { begins = omega arith; forw
 key_inside p text i j (inr (src, h)) = let l = string_lies text p.name src i j p.span false h in (l.0, l.1 refl)
 
 onward_ascend : (ps : List SimpleKey) (text : List ℕ) (n m j : ℕ) → n ≤ m → m ≤ length text → Onward ps text m j → Ascend ps n j × (j ≤ length text)
-onward_ascend [] text n m j on within h = (omega (arith, h.0), omega (arith, h.0))
-onward_ascend (p ∷ ps) text n m j on within (a, b, d, k, rest) =
-    let f = key_inside p text a b k in
-    let more = onward_ascend ps text p.span.end b j f.0.ends f.0.within rest in
-    ((omega (arith, on, d.before.forward, d.behind.forward, f.0.begins), f.1, more.0), more.1)
+onward_ascend [] text n m j on within h = grind arith
+onward_ascend (p ∷ ps) text n m j on within (a, b, d, k, rest) = grind (arith, key_inside p text a b k, onward_ascend ps text p.span.end b j)
 
 pub dotted_ascend : (ps : List SimpleKey) (text : List ℕ) (i j : ℕ) → SpellsKey ps text i j → Ascend ps i j × (j ≤ length text)
 dotted_ascend [] text i j h = absurd h
-dotted_ascend (p ∷ ps) text i j (m, k, rest) =
-    let f = key_inside p text i m k in
-    let more = onward_ascend ps text p.span.end m j f.0.ends f.0.within rest in
-    ((f.0.begins, f.1, more.0), more.1)
+dotted_ascend (p ∷ ps) text i j (m, k, rest) = grind (arith, key_inside p text i m k, onward_ascend ps text p.span.end m j)

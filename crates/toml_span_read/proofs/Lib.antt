@@ -1,8 +1,6 @@
 pub mod Places
-pub mod StringLemmas
 pub mod FaultPlaces
 pub mod KeyLemmas
-pub mod DateLemmas
 pub mod ReadSound
 pub mod CrossingPlaces
 pub mod ValueRead

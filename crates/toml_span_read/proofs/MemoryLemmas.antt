@@ -1,15 +1,12 @@
 -- Memory is wanted only where there is something to keep.
-use Rattle.std.proofs.lemmas.Grind.{common_steps}
-use Rattle.std.proofs.lemmas.Bool.Decides.{nat_tests}
-use Rattle.std.proofs.Common.{◌≡◌, ℕ, ◌<◌, ◌≤◌, List, [], ◌∷◌, ◌++◌, length, arith, ap, Err, Some}
+use Rattle.toml_span_lex.proofs.Common.{common_steps, nat_tests, ◌≡◌, ℕ, ◌<◌, ◌≤◌, List, [], ◌∷◌, ◌++◌, length, arith, Err, Some}
 use Rattle.toml_span_lex.specs.declared.stop.Stop.{Stop}
-use Rattle.toml_span_lex.specs.declared.stop.Stop.TheVariants as stops
 use Rattle.toml_span_lex.specs.Tokenizer.{FirstPlace}
 use Rattle.toml_span_read.specs.declared.section.Section.{Section}
-use Rattle.toml_span_read.specs.Data.{KeyValue}
+use Rattle.toml_span_read.specs.Data.{KeyValue, first_block}
 use Rattle.toml_span_read.specs.Gaps.{MaximalGap}
 use Rattle.toml_span_read.specs.Keys.{SimpleKey, SpellsKey}
-use Rattle.toml_span_read.specs.Grammar.{SpellsKeyValue, SpellsKeyValues, SpellsLines, first_block}
+use Rattle.toml_span_read.specs.Grammar.{SpellsKeyValue, SpellsKeyValues, SpellsLines}
 use Rattle.toml_span_read.specs.code.Sections.{first_blocks}
 use Rattle.toml_span_read.specs.Reading.{HoldsForm, OnlyFormsTakeMemory}
 use Rattle.toml_span_read.proofs.InsideLemmas.{ascend_forward, tail_inside}
@@ -18,15 +15,10 @@ use Rattle.toml_span_read.proofs.SpanLaws.{value_lies}
 
 -- a key stands before the end of the text
 key_within : (ps : List SimpleKey) (text : List ℕ) (i j : ℕ) → SpellsKey ps text i j → (i < length text) × (i ≤ j)
-key_within [] text i j h = absurd h
-key_within (p ∷ ps) text i j h =
-    let a = dotted_ascend (p ∷ ps) text i j h in
-    let f = ascend_forward ps p.span.end j a.0.2 in
-    (omega (arith, a.0.0, a.0.1, f, a.1), omega (arith, a.0.0, a.0.1, f))
+key_within ps text i j h = grind (arith, dotted_ascend, ascend_forward)
 
 key_value_forward : (e : KeyValue) (text : List ℕ) (limit i m : ℕ) → SpellsKeyValue e text limit i m → i ≤ m
-key_value_forward e text limit i m h =
-    omega (arith, (key_within e.parts text i h.key_end h.key).1, h.sign.before.forward, h.sign.behind.forward, (value_lies e.value text limit (length e.parts) h.from m h.spelled).1)
+key_value_forward e text limit i m h = grind (arith, key_within, value_lies)
 
 key_values_forward : (es before : List KeyValue) (text : List ℕ) (limit i j : ℕ) → SpellsKeyValues es before text limit i j → i ≤ j
 key_values_forward [] before text limit i j h = omega (arith, h)
@@ -45,8 +37,7 @@ begun_on text at next (start, k, first, g, l) on = (start, k, first, g, omega (a
 
 pub keeps : (A E : Type 0) → (stop : Stop E) (text : List ℕ) (at : ℕ) → Begun text at → at < length text
     → (start : ℕ) × FirstPlace text start × OnlyFormsTakeMemory {A = A} {E = E} text start (Err stop)
-keeps A E (stops.Memory e) text at (start, k, first, g, l) under = (start, first, (k, g, omega (arith, l, under)))
-keeps A E (stops.Fault e) text at (start, k, first, g, l) under = (start, first, tt)
+keeps A E stop text at h under = grind (arith)
 
 -- whatever is not read for want of memory
 pub forms_keep : {E : Type 0} (A : Type 0) (stop : Stop E) (text : List ℕ) (i : ℕ) → HoldsForm text i → OnlyFormsTakeMemory {A = A} {E = E} text i (Err stop)
@@ -54,11 +45,9 @@ forms_keep A stop text i h = grind (arith, nat_tests, common_steps)
 
 pub keeps_same : {E : Type 0} (A B : Type 0) (stop : Stop E) (text : List ℕ) → (start : ℕ) × FirstPlace text start × OnlyFormsTakeMemory {A = A} {E = E} text start (Err stop)
     → (start : ℕ) × FirstPlace text start × OnlyFormsTakeMemory {A = B} {E = E} text start (Err stop)
-keeps_same A B (stops.Memory e) text h = h
-keeps_same A B (stops.Fault e) text h = h
+keeps_same A B stop text start = grind (arith)
 
 -- assignments before the first header are something to keep
 pub lines_keep : (s : Section) (es : List KeyValue) (text : List ℕ) (limit start at : ℕ) → first_blocks (Some s) ≡ first_block es → FirstPlace text start
     → SpellsLines es text limit start at → (i : ℕ) × FirstPlace text i × HoldsForm text i
-lines_keep s [] text limit start at is first h = let n : length (first_blocks (Some s)) ≡ 0 = ap (λ bs. length bs) is in absurd (omega (arith, n))
-lines_keep s (ev ∷ es) text limit start at is first (k, g, (m, n, q, h, t, c, gap, r)) = (start, first, (k, g, (key_within ev.parts text k h.key_end h.key).0))
+lines_keep s es text limit start at is first h = grind (arith, key_within)

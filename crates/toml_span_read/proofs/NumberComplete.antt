@@ -1,10 +1,6 @@
 -- Where a number is spelled, it is read.
-use Rattle.std.proofs.lemmas.Grind.{common_steps}
-use Rattle.std.proofs.lemmas.Bool.Decides.{nat_tests}
-use Rattle.std.proofs.Common.{◌≡◌, ℕ, ◌+◌, ◌<◌, ◌≤◌, ◌⊎◌, Bool, true, false, Some, None, Ok, List, get_or, arith, inl, inr, refl, sym, ◌∙◌}
-use Rattle.std.specs.Prelude.{ℤ, ◌==◌, ◌&&◌, nat_lt, slice_range, codes}
-use Rattle.std.specs.List.{list_all}
-use Rattle.std.proofs.lemmas.Bool.{cases_lt, or_parts, le-ltb, lt-ltb, ne_eqb, false≢true}
+use Rattle.toml_span_lex.proofs.Common.{common_steps, nat_tests, ◌≡◌, ℕ, ◌+◌, ◌<◌, ◌≤◌, ◌⊎◌, Bool, true, false, Some, None, Ok, List, get_or, arith, inl, inr, refl, sym, ◌∙◌, ℤ, ◌==◌, slice_range, codes, list_all, cases_lt, or_parts, le-ltb}
+use Rattle.std.proofs.lemmas.Bool.{lt-ltb, ne_eqb}
 use Rattle.toml_span_lex.specs.Bytes.{is_keylike}
 use Rattle.toml_span_tree.specs.Node.{text as text_scalar, finite, infinite, not_a_number, Scalar, integer, float, boolean, datetime}
 use Rattle.toml_span_read.specs.declared.numbers.Numeral.{Numeral}
@@ -13,38 +9,29 @@ use Rattle.toml_span_read.specs.Numbers.{is_digit_in, Digits, magnitude, behind_
 use Rattle.toml_span_read.specs.Numerals as spec
 use Rattle.toml_span_read.specs.Numerals.{run_end, scalar_of, integer_part, exponent_digits, exponent, fraction, signed, decimal, special, special_end, unsigned, numeral, number, radix_integer}
 use Rattle.toml_span_read.specs.code.Numbers.{Passes}
-use Rattle.toml_span_read.proofs.NumberLemmas.{is_false, bool_cases, byte_is, same_byte, clash, digit_keylike, figure_keylike, digits_complete, digits_on, run_is, run_passes, passes_on, sign_on, no_sign, behind_plus_sign}
+use Rattle.toml_span_read.proofs.NumberLemmas.{is_false, bool_cases, byte_is, clash, digit_keylike, figure_keylike, digits_complete, digits_on, run_is, run_passes, passes_on, sign_on, no_sign, behind_plus_sign}
 use Rattle.toml_span_read.proofs.NumberReads.{First, digits_to, first_plain, first_behind, zero_first, NoLetter, no_prefix, keylike_letter, prefix_some, word_keylike, word_first}
 
 -- ---- runs
-
--- what goes on within a run and ends where no byte of a run stands, ends with it
-ends_with_run : (text : List ℕ) (i k j b : ℕ) → Passes text i b → i ≤ k → k ≤ j → k ≤ b → ((l : ℕ) → k ≤ l → l < j → is_keylike (get_or text l 0) ≡ true) → is_keylike (get_or text j 0) ≡ false → j ≡ b
-ends_with_run text i k j b r a f g p n = grind (arith, nat_tests, common_steps)
 
 digits_keylike : (radix : ℕ) (text : List ℕ) (i j : ℕ) → Digits radix text i j → (l : ℕ) → i ≤ l → l < j → is_keylike (get_or text l 0) ≡ true
 digits_keylike radix text i j d l a b = figure_keylike radix (get_or text l 0) (d.run.passes l a b)
 
 digits_with_run : (radix : ℕ) (text : List ℕ) (i k j b : ℕ) → Passes text i b → i ≤ k → k ≤ b → Digits radix text k j → is_keylike (get_or text j 0) ≡ false → j ≡ b
-digits_with_run radix text i k j b r a g d n = ends_with_run text i k j b r a d.run.forward g (digits_keylike radix text k j d) n
+digits_with_run radix text i k j b r a g d n = grind (arith, nat_tests, figure_keylike)
 
 run_of : (radix : ℕ) (text : List ℕ) (i j : ℕ) → Digits radix text i j → is_keylike (get_or text j 0) ≡ false → run_end text i ≡ j
 run_of radix text i j d n = run_is text i j (record { forward = d.run.forward; within = d.run.within; passes = digits_keylike radix text i j d; stops = λ l. n })
 
 -- a letter of an exponent is a byte of the run
 before_end : (text : List ℕ) (m b : ℕ) → m ≤ b → is_keylike (get_or text b 0) ≡ false → is_exponent (get_or text m 0) ≡ true → m < b
-before_end text m b l n x = grind (arith, nat_tests, common_steps)
+before_end text m b l n x = grind (arith, nat_tests)
 
 -- ---- integer parts
 
 part_complete : (text : List ℕ) (start from end m : ℕ) → UnsignedDecimal text from m → integer_part text start from end ≡ Ok m
 unfolding integer_part
-part_complete text start from end m u =
-    let c : (get_or text from 0 == 48 && nat_lt (from + 1) m) ≡ false = elim (bool_cases (get_or text from 0 == 48)) [
-      | inl z ↦ let e : m ≡ from + 1 = u.leading (byte_is (get_or text from 0) 48 z) in rw (z, e, le-ltb (from + 1) (from + 1) (omega arith)) refl
-      | inr n ↦ rw n refl
-    ] in
-    rw (digits_complete 10 text start from end m u.digits, c) refl
+part_complete text start from end m u = rw (digits_complete 10 text start from end m u.digits) (grind arith)
 
 -- ---- exponents
 
@@ -55,10 +42,7 @@ exponent_digits_complete text a b start from end d = rw (digits_complete 10 text
 exponent_complete : (text : List ℕ) (a b letter end j : ℕ) → letter < end → Passes text letter end → Exponent text letter j → is_keylike (get_or text j 0) ≡ false → exponent text a b letter end ≡ Ok j
 unfolding exponent
 exponent_complete text a b letter end j l r x n = elim (cases_lt (letter + 1) end) [
-  | inl k ↦
-      let s = sign_on text (letter + 1) in
-      let e : j ≡ end = digits_with_run 10 text letter (behind_sign text (letter + 1)) j end r (omega arith) (omega arith) x.digits n in
-      rw (lt-ltb (letter + 1) end k, exponent_digits_complete text a b (letter + 1) (behind_sign text (letter + 1)) end (rw e at x.digits), e) refl
+  | inl k ↦ grind (arith, nat_tests, sign_on text (letter + 1), digits_with_run 10 text letter (behind_sign text (letter + 1)) j end r, exponent_digits_complete text a b (letter + 1) (behind_sign text (letter + 1)) end)
   | inr g ↦
       let e : letter + 1 ≡ end = omega arith in
       let d : Digits 10 text (behind_sign text end) j = rw e at x.digits in
@@ -68,9 +52,7 @@ exponent_complete text a b letter end j l r x n = elim (cases_lt (letter + 1) en
             let q : run_end text (end + 1) ≡ j = run_of 10 text (end + 1) j f n in
             let o = digits_on 10 text (end + 1) j f in
             rw (le-ltb (letter + 1) end g, p, q, ne_eqb j (end + 1) (λ y. absurd (omega arith))) (exponent_digits_complete text a b (end + 1) (end + 1) j f)
-        | inr p ↦
-            let m : (get_or text end 0 == 45) ≡ false = is_false _ (λ y. (let z : get_or text end 0 ≡ 45 = byte_is (get_or text end 0) 45 y in false≢true (sym r.last ∙ (rw z refl)))) in
-            let f : Digits 10 text end j = rw (no_sign text end p m) at d in absurd (false≢true (sym r.last ∙ digit_keylike 10 (get_or text end 0) f.begins))
+        | inr p ↦ grind (arith, nat_tests, no_sign text end p, digit_keylike 10 (get_or text end 0))
       ]
 ]
 
@@ -79,31 +61,22 @@ exponent_complete text a b letter end j l r x n = elim (cases_lt (letter + 1) en
 fraction_complete : (text : List ℕ) (i a b m j : ℕ) → Fraction text b m → (j ≡ m) ⊎ Exponent text m j → is_keylike (get_or text j 0) ≡ false → fraction text i a b ≡ Ok j
 unfolding fraction
 fraction_complete text i a b m j f o n =
-    let ds : Digits 10 text (b + 1) m = f.digits in
-    let w = ds.run.within in
-    let some : b + 1 < m = digits_on 10 text (b + 1) m ds in
-    let r = run_passes text (b + 1) (omega arith) in
     let e : ℕ = run_end text (b + 1) in
-    let to : m ≤ e = digits_to 10 text (b + 1) m e ds r.forward r.last in
-    elim o [
-      | inl q ↦
-          let s : m ≡ e = digits_with_run 10 text (b + 1) (b + 1) m e r (omega arith) r.forward ds (rw q at n) in
-          rw (ne_eqb e (b + 1) (λ x. absurd (omega arith)), digits_complete 10 text (b + 1) (b + 1) e m ds, same_byte m e s, q) refl
+    let some = digits_on 10 text (b + 1) m f.digits in
+    let r = run_passes text (b + 1) (omega (arith, f.digits.run.within)) in
+    let to = digits_to 10 text (b + 1) m e f.digits r.forward r.last in
+    rw (digits_complete 10 text (b + 1) (b + 1) e m f.digits) (elim o [
+      | inl q ↦ let s = digits_with_run 10 text (b + 1) (b + 1) m e r (omega arith) r.forward f.digits (rw q at n) in grind (arith, nat_tests)
       | inr x ↦
-          let y : m < e = before_end text m e to r.last x.letter in
-          rw (ne_eqb e (b + 1) (λ x. absurd (omega arith)), digits_complete 10 text (b + 1) (b + 1) e m ds, ne_eqb m e (λ s. absurd (omega arith)), x.letter)
-          (exponent_complete text a b m e j y (passes_on text (b + 1) m e r ds.run.forward to) x n)
-    ]
+          let y = before_end text m e to r.last x.letter in
+          grind (arith, nat_tests, x.letter, exponent_complete text a b m e j y (passes_on text (b + 1) m e r f.digits.run.forward to) x n)
+    ])
 
 -- ---- integers
 
-signed_complete : (negative : Bool) (m : ℕ) (n : ℤ) → IsSigned negative m n → signed negative m ≡ Some n
-unfolding signed
-signed_complete negative m n h = grind (arith, nat_tests, common_steps)
-
 integer_complete : (radix : ℕ) (text : List ℕ) (negative : Bool) (start from end : ℕ) (n : ℤ) → IsSigned negative (magnitude radix text from end) n → spec.integer radix text negative start from end ≡ Ok n
-unfolding spec.integer
-integer_complete radix text negative start from end n s = rw (signed_complete negative (magnitude radix text from end) n s) refl
+unfolding spec.integer signed
+integer_complete radix text negative start from end n s = grind (arith)
 
 radix_complete : (radix : ℕ) (text : List ℕ) (start end : ℕ) (n : ℤ) → Digits radix text start end → IsSigned false (magnitude radix text start end) n → radix_integer radix text start end ≡ Ok n
 unfolding radix_integer
@@ -119,8 +92,7 @@ decimal_integer text i a b j n g d =
     let p = or_parts (is_keylike (get_or text j 0)) (get_or text j 0 == 46) d.ends in
     let u : UnsignedDecimal text (behind_sign text a) j = rw g.sign at d.digits in
     let e : j ≡ b = digits_with_run 10 text a (behind_sign text a) j b g.run t.0 (omega arith) u.digits p.0 in
-    let v : IsSigned (is_negative text a) (magnitude 10 text (behind_sign text a) b) n = rw (g.sign, g.negative, e) at d.value in
-    rw (e, part_complete text a (behind_sign text a) b b (rw e at u), le-ltb b b (omega arith), (rw e at p.1), integer_complete 10 text (is_negative text a) a (behind_sign text a) b n v) refl
+    rw (part_complete text a (behind_sign text a) b j u) (grind (arith, nat_tests, g.sign, g.negative, d.value, integer_complete))
 
 decimal_float : (text : List ℕ) (i a b j : ℕ) → First text i a b → FloatLiteral text i j → decimal text i a b ≡ Ok (numerals.Finite, j)
 unfolding decimal
@@ -161,18 +133,12 @@ begun_here text i p k n = record { first = first_plain text i k; plain = n; same
 
 begun_behind : (text : List ℕ) (i : ℕ) → (get_or text i 0 == 43) ≡ true → is_keylike (get_or text (i + 1) 0) ≡ true → (get_or text (i + 1) 0 == 45) ≡ false → radix_at text (i + 1) ≡ None → Begun text i (i + 1)
 unfolding numeral
-begun_behind text i p k q n =
-    let f = first_behind text i (byte_is (get_or text i 0) 43 p) k q n in
-    let l = f.some in
-    record { first = f; plain = n; same = rw (p, ne_eqb (run_end text (i + 1)) (i + 1) (λ e. absurd (omega arith)), q, n) refl }
+begun_behind text i p k q n = grind (arith, first_behind, byte_is, ne_eqb)
 
 begun : (text : List ℕ) (i : ℕ) → is_keylike (get_or text (behind_sign text i) 0) ≡ true → (get_or text (behind_sign text i) 0 == 45) ≡ false → radix_at text (behind_sign text i) ≡ None → (a : ℕ) × Begun text i a
 begun text i k q n = elim (bool_cases (get_or text i 0 == 43)) [
   | inl p ↦ let s = behind_plus_sign text i (byte_is (get_or text i 0) 43 p) in (i + 1, begun_behind text i p (rw s at k) (rw s at q) (rw s at n))
-  | inr p ↦ elim (bool_cases (get_or text i 0 == 45)) [
-    | inl m ↦ let e : get_or text i 0 ≡ 45 = byte_is (get_or text i 0) 45 m in (i, begun_here text i p (rw e refl) (rw e refl))
-    | inr m ↦ let s = no_sign text i p m in (i, begun_here text i p (rw s at k) (rw s at n))
-  ]
+  | inr p ↦ (i, begun_here text i p (grind (arith, nat_tests, no_sign text i p)) (grind (arith, nat_tests, no_sign text i p)))
 ]
 
 -- what begins with a digit is no inf or nan
@@ -181,11 +147,9 @@ unfolding unsigned
 decimal_read text i a g d =
     let b : ℕ = run_end text a in
     let k : ℕ = behind_sign text a in
-    let o = g.first.some in
-    let r = g.first.run in
     let t = sign_on text a in
     let x : is_digit_in 10 (get_or text k 0) ≡ true = rw g.first.sign at d in
-    let l : k < b = elim (cases_lt k b) [ inl y ↦ y | inr y ↦ let e : k ≡ b = omega arith in absurd (false≢true (sym r.last ∙ digit_keylike 10 (get_or text b 0) (rw e at x))) ] in
+    let l : k < b = grind (arith, g.first.some, g.first.run.last, digit_keylike) in
     let f : get_or text k 0 ≡ get_or (slice_range text k b) 0 0 = word_first text (slice_range text k b) k b l refl in
     g.same ∙ (rw (g.plain, special_none (is_negative text a) (slice_range text k b) (rw f at x)) refl)
 
@@ -193,18 +157,12 @@ letters_at : (text word : List ℕ) (i a j : ℕ) (n : Numeral) → Begun text i
     → unsigned text i a (run_end text a) ≡ Ok (n, j)
 unfolding unsigned special_end
 letters_at text word i a j n g h e f =
-    let b : ℕ = run_end text a in
-    let t = sign_on text a in
     let o = g.first.some in
-    let s = g.first.sign in
-    let x = f.some in
     let p = or_parts (is_keylike (get_or text j 0)) (get_or text j 0 == 46) f.ends in
     let all = word_keylike text word (behind_sign text i) j f.letters h f.within in
-    let same : j ≡ b = ends_with_run text a (behind_sign text a) j b g.first.run t.0 (omega arith) (omega arith) (λ l x y. all l (omega arith) y) p.0 in
-    let w : slice_range text (behind_sign text a) b ≡ word = rw (s, same) at f.letters in
-    let v : special (is_negative text a) word ≡ Some n = rw g.first.negative at e in
-    let d : (get_or text b 0 == 46) ≡ false = rw same at p.1 in
-    rw (g.plain, w, v, d, same) refl
+    let t = sign_on text a in
+    let same : j ≡ run_end text a = grind (arith, nat_tests, all, g.first.sign, g.first.run.passes, g.first.run.last, f.some) in
+    rw (g.plain, ← same) (grind (arith, nat_tests, g.first.sign, g.first.negative, f.letters))
 
 letters_read : (text word : List ℕ) (i j : ℕ) (n : Numeral) → list_all is_keylike word ≡ true → (get_or word 0 0 == 45) ≡ false → (get_or word 0 0 ≡ 48 → ⊥) → special (is_negative text i) word ≡ Some n
     → SpecialFloat word text i j → numeral text i ≡ Ok (n, j)
@@ -234,10 +192,7 @@ rest_letter text m j h = grind (arith, nat_tests, common_steps)
 
 -- a number with an integer part, which ends at m
 decimal_begun : (text : List ℕ) (i m : ℕ) → UnsignedDecimal text (behind_sign text i) m → NoLetter (get_or text m 0) → (a : ℕ) × Begun text i a
-decimal_begun text i m u n =
-    let d = u.digits.begins in
-    let c = get_or text (behind_sign text i) 0 in
-    begun text i (digit_keylike 10 c d) (is_false _ (λ e. clash (is_digit_in 10) c 45 d (byte_is c 45 e) refl)) (no_prefix text (behind_sign text i) (λ z. rw (u.leading z) at n))
+decimal_begun text i m u n = grind (arith, begun, digit_keylike, is_false, clash, byte_is, no_prefix)
 
 numeral_complete : (s : Scalar) (text : List ℕ) (i j : ℕ) → IsNumber s text i j → (n : Numeral) × (numeral text i ≡ Ok (n, j)) × (s ≡ scalar_of n (slice_range text i j))
 unfolding special

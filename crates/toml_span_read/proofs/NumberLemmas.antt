@@ -1,17 +1,9 @@
 -- Steps of reading numbers, and what they come to.
-use Rattle.std.proofs.lemmas.Grind.{common_steps}
-use Rattle.std.proofs.Common.{◌≡◌, ℕ, ◌+◌, ◌-◌, ◌<◌, ◌≤◌, ◌⊎◌, Bool, true, false, drop, take, zero, suc, Option, Some, None, is_some, Ok, Err, List, ◌∷◌, length, get_or, arith, inl, inr, refl, sym, ◌∙◌, length-drop, length-take}
+use Rattle.toml_span_lex.proofs.Common.{common_steps, ◌≡◌, ℕ, ◌+◌, ◌-◌, ◌<◌, ◌≤◌, ◌⊎◌, Bool, true, false, drop, take, zero, suc, Option, Some, None, is_some, Ok, Err, List, ◌∷◌, length, get_or, arith, inl, inr, refl, sym, ◌∙◌, length-drop, length-take, drop_more, get_or_past, prefix_len-le-length, prefix_len_passes, prefix_len_stops, prefix_len, list_all, range_with_len, ◌*◌, ◌^◌, filter, slice_range, not, ◌==◌, ◌||◌, ◌&&◌, cases_lt, and_parts, and_from, or_from, or_right, false≢true, nat_tests, digit_value}
 use Rattle.std.proofs.Math.Nat.{pow-succ', one-le-pow, le-mul_of_pos_right}
-use Rattle.std.proofs.lemmas.List.{drop_more, get_or-drop, get_or_past}
-use Rattle.std.proofs.lemmas.List.Sums.{prefix_len-le-length, prefix_len_passes, prefix_len_stops}
-use Rattle.std.specs.List.{prefix_len, list_all, range_with_len}
-use Rattle.std.specs.Prelude.{◌*◌, ◌^◌, filter, slice_range, not, ◌==◌, ◌||◌, ◌&&◌}
-use Rattle.std.proofs.lemmas.Bool.{cases_lt, and_parts, and_from, false≢true}
-use Rattle.std.proofs.lemmas.Bool.Decides.{nat_tests}
+use Rattle.std.proofs.lemmas.List.{get_or-drop}
 use Rattle.toml_span_lex.specs.Bytes.{is_keylike, MaximalRun}
 use Rattle.toml_span_lex.proofs.Unique.{run_unique}
-use Rattle.toml_span_read.proofs.DateLemmas.{keylike_small}
-use Rattle.std.specs.Char.{is_ascii_hexdigit, digit_value}
 use Rattle.toml_span_read.specs.Numbers.{is_digit_in, is_figure, Digits, behind_sign, is_exponent, FloatLiteral, Exponent, Fraction, sum_of_digits, goes_on}
 use Rattle.toml_span_read.specs.Numerals.{invalid_number, run_end, figures_end, are_digits, digits_end, signed}
 use Rattle.toml_span_read.specs.code.Numbers.{DigitGives, Passes}
@@ -23,15 +15,6 @@ is_false b h = grind (arith, nat_tests, common_steps)
 
 pub bool_cases : (b : Bool) → (b ≡ true) ⊎ (b ≡ false)
 bool_cases b = grind (arith, nat_tests, common_steps)
-
-or_right : (a b : Bool) → b ≡ true → (a || b) ≡ true
-or_right a b h = grind (arith, nat_tests, common_steps)
-
-or_cases : (a b : Bool) → (a || b) ≡ true → (a ≡ true) ⊎ (b ≡ true)
-or_cases a b h = grind (arith, nat_tests, common_steps)
-
-or_none : (a b : Bool) → a ≡ false → b ≡ false → (a || b) ≡ false
-or_none a b h g = grind (arith, nat_tests, common_steps)
 
 pub and_left : (a b : Bool) → (a && b) ≡ true → a ≡ true
 and_left a b h = grind (arith, nat_tests, common_steps)
@@ -46,14 +29,8 @@ same_byte c k h = grind (arith, nat_tests)
 pub clash : (p : ℕ → Bool) (b k : ℕ) → p b ≡ true → b ≡ k → p k ≡ false → ⊥
 clash p b k h e n = false≢true (sym n ∙ (rw e at h))
 
-hex_keylike : (c : ℕ) → is_ascii_hexdigit c ≡ true → is_keylike c ≡ true
-hex_keylike c h = grind arith
-
-underscore_keylike : (c : ℕ) → c ≡ 95 → is_keylike c ≡ true
-underscore_keylike c e = rw e refl
-
 pub digit_keylike : (radix c : ℕ) → is_digit_in radix c ≡ true → is_keylike c ≡ true
-digit_keylike radix c h = hex_keylike c (and_left _ _ h)
+digit_keylike radix c h = grind (arith, and_left)
 
 pub digit_figure : (radix c : ℕ) → is_digit_in radix c ≡ true → is_figure radix c ≡ true
 digit_figure radix c h = rw h refl
@@ -62,7 +39,7 @@ pub underscore_figure : (radix c : ℕ) → c ≡ 95 → is_figure radix c ≡ t
 underscore_figure radix c e = or_right _ _ (same_byte c 95 e)
 
 pub figure_keylike : (radix c : ℕ) → is_figure radix c ≡ true → is_keylike c ≡ true
-figure_keylike radix c h = elim (or_cases _ _ h) [ inl d ↦ digit_keylike radix c d | inr u ↦ underscore_keylike c (byte_is c 95 u) ]
+figure_keylike radix c h = grind (arith, nat_tests, digit_keylike)
 
 pub no_keylike_figure : (radix c : ℕ) → is_keylike c ≡ false → is_figure radix c ≡ false
 no_keylike_figure radix c h = is_false _ (λ f. false≢true (sym h ∙ figure_keylike radix c f))
@@ -71,17 +48,17 @@ pub no_keylike_digit : (radix c : ℕ) → is_keylike c ≡ false → is_digit_i
 no_keylike_digit radix c h = is_false _ (λ d. false≢true (sym h ∙ digit_keylike radix c d))
 
 pub no_figure : (radix c : ℕ) → is_digit_in radix c ≡ false → (c == 95) ≡ false → is_figure radix c ≡ false
-no_figure radix c h u = or_none _ _ h u
+no_figure radix c h u = or_from _ _ h u
 
 pub digit_no_underscore : (radix c : ℕ) → is_digit_in radix c ≡ true → c ≡ 95 → ⊥
 digit_no_underscore radix c h e = clash (is_digit_in radix) c 95 h e refl
 
 figure_underscore : (radix c : ℕ) → is_figure radix c ≡ true → is_digit_in radix c ≡ false → c ≡ 95
-figure_underscore radix c h d = elim (or_cases _ _ h) [ inl t ↦ absurd (false≢true (sym d ∙ t)) | inr u ↦ byte_is c 95 u ]
+figure_underscore radix c h d = grind (arith, nat_tests)
 
 -- a byte that passes stands in the text
 pub here : (p : ℕ → Bool) (text : List ℕ) (i : ℕ) → p 0 ≡ false → p (get_or text i 0) ≡ true → i < length text
-here p text i z h = elim (cases_lt i (length text)) [ inl l ↦ l | inr g ↦ let e : p 0 ≡ true = rw (get_or_past text i 0 g) at h in absurd (false≢true (sym z ∙ e)) ]
+here p text i z h = grind (arith, get_or_past)
 
 -- ---- runs
 
@@ -101,21 +78,15 @@ run_found p text i w =
     }
 
 stops_with : (p : ℕ → Bool) (text : List ℕ) (i j : ℕ) → p 0 ≡ false → MaximalRun p text i j → p (get_or text j 0) ≡ false
-stops_with p text i j z r = elim (cases_lt j (length text)) [ inl l ↦ r.stops l | inr g ↦ rw (get_or_past text j 0 g) z ]
+stops_with p text i j z r = grind (arith, get_or_past)
 
 pub run_is : (text : List ℕ) (i j : ℕ) → MaximalRun is_keylike text i j → run_end text i ≡ j
 unfolding run_end
-run_is text i j r =
-    let f = r.forward in
-    let w = r.within in
-    run_unique is_keylike text i (i + prefix_len is_keylike (drop i text)) j (run_found is_keylike text i (omega arith)) r
-
-pub passes_run : (text : List ℕ) (i j : ℕ) → MaximalRun is_keylike text i j → Passes text i j
-passes_run text i j r = record { forward = r.forward; within = r.within; passes = r.passes; last = stops_with is_keylike text i j refl r }
+run_is text i j r = grind (arith, run_found)
 
 pub run_passes : (text : List ℕ) (i : ℕ) → i ≤ length text → Passes text i (run_end text i)
 unfolding run_end
-run_passes text i w = passes_run text i (i + prefix_len is_keylike (drop i text)) (run_found is_keylike text i w)
+run_passes text i w = grind (arith, nat_tests, common_steps, stops_with, run_found)
 
 pub passes_on : (text : List ℕ) (i k j : ℕ) → Passes text i j → i ≤ k → k ≤ j → Passes text k j
 passes_on text i k j r a b = record { forward = b; within = r.within; passes = λ l x y. r.passes l (omega arith) y; last = r.last }
@@ -133,26 +104,15 @@ pub digits_stop : (radix : ℕ) (text : List ℕ) (i j : ℕ) → Digits radix t
 digits_stop radix text i j d = stops_with (is_figure radix) text i j refl d.run
 
 pub digits_on : (radix : ℕ) (text : List ℕ) (i j : ℕ) → Digits radix text i j → i < j
-digits_on radix text i j d =
-    let f = d.run.forward in
-    elim (cases_lt i j) [
-      | inl l ↦ l
-      | inr g ↦ let e : j ≡ i = omega arith in absurd (false≢true (sym (digits_stop radix text i j d) ∙ (rw e (digit_figure radix (get_or text i 0) d.begins))))
-    ]
+digits_on radix text i j d = let f = d.run.forward in grind (arith, digits_stop radix text i j d, digit_figure radix (get_or text i 0) d.begins)
 
 all_at : (p : ℕ → Bool) (i n : ℕ) → list_all p (range_with_len i n) ≡ true → (k : ℕ) → i ≤ k → k < i + n → p k ≡ true
 all_at p i zero h k a b = absurd (omega arith)
-all_at p i (suc n) h k a b =
-    let q = and_parts (p i) (list_all p (range_with_len (i + 1) n)) h in
-    elim (cases_lt i k) [ inl l ↦ all_at p (i + 1) n q.1 k (omega arith) (omega arith) | inr g ↦ let e : k ≡ i = omega arith in rw e q.0 ]
+all_at p i (suc n) h k a b = grind (arith, nat_tests, all_at p (i + 1) n)
 
 all_from : (p : ℕ → Bool) (i n : ℕ) → ((k : ℕ) → i ≤ k → k < i + n → p k ≡ true) → list_all p (range_with_len i n) ≡ true
 all_from p i zero h = refl
-all_from p i (suc n) h =
-    and_from (p i) (list_all p (range_with_len (i + 1) n)) (h i (omega arith) (omega arith)) (all_from p (i + 1) n (λ k a b. h k (omega arith) (omega arith)))
-
-followed : (b c : Bool) → (b ≡ true → c ≡ true) → (not b || c) ≡ true
-followed b c h = grind (arith, nat_tests, common_steps)
+all_from p i (suc n) h = grind (arith, all_from p (i + 1) n)
 
 digits_found : (radix : ℕ) (text : List ℕ) (i : ℕ) → are_digits radix text i (figures_end radix text i) ≡ true → Digits radix text i (figures_end radix text i)
 unfolding are_digits figures_end
@@ -161,46 +121,29 @@ digits_found radix text i h =
     let spaced : ℕ → Bool = λ k. not (get_or text k 0 == 95) || is_digit_in radix (get_or text (k + 1) 0) in
     let p = and_parts (is_digit_in radix (get_or text i 0)) (list_all spaced (range_with_len i (j - i))) h in
     let l : i < length text = here (is_digit_in radix) text i refl p.0 in
-    record {
-      begins = p.0;
-      run = run_found (is_figure radix) text i (omega arith);
-      between = λ k a b u. (let t : spaced k ≡ true = all_at spaced i (j - i) p.1 k a (omega arith) in rw (same_byte (get_or text k 0) 95 u) at t);
-    }
+    record { begins = p.0; run = run_found (is_figure radix) text i (omega arith); between = λ k a b u. grind (arith, nat_tests, all_at spaced i (j - i) p.1 k) }
 
 are_spelled : (radix : ℕ) (text : List ℕ) (i j : ℕ) → Digits radix text i j → are_digits radix text i j ≡ true
 unfolding are_digits
-are_spelled radix text i j d =
-    and_from (is_digit_in radix (get_or text i 0)) _ d.begins
-    (all_from _ i (j - i) (λ k a b. followed (get_or text k 0 == 95) (is_digit_in radix (get_or text (k + 1) 0)) (λ u. d.between k a (omega arith) (byte_is (get_or text k 0) 95 u))))
+are_spelled radix text i j d = grind (arith, and_from, all_from, byte_is)
 
 -- the digits that are read are those that stand
 pub digits_sound : (radix : ℕ) (text : List ℕ) (start from end j : ℕ) → digits_end radix text start from end ≡ Ok j → Digits radix text from j
 unfolding digits_end
-digits_sound radix text start from end j h = elim (bool_cases (get_or text from 0 == 95)) [
-  | inl u ↦ let e : Err (invalid_number from end) ≡ Ok j = rw u at h in absurd cc
-  | inr u ↦ elim (bool_cases (are_digits radix text from (figures_end radix text from))) [
-    | inl d ↦ let e : Ok (figures_end radix text from) ≡ Ok j = rw (u, d) at h in let s : figures_end radix text from ≡ j = cc in rw (← s) (digits_found radix text from d)
-    | inr n ↦ let e : Err (invalid_number start end) ≡ Ok j = rw (u, n) at h in absurd cc
-  ]
-]
+digits_sound radix text start from end j h = grind (arith, nat_tests, digits_found radix text from)
 
 pub digits_complete : (radix : ℕ) (text : List ℕ) (start from end j : ℕ) → Digits radix text from j → digits_end radix text start from end ≡ Ok j
 unfolding digits_end figures_end
 digits_complete radix text start from end j d =
-    let f = d.run.forward in
-    let w = d.run.within in
-    let u : (get_or text from 0 == 95) ≡ false = is_false _ (λ x. digit_no_underscore radix (get_or text from 0) d.begins (byte_is (get_or text from 0) 95 x)) in
-    let e : from + prefix_len (is_figure radix) (drop from text) ≡ j =
-    run_unique (is_figure radix) text from (from + prefix_len (is_figure radix) (drop from text)) j (run_found (is_figure radix) text from (omega arith)) d.run in
-    rw (u, e, are_spelled radix text from j d) refl
+    let w = d.run.forward in
+    let e : figures_end radix text from ≡ j = run_unique (is_figure radix) text from _ j (run_found (is_figure radix) text from (omega (arith, d.run.within))) d.run in
+    grind (arith, nat_tests, are_spelled radix text from j d, digit_no_underscore radix (get_or text from 0) d.begins)
 
 -- where none stand, the whole piece is told
 pub digits_none : (radix : ℕ) (text : List ℕ) (start from end : ℕ) → (get_or text from 0 == 95) ≡ false → ((j : ℕ) → Digits radix text from j → ⊥)
     → digits_end radix text start from end ≡ Err (invalid_number start end)
 unfolding digits_end
-digits_none radix text start from end u n =
-    let d : are_digits radix text from (figures_end radix text from) ≡ false = is_false _ (λ h. n (figures_end radix text from) (digits_found radix text from h)) in
-    rw (u, d) refl
+digits_none radix text start from end u n = grind (arith, is_false, digits_found)
 
 -- digits and underscores are read from `from` to `at`, the last one a digit or not
 pub record Reading (radix : ℕ) (text : List ℕ) (from end at : ℕ) (was_digit : Bool) : Type 0 where
@@ -252,13 +195,8 @@ digits_read radix text from end at r g w h =
 -- behind an underscore, or behind nothing, stands no digit
 no_digits_read : (radix : ℕ) (text : List ℕ) (from end at j : ℕ) → Reading radix text from end at false → from ≤ at → is_digit_in radix (get_or text at 0) ≡ false → Digits radix text from j → ⊥
 no_digits_read radix text from end at j r g h d = elim (cases_lt from at) [
-  | inl x ↦
-      let e : (at - 1) + 1 ≡ at = omega arith in
-      let u : get_or text (at - 1) 0 ≡ 95 = figure_underscore radix _ (r.figures (at - 1) (omega arith) (omega arith)) (r.last (at - 1) (omega arith) e) in
-      let l : at ≤ j = elim (cases_lt j at) [ inl y ↦ absurd (false≢true (sym (digits_stop radix text from j d) ∙ r.figures j d.run.forward y)) | inr y ↦ y ] in
-      let n : is_digit_in radix (get_or text at 0) ≡ true = rw e at (d.between (at - 1) (omega arith) (omega arith) u) in
-      false≢true (sym h ∙ n)
-  | inr x ↦ let e : at ≡ from = omega arith in let n : is_digit_in radix (get_or text from 0) ≡ false = rw e at h in false≢true (sym n ∙ d.begins)
+  | inl x ↦ grind (arith, figure_underscore radix (get_or text (at - 1) 0), r.figures (at - 1), r.last (at - 1), digits_stop radix text from j d, r.figures j, d.between (at - 1), d.run.forward)
+  | inr x ↦ grind (arith, d.begins)
 ]
 
 pub no_digits_inside : (radix : ℕ) (text : List ℕ) (start from end at : ℕ) (was : Bool) → Reading radix text from end at was → was ≡ false → from ≤ at → at < end
@@ -269,11 +207,8 @@ no_digits_inside radix text start from end at was r w g l h =
 pub no_digits_at_end : (radix : ℕ) (text : List ℕ) (start from end : ℕ) (was : Bool) → Reading radix text from end end was → was ≡ false → from ≤ end
     → is_keylike (get_or text end 0) ≡ false → digits_end radix text start from end ≡ Err (invalid_number start end)
 no_digits_at_end radix text start from end was r w g n =
-    let u : (get_or text from 0 == 95) ≡ false = elim (cases_lt from end) [
-      | inl l ↦ r.first l
-      | inr x ↦ let e : from ≡ end = omega arith in is_false _ (λ y. (let z : get_or text end 0 ≡ 95 = rw e at (byte_is (get_or text from 0) 95 y) in false≢true (sym n ∙ underscore_keylike (get_or text end 0) z)))
-    ] in
-    digits_none radix text start from end u (λ j d. no_digits_read radix text from end end j (rw w at r) g (no_keylike_digit radix (get_or text end 0) n) d)
+    digits_none radix text start from end (grind (arith, nat_tests, r.first))
+    (λ j d. no_digits_read radix text from end end j (rw w at r) g (no_keylike_digit radix (get_or text end 0) n) d)
 
 -- ---- signs
 
@@ -285,25 +220,18 @@ behind_plus_sign text i h = rw h refl
 
 -- a sign is one byte
 pub sign_on : (text : List ℕ) (i : ℕ) → (i ≤ behind_sign text i) × (behind_sign text i ≤ i + 1)
-sign_on text i = elim (bool_cases (get_or text i 0 == 43 || get_or text i 0 == 45)) [ inl h ↦ rw h (omega arith, omega arith) | inr h ↦ rw h (omega arith, omega arith) ]
+sign_on text i = grind arith
 
 pub stands_alone : (text : List ℕ) (j : ℕ) → is_keylike (get_or text j 0) ≡ false → (get_or text j 0 == 46) ≡ false → goes_on text j ≡ false
-stands_alone text j k d = or_none _ _ k d
+stands_alone text j k d = or_from _ _ k d
 
 -- ---- values
-
-regroup : (v r d p s : ℕ) → v * (r * p) + (d * p + s) ≡ (v * r + d) * p + s
-regroup v r d p s = grind (arith, nat_tests, common_steps)
 
 -- one digit more
 pub sum_step : (radix v c : ℕ) (cs : List ℕ) → is_digit_in radix c ≡ true
     → v * radix ^ length (filter (is_digit_in radix) (c ∷ cs)) + sum_of_digits radix (filter (is_digit_in radix) (c ∷ cs))
     ≡ (v * radix + digit_value c) * radix ^ length (filter (is_digit_in radix) cs) + sum_of_digits radix (filter (is_digit_in radix) cs)
-sum_step radix v c cs h =
-    let fs : List ℕ = filter (is_digit_in radix) cs in
-    let e : filter (is_digit_in radix) (c ∷ cs) ≡ c ∷ fs = rw h refl in
-    let p : radix ^ length (c ∷ fs) ≡ radix * radix ^ length fs = pow-succ' radix (length fs) in
-    rw (e, p) (regroup v radix (digit_value c) (radix ^ length fs) (sum_of_digits radix fs))
+sum_step radix v c cs h = grind (arith, pow-succ')
 
 -- v is what the digits before `rest` come to
 abbrev pub Summed : ℕ → ℕ → List ℕ → List ℕ → Type 0
@@ -311,36 +239,21 @@ Summed radix v rest all = v * radix ^ length (filter (is_digit_in radix) rest) +
 
 pub sum_goes_on : (radix v w i : ℕ) (digits : List ℕ) → i < length digits → is_digit_in radix (get_or digits i 0) ≡ true → w ≡ v * radix + digit_value (get_or digits i 0)
     → Summed radix v (drop i digits) digits → Summed radix w (drop (i + 1) digits) digits
-sum_goes_on radix v w i digits l h e s =
-    let d : Summed radix v (get_or digits i 0 ∷ drop (i + 1) digits) digits = rw (drop_more digits i 0 l) at s in
-    let g : Summed radix (v * radix + digit_value (get_or digits i 0)) (drop (i + 1) digits) digits = sym (sum_step radix v (get_or digits i 0) (drop (i + 1) digits) h) ∙ d in
-    rw e g
+sum_goes_on radix v w i digits l h e s = grind (arith, drop_more, sum_step)
 
 pub sum_passes : (radix v i : ℕ) (digits : List ℕ) → i < length digits → is_digit_in radix (get_or digits i 0) ≡ false
     → Summed radix v (drop i digits) digits → Summed radix v (drop (i + 1) digits) digits
 sum_passes radix v i digits l h s = grind (arith, nat_tests, common_steps)
 
-pub and_right : (a b : Bool) → (a && b) ≡ true → b ≡ true
-and_right a b h = grind (arith, nat_tests, common_steps)
-
-radix_some : (radix c : ℕ) → is_digit_in radix c ≡ true → 0 < radix
-radix_some radix c h = grind (arith, nat_tests, common_steps)
-
 -- what is past 64 bits stays so, however many digits follow
 pub past_with_digits : (radix c n s k : ℕ) → is_digit_in radix c ≡ true → 2 ^ 64 ≤ n → 2 ^ 64 ≤ n * radix ^ k + s
-past_with_digits radix c n s k h l =
-    let o : 1 ≤ radix ^ k = one-le-pow k radix (radix_some radix c h) in
-    let m : n ≤ n * radix ^ k = le-mul_of_pos_right n (omega arith) in
-    omega arith
+past_with_digits radix c n s k h l = grind (arith, nat_tests, one-le-pow, le-mul_of_pos_right)
 
 pub sum_past : (radix v i d : ℕ) (digits : List ℕ) → i < length digits → is_digit_in radix (get_or digits i 0) ≡ true → d ≡ digit_value (get_or digits i 0)
     → Summed radix v (drop i digits) digits → 2 ^ 64 ≤ v * radix + d → 2 ^ 64 ≤ sum_of_digits radix (filter (is_digit_in radix) digits)
 sum_past radix v i d digits l h e s b =
-    let rest : List ℕ = filter (is_digit_in radix) (drop (i + 1) digits) in
-    let g : Summed radix (v * radix + d) (drop (i + 1) digits) digits = sum_goes_on radix v (v * radix + d) i digits l h (rw e refl) s in
-    let p : 2 ^ 64 ≤ (v * radix + d) * radix ^ length rest + sum_of_digits radix rest =
-    past_with_digits radix (get_or digits i 0) (v * radix + d) (sum_of_digits radix rest) (length rest) h b in
-    rw g at p
+    let g = sum_goes_on radix v (v * radix + d) i digits l h (rw e refl) s in
+    rw g at (past_with_digits radix (get_or digits i 0) (v * radix + d) (sum_of_digits radix (filter (is_digit_in radix) (drop (i + 1) digits))) (length (filter (is_digit_in radix) (drop (i + 1) digits))) h b)
 
 pub signed_past : (negative : Bool) (m : ℕ) → 2 ^ 64 ≤ m → signed negative m ≡ None
 unfolding signed
@@ -349,43 +262,31 @@ signed_past negative m l = grind (arith, nat_tests, common_steps)
 -- ---- bytes of literals
 
 digits_ascii : (radix : ℕ) (text : List ℕ) (i j k : ℕ) → Digits radix text i j → i ≤ k → k < j → get_or text k 0 < 128
-digits_ascii radix text i j k d a b = keylike_small (get_or text k 0) (figure_keylike radix (get_or text k 0) (d.run.passes k a b))
+digits_ascii radix text i j k d a b = let h = figure_keylike radix (get_or text k 0) (d.run.passes k a b) in grind arith
 
 sign_ascii : (text : List ℕ) (i k : ℕ) → i ≤ k → k < behind_sign text i → get_or text k 0 < 128
 sign_ascii text i k a b = grind (arith, nat_tests, common_steps)
 
 exponent_small : (c : ℕ) → is_exponent c ≡ true → c < 128
-exponent_small c h = elim (or_cases _ _ h) [ inl p ↦ let e : c ≡ 101 = byte_is c 101 p in omega arith | inr m ↦ let e : c ≡ 69 = byte_is c 69 m in omega arith ]
+exponent_small c h = grind arith
 
 exponent_ascii : (text : List ℕ) (i j k : ℕ) → Exponent text i j → i ≤ k → k < j → get_or text k 0 < 128
-exponent_ascii text i j k x a b = elim (cases_lt i k) [
-  | inl l ↦ elim (cases_lt k (behind_sign text (i + 1))) [ inl s ↦ sign_ascii text (i + 1) k (omega arith) s | inr g ↦ digits_ascii 10 text _ j k x.digits g b ]
-  | inr g ↦ let e : k ≡ i = omega arith in rw e (exponent_small (get_or text i 0) x.letter)
-]
+exponent_ascii text i j k x a b = grind (arith, sign_ascii text (i + 1) k, digits_ascii 10 text (behind_sign text (i + 1)) j k x.digits, exponent_small (get_or text i 0) x.letter)
 
 fraction_ascii : (text : List ℕ) (i j k : ℕ) → Fraction text i j → i ≤ k → k < j → get_or text k 0 < 128
-fraction_ascii text i j k x a b = elim (cases_lt i k) [
-  | inl l ↦ digits_ascii 10 text (i + 1) j k x.digits (omega arith) b
-  | inr g ↦ let e : k ≡ i = omega arith in let p : get_or text i 0 ≡ 46 = x.point in rw e (omega arith)
-]
+fraction_ascii text i j k x a b = grind (arith, digits_ascii 10 text (i + 1) j k x.digits, x.point)
 
 rest_ascii : (text : List ℕ) (i j k : ℕ) → Exponent text i j ⊎ ((m : ℕ) × Fraction text i m × ((j ≡ m) ⊎ Exponent text m j)) → i ≤ k → k < j → get_or text k 0 < 128
 rest_ascii text i j k (inl x) a b = exponent_ascii text i j k x a b
-rest_ascii text i j k (inr (m, f, inl e)) a b = fraction_ascii text i m k f a (rw e at b)
-rest_ascii text i j k (inr (m, f, inr x)) a b =
-    elim (cases_lt k m) [ inl l ↦ fraction_ascii text i m k f a l | inr g ↦ exponent_ascii text m j k x g b ]
+rest_ascii text i j k (inr (m, f, o)) a b = grind (arith, fraction_ascii text i m k f, exponent_ascii text m j k)
 
 float_ascii : (text : List ℕ) (i j k : ℕ) → FloatLiteral text i j → i ≤ k → k < j → get_or text k 0 < 128
-float_ascii text i j k f a b = elim (cases_lt k (behind_sign text i)) [
-  | inl s ↦ sign_ascii text i k a s
-  | inr g ↦ elim (cases_lt k f.integer_end) [ inl l ↦ digits_ascii 10 text _ _ k f.integer_part.digits g l | inr h ↦ rest_ascii text f.integer_end j k f.rest h b ]
-]
+float_ascii text i j k f a b = grind (arith, sign_ascii text i k, digits_ascii 10 text (behind_sign text i) f.integer_end k f.integer_part.digits, rest_ascii text f.integer_end j k f.rest)
 
 -- ---- slices
 
 pub slice_cons : (text : List ℕ) (a b : ℕ) → a < b → b ≤ length text → slice_range text a b ≡ get_or text a 0 ∷ slice_range text (a + 1) b
-slice_cons text a b l w =
-    let e : b - a ≡ suc (b - (a + 1)) = omega arith in rw (drop_more text a 0 (omega arith), e) refl
+slice_cons text a b l w = grind (arith, drop_more)
 
 pub range_length : (text : List ℕ) (a b : ℕ) → b ≤ length text → length (slice_range text a b) ≡ b - a
 range_length text a b w = omega (arith, length-take (b - a) (drop a text), length-drop a text)
@@ -400,14 +301,11 @@ slice_byte text a n k h = grind (arith, nat_tests, common_steps)
 pub slice_ascii : (text : List ℕ) (i a b k : ℕ) → FloatLiteral text i b → i ≤ a → a ≤ b → get_or (slice_range text a b) k 0 < 128
 slice_ascii text i a b k f s g = slice_byte text a (b - a) k (λ l x y. float_ascii text i b l f (omega arith) (omega arith))
 
-pub cons_parts : (x y : ℕ) (xs ys : List ℕ) → x ∷ xs ≡ y ∷ ys → (x ≡ y) × (xs ≡ ys)
-cons_parts x y xs ys e = (cc, cc)
-
 pub slice_some : (text : List ℕ) (a b x : ℕ) (xs : List ℕ) → slice_range text a b ≡ x ∷ xs → a < b
 slice_some text a b x xs h = grind (arith, nat_tests, common_steps)
 
 pub slice_first : (text : List ℕ) (a b x : ℕ) (xs : List ℕ) → a < b → b ≤ length text → slice_range text a b ≡ x ∷ xs → (get_or text a 0 ≡ x) × (slice_range text (a + 1) b ≡ xs)
-slice_first text a b x xs l w h = cons_parts _ _ _ _ (sym (slice_cons text a b l w) ∙ h)
+slice_first text a b x xs l w h = grind (arith, slice_cons)
 
 pub none_some : (n : ℕ) → None ≡ Some n → ⊥
 none_some n e = cc

@@ -1,30 +1,19 @@
 -- What is read as a number is spelled, and a fault that is told stands in the text.
-use Rattle.std.proofs.lemmas.Grind.{common_steps}
-use Rattle.std.proofs.lemmas.Bool.Decides.{nat_tests}
-use Rattle.std.proofs.Common.{◌≡◌, ℕ, ◌+◌, ◌-◌, ◌<◌, ◌≤◌, ◌⊎◌, Bool, true, false, List, length, get_or, arith, Ok, Err, Option, Some, None, is_some, inl, inr, refl, sym, ◌∙◌, subst, Result}
-use Rattle.std.proofs.lemmas.Bool.{cases_lt, and_parts, not-true, not-false, or_parts, eqb-false, ltb-true, ltb-false, false≢true}
-use Rattle.std.proofs.lemmas.List.Folds.{list_all_at}
-use Rattle.std.proofs.lemmas.Slice.Eq.{bytes_eq-Decides}
-use Rattle.std.specs.List.{list_all}
-use Rattle.std.specs.Option.{ok_or, option_map_or}
-use Rattle.std.specs.Prelude.{ℤ, not, ◌==◌, ◌||◌, ◌&&◌, nat_lt, slice_range, codes, if◌then◌else◌}
-use Rattle.std.specs.Str.{bytes_eq, IsUtf8}
+use Rattle.toml_span_lex.proofs.Common.{common_steps, nat_tests, ◌≡◌, ℕ, ◌+◌, ◌-◌, ◌<◌, ◌≤◌, ◌⊎◌, Bool, true, false, List, length, get_or, arith, Ok, Err, Option, Some, None, is_some, inl, inr, refl, subst, cases_lt, not-true, not-false, or_parts, eqb-false, ltb-false, false≢true, list_all_at, bytes_eq-Decides, list_all, option_map_or, ℤ, not, ◌==◌, ◌||◌, ◌&&◌, nat_lt, slice_range, codes, if◌then◌else◌, IsUtf8}
+use Rattle.std.proofs.lemmas.Bool.{ltb-true}
 use Rattle.toml_span_lex.specs.Bytes.{is_keylike}
 use Rattle.toml_span_lex.proofs.Runs.{behind, keylike_ascii}
 use Rattle.toml_span_tree.specs.Node.{Scalar, text as text_scalar, integer, float, boolean, datetime, finite, infinite, not_a_number}
 use Rattle.toml_span_read.specs.declared.fault.Fault.{Fault}
 use Rattle.toml_span_read.specs.declared.numbers.Numeral.{Numeral}
 use Rattle.toml_span_read.specs.declared.numbers.Numeral.TheVariants as numerals
-use Rattle.toml_span_read.specs.Numbers.{Digits, UnsignedDecimal, Exponent, Fraction, FloatLiteral, SpecialFloat, cleaned, IsNumber, IsSigned, behind_sign, is_negative, radix_at, magnitude, goes_on, is_exponent}
+use Rattle.toml_span_read.specs.Numbers.{Digits, UnsignedDecimal, Exponent, Fraction, FloatLiteral, SpecialFloat, IsNumber, IsSigned, behind_sign, is_negative, radix_at, magnitude, is_exponent}
 use Rattle.toml_span_read.specs.Numerals as spec
 use Rattle.toml_span_read.specs.Numerals.{Read, ◌>>=◌, invalid_number, run_end, scalar_of, digits_end, integer_part, exponent_digits, exponent, fraction, signed, decimal, special, special_end, unsigned, numeral, number, radix_integer}
 use Rattle.toml_span_read.specs.Places.{StartsInside}
 use Rattle.toml_span_read.specs.code.Gaps.{Further}
 use Rattle.toml_span_read.specs.code.Numbers.{Passes, NumeralStands}
-use Rattle.toml_span_read.specs.code.Values.{ScalarGives}
-use Rattle.toml_span_read.specs.Data.{kind_view, scalar}
-use Rattle.toml_span_read.specs.declared.value.ValKind.{ValKind}
-use Rattle.toml_span_read.proofs.NumberLemmas.{is_false, bool_cases, byte_is, clash, here, figure_keylike, digits_sound, digits_on, run_passes, passes_on, sign_on, no_sign, behind_plus_sign, stands_alone, slice_some, range_length, range_at}
+use Rattle.toml_span_read.proofs.NumberLemmas.{bool_cases, byte_is, here, figure_keylike, digits_sound, digits_on, run_passes, passes_on, sign_on, behind_plus_sign, stands_alone, slice_some, range_length, range_at}
 
 -- ---- steps that may fail
 
@@ -33,7 +22,7 @@ pub record Reads {A : Type 0} (text : List ℕ) (r : Read A) (Q : A → Type 0) 
   pub given : (a : A) → r ≡ Ok a → Q a
   pub told : (e : Fault) → r ≡ Err e → StartsInside text e
 
-done : {A : Type 0} (text : List ℕ) (a : A) (Q : A → Type 0) → Q a → Reads text (Ok a) Q
+pub done : {A : Type 0} (text : List ℕ) (a : A) (Q : A → Type 0) → Q a → Reads text (Ok a) Q
 done text a Q q = record { given = λ b e. (let s : a ≡ b = cc in subst (λ x. Q x) s q); told = λ e h. absurd cc }
 
 -- a fault from s to e is placed
@@ -43,7 +32,7 @@ Placed text s e = (s ≤ e) × (s ≤ length text)
 fails : {A : Type 0} (text : List ℕ) (s e : ℕ) (Q : A → Type 0) → Placed text s e → Reads text (Err (invalid_number s e)) Q
 fails text s e Q p = record { given = λ b h. absurd cc; told = λ x h. (let same : invalid_number s e ≡ x = cc in rw (← same) (record { within = p.1; forward = p.0 })) }
 
-after : {A B : Type 0} (text : List ℕ) (r : Read A) (f : A → Read B) (P : A → Type 0) (Q : B → Type 0) → Reads text r P → ((a : A) → P a → Reads text (f a) Q) → Reads text (r >>= f) Q
+pub after : {A B : Type 0} (text : List ℕ) (r : Read A) (f : A → Read B) (P : A → Type 0) (Q : B → Type 0) → Reads text r P → ((a : A) → P a → Reads text (f a) Q) → Reads text (r >>= f) Q
 after text r f P Q h g = grind (arith, nat_tests, common_steps)
 
 choice : {A : Type 0} (text : List ℕ) (c : Bool) (x y : Read A) (Q : A → Type 0) → (c ≡ true → Reads text x Q) → (c ≡ false → Reads text y Q) → Reads text (if c then x else y) Q
@@ -54,9 +43,6 @@ weaker text r P Q h g = record { given = λ a e. g a (h.given a e); told = h.tol
 
 some_or : {A B : Type 0} (text : List ℕ) (f : A → Read B) (o : Option A) (r : Read B) (Q : B → Type 0) → ((a : A) → o ≡ Some a → Reads text (f a) Q) → (o ≡ None → Reads text r Q) → Reads text (option_map_or f o r) Q
 some_or text f o r Q h g = grind (arith, nat_tests, common_steps)
-
-or_fails : {A : Type 0} (text : List ℕ) (s e : ℕ) (o : Option A) (Q : A → Type 0) → Placed text s e → ((a : A) → o ≡ Some a → Q a) → Reads text (ok_or o (invalid_number s e)) Q
-or_fails text s e o Q p h = grind (arith, nat_tests, common_steps)
 
 -- ---- digits
 
@@ -69,24 +55,17 @@ record Piece (text : List ℕ) (start from end : ℕ) : Type 0 where
 
 -- digits end before a byte of no run
 pub digits_to : (radix : ℕ) (text : List ℕ) (i j b : ℕ) → Digits radix text i j → i ≤ b → is_keylike (get_or text b 0) ≡ false → j ≤ b
-digits_to radix text i j b d g n = elim (cases_lt b j) [ inl l ↦ absurd (false≢true (sym n ∙ figure_keylike radix (get_or text b 0) (d.run.passes b g l))) | inr h ↦ h ]
+digits_to radix text i j b d g n = grind (arith, figure_keylike)
 
 abbrev DigitsTo : ℕ → List ℕ → ℕ → ℕ → ℕ → Type 0
 DigitsTo radix text from end m = Digits radix text from m × (from < m) × (m ≤ end)
 
 digits_reads : (radix : ℕ) (text : List ℕ) (start from end : ℕ) → Piece text start from end → Reads text (digits_end radix text start from end) (DigitsTo radix text from end)
 unfolding digits_end
-digits_reads radix text start from end p =
-    let f = p.forward in
-    let t = p.to in
-    let w = p.within in
-    let placed : Reads text (digits_end radix text start from end) (λ m. Unit {0}) =
-    choice text (get_or text from 0 == 95) _ _ _ (λ c. fails text from end _ (t, omega arith))
-    (λ c. choice text (spec.are_digits radix text from (spec.figures_end radix text from)) _ _ _ (λ x. done text _ _ tt) (λ x. fails text start end _ (omega arith, omega arith))) in
-    record {
-      given = λ j h. (let d : Digits radix text from j = digits_sound radix text start from end j h in (d, digits_on radix text from j d, digits_to radix text from j end d t p.last));
-      told = placed.told;
-    }
+digits_reads radix text start from end p = record {
+  given = λ j h. (let d = digits_sound radix text start from end j h in (d, digits_on radix text from j d, digits_to radix text from j end d p.to p.last));
+  told = λ e h. grind (arith, nat_tests);
+}
 
 -- ---- the integer part
 
@@ -94,10 +73,7 @@ abbrev PartTo : List ℕ → ℕ → ℕ → ℕ → Type 0
 PartTo text from end m = UnsignedDecimal text from m × (from < m) × (m ≤ end)
 
 leads : (text : List ℕ) (from m : ℕ) → from < m → (get_or text from 0 == 48 && nat_lt (from + 1) m) ≡ false → get_or text from 0 ≡ 48 → m ≡ from + 1
-leads text from m l c z = let n : nat_lt (from + 1) m ≡ false = rw z at c in omega (arith, ltb-false (from + 1) m n)
-
-second_in : (b : Bool) (from m end : ℕ) → from + 1 < m → m ≤ end → (if b then from + 2 else from + 1) ≤ end
-second_in b from m end l t = grind (arith, nat_tests, common_steps)
+leads text from m l c z = grind (arith, ltb-false)
 
 part_reads : (text : List ℕ) (start from end : ℕ) → Piece text start from end → Reads text (integer_part text start from end) (PartTo text from end)
 unfolding integer_part
@@ -105,10 +81,7 @@ part_reads text start from end p =
     let w = p.within in
     after text (digits_end 10 text start from end) _ (DigitsTo 10 text from end) _ (digits_reads 10 text start from end p)
     (λ m d. choice text (get_or text from 0 == 48 && nat_lt (from + 1) m) _ _ _
-    (λ c. (
-    let l : from + 1 < m = ltb-true (from + 1) m (and_parts (get_or text from 0 == 48) (nat_lt (from + 1) m) c).1 in
-    let s = second_in (get_or text (from + 1) 0 == 95) from m end l d.2 in
-    fails text (if get_or text (from + 1) 0 == 95 then from + 2 else from + 1) end _ (s, omega arith)))
+    (λ c. fails text (if get_or text (from + 1) 0 == 95 then from + 2 else from + 1) end _ (grind (arith, nat_tests, d)))
     (λ c. done text m _ (record { digits = d.0; leading = leads text from m d.1 c }, d.1, d.2)))
 
 -- ---- exponents
@@ -182,8 +155,7 @@ signed_sound negative m n h = grind (arith, nat_tests, common_steps)
 integer_reads : (radix : ℕ) (text : List ℕ) (negative : Bool) (start from end : ℕ) → Placed text start end
     → Reads text (spec.integer radix text negative start from end) (IsSigned negative (magnitude radix text from end))
 unfolding spec.integer
-integer_reads radix text negative start from end q =
-    or_fails text start end (signed negative (magnitude radix text from end)) _ q (λ n e. signed_sound negative (magnitude radix text from end) n e)
+integer_reads radix text negative start from end q = grind (arith, signed_sound)
 
 radix_reads : (radix : ℕ) (text : List ℕ) (start end : ℕ) → Piece text start start end
     → Reads text (radix_integer radix text start end) (λ n. Digits radix text start end × IsSigned false (magnitude radix text start end) n)
@@ -193,11 +165,7 @@ radix_reads radix text start end p =
     let w = p.within in
     after text (digits_end radix text start start end) _ (DigitsTo radix text start end) _ (digits_reads radix text start start end p)
     (λ m d. choice text (nat_lt m end) _ _ _ (λ c. fails text start end _ (t, omega arith))
-    (λ c. (
-    let e : m ≡ end = omega (arith, d.2, ltb-false m end c) in
-    let ds : Digits radix text start end = rw e at d.0 in
-    weaker text (spec.integer radix text false start start end) (IsSigned false (magnitude radix text start end)) _
-    (integer_reads radix text false start start end (t, omega arith)) (λ n s. (ds, s)))))
+    (λ c. (let e : m ≡ end = omega (arith, d.2, ltb-false m end c) in weaker text _ _ _ (integer_reads radix text false start start end (t, omega arith)) (λ n s. (rw e at d.0, s)))))
 
 -- ---- numbers without a prefix
 
@@ -248,31 +216,17 @@ decimal_reads text i a b g =
 special_sound : (negative : Bool) (word : List ℕ) (n : Numeral) → special negative word ≡ Some n
     → ((n ≡ numerals.Infinite negative) × (word ≡ codes "inf")) ⊎ ((n ≡ numerals.NotANumber negative) × (word ≡ codes "nan"))
 unfolding special
-special_sound negative word n h = elim (bool_cases (bytes_eq word (codes "inf"))) [
-  | inl i ↦ let e : Some (numerals.Infinite negative) ≡ Some n = rw i at h in inl (cc, (bytes_eq-Decides word (codes "inf")).0 i)
-  | inr i ↦ elim (bool_cases (bytes_eq word (codes "nan"))) [
-    | inl m ↦ let e : Some (numerals.NotANumber negative) ≡ Some n = rw (i, m) at h in inr (cc, (bytes_eq-Decides word (codes "nan")).0 m)
-    | inr m ↦ let e : None ≡ Some n = rw (i, m) at h in absurd cc
-  ]
-]
+special_sound negative word n h = grind (arith, bool_cases, bytes_eq-Decides)
 
 letters : (text : List ℕ) (i a b : ℕ) (n : Numeral) → First text i a b → (get_or text b 0 == 46) ≡ false → special (is_negative text a) (slice_range text (behind_sign text a) b) ≡ Some n → Spelled text i (n, b)
 letters text i a b n g p h =
-    let goes : goes_on text b ≡ false = stands_alone text b g.run.last p in
-    elim (special_sound (is_negative text a) (slice_range text (behind_sign text a) b) n h) [
-      | inl x ↦ rw x.0 (record { letters = rw g.sign x.1; some = rw g.sign (slice_some text (behind_sign text a) b _ _ x.1); within = g.run.within; ends = goes }, sym g.negative)
-      | inr x ↦ rw x.0 (record { letters = rw g.sign x.1; some = rw g.sign (slice_some text (behind_sign text a) b _ _ x.1); within = g.run.within; ends = goes }, sym g.negative)
-    ]
+    let goes = stands_alone text b g.run.last p in
+    elim (special_sound (is_negative text a) (slice_range text (behind_sign text a) b) n h) [ inl x ↦ grind (arith, slice_some) | inr x ↦ grind (arith, slice_some) ]
 
 special_reads : (text : List ℕ) (i a b : ℕ) (n : Numeral) → First text i a b → special (is_negative text a) (slice_range text (behind_sign text a) b) ≡ Some n
     → Reads text (special_end text i a b n) (Spelled text i)
 unfolding special_end
-special_reads text i a b n g h =
-    let l = g.some in
-    let f = g.forward in
-    let w = g.run.within in
-    choice text (not (get_or text b 0 == 46)) _ _ _ (λ c. done text (n, b) _ (letters text i a b n g (not-true (get_or text b 0 == 46) c) h))
-    (λ c. choice text (run_end text (b + 1) == b + 1) _ _ _ (λ x. fails text i (b + 1) _ (omega arith, omega arith)) (λ x. fails text a b _ (omega arith, omega arith)))
+special_reads text i a b n g h = grind (arith, choice, letters, not-true, fails)
 
 -- ---- prefixes
 
@@ -287,15 +241,10 @@ pub no_prefix : (text : List ℕ) (i : ℕ) → (get_or text i 0 ≡ 48 → NoLe
 no_prefix text i h = elim (bool_cases (get_or text i 0 == 48)) [ inl z ↦ let n = h (byte_is (get_or text i 0) 48 z) in rw (z, n.0, n.1, n.2) refl | inr n ↦ rw n refl ]
 
 pub keylike_letter : (c : ℕ) → is_keylike c ≡ false → NoLetter c
-keylike_letter c k = grind (arith, nat_tests, common_steps)
+keylike_letter c k = grind arith
 
 pub prefix_some : (text : List ℕ) (a b radix : ℕ) → Passes text a b → a < b → radix_at text a ≡ Some radix → a + 2 ≤ b
-prefix_some text a b radix r l h = elim (cases_lt (a + 1) b) [
-  | inl x ↦ omega arith
-  | inr g ↦
-      let e : a + 1 ≡ b = omega arith in
-      let n : None ≡ Some radix = sym (no_prefix text a (λ z. keylike_letter (get_or text (a + 1) 0) (rw e r.last))) ∙ h in absurd cc
-]
+prefix_some text a b radix r l h = grind (arith, nat_tests, r.last)
 
 -- ---- numbers
 
@@ -314,46 +263,33 @@ unsigned_reads text i a b g =
     (λ n e. special_reads text i a b n g e) (λ e. decimal_reads text i a b g))
 
 run_some : (text : List ℕ) (i : ℕ) → is_keylike (get_or text i 0) ≡ true → i < run_end text i
-run_some text i k =
-    let w = here is_keylike text i refl k in
-    let r = run_passes text i (omega arith) in
-    let f = r.forward in
-    elim (cases_lt i (run_end text i)) [ inl l ↦ l | inr g ↦ let e : run_end text i ≡ i = omega arith in absurd (false≢true (sym (rw e at r.last) ∙ k)) ]
+run_some text i k = let w = here is_keylike text i refl k in let r = run_passes text i (omega arith) in grind arith
 
 pub first_plain : (text : List ℕ) (i : ℕ) → is_keylike (get_or text i 0) ≡ true → First text i i (run_end text i)
-first_plain text i k =
-    let w = here is_keylike text i refl k in
-    record { forward = omega arith; some = run_some text i k; run = run_passes text i (omega arith); sign = refl; negative = refl; prefixed = λ radix h. refl }
+first_plain text i k = record { forward = omega arith; some = run_some text i k; run = run_passes text i (omega (arith, here is_keylike text i refl k)); sign = refl; negative = refl; prefixed = λ radix h. refl }
 
 pub first_behind : (text : List ℕ) (i : ℕ) → get_or text i 0 ≡ 43 → is_keylike (get_or text (i + 1) 0) ≡ true → (get_or text (i + 1) 0 == 45) ≡ false → radix_at text (i + 1) ≡ None → First text i (i + 1) (run_end text (i + 1))
 first_behind text i p k m n =
     let w = here is_keylike text (i + 1) refl k in
-    let q : (get_or text (i + 1) 0 == 43) ≡ false = is_false _ (λ e. clash is_keylike (get_or text (i + 1) 0) 43 k (byte_is (get_or text (i + 1) 0) 43 e) refl) in
     record {
       forward = omega arith;
       some = run_some text (i + 1) k;
       run = run_passes text (i + 1) (omega arith);
-      sign = behind_plus_sign text i p ∙ sym (no_sign text (i + 1) q m);
+      sign = grind (arith, nat_tests);
       negative = rw (p, m) refl;
-      prefixed = λ radix h. (let e : None ≡ Some radix = sym n ∙ h in absurd cc);
+      prefixed = λ radix h. grind (arith, n);
     }
 
 -- a digit, a letter, a dash, an underscore or a plus
 abbrev pub Starts : List ℕ → ℕ → Type 0
 Starts text i = (is_keylike (get_or text i 0) || get_or text i 0 == 43) ≡ true
 
-no_some : (o : Option ℕ) → is_some o ≡ false → o ≡ None
-no_some o h = grind (arith, nat_tests, common_steps)
-
-first_of_two : (a b : Bool) → (a || b) ≡ true → b ≡ false → a ≡ true
-first_of_two a b h n = grind (arith, nat_tests, common_steps)
-
 -- a number is read only where one is spelled, and as that one
 pub numeral_reads : (text : List ℕ) (i : ℕ) → Starts text i → Reads text (numeral text i) (Spelled text i)
 unfolding numeral
 numeral_reads text i begins =
     choice text (not (get_or text i 0 == 43)) _ _ _
-    (λ c. unsigned_reads text i i (run_end text i) (first_plain text i (first_of_two (is_keylike (get_or text i 0)) (get_or text i 0 == 43) begins (not-true (get_or text i 0 == 43) c))))
+    (λ c. unsigned_reads text i i (run_end text i) (first_plain text i (grind (arith, nat_tests, common_steps))))
     (λ c. (
     let plus : (get_or text i 0 == 43) ≡ true = not-false (get_or text i 0 == 43) c in
     let l : i < length text = here (λ c. c == 43) text i refl plus in
@@ -365,21 +301,15 @@ numeral_reads text i begins =
     let o : i + 1 < run_end text (i + 1) = elim (cases_lt (i + 1) (run_end text (i + 1))) [ inl z ↦ z | inr z ↦ let e : run_end text (i + 1) ≡ i + 1 = omega arith in absurd (eqb-false (run_end text (i + 1)) (i + 1) x e) ] in
     let q = or_parts (get_or text (i + 1) 0 == 45) (is_some (radix_at text (i + 1))) y in
     unsigned_reads text i (i + 1) (run_end text (i + 1))
-    (first_behind text i (byte_is (get_or text i 0) 43 plus) (r.passes (i + 1) (omega arith) o) q.0 (no_some (radix_at text (i + 1)) q.1)))))))
+    (first_behind text i (byte_is (get_or text i 0) 43 plus) (r.passes (i + 1) (omega arith) o) q.0 (grind (arith, nat_tests, common_steps))))))))
 
 -- ---- where a number ends
 
 pub word_keylike : (text word : List ℕ) (k j : ℕ) → slice_range text k j ≡ word → list_all is_keylike word ≡ true → j ≤ length text → (l : ℕ) → k ≤ l → l < j → is_keylike (get_or text l 0) ≡ true
-word_keylike text word k j e h w l a b =
-    let s : get_or word (l - k) 0 ≡ get_or text l 0 = rw (← e) (range_at text k j l a b) in
-    let n : l - k < length word = rw (← e) (omega (arith, range_length text k j w)) in
-    elim (bool_cases (is_keylike (get_or word (l - k) 0))) [
-      | inl t ↦ rw s at t
-      | inr f ↦ absurd (false≢true (sym (list_all_at is_keylike word (l - k) 0 n f) ∙ h))
-    ]
+word_keylike text word k j e h w l a b = grind (arith, range_at, range_length, bool_cases, false≢true, list_all_at)
 
 pub word_first : (text word : List ℕ) (k j : ℕ) → k < j → slice_range text k j ≡ word → get_or text k 0 ≡ get_or word 0 0
-word_first text word k j l e = let z : k - k ≡ 0 = omega arith in let s : get_or (slice_range text k j) 0 0 ≡ get_or text k 0 = rw z at (range_at text k j k (omega arith) l) in sym s ∙ (rw e refl)
+word_first text word k j l e = grind (arith, range_at)
 
 -- from i on something stands, whose last byte is of a run
 record Ended (text : List ℕ) (i j : ℕ) : Type 0 where
@@ -387,9 +317,7 @@ record Ended (text : List ℕ) (i j : ℕ) : Type 0 where
   last : is_keylike (get_or text (j - 1) 0) ≡ true
 
 digits_ended : (radix : ℕ) (text : List ℕ) (i k j : ℕ) → i ≤ k → Digits radix text k j → Ended text i j
-digits_ended radix text i k j f d =
-    let o = digits_on radix text k j d in
-    record { on = omega arith; last = figure_keylike radix (get_or text (j - 1) 0) (d.run.passes (j - 1) (omega arith) (omega arith)) }
+digits_ended radix text i k j f d = let o = digits_on radix text k j d in grind (arith, figure_keylike radix (get_or text (j - 1) 0))
 
 rest_ended : (text : List ℕ) (i m j : ℕ) → i ≤ m → Exponent text m j ⊎ FractionTo text m j → Ended text i j
 rest_ended text i m j f (inl x) = let s = sign_on text (m + 1) in digits_ended 10 text i (behind_sign text (m + 1)) j (omega arith) x.digits
@@ -399,8 +327,7 @@ rest_ended text i m j f (inr (q, y, inr x)) = let o = digits_on 10 text (m + 1) 
 word_ended : (word text : List ℕ) (i j : ℕ) → list_all is_keylike word ≡ true → SpecialFloat word text i j → Ended text i j
 word_ended word text i j h f =
     let s = sign_on text i in
-    let o = f.some in
-    record { on = omega arith; last = word_keylike text word (behind_sign text i) j f.letters h f.within (j - 1) (omega arith) (omega arith) }
+    record { on = omega (arith, f.some); last = word_keylike text word (behind_sign text i) j f.letters h f.within (j - 1) (omega (arith, f.some)) (omega (arith, f.some)) }
 
 number_ended : (s : Scalar) (text : List ℕ) (i j : ℕ) → IsNumber s text i j → Ended text i j
 number_ended (integer n) text i j (inl d) = digits_ended 10 text i (behind_sign text i) j (sign_on text i).0 d.digits.digits
@@ -414,33 +341,16 @@ number_ended (boolean x) text i j h = absurd h
 number_ended (datetime x) text i j h = absurd h
 
 pub number_on : (s : Scalar) (text : List ℕ) (i j : ℕ) → IsNumber s text i j → (i ≤ j) × (j ≤ length text)
-number_on s text i j h =
-    let e = number_ended s text i j h in
-    let o = e.on in
-    let w = here is_keylike text (j - 1) refl e.last in
-    (omega arith, omega arith)
+number_on s text i j h = grind (arith, number_ended, here)
 
 pub float_on : (text : List ℕ) (i j : ℕ) → FloatLiteral text i j → (i < j) × (j ≤ length text)
-float_on text i j f =
-    let h : IsNumber (float (finite (cleaned (slice_range text i j)))) text i j = (f, refl) in
-    ((number_ended (float (finite (cleaned (slice_range text i j)))) text i j h).on, (number_on (float (finite (cleaned (slice_range text i j)))) text i j h).1)
+float_on text i j f = grind (arith, number_ended, number_on)
 
 -- behind a number the text may be cut
 pub number_further : (s : Scalar) (text : List ℕ) (i j : ℕ) → IsUtf8 text → IsNumber s text i j → Further text i j
-number_further s text i j u h =
-    let e = number_ended s text i j h in
-    let o = e.on in
-    record { on = o; boundary = behind text (j - 1) j (omega arith) u (here is_keylike text (j - 1) refl e.last) (keylike_ascii (get_or text (j - 1) 0) e.last) }
+number_further s text i j u h = grind (arith, number_ended, behind, here, keylike_ascii)
 
 -- ---- what the code gives
-
-pub number_told : (text : List ℕ) (i : ℕ) (e : Fault) → numeral text i ≡ Err e → ◌≡◌ {A = Result (Scalar × ℕ) Fault} (Err e) (number text i)
-unfolding number
-number_told text i e h = rw h refl
-
-pub number_given : (n : Numeral) (text : List ℕ) (i j : ℕ) (kind : ValKind) → numeral text i ≡ Ok (n, j) → kind_view kind ≡ scalar (scalar_of n (slice_range text i j)) → ScalarGives (λ r. r ≡ number text i) (Ok (kind, j))
-unfolding number
-number_given n text i j kind h k = (scalar_of n (slice_range text i j), k, rw h refl)
 
 pub number_advances : (n : Numeral) (text : List ℕ) (i j : ℕ) → IsUtf8 text → Starts text i → numeral text i ≡ Ok (n, j) → Further text i j
 number_advances n text i j u b h = number_further (scalar_of n (slice_range text i j)) text i j u ((numeral_reads text i b).given (n, j) h)

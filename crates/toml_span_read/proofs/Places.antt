@@ -1,11 +1,5 @@
 -- Places of a text at which it may be cut.
-use Rattle.std.proofs.lemmas.Grind.{common_steps}
-use Rattle.std.proofs.lemmas.Bool.Decides.{nat_tests}
-use Rattle.std.proofs.Common.{◌≡◌, ℕ, ◌+◌, ◌<◌, Bool, true, false, List, [], ◌∷◌, ◌++◌, length, get_or, arith, refl, inl, inr}
-use Rattle.std.specs.Str.{IsUtf8, IsCharBoundary}
-use Rattle.std.proofs.lemmas.Str.{IsCharBoundary-after_ascii}
-use Rattle.std.proofs.lemmas.Bool.{cases_lt}
-use Rattle.std.proofs.lemmas.List.{get_or_past}
+use Rattle.toml_span_lex.proofs.Common.{common_steps, nat_tests, ◌≡◌, ℕ, ◌+◌, ◌<◌, Bool, true, false, List, [], ◌∷◌, ◌++◌, length, get_or, arith, refl, inl, inr, IsUtf8, IsCharBoundary, IsCharBoundary-after_ascii, cases_lt, get_or_past}
 use Rattle.toml_span_read.specs.Gaps.{GapPiece, GapBy}
 use Rattle.toml_span_read.specs.code.Gaps.{Further}
 use Rattle.toml_span_lex.specs.Bytes.{MaximalRun}

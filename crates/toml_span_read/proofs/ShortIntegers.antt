@@ -1,26 +1,20 @@
 -- Integers of a few digits alone.
-use Rattle.std.proofs.lemmas.Grind.{common_steps}
-use Rattle.std.proofs.Common.{◌≡◌, ℕ, ◌+◌, ◌-◌, ◌<◌, ◌≤◌, true, false, drop, List, length, get_or, arith, inl, inr, refl, sym, ◌∙◌}
-use Rattle.std.specs.Prelude.{ℤ, ◌*◌, slice_range, ◌==◌, Ok}
-use Rattle.std.specs.Str.{IsUtf8, IsCharBoundary}
-use Rattle.std.proofs.lemmas.Bool.{cases_lt, false≢true, or_cases}
-use Rattle.std.proofs.lemmas.Bool.Decides.{nat_tests}
+use Rattle.toml_span_lex.proofs.Common.{common_steps, ◌≡◌, ℕ, ◌+◌, ◌-◌, ◌<◌, ◌≤◌, true, false, drop, List, length, get_or, arith, inl, inr, refl, sym, ◌∙◌, ℤ, ◌*◌, slice_range, ◌==◌, Ok, IsUtf8, IsCharBoundary, cases_lt, false≢true, or_left, nat_tests, is_ascii_digit, digit_value}
 use Rattle.toml_span_lex.specs.Bytes.{is_keylike}
 use Rattle.toml_span_lex.proofs.Runs.{boundary_after}
 use Rattle.toml_span_tree.specs.Node.{integer}
 use Rattle.toml_span_read.specs.declared.value.ValKind.{ValKind}
 use Rattle.toml_span_read.specs.Data.{kind_view, scalar}
-use Rattle.std.specs.Char.{is_ascii_digit, digit_value}
 use Rattle.toml_span_read.specs.Dates.{begins_date}
 use Rattle.toml_span_read.specs.code.Gaps.{Further}
-use Rattle.toml_span_read.specs.Numbers.{is_digit_in, Digits, magnitude, DecimalInteger, IsSigned, behind_sign}
+use Rattle.toml_span_read.specs.Numbers.{is_digit_in, magnitude, DecimalInteger, IsSigned, behind_sign}
 use Rattle.toml_span_read.specs.Faults.{begins_number}
 use Rattle.toml_span_read.specs.Numerals.{number}
 use Rattle.toml_span_read.specs.Read as read
 use Rattle.toml_span_read.specs.code.Values.{ScalarGives}
 use Rattle.toml_span_read.proofs.NumberComplete.{number_complete}
-use Rattle.toml_span_read.proofs.ValueRead.{number_first, digit_number}
-use Rattle.toml_span_read.proofs.NumberLemmas.{is_false, byte_is, and_left, and_right, digit_figure, no_keylike_figure, digit_no_underscore, no_sign, stands_alone, Summed, sum_goes_on, range_length, range_at}
+use Rattle.toml_span_read.proofs.ValueRead.{number_first}
+use Rattle.toml_span_read.proofs.NumberLemmas.{is_false, digit_figure, no_keylike_figure, digit_no_underscore, no_sign, stands_alone, Summed, sum_goes_on, range_length, range_at}
 
 -- ---- digits
 
@@ -33,30 +27,14 @@ decimal_value c h = grind (arith, nat_tests)
 pub decimal_keylike : (c : ℕ) → is_ascii_digit c ≡ true → is_keylike c ≡ true
 decimal_keylike c h = grind arith
 
-decimal_ascii : (c : ℕ) → is_ascii_digit c ≡ true → c < 128
-decimal_ascii c h = grind arith
-
-not_decimal : (c k : ℕ) → is_ascii_digit c ≡ true → c ≡ k → is_ascii_digit k ≡ false → ⊥
-not_decimal c k h e n = false≢true (sym n ∙ (rw e at h))
-
-no_keylike_decimal : (c : ℕ) → is_keylike c ≡ false → is_ascii_digit c ≡ true → ⊥
-no_keylike_decimal c n h = false≢true (sym n ∙ decimal_keylike c h)
-
 abbrev pub Decimals : List ℕ → ℕ → ℕ → Type 0
 Decimals text i j = (k : ℕ) → i ≤ k → k < j → is_ascii_digit (get_or text k 0) ≡ true
-
-digits_alone : (text : List ℕ) (i j : ℕ) → i < j → j ≤ length text → Decimals text i j → is_keylike (get_or text j 0) ≡ false → Digits 10 text i j
-digits_alone text i j l w h n = record {
-  begins = decimal_digit (get_or text i 0) (h i (omega arith) l);
-  run = record { forward = omega arith; within = w; passes = λ k a b. digit_figure 10 (get_or text k 0) (decimal_digit (get_or text k 0) (h k a b)); stops = λ x. no_keylike_figure 10 (get_or text j 0) n };
-  between = λ k a b u. absurd (digit_no_underscore 10 (get_or text k 0) (decimal_digit (get_or text k 0) (h k a b)) u);
-}
 
 -- ---- no date begins with them
 
 -- where a decimal digit stands at k, k is among the digits
 among : (text : List ℕ) (i j k : ℕ) → is_keylike (get_or text j 0) ≡ false → k ≤ j → is_ascii_digit (get_or text k 0) ≡ true → k < j
-among text i j k n le h = elim (cases_lt k j) [ inl lt ↦ lt | inr ge ↦ let e : k ≡ j = omega arith in absurd (no_keylike_decimal (get_or text j 0) n (rw e at h)) ]
+among text i j k n le h = grind (arith, cases_lt, false≢true, decimal_keylike)
 
 no_dash : (text : List ℕ) (i j k : ℕ) → Decimals text i j → is_keylike (get_or text j 0) ≡ false → i ≤ k → k ≤ j → (get_or text k 0 == 45) ≡ true → ⊥
 no_dash text i j k h n a b e = grind (arith, nat_tests, common_steps)
@@ -66,14 +44,7 @@ no_colon text i j k h n a b e = grind (arith, nat_tests, common_steps)
 
 date_no : (text : List ℕ) (i j : ℕ) → i < j → Decimals text i j → is_keylike (get_or text j 0) ≡ false → (get_or text j 0 == 58) ≡ false → begins_date text i ≡ true → ⊥
 date_no text i j l h n c b =
-    let two : i + 1 < j = among text i j (i + 1) n (omega arith) (and_right _ _ (and_left _ _ b)) in
-    elim (or_cases _ _ (and_right _ _ b)) [
-      | inl colon ↦ no_colon text i j (i + 2) h c (omega arith) (omega arith) colon
-      | inr rest ↦
-          let three : i + 2 < j = among text i j (i + 2) n (omega arith) (and_left _ _ (and_left _ _ rest)) in
-          let four : i + 3 < j = among text i j (i + 3) n (omega arith) (and_right _ _ (and_left _ _ rest)) in
-          no_dash text i j (i + 4) h n (omega arith) (omega arith) (and_right _ _ rest)
-    ]
+    grind (arith, among text i j (i + 1) n, among text i j (i + 2) n, among text i j (i + 3) n, no_colon text i j (i + 2) h c, no_dash text i j (i + 4) h n)
 
 -- ---- what they come to
 
@@ -98,19 +69,16 @@ few_more text from at v w f h e s = record {
 
 -- ---- the integer
 
-decimal_begins : (c : ℕ) → is_ascii_digit c ≡ true → begins_number c ≡ true
-decimal_begins c h = rw h refl
-
 pub short_spelled : (n : ℤ) (text : List ℕ) (i j m : ℕ) → i < j → j ≤ length text → Decimals text i j → m ≡ magnitude 10 text i j → (get_or text i 0 ≡ 48 → j ≡ i + 1) → is_keylike (get_or text j 0) ≡ false → (get_or text j 0 == 46) ≡ false
     → (get_or text j 0 == 58) ≡ false → IsSigned false m n → (begins_date text i ≡ false) × DecimalInteger n text i j
 short_spelled n text i j m l w h v lead k dot colon value =
     let first = h i (omega arith) l in
-    let plus : (get_or text i 0 == 43) ≡ false = is_false _ (λ x. not_decimal (get_or text i 0) 43 first (byte_is (get_or text i 0) 43 x) refl) in
-    let dash : (get_or text i 0 == 45) ≡ false = is_false _ (λ x. not_decimal (get_or text i 0) 45 first (byte_is (get_or text i 0) 45 x) refl) in
+    let plus : (get_or text i 0 == 43) ≡ false = grind (arith, nat_tests) in
+    let dash : (get_or text i 0 == 45) ≡ false = grind (arith, nat_tests) in
     let b : behind_sign text i ≡ i = no_sign text i plus dash in (
       is_false _ (date_no text i j l h k colon),
       record {
-        digits = rw b (record { digits = digits_alone text i j l w h k; leading = lead });
+        digits = rw b (record { digits = grind (arith, decimal_digit, digit_figure, no_keylike_figure, digit_no_underscore); leading = lead });
         ends = stands_alone text j k dot;
         value = rw (b, dash, ← v) value;
       },
@@ -121,7 +89,7 @@ pub short_made : (kind : ValKind) (n : ℤ) (text : List ℕ) (i j m : ℕ) → 
 short_made kind n text i j m e l w h v lead k dot colon value =
     let s = short_spelled n text i j m l w h v lead k dot colon value in
     let read : number text i ≡ Ok (integer n, j) = number_complete (integer n) text i j (inl s.1) in
-    (integer n, e, inr (s.0, sym read ∙ sym (number_first text i (digit_number text i (decimal_begins (get_or text i 0) (h i (omega arith) l))))))
+    (integer n, e, inr (s.0, sym read ∙ sym (number_first text i (or_left (begins_number (get_or text i 0)) _ (rw (h i (omega arith) l) refl)))))
 
 pub short_further : (text : List ℕ) (i j : ℕ) → IsUtf8 text → IsCharBoundary text i → i < j → j ≤ length text → Decimals text i j → Further text i j
-short_further text i j u b l w h = record { on = l; boundary = boundary_after is_ascii_digit text i j decimal_ascii u b (omega arith) w h }
+short_further text i j u b l w h = record { on = l; boundary = boundary_after is_ascii_digit text i j (λ c d. grind arith) u b (omega arith) w h }

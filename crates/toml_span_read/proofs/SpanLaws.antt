@@ -1,15 +1,12 @@
 -- The spans of a value lie within the text that it is spelled by.
-use Rattle.std.proofs.lemmas.Grind.{common_steps}
-use Rattle.std.proofs.lemmas.Bool.Decides.{nat_tests}
-use Rattle.std.proofs.Common.{◌≡◌, ℕ, ◌+◌, ◌<◌, ◌≤◌, List, [], ◌∷◌, ◌++◌, length, arith, inl, inr}
+use Rattle.toml_span_lex.proofs.Common.{common_steps, nat_tests, ◌≡◌, ℕ, ◌+◌, ◌<◌, ◌≤◌, List, [], ◌∷◌, ◌++◌, length, arith, inl, inr}
 use Rattle.toml_span_lex.specs.declared.span.Span.{Span}
 use Rattle.toml_span_tree.specs.Node.{Scalar, text as text_scalar, integer, float, boolean, datetime}
 use Rattle.toml_span_read.specs.Gaps.{Separator, Closes}
 use Rattle.toml_span_read.specs.Keys.{SimpleKey}
 use Rattle.toml_span_read.specs.Places.{Ascend, Inside, InsideItems, InsidePairs}
-use Rattle.toml_span_read.specs.Dates.{IsCandidate}
-use Rattle.toml_span_read.specs.Data.{ParsedValue, parsed, ParsedInner, scalar, array, inline, ParsedItems, no_items, item, ParsedPairs, no_pairs, pair, KeyValue}
-use Rattle.toml_span_read.specs.Grammar.{from_to, SpellsScalar, Spells, SpellsInner, SpellsItems, SpellsPairs}
+use Rattle.toml_span_read.specs.Data.{ParsedValue, parsed, ParsedInner, scalar, array, inline, ParsedItems, no_items, item, ParsedPairs, no_pairs, pair, KeyValue, from_to}
+use Rattle.toml_span_read.specs.Grammar.{SpellsScalar, Spells, SpellsInner, SpellsItems, SpellsPairs}
 use Rattle.toml_span_read.proofs.NumberReads.{number_on}
 use Rattle.toml_span_read.proofs.Places.{read_within}
 use Rattle.toml_span_read.proofs.KeyOrder.{Lies, string_lies, dotted_ascend}
@@ -20,13 +17,10 @@ use Rattle.toml_span_read.proofs.InsideLemmas.{ascend_forward}
 whole : (text : List ℕ) (i j : ℕ) (s : Span) → s ≡ from_to i j → (i ≤ j) × (j ≤ length text) → Lies text i j s
 whole text i j s e h = rw e (record { begins = omega arith; forward = h.0; ends = omega arith; within = h.1 })
 
-candidate_on : (text : List ℕ) (i j : ℕ) → IsCandidate text i j → (i ≤ j) × (j ≤ length text)
-candidate_on text i j h = grind (arith, nat_tests, common_steps)
-
 scalar_lies : (s : Scalar) (span : Span) (t : List ℕ) (i j : ℕ) → SpellsScalar s span t i j → Lies t i j span
 scalar_lies (text_scalar v) span t i j (src, m, h) = (string_lies t v src i j span m h).0
 scalar_lies (boolean b) span t i j (run, e) = whole t i j span e (run.1.forward, run.1.within)
-scalar_lies (datetime d) span t i j (b, c, is, same, e) = whole t i j span e (candidate_on t i j c)
+scalar_lies (datetime d) span t i j (b, c, is, same, e) = whole t i j span e (grind (arith, nat_tests, common_steps))
 scalar_lies (integer n) span t i j (b, h, e) = whole t i j span e (number_on (integer n) t i j h)
 scalar_lies (float x) span t i j (b, h, e) = whole t i j span e (number_on (float x) t i j h)
 
@@ -60,28 +54,23 @@ mutual
 
   items_lie : (vs : ParsedItems) (text : List ℕ) (limit d n i j : ℕ) → n ≤ i → SpellsItems vs text limit d i j → InsideItems vs n j × (n ≤ j) × (j ≤ length text)
   items_lie no_items text limit d n i j l h = let w : i < length text = read_within text i (omega (arith, h.0)) in (omega (arith, h.1), omega (arith, h.1), omega (arith, h.1, w))
-  items_lie (item v vs) text limit d n i j l (m, h, inl (e, close)) =
+  items_lie (item v vs) text limit d n i j l (m, h, rest) =
       let a = value_lies v text limit d i m h in
-      let c = closes_on 93 text m j (omega arith) close in
-      ((m, nearer v n i m l a.0, (rw e c.0)), omega (arith, l, a.1, c.0), c.1)
-  items_lie (item v vs) text limit d n i j l (m, h, inr (p, sign, rest)) =
-      let a = value_lies v text limit d i m h in
-      let r = items_lie vs text limit d m p j (sign_onward 44 text m p sign) rest in
+      let r : InsideItems vs m j × (m ≤ j) × (j ≤ length text) = elim rest [
+        | inl (e, close) ↦ let c = closes_on 93 text m j (omega arith) close in (rw e c.0, c.0, c.1)
+        | inr (p, sign, more) ↦ items_lie vs text limit d m p j (sign_onward 44 text m p sign) more
+      ] in
       ((m, nearer v n i m l a.0, r.0), omega (arith, l, a.1, r.1), r.2)
 
   pairs_lie : (ps : ParsedPairs) (es : List KeyValue) (text : List ℕ) (limit d n i j : ℕ) → n ≤ i → SpellsPairs ps es text limit d i j → InsidePairs ps n j × (n ≤ j) × (j ≤ length text)
   pairs_lie no_pairs es text limit d n i j l h = let w : i < length text = read_within text i (omega (arith, h.0)) in (omega (arith, h.1), omega (arith, h.1), omega (arith, h.1, w))
-  pairs_lie (pair ss v x ps) es text limit d n i j l (m, (a, b, key, few, sign, h, extent), clear, inl (e, close)) =
+  pairs_lie (pair ss v x ps) es text limit d n i j l (m, (a, b, key, few, sign, h, extent), clear, rest) =
       let k = dotted_ascend ss text i a key in
       let s = sign_onward 61 text a b sign in
       let u = value_lies v text limit (d + length ss) b m h in
-      let c = closes_on 125 text m j (omega arith) close in
       let f = ascend_forward ss i a k.0 in
-      ((a, m, ascend_nearer ss n i a l k.0, nearer v a b m s u.0, (rw extent (omega arith)), (rw extent (omega arith)), (rw e c.0)), omega (arith, l, f, s, u.1, c.0), c.1)
-  pairs_lie (pair ss v x ps) es text limit d n i j l (m, (a, b, key, few, sign, h, extent), clear, inr (p, comma, rest)) =
-      let k = dotted_ascend ss text i a key in
-      let s = sign_onward 61 text a b sign in
-      let u = value_lies v text limit (d + length ss) b m h in
-      let r = pairs_lie ps (es ++ (record { parts = ss; value = v; extent = x } ∷ [])) text limit d m p j (sign_onward 44 text m p comma) rest in
-      let f = ascend_forward ss i a k.0 in
+      let r : InsidePairs ps m j × (m ≤ j) × (j ≤ length text) = elim rest [
+        | inl (e, close) ↦ let c = closes_on 125 text m j (omega arith) close in (rw e c.0, c.0, c.1)
+        | inr (p, comma, more) ↦ pairs_lie ps (es ++ (record { parts = ss; value = v; extent = x } ∷ [])) text limit d m p j (sign_onward 44 text m p comma) more
+      ] in
       ((a, m, ascend_nearer ss n i a l k.0, nearer v a b m s u.0, (rw extent (omega arith)), (rw extent (omega arith)), r.0), omega (arith, l, f, s, u.1, r.1), r.2)

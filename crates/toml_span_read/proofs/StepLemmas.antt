@@ -1,13 +1,9 @@
 -- What is read section by section.
-use Rattle.std.proofs.Common.{arith}
-use Rattle.std.proofs.lemmas.Grind.{common_steps}
-use Rattle.std.proofs.lemmas.Bool.Decides.{nat_tests}
-use Rattle.std.proofs.Common.{◌≡◌, refl, sym, ap, ◌∙◌, ℕ, List, [], ◌∷◌, ◌++◌, map, subst, Ok, Option, Some, None}
-use Rattle.std.specs.Prelude.{IfSome}
+use Rattle.toml_span_lex.proofs.Common.{arith, common_steps, nat_tests, ◌≡◌, sym, ap, ◌∙◌, ℕ, List, [], ◌∷◌, map, Ok, Option, Some, None, IfSome}
 use Rattle.toml_span_lex.specs.Tokenizer.{FirstPlace}
 use Rattle.toml_span_read.specs.declared.section.Section.{Section}
 use Rattle.toml_span_read.specs.declared.value.Assignment.{Assignment}
-use Rattle.toml_span_read.specs.Borrowed.{AreWrittenRight, IsWrittenRight, assignments_written, section_written, sections_written}
+use Rattle.toml_span_read.specs.Borrowed.{AreWrittenRight, assignments_written, section_written, sections_written}
 use Rattle.toml_span_read.specs.Data.{block}
 use Rattle.toml_span_read.specs.Read as read
 use Rattle.toml_span_read.specs.Reading.{HoldsForm}
@@ -28,7 +24,7 @@ first_keeps text limit at o s is h = let (start, es, begins, lines, same, end) =
 
 -- ---- a list of sections
 
-abbrev listed : Option Section → List Section
+abbrev pub listed : Option Section → List Section
 listed None = []
 listed (Some s) = s ∷ []
 
@@ -37,14 +33,6 @@ pub record Begins (text : List ℕ) (limit at : ℕ) (found : List Section) : Ty
   pub borrows : AreWrittenRight text (sections_written found)
   pub whole : DocumentFrom text limit (map block found) at
 
-begins_with : (text : List ℕ) (limit at : ℕ) (o : Option Section) → IfSome o (λ s. AreWrittenRight text (section_written s)) → read.before_headers text limit (Ok (first_blocks o, at)) → Begins text limit at (listed o)
-begins_with text limit at None right h = record { borrows = tt; whole = document_begins text limit at [] h }
-begins_with text limit at (Some s) right h = record { borrows = all_append (IsWrittenRight text) (section_written s) [] right tt; whole = document_begins text limit at (block s ∷ []) h }
-
-pub begins_some : (text : List ℕ) (limit at : ℕ) (o : Option Section) (s : Section) (found more : List Section) → o ≡ Some s → found ≡ [] → more ≡ found ++ (s ∷ [])
-    → IfSome o (λ s. AreWrittenRight text (section_written s)) → read.before_headers text limit (Ok (first_blocks o, at)) → Begins text limit at more
-begins_some text limit at o s found more is e f right h = let same : listed o ≡ more = rw (f, e, is) refl in subst (Begins text limit at) same (begins_with text limit at o right h)
-
-pub begins_none : (text : List ℕ) (limit at : ℕ) (o : Option Section) (found : List Section) → o ≡ None → found ≡ [] → IfSome o (λ s. AreWrittenRight text (section_written s)) → read.before_headers text limit (Ok (first_blocks o, at))
+pub begins_with : (text : List ℕ) (limit at : ℕ) (o : Option Section) (found : List Section) → listed o ≡ found → IfSome o (λ s. AreWrittenRight text (section_written s)) → read.before_headers text limit (Ok (first_blocks o, at))
     → Begins text limit at found
-begins_none text limit at o found is e right h = let same : listed o ≡ found = rw (e, is) refl in subst (Begins text limit at) same (begins_with text limit at o right h)
+begins_with text limit at o found same right h = grind (arith, document_begins, all_append)

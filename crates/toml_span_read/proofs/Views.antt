@@ -1,5 +1,5 @@
 -- The meanings of values and of assignments, opened one level.
-use Rattle.std.proofs.Common.{◌≡◌, map, Vec, Global, rules}
+use Rattle.toml_span_lex.proofs.Common.{◌≡◌, map, Vec, Global, rules}
 use Rattle.toml_span_read.specs.declared.value.Val.{Val}
 use Rattle.toml_span_read.specs.declared.value.ValKind.{Array, Inline, the_lemmas}
 use Rattle.toml_span_read.specs.declared.value.Assignment.{Assignment}
@@ -17,5 +17,3 @@ kind_view-Array vs = search (rules, the_lemmas)
 
 pub kind_view-Inline : (ps : Vec Assignment Global) → kind_view (Inline ps) ≡ inline (pairs_onto (map key_value ps.items) no_pairs)
 kind_view-Inline ps = search (rules, the_lemmas)
-
--- ---- keys inside the text

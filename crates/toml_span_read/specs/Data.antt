@@ -1,5 +1,5 @@
 -- What is read, as plain data: a text is its bytes, and whether it is borrowed is no part of it.
-use Rattle.std.specs.Prelude.{Bool, List, [], ◌∷◌, map}
+use Rattle.std.specs.Prelude.{ℕ, Bool, false, List, [], ◌∷◌, map}
 use Rattle.std.specs.Cow.{cow_str_bytes}
 use Rattle.toml_span_lex.specs.declared.span.Span.{Span}
 use Rattle.toml_span_tree.specs.Node.{Scalar, text, integer, float, boolean, datetime}
@@ -51,6 +51,28 @@ pub record Block : Type 0 where
   pub header_span : Span
   pub extent : Span
   pub key_values : List KeyValue
+
+-- from one place to another, not included
+abbrev pub from_to : ℕ → ℕ → Span
+from_to i j = record { start = i; end = j }
+
+-- where the last of these assignments ends, or, without one, n
+abbrev pub last_end : ℕ → List KeyValue → ℕ
+last_end n [] = n
+last_end n (ev ∷ evs) = last_end ev.extent.end evs
+
+-- The assignments before the first header, if there are any, are a section of their own: its header is empty and stands
+-- at 0..0, and its extent goes from the first assignment to the end of the last.
+abbrev pub first_block : List KeyValue → List Block
+first_block [] = []
+first_block (ev ∷ evs) =
+    record {
+      header = [];
+      array = false;
+      header_span = from_to 0 0;
+      extent = from_to ev.extent.start (last_end ev.extent.end evs);
+      key_values = ev ∷ evs;
+    } ∷ []
 
 -- ---- what is read, seen so
 

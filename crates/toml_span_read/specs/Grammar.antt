@@ -14,7 +14,7 @@ use Rattle.toml_span_read.specs.Dates.{begins_date, IsCandidate}
 use Rattle.toml_span_read.specs.Numbers.{IsNumber}
 use Rattle.toml_span_read.specs.Gaps.{MaximalGap, Separator, Closes, Equals, Tail}
 use Rattle.toml_span_read.specs.Keys.{SpellsKey, SimpleKey}
-use Rattle.toml_span_read.specs.Data.{ParsedValue, parsed, ParsedInner, scalar, ParsedItems, no_items, item}
+use Rattle.toml_span_read.specs.Data.{ParsedValue, parsed, ParsedInner, scalar, ParsedItems, no_items, item, first_block, from_to, last_end}
 use Rattle.toml_span_read.specs.Data.{ParsedPairs, no_pairs, pair, KeyValue}
 use Rattle.toml_span_read.specs.Data.{array as array_node, inline as inline_node, Block}
 use Rattle.toml_span_read.specs.Earlier.{Clear}
@@ -25,10 +25,6 @@ use Rattle.toml_span_read.specs.Earlier.{Clear}
 abbrev pub truth_text : Bool → List ℕ
 truth_text true = codes "true"
 truth_text false = codes "false"
-
--- from one place to another, not included
-abbrev pub from_to : ℕ → ℕ → Span
-from_to i j = record { start = i; end = j }
 
 -- The text from i to j is this string, number, truth value or date, with this span: of a string its content's. A number
 -- is read where no date begins.
@@ -195,11 +191,6 @@ pub record SpellsHeader (parts : List SimpleKey) (array : Bool) (text : List ℕ
 
 -- ---- sections
 
--- where the last of these assignments ends, or, without one, n
-abbrev pub last_end : ℕ → List KeyValue → ℕ
-last_end n [] = n
-last_end n (ev ∷ evs) = last_end ev.extent.end evs
-
 -- From i to j stands this section: its header, and its assignments. The header's span is the header with the rest of
 -- its line. The extent is from the header to the end of the last assignment, or, without one, the header's span.
 pub record SectionWith (S : Scalars) (b : Block) (text : List ℕ) (limit i j : ℕ) : Type 0 where
@@ -208,19 +199,6 @@ pub record SectionWith (S : Scalars) (b : Block) (text : List ℕ) (limit i j : 
   pub header_span : b.header_span ≡ record { start = i; end = end }
   pub lines : LinesWith S b.key_values text limit end j
   pub extent : b.extent ≡ record { start = i; end = last_end end b.key_values }
-
--- The assignments before the first header, if there are any, are a section of their own: its header is empty and stands
--- at 0..0, and its extent goes from the first assignment to the end of the last.
-abbrev pub first_block : List KeyValue → List Block
-first_block [] = []
-first_block (ev ∷ evs) =
-    record {
-      header = [];
-      array = false;
-      header_span = from_to 0 0;
-      extent = from_to ev.extent.start (last_end ev.extent.end evs);
-      key_values = ev ∷ evs;
-    } ∷ []
 
 -- from i to the end of the text stand these sections
 abbrev pub SectionsWith : Scalars → List Block → List ℕ → ℕ → ℕ → Type 0

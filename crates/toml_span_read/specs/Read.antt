@@ -14,7 +14,7 @@ use Rattle.toml_span_lex.specs.Tokenizer.{FirstPlace}
 use Rattle.toml_span_lex.specs.Tokens.{Lexeme, keylike, string, Stands, IsNoToken}
 use Rattle.toml_span_tree.specs.Date.{IsDateText}
 use Rattle.toml_span_tree.specs.Node.{Scalar, boolean, datetime, text as text_scalar}
-use Rattle.toml_span_read.specs.Data.{ParsedValue, parsed, ParsedInner, scalar, array as array_node, no_items, onto}
+use Rattle.toml_span_read.specs.Data.{ParsedValue, parsed, ParsedInner, scalar, array as array_node, no_items, onto, from_to, last_end, first_block}
 use Rattle.toml_span_read.specs.Data.{inline as inline_node, no_pairs, pairs_onto, KeyValue, Block}
 use Rattle.toml_span_read.specs.Dates.{begins_date, IsCandidate}
 use Rattle.toml_span_read.specs.declared.fault.Due.{Due}
@@ -26,7 +26,6 @@ use Rattle.toml_span_read.specs.Earlier.{Clear, Crossing}
 use Rattle.toml_span_read.specs.Faults.{fault_at, found_of, token_fault, wanted_fault, opens_nested, begins_bare}
 use Rattle.toml_span_read.specs.Faults.{begins_number}
 use Rattle.toml_span_read.specs.Gaps.{MaximalGap, Dot, NoDot, Tail, NoTail}
-use Rattle.toml_span_read.specs.Grammar.{from_to, last_end, first_block}
 use Rattle.toml_span_read.specs.Keys.{SimpleKey}
 use Rattle.toml_span_read.specs.Numerals.{run_end, special, number}
 
@@ -350,5 +349,5 @@ before_headers text limit r =
     (i : ℕ) × FirstPlace text i × after (lines text limit i) (λ (es, j) r. r ≡ Ok (first_block es, j)) r
 
 -- `toml = expression *( newline expression )`
-abbrev pub document : List ℕ → ℕ → Reading (List Block)
+unfoldable pub document : List ℕ → ℕ → Reading (List Block)
 document text limit = after (before_headers text limit) (λ read. Loop (next_section text limit) read)

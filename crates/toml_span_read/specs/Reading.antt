@@ -9,14 +9,13 @@ use Rattle.toml_span_read.specs.Data.{Block, block}
 use Rattle.toml_span_read.specs.Read.{document}
 use Rattle.toml_span_read.specs.Faults.{Tells}
 use Rattle.toml_span_read.specs.Gaps.{MaximalGap}
-use Rattle.toml_span_read.specs.Grammar.{SpellsDocument}
 use Rattle.toml_span_read.specs.Places.{StartsInside}
 use Rattle.toml_span_read.specs.declared.fault.Fault.{Fault}
 use Rattle.toml_span_read.specs.declared.section.Section.{Section}
 
--- the text spells the sections, or the error tells the fault that reading it gives
+-- reading the text gives the sections, or the fault that the error tells
 abbrev pub ReadsDocument : List ℕ → ℕ → Result (Vec Section Global) (Stop Error) → Type 0
-ReadsDocument text limit (Ok found) = SpellsDocument (map block found.items) text limit
+ReadsDocument text limit (Ok found) = document text limit (Ok (map block found.items))
 ReadsDocument text limit (Err (stops.Memory e)) = Unit {0}
 ReadsDocument text limit (Err (stops.Fault error)) =
     (fault : Fault) × document text limit (Err fault) × Tells text fault (content_of error)

@@ -38,7 +38,7 @@ pub enum Numeral {
 #[inline]
 fn run_end(text: &str, from: usize) -> usize
     requires { IsCharBoundary text.now from }
-    ensures gives { result ≡ numerals.run_end text.now from }
+    ensures end { result ≡ numerals.run_end text.now from }
     ensures run { Passes text.now from result }
 {
     keylike_end(text, from)
@@ -67,7 +67,7 @@ fn digits_end(text: &str, piece: Span, from: usize, radix: u8) -> Result<usize, 
     requires end { from ≤ piece.end }
     requires last { is_keylike (slice_index text.now piece.end) ≡ false }
     ensures ends { IfOk result (λ m. (from < m) × (m ≤ piece.end)) }
-    ensures gives { result ≡ numerals.digits_end radix text.now piece.start from piece.end }
+    ensures end { result ≡ numerals.digits_end radix text.now piece.start from piece.end }
 {
     let bytes = text.as_bytes();
     if from < piece.end && bytes[from] == b'_' {
@@ -198,7 +198,7 @@ fn integer_part(text: &str, run: Span, from: usize) -> Result<usize, Fault>
     requires end { from ≤ run.end }
     requires last { is_keylike (slice_index text.now run.end) ≡ false }
     ensures ends { IfOk result (λ m. (from < m) × (m ≤ run.end)) }
-    ensures gives { result ≡ numerals.integer_part text.now run.start from run.end }
+    ensures end { result ≡ numerals.integer_part text.now run.start from run.end }
 {
     let end = digits_end(text, run, from, 10)?;
     if text.as_bytes()[from] == b'0' && from + 1 < end {

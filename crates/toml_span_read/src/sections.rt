@@ -3,9 +3,9 @@ ghost use Rattle.std.specs.Prelude.{◌≡◌, ℕ, ◌<◌, ◌≤◌, ◌+◌,
 ghost use Rattle.std.specs.Str.{IsCharBoundary};
 ghost use Rattle.toml_span_read.specs.Borrowed.{AreWrittenRight, keys_written, assignment_written, assignments_written};
 ghost use Rattle.toml_span_read.specs.Borrowed.{section_written, sections_written};
-ghost use Rattle.toml_span_read.specs.Data.{key_value, block};
-ghost use Rattle.toml_span_read.specs.Grammar as grammar;
-ghost use Rattle.toml_span_read.specs.Grammar.{OpensHeader, first_block};
+ghost use Rattle.toml_span_read.specs.Data as blocks;
+ghost use Rattle.toml_span_read.specs.Data.{key_value, block, first_block};
+ghost use Rattle.toml_span_read.specs.Grammar.{OpensHeader};
 ghost use Rattle.toml_span_read.specs.Read as spec;
 ghost use Rattle.toml_span_read.specs.code.Sections.{EndsAtHeader, HeaderReads, FirstReads, SectionReads, first_blocks};
 ghost use Rattle.toml_span_read.specs.code.Sections.{EndsBehind, LineReads, first_found, head_found, lines_found};
@@ -194,7 +194,7 @@ fn extent_of(assignment: &Assignment<'_>) -> Span
 
 /// Where the last of these assignments ends, or, without one, the place given.
 fn last_end(assignments: &[Assignment<'_>], without: usize) -> usize
-    ensures { result ≡ grammar.last_end without (map key_value assignments.now) }
+    ensures { result ≡ blocks.last_end without (map key_value assignments.now) }
 {
     match assignments.last() {
         Some(last) => extent_of(last).end,
@@ -323,7 +323,7 @@ pub fn read_sections<'de>(
 ) -> Result<Vec<Section<'de>>, Stop<Error<'de>>>
     requires some { 1 ≤ limit }
     requires small { limit ≤ depth_limit }
-    // The sections are those that the text spells. A fault is the one that reading the document tells.
+    // The sections, or the fault, are what reading the document gives.
     ensures document { ReadsDocument text.now limit result }
     ensures placed { RefusedInside text.now result }
     // Memory is wanted only where more than comments and blank lines stand in the text.

@@ -1,11 +1,5 @@
 -- Reports in the order of their places.
-use Rattle.std.proofs.Common.{◌≡◌, ◌<◌, Bool, List, [], ◌∷◌, map, length, arith, refl, sym, ap, ◌∙◌}
-use Rattle.std.specs.List.{filter}
-use Rattle.std.specs.List.Sorted.{IsNonDecreasingBy, IsPermutation, IsStableByKey, ties}
-use Rattle.std.specs.Ordering.{is_lt, nat_cmp}
-use Rattle.std.proofs.lemmas.List.{get_or-map, length-map, nil_from_length}
-use Rattle.std.proofs.lemmas.Grind.{common_steps}
-use Rattle.std.proofs.lemmas.List.Sorted.{length_permutation}
+use Rattle.toml_span_lex.proofs.Common.{◌≡◌, ◌<◌, Bool, List, [], ◌∷◌, map, length, arith, refl, sym, ap, ◌∙◌, filter, IsNonDecreasingBy, IsPermutation, IsStableByKey, ties, is_lt, nat_cmp, get_or-map, length-map, nil_from_length, common_steps, length_permutation}
 use Rattle.toml_span_report.specs.Many.{AreInOrder, drawn_content}
 use Rattle.toml_span_report.specs.declared.many.Drawn.{Drawn}
 

@@ -1,20 +1,10 @@
 -- Places between two characters, and the line of a place.
-use Rattle.std.proofs.Common.{◌≡◌, ℕ, zero, suc, ◌+◌, ◌-◌, ◌<◌, ◌≤◌, true, List, [], ◌∷◌, ◌++◌, length, get_or, arith, refl, inl, inr}
-use Rattle.std.specs.Prelude.{◌==◌, ◌||◌, if◌then◌else◌, slice_index}
-use Rattle.std.specs.Str.{IsUtf8, IsCharBoundary}
-use Rattle.std.proofs.lemmas.Bool.{cases_lt, cond_both}
-use Rattle.std.proofs.lemmas.Bool.Decides.{nat_tests}
-use Rattle.std.proofs.lemmas.List.{get_or_past}
-use Rattle.std.proofs.lemmas.Str.{IsCharBoundary-after_ascii, IsCharBoundary-past_char}
+use Rattle.toml_span_lex.proofs.Common.{◌≡◌, ℕ, zero, suc, ◌+◌, ◌-◌, ◌<◌, ◌≤◌, true, List, [], ◌∷◌, ◌++◌, length, get_or, arith, refl, inl, inr, ◌==◌, ◌||◌, if◌then◌else◌, slice_index, IsUtf8, IsCharBoundary, cases_lt, cond_both, nat_tests, IsCharBoundary-after_ascii, IsCharBoundary-past_char, common_steps}
 use lib.Utf8.{encode}
 use Rattle.toml_span_report.specs.Places.{is_between, place, line_start, mark_end}
 
 pub between_true : (text : List ℕ) (i : ℕ) → IsCharBoundary text i → is_between text i ≡ true
-between_true text i h =
-    elim (cases_lt i (length text)) [
-      | inl lt ↦ let lead = h.1 lt in let within = h.0 in grind (arith, nat_tests)
-      | inr ge ↦ let none : get_or text i 0 ≡ 0 = get_or_past text i 0 ge in let within = h.0 in grind (arith, nat_tests)
-    ]
+between_true text i h = grind (arith, nat_tests, common_steps)
 
 pub true_between : (text : List ℕ) (i : ℕ) → is_between text i ≡ true → IsCharBoundary text i
 true_between text i h = (grind (arith, nat_tests), λ lt big. grind (arith, nat_tests))
@@ -36,8 +26,7 @@ place_is text (suc i) r le b none = cond_both (is_between text (suc i)) (suc i) 
 -- the line of a place, from that of the place one byte before it
 pub line_start-step : (text : List ℕ) (n : ℕ) → 0 < n → line_start text n ≡ (if n == mark_end text || slice_index text (n - 1) == 10 then n else line_start text (n - 1))
 unfolding line_start
-line_start-step text zero some = absurd (omega arith)
-line_start-step text (suc i) some = let e : suc i - 1 ≡ i = omega arith in rw e refl
+line_start-step text n some = grind (arith, nat_tests, common_steps)
 
 pub line_start-zero : (text : List ℕ) → 0 ≡ line_start text 0
 unfolding line_start

@@ -1,9 +1,5 @@
 -- Parts in the order of the text.
-use Rattle.std.proofs.Common.{◌≡◌, ℕ, ◌≤◌, not, List, ◌∷◌, ◌++◌, map, length, take, drop, arith, sym, ap, ◌∙◌}
-use Rattle.std.specs.Prelude.{nat_lt}
-use Rattle.std.specs.List.{insert}
-use Rattle.std.proofs.lemmas.List.Sums.{prefix_len-le-length}
-use Rattle.std.proofs.lemmas.List.{length-map, take-map, drop-map, map-append}
+use Rattle.toml_span_lex.proofs.Common.{◌≡◌, ℕ, ◌≤◌, not, List, ◌∷◌, ◌++◌, map, length, take, drop, arith, sym, ap, ◌∙◌, nat_lt, insert, prefix_len-le-length, length-map, take-map, drop-map, map-append}
 use Rattle.toml_span_report.specs.Strips.{MarkedLine, placed, earlier}
 
 pub map_insert : {X Y : Type 0} (f : X → Y) (xs : List X) (i : ℕ) (x : X) → map f (insert xs i x) ≡ insert (map f xs) i (f x)

@@ -1,8 +1,5 @@
 -- Kinds of which the last one stands behind an "or".
-use Rattle.std.proofs.Common.{◌≡◌, refl, ap, sym, ◌∙◌, List, [], ◌∷◌, ◌++◌, ◌≤◌, Vec, arith, codes, append_assoc, length}
-use Rattle.std.specs.Global.{Global}
-use Rattle.std.proofs.lemmas.List.{append-nil}
-use Rattle.std.specs.List.{flat_map}
+use Rattle.toml_span_lex.proofs.Common.{◌≡◌, refl, ap, ◌∙◌, List, [], ◌∷◌, ◌++◌, ◌≤◌, Vec, arith, codes, length, Global, flat_map, nat_tests, common_steps}
 use Rattle.toml_span_serde.specs.Misfits.{more_kinds_text, words_of}
 use Rattle.toml_span_serde.specs.Misreads.{IsOther}
 use Rattle.toml_span_serde.specs.declared.misfit.Expected.{Expected}
@@ -12,13 +9,8 @@ use Rattle.toml_span_serde.specs.declared.misfit.Reason.TheVariants as is
 with_last : (before : List Expected) (last : Expected) → more_kinds_text (before ++ (last ∷ []))
     ≡ flat_map (λ kind. codes ", " ++ words_of kind) before ++ (codes " or " ++ words_of last)
 with_last [] last = refl
-with_last (e ∷ []) last =
-    ap (λ words. codes ", " ++ (words ++ (codes " or " ++ words_of last))) (sym (append-nil (words_of e)))
-with_last (e ∷ d ∷ es) last =
-    let more = flat_map (λ kind. codes ", " ++ words_of kind) (d ∷ es) in
-    let end = codes " or " ++ words_of last in
-    ap (λ text. codes ", " ++ (words_of e ++ text)) (with_last (d ∷ es) last)
-    ∙ ap (λ text. codes ", " ++ text) (sym (append_assoc (words_of e) more end))
+with_last (e ∷ []) last = grind (arith, nat_tests, common_steps)
+with_last (e ∷ d ∷ es) last = grind (arith, nat_tests, common_steps, with_last (d ∷ es) last)
 
 pub more_kinds_split : (kinds before : List Expected) (last : Expected) → kinds ≡ before ++ (last ∷ []) →
     more_kinds_text kinds ≡ flat_map (λ kind. codes ", " ++ words_of kind) before ++ (codes " or " ++ words_of last)

@@ -1,8 +1,5 @@
 -- The pieces of a row before one of them.
-use Rattle.std.proofs.Common.{ℕ, ◌+◌, ◌-◌, ◌<◌, ◌≤◌, ◌≡◌, ◌⊎◌, inl, inr, List, length, map, take, sym, ap, ◌∙◌, Option, None, Some, Bor, arith}
-use Rattle.std.proofs.lemmas.List.{take_all, take-map, length-map}
-use Rattle.std.specs.List.{slice_range}
-use Rattle.std.specs.Option.{MatchOption, unwrap_or}
+use Rattle.toml_span_lex.proofs.Common.{ℕ, ◌+◌, ◌-◌, ◌<◌, ◌≤◌, ◌≡◌, ◌⊎◌, inl, inr, List, length, map, take, sym, ap, ◌∙◌, Option, None, Some, Bor, arith, take-map, slice_range, MatchOption, unwrap_or, nat_tests, common_steps}
 use Rattle.toml_span_serde.specs.Tasks.{piece_of}
 use Rattle.toml_span_serde.specs.declared.pieces.Piece.{Piece as Made}
 
@@ -12,9 +9,7 @@ pub before-is : (all : Bor (List Made)) (at : ℕ) (got : Option (Bor (List Made
     (λ r. (0 ≤ at) × (at ≤ length all.now) × (r.now ≡ slice_range all.now 0 at) × (length r.now + 0 ≡ at)) →
     part ≡ unwrap_or got all → map piece_of part.now ≡ take at (map piece_of all.now)
 before-is all at None part (inl less) is = absurd (omega (arith, less))
-before-is all at None part (inr past) is =
-    let long = length-map all.now piece_of in
-    ap (λ p. map piece_of p.now) is ∙ sym (take_all at (map piece_of all.now) (omega (arith, past, long)))
+before-is all at None part (inr past) is = grind (arith, nat_tests, common_steps)
 before-is all at (Some got) part found is =
     let same : at - 0 ≡ at = omega arith in
     let cut : slice_range all.now 0 at ≡ take at all.now = ap (λ n. take n all.now) same in

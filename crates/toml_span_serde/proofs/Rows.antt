@@ -1,7 +1,6 @@
 -- One more step from a tree to the row of its pieces.
-use Rattle.std.proofs.Common.{ℕ, ◌+◌, ◌<◌, ◌≡◌, refl, List, [], ◌∷◌, ◌++◌, drop, map, length, get_or, sym, ap, ◌∙◌, append_assoc}
-use Rattle.std.proofs.lemmas.List.{drop_more, append-nil}
-use Rattle.std.specs.Cow.{cow_str_bytes}
+use Rattle.toml_span_lex.proofs.Common.{ℕ, ◌+◌, ◌<◌, ◌≡◌, refl, List, [], ◌∷◌, ◌++◌, drop, map, length, get_or, sym, ap, ◌∙◌, append_assoc, cow_str_bytes, arith, nat_tests, common_steps}
+use Rattle.std.proofs.lemmas.List.{append-nil}
 use Rattle.toml_span_lex.specs.declared.key.Key.{Key}
 use Rattle.toml_span_tree.specs.declared.value.Value.{Value}
 use Rattle.toml_span_tree.specs.Value.{view, items_view, members_view}
@@ -32,11 +31,7 @@ pub items_pieces-next : (i : ℕ) (es : List Value) (e : Value) (out after all :
     out ++ items_pieces (items_view (drop i es)) ≡ all →
     after ≡ out ++ pieces (view e) →
     after ++ items_pieces (items_view (drop (i + 1) es)) ≡ all
-items_pieces-next i es e out after all below here before step =
-    let split : drop i es ≡ e ∷ drop (i + 1) es = drop_more es i e below ∙ ap (λ x. x ∷ drop (i + 1) es) here in
-    let later = items_pieces (items_view (drop (i + 1) es)) in
-    ap (λ o. o ++ later) step ∙ append_assoc out (pieces (view e)) later
-    ∙ ap (λ l. out ++ items_pieces (items_view l)) (sym split) ∙ before
+items_pieces-next i es e out after all below here before step = grind (arith, nat_tests, common_steps)
 
 -- the pieces of the entries from one on
 pub members_pieces-next : (es rest : List Entry) (k : Key) (v : Value) (out mid after all : List Piece) →
@@ -45,13 +40,7 @@ pub members_pieces-next : (es rest : List Entry) (k : Key) (v : Value) (out mid 
     mid ≡ out ++ (piece (key (cow_str_bytes k.name)) k.span ∷ []) →
     after ≡ mid ++ pieces (view v) →
     after ++ members_pieces (members_view rest) ≡ all
-members_pieces-next es rest k v out mid after all split before first second =
-    let later = members_pieces (members_view rest) in
-    let head = piece (key (cow_str_bytes k.name)) k.span in
-    ap (λ o. o ++ later) (second ∙ ap (λ o. o ++ pieces (view v)) first)
-    ∙ append_assoc (out ++ (head ∷ [])) (pieces (view v)) later
-    ∙ append_assoc out (head ∷ []) (pieces (view v) ++ later)
-    ∙ ap (λ l. out ++ members_pieces (members_view l)) (sym split) ∙ before
+members_pieces-next es rest k v out mid after all split before first second = grind (arith, nat_tests, common_steps)
 
 -- a reader that has only looked
 pub ahead-same : (old new : Reader) → new.next ≡ old.next → new.pieces ≡ old.pieces → ahead new ≡ ahead old

@@ -1,8 +1,5 @@
 -- Each piece of a tree's row stands where the way to it leads.
-use Rattle.std.proofs.Common.{◌≡◌, ℕ, zero, suc, ◌+◌, ◌<◌, List, [], ◌∷◌, ◌++◌, map, take, drop, reverse, length, get_or, Option, Some, None, option_map, option_and_then, inl, inr, refl, sym, ap, ◌∙◌, subst, arith}
-use Rattle.std.proofs.lemmas.List.{drop_more, reverse-append, map-append}
-use Rattle.std.proofs.lemmas.Bool.{cases_Bool}
-use Rattle.std.specs.Str.{bytes_eq}
+use Rattle.toml_span_lex.proofs.Common.{◌≡◌, ℕ, zero, suc, ◌+◌, ◌<◌, List, [], ◌∷◌, ◌++◌, map, take, reverse, length, get_or, Option, Some, None, option_map, option_and_then, inl, inr, refl, sym, ap, ◌∙◌, subst, arith, cases_Bool, bytes_eq, nat_tests, common_steps}
 use Rattle.toml_span_lex.specs.declared.span.Span.{Span}
 use Rattle.toml_span_tree.specs.Node.{Node, node, Inner, taken, scalar, array, table, Items, no_items, item, Members, no_members, member, entry_at, element_at}
 use Rattle.toml_span_tree.specs.Value.{inner_of}
@@ -10,10 +7,9 @@ use Rattle.toml_span_tree.specs.Path.{Step, key, position, Path, at_step, reache
 use Rattle.toml_span.specs.Ordered.{HasOneEach, InnerHasOneEach, ItemsHaveOneEach, MembersHaveOneEach}
 use Rattle.toml_span.proofs.Ordered.{same-name, first-entry, later-entry}
 use Rattle.toml_span_serde.specs.Misfits.{Names}
-use Rattle.toml_span_serde.specs.Pieces.{Piece, piece, pieces, held_pieces, items_pieces, members_pieces, array_ends, table_ends}
+use Rattle.toml_span_serde.specs.Pieces.{Piece, pieces, held_pieces, items_pieces, members_pieces}
 use Rattle.toml_span_serde.specs.Tasks.{piece_content, piece_of}
-use Rattle.toml_span_serde.specs.Walk.{Way, outer, ended, behind, walked, way_at, AllNamed, down_of, way_of}
-use Rattle.toml_span_serde.specs.declared.path.Down.{Down}
+use Rattle.toml_span_serde.specs.Walk.{Way, ended, behind, walked, way_at, AllNamed}
 use Rattle.toml_span_serde.specs.declared.pieces.Piece.{Piece as Made}
 
 abbrev pub Found : Type 0
@@ -38,22 +34,16 @@ mutual
   walked-held : (i : Inner) (span : Span) (way : Way) → walked (held_pieces span i) way ≡ ended way
   walked-held taken span way = refl
   walked-held (scalar s) span way = refl
-  walked-held (array ns) span way =
-      walked-append (items_pieces ns) (piece array_ends span ∷ []) (position 0 ∷ way) ∙ ap (λ w. ended (outer w)) (walked-items ns 0 way)
-  walked-held (table ms) span way =
-      walked-append (members_pieces ms) (piece table_ends span ∷ []) way ∙ ap ended (walked-members ms way)
+  walked-held (array ns) span way = grind (arith, nat_tests, common_steps, walked-items ns 0 way, walked-append)
+  walked-held (table ms) span way = grind (arith, nat_tests, common_steps, walked-members ms way, walked-append)
 
   pub walked-items : (ns : Items) (i : ℕ) (way : Way) → walked (items_pieces ns) (position i ∷ way) ≡ position (counted i ns) ∷ way
   walked-items no_items i way = refl
-  walked-items (item n ns) i way =
-      walked-append (pieces n) (items_pieces ns) (position i ∷ way)
-      ∙ ap (walked (items_pieces ns)) (walked-node n (position i ∷ way)) ∙ walked-items ns (i + 1) way
+  walked-items (item n ns) i way = grind (arith, nat_tests, common_steps, walked-items ns (i + 1) way, walked-node n (position i ∷ way), walked-append)
 
   pub walked-members : (ms : Members) (way : Way) → walked (members_pieces ms) way ≡ way
   walked-members no_members way = refl
-  walked-members (member name span n ms) way =
-      walked-append (pieces n) (members_pieces ms) (key name ∷ way)
-      ∙ ap (walked (members_pieces ms)) (walked-node n (key name ∷ way)) ∙ walked-members ms way
+  walked-members (member name span n ms) way = grind (arith, nat_tests, common_steps, walked-members ms way, walked-node n (key name ∷ way), walked-append)
 
 -- ---- one step down
 
@@ -62,8 +52,7 @@ none-some e = cc
 
 further : (p q : Path) (o : Option Found) → ((x : Found) → reached (p ++ q) x ≡ option_and_then (reached q) (reached p x))
     → option_and_then (reached (p ++ q)) o ≡ option_and_then (reached q) (option_and_then (reached p) o)
-further p q None on = refl
-further p q (Some x) on = on x
+further p q o on = grind (arith, nat_tests, common_steps)
 
 reached-on : (p q : Path) (x : Found) → reached (p ++ q) x ≡ option_and_then (reached q) (reached p x)
 reached-on [] q x = refl
@@ -81,11 +70,7 @@ module _ (root : Node) where
   Leads way x = reached (reverse way) (None, root) ≡ Some x
 
   step-down : (s : Step) (way : Way) (k : Option Span) (i : Inner) (span : Span) (x : Found) → Leads way (k, node i span) → at_step s i ≡ Some x → Leads (s ∷ way) x
-  step-down s way k i span x there is =
-      ap (λ p. reached p (None, root)) (reverse-append (s ∷ []) way)
-      ∙ reached-on (reverse way) (s ∷ []) (None, root)
-      ∙ ap (option_and_then (reached (s ∷ []))) there
-      ∙ ap (option_and_then (reached [])) is
+  step-down s way k i span x there is = grind (arith, nat_tests, common_steps, reached-on)
 
   moved : (way : Way) (i j : ℕ) (x : Found) → i ≡ j → Leads (position j ∷ way) x → Leads (position i ∷ way) x
   moved way i j x e there = ap (λ p. reached (reverse (position p ∷ way)) (None, root)) e ∙ there
@@ -105,19 +90,12 @@ module _ (root : Node) where
     named-held taken span way k one there = (here way k taken span there, tt)
     named-held (scalar s) span way k one there = (here way k (scalar s) span there, tt)
     named-held (array ns) span way k one there =
-        let end : AllNamed root (position (counted 0 ns) ∷ way) (piece array_ends span ∷ []) = (here way k (array ns) span there, tt) in (
-          here way k (array ns) span there,
-          append-named (position 0 ∷ way) (items_pieces ns) _
-              (named-items ns 0 way one (λ j m e. moved way (0 + j) j (None, m) (omega arith) (step-down (position j) way k (array ns) span (None, m) there e)))
-              (subst (λ w. AllNamed root w (piece array_ends span ∷ [])) (sym (walked-items ns 0 way)) end),
-        )
+        let down = λ (j : ℕ) (m : Node). step-down (position j) way k (array ns) span (None, m) there in
+        let items = named-items ns 0 way one (λ j m e. moved way (0 + j) j (None, m) (omega arith) (down j m e)) in
+        grind (arith, nat_tests, common_steps, items, append-named, here, walked-items)
     named-held (table ms) span way k one there =
-        let end : AllNamed root way (piece table_ends span ∷ []) = (here way k (table ms) span there, tt) in (
-          here way k (table ms) span there,
-          append-named way (members_pieces ms) _
-              (named-members ms way one (λ name x e. step-down (key name) way k (table ms) span x there e))
-              (subst (λ w. AllNamed root w (piece table_ends span ∷ [])) (sym (walked-members ms way)) end),
-        )
+        let members = named-members ms way one (λ name x e. step-down (key name) way k (table ms) span x there e) in
+        grind (arith, nat_tests, common_steps, members, append-named, here, walked-members)
 
     named-items : (ns : Items) (i : ℕ) (way : Way) → ItemsHaveOneEach ns → ((j : ℕ) (m : Node) → element_at j ns ≡ Some (None, m) → Leads (position (i + j) ∷ way) (None, m))
         → AllNamed root (position i ∷ way) (items_pieces ns)
@@ -144,8 +122,7 @@ module _ (root : Node) where
 pub named-at : (root : Node) (k : ℕ) (ps : List Made) (p : Made) (way : Way) → k < length ps → get_or ps k p ≡ p → AllNamed root way (map piece_of ps)
     → Names (reverse (way_at (piece_content p.content) (walked (map piece_of (take k ps)) way))) p.span root
 named-at root k [] p way inside is named = absurd (omega (arith, inside))
-named-at root zero (q ∷ ps) p way inside is named =
-    subst (λ (p : Made). Names (reverse (way_at (piece_content p.content) way)) p.span root) is named.0
+named-at root zero (q ∷ ps) p way inside is named = grind (arith, nat_tests, common_steps)
 named-at root (suc k) (q ∷ ps) p way inside is named = named-at root k ps p (behind (piece_content q.content) way) (omega arith) is named.1
 
 -- so does each piece of a tree's row

@@ -1,11 +1,6 @@
 -- A date text is put together of a date, a time and an offset, and what is put together so is one.
-use Rattle.std.proofs.lemmas.Grind.{common_steps}
-use Rattle.std.proofs.lemmas.Bool.Decides.{nat_tests}
-use Rattle.std.proofs.Common.{◌≡◌, ◌<◌, ℕ, ◌+◌, ◌⊎◌, inl, inr, Bool, true, List, [], ◌∷◌, ◌++◌, length, take, drop, ap, subst, sym, refl, ◌∙◌, arith, append-nil, drop-cons}
-use Rattle.std.specs.Prelude.{◌||◌, slice_index}
-use Rattle.std.proofs.lemmas.Bool.{and_parts, and_from}
+use Rattle.toml_span_lex.proofs.Common.{common_steps, nat_tests, ◌≡◌, ◌<◌, ℕ, ◌+◌, ◌⊎◌, inl, inr, Bool, true, List, [], ◌∷◌, ◌++◌, length, take, drop, ap, subst, sym, refl, ◌∙◌, arith, append-nil, drop-cons, ◌||◌, slice_index, and_parts, and_from, take-append_seam, drop-append-add, get_or-append_seam}
 use Rattle.std.proofs.lemmas.List.{take-append-drop}
-use Rattle.std.proofs.Math.Seq.{take-append_seam, drop-append-add, get_or-append_seam}
 use Rattle.std.proofs.lemmas.Bool.{eqb-true}
 use Rattle.toml_span_tree.specs.Date.{is_full_date, is_partial_time, is_time_offset, is_time_with, is_time, is_time_delim, is_date_time, is_date_text, IsDateTime, IsDateOrTime}
 
@@ -61,9 +56,7 @@ date_time_parts text h =
 
 date_length : (text : List ℕ) → is_full_date text ≡ true → length text ≡ 10
 unfolding is_full_date
-date_length text h =
-    let first = (and_parts _ _ (and_parts _ _ (and_parts _ _ (and_parts _ _ (and_parts _ _ h).0).0).0).0).0 in
-    eqb-true (length text) 10 first
+date_length text h = eqb-true (length text) 10 (grind (arith, common_steps, and_parts))
 
 offset_length : (text : List ℕ) → is_time_offset text ≡ true → (length text ≡ 1) ⊎ (length text ≡ 6)
 unfolding is_time_offset
@@ -75,11 +68,7 @@ time_with n time offset len o p = grind (arith, nat_tests, common_steps)
 
 time_of_parts : (time offset : List ℕ) → is_partial_time time ≡ true → (offset ≡ []) ⊎ (is_time_offset offset ≡ true) → is_time (time ++ offset) ≡ true
 unfolding is_time
-time_of_parts time offset p (inl none) = rw (none, append-nil time) (or_left _ _ (or_left _ _ p))
-time_of_parts time offset p (inr o) = elim (offset_length offset o) [
-  | inl one ↦ or_left _ _ (or_right _ _ (time_with 1 time offset one o p))
-  | inr six ↦ or_right _ _ (time_with 6 time offset six o p)
-]
+time_of_parts time offset p o = grind (arith, nat_tests, common_steps, append-nil time, time_with, offset_length offset)
 
 date_time_of_parts : (text : List ℕ) → IsDateTime text → is_date_time text ≡ true
 date_time_of_parts text d =
@@ -94,10 +83,7 @@ date_time_of_parts text d =
 
 pub parts_of_text : (text : List ℕ) → is_date_text text ≡ true → IsDateOrTime text
 unfolding is_date_text
-parts_of_text text h = elim (or_cases _ _ h) [
-  | inl h ↦ elim (or_cases _ _ h) [ inl date ↦ inl date | inr time ↦ inr (inl time) ]
-  | inr both ↦ inr (inr (date_time_parts text both))
-]
+parts_of_text text h = grind (arith, nat_tests, common_steps, date_time_parts text)
 
 pub text_of_parts : (text : List ℕ) → IsDateOrTime text → is_date_text text ≡ true
 unfolding is_date_text

@@ -1,7 +1,6 @@
 pub mod DateTexts
 pub mod Lent
 pub mod ListedNames
-pub mod Labels
 pub mod Loans
 pub mod Objects
 pub mod Paths
@@ -11,7 +10,7 @@ pub mod Pointers
 pub mod Positions
 pub mod Puts
 pub mod Sizes
+pub mod Texts
 pub mod Values
-pub mod Visits
 pub mod Walks
 pub mod Clones

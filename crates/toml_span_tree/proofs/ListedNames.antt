@@ -1,7 +1,5 @@
 -- A list of texts that are read off by a function.
-use Rattle.std.proofs.Common.{◌≡◌, ℕ, List, [], ◌∷◌, ◌++◌, map, codes, refl, sym, ap}
-use Rattle.std.specs.List.{join_by}
-use Rattle.std.proofs.lemmas.List.Folds.{flat_map-map}
+use Rattle.toml_span_lex.proofs.Common.{◌≡◌, ℕ, List, [], ◌∷◌, ◌++◌, map, codes, refl, sym, ap, join_by, flat_map-map}
 use Rattle.toml_span_tree.specs.Listed.{listed}
 
 join_by-map : {A B : Type 0} (text : B → List ℕ) (read : A → B) (between : List ℕ) (items : List A)

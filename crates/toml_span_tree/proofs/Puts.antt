@@ -1,51 +1,41 @@
 -- A value exchanged below another one, a level at a time.
-use Rattle.std.proofs.Common.{arith}
-use Rattle.std.proofs.lemmas.Grind.{common_steps}
-use Rattle.std.proofs.lemmas.Bool.Decides.{nat_tests}
-use Rattle.std.proofs.Common.{◌≡◌, ℕ, zero, suc, List, [], ◌∷◌, cond, Bool, false, Option, Some, None, Result, Ok, Err, option_map, option_and_then, refl, sym, ap, ◌∙◌}
-use Rattle.std.specs.Cow.{cow_str_bytes}
-use Rattle.std.specs.Str.{bytes_eq}
-use Rattle.std.specs.Map.{set_value}
+use Rattle.toml_span_lex.proofs.Common.{option_map, arith, common_steps, nat_tests, ◌≡◌, ℕ, zero, suc, List, [], ◌∷◌, false, Option, Some, None, Result, option_and_then, refl, sym, ap, ◌∙◌, cow_str_bytes, set_value, lookup, MutBor, length, is_eq-slice_cmp, IfOk, IfErr}
 use Rattle.std.proofs.Math.ListN.{set}
-use Rattle.std.proofs.lemmas.Map.Text.{is_eq-slice_cmp}
-use Rattle.std.specs.Result.{IfOk, IfErr}
 use Rattle.toml_span_lex.specs.declared.span.Span.{Span}
 use Rattle.toml_span_tree.specs.declared.value.Value.{Value}
 use Rattle.toml_span_tree.specs.declared.value.ValueInner.{ValueInner}
-use Rattle.toml_span_tree.specs.Node.{Node, node, Inner, table, Items, no_items, item, Members, no_members, member, entry_at, get_member, get_item}
+use Rattle.toml_span_tree.specs.Node.{Node, node, Inner, table, Items, no_items, item, Members, no_members, member, get_member, get_item}
 use Rattle.toml_span_tree.specs.Value.{view, inner_view, items_view, members_view, inner_of, span_of, is_taken}
 use Rattle.toml_span_tree.specs.Path.{set_entry, set_element}
 use Rattle.toml_span_tree.specs.Pointer.{if_not_taken, segments, pointer_segments, pointed, put_pointed}
 use Rattle.toml_span_tree.specs.code.Pointer.{entry, untaken_entry, value_named, put_named, set_named, segments_behind, SplitAtSlash, Exchanged}
-use Rattle.toml_span_tree.proofs.Values.{Entry, view_is, at_name}
-use Rattle.toml_span_tree.proofs.Pointers.{found-cut}
+use Rattle.toml_span_tree.proofs.Values.{Entry, view_is, at_name, view-lookup}
+use Rattle.toml_span_tree.proofs.Pointers.{found-cut, pointer-empty, view-of_mut}
 
 pub view-made : (i : ValueInner) (span : Span) → view (record { value = Some i; span = span }) ≡ node (inner_view i) span
 view-made i span = view_is (record { value = Some i; span = span })
 
 -- what is written through `get_mut`
-cond_members : (b c : Bool) (xs ys : List Entry) (ms ns : Members) → b ≡ c → members_view xs ≡ ms → members_view ys ≡ ns → members_view (cond b xs ys) ≡ cond c ms ns
-cond_members b c xs ys ms ns same p q = grind (arith, nat_tests, common_steps)
-
 pub view-set_value : (name : List ℕ) (es : List Entry) (w : Value) → members_view (set_value (at_name name) es w) ≡ set_entry name (view w) (members_view es)
 view-set_value name [] w = refl
-view-set_value name (e ∷ es) w =
-    cond_members (at_name name e.0) (bytes_eq name (cow_str_bytes e.0.name)) _ _ _ _ (is_eq-slice_cmp name (cow_str_bytes e.0.name)) refl
-    (ap (member (cow_str_bytes e.0.name) e.0.span (view e.1)) (view-set_value name es w))
+view-set_value name (e ∷ es) w = grind (arith, nat_tests, common_steps, is_eq-slice_cmp name (cow_str_bytes e.0.name), view-set_value name es w)
 
 pub view-set : (vs : List Value) (i : ℕ) (w : Value) → items_view (set vs i w) ≡ set_element i (view w) (items_view vs)
 view-set [] i w = refl
 view-set (v ∷ vs) zero w = refl
 view-set (v ∷ vs) (suc i) w = ap (item (view v)) (view-set vs i w)
 
--- what stands there, written again, changes nothing
-same_entry_at : (b : Bool) (other : List ℕ) (key : Span) (n m : Node) (ms rest : Members) (o : Option (Option Span × Node))
-    → option_map (λ e. e.1) (cond b (Some (Some key, n)) o) ≡ Some m → (option_map (λ e. e.1) o ≡ Some m → rest ≡ ms) → cond b (member other key m ms) (member other key n rest) ≡ member other key n ms
-same_entry_at b other key n m ms rest o h ih = grind (arith, nat_tests, common_steps)
+-- what `get_mut` lends
+pub member-lent : (y : Option (MutBor Value)) (name : List ℕ) (es : List Entry) → option_map (λ x. x.now) y ≡ lookup (at_name name) es → option_map (λ v. view v.now) y ≡ get_member name (members_view es)
+member-lent y name es e = view-of_mut y ∙ ap (option_map view) e ∙ view-lookup name es
 
+pub member-is : (y : Option (MutBor Value)) (x : MutBor Value) (name : List ℕ) (es : List Entry) → option_map (λ x. x.now) y ≡ lookup (at_name name) es → y ≡ Some x → get_member name (members_view es) ≡ Some (view x.now)
+member-is y x name es e is = sym (member-lent y name es e) ∙ ap (option_map (λ u. view u.now)) is
+
+-- what stands there, written again, changes nothing
 pub set_entry-same : (name : List ℕ) (ms : Members) (m : Node) → get_member name ms ≡ Some m → set_entry name m ms ≡ ms
 set_entry-same name no_members m h = refl
-set_entry-same name (member other key n ms) m h = same_entry_at (bytes_eq name other) other key n m ms (set_entry name m ms) (entry_at name ms) h (set_entry-same name ms m)
+set_entry-same name (member other span n ms) m h = grind (arith, nat_tests, common_steps, set_entry-same name ms m)
 
 pub set_element-same : (i : ℕ) (ns : Items) (m : Node) → get_item i ns ≡ Some m → set_element i m ns ≡ ns
 set_element-same i no_items m h = refl
@@ -67,9 +57,6 @@ pub exchanged-as : (r : Result Value Value) (new : Value) (names : List (List �
 exchanged-as r new names o p changed told same kept is f g h = grind (arith, nat_tests, common_steps)
 
 -- a value itself
-untaken : (b : Bool) (n : Node) → b ≡ false → cond b None (Some n) ≡ Some n
-untaken b n h = grind (arith, nat_tests, common_steps)
-
 pub if_not_taken-false : (n : Node) → is_taken n ≡ false → if_not_taken n ≡ Some n
 if_not_taken-false n h = grind (arith, nat_tests, common_steps)
 
@@ -81,23 +68,15 @@ put_found-more segment names n m w old leads there = grind (arith, nat_tests, co
 pub exchanged-cut : (r : Result Value Value) (new : Value) (path segment : List ℕ) (rest : Option (List ℕ)) (i j : Inner) (span : Span) → SplitAtSlash path segment rest
     → Exchanged r new (segments_behind rest) (option_and_then if_not_taken (entry segment i)) (λ w. j ≡ set_named segment w i) (j ≡ i)
     → Exchanged r new (segments path) (Some (node i span)) (λ w. node j span ≡ w) (node j span ≡ node i span)
-exchanged-cut (Ok old) new path segment rest i j span cut h = (
-  node i span,
-  refl,
-  found-cut path segment rest (node i span) cut ∙ ap (option_and_then (value_named (segments_behind rest))) h.1 ∙ h.2,
-  ap (λ i. node i span) h.3
-      ∙ sym (put_found-more segment (segments_behind rest) (node i span) h.0 (view new) (view old) h.1 h.2)
-      ∙ ap (λ names. put_named names (view new) (node i span)) (sym cut.parts),
-)
-exchanged-cut (Err back) new path segment rest i j span cut h = (
-  h.0,
-  found-cut path segment rest (node i span) cut ∙ h.1,
-  ap (λ i. node i span) h.2,
-)
+exchanged-cut r new path segment rest i j span cut h =
+    grind (arith, nat_tests, common_steps, found-cut path segment rest (node i span) cut, put_found-more segment (segments_behind rest) (node i span), cut.parts)
 
 -- an exchange at what a pointer names
 pub put_pointed-found : (p : List ℕ) (names : List (List ℕ)) (w n : Node) → pointer_segments p ≡ Some names → put_pointed p w n ≡ put_named names w n
 put_pointed-found p names w n h = grind (arith, nat_tests, common_steps)
+
+pub put-empty : (p : List ℕ) (n w : Node) → length p ≡ 0 → w ≡ put_pointed p w n
+put-empty p n w h = sym (put_pointed-found p [] w n (pointer-empty p h))
 
 pub exchanged-done : (r : Result Value Value) (new : Value) (p : List ℕ) (names : List (List ℕ)) (n after : Node) → pointer_segments p ≡ Some names
     → Exchanged r new names (Some n) (λ w. after ≡ w) (after ≡ n) → IfOk r (λ old. (pointed p n ≡ Some (view old)) × (after ≡ put_pointed p (view new) n))

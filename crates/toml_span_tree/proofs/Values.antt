@@ -1,19 +1,9 @@
 -- A value, a level at a time.
-use Rattle.std.proofs.Common.{arith}
-use Rattle.std.proofs.lemmas.Grind.{common_steps}
-use Rattle.std.proofs.lemmas.Bool.Decides.{nat_tests}
-use Rattle.std.proofs.Common.{◌≡◌, ℕ, List, [], ◌∷◌, Option, Some, option_map, is_some, BTreeMap, Vec, Global, nat_cmp, cond, Bool, Bor, refl, rules}
-use Rattle.std.specs.Cow.{cow_str_bytes}
-use Rattle.std.specs.Str.{bytes_eq}
-use Rattle.std.specs.Cmp.Lexicographic.{slice_cmp}
-use Rattle.std.specs.Map.{lookup, lookup_entry}
-use Rattle.std.specs.BTreeMap.{is_at}
-use Rattle.std.proofs.lemmas.Map.Text.{is_eq-slice_cmp}
+use Rattle.toml_span_lex.proofs.Common.{arith, common_steps, nat_tests, ◌≡◌, ℕ, List, [], ◌∷◌, Option, Some, option_map, is_some, BTreeMap, Vec, Global, nat_cmp, Bool, Bor, refl, rules, cow_str_bytes, slice_cmp, lookup, lookup_entry, is_at, is_eq-slice_cmp}
 use Rattle.toml_span_lex.specs.declared.key.Key.{Key}
-use Rattle.toml_span_lex.specs.declared.span.Span.{Span}
 use Rattle.toml_span_tree.specs.declared.value.Value.{Value}
 use Rattle.toml_span_tree.specs.declared.value.ValueInner.{Array, Table, the_lemmas}
-use Rattle.toml_span_tree.specs.Node.{Node, node, array, table, entry_at, get_member}
+use Rattle.toml_span_tree.specs.Node.{node, array, table, entry_at, get_member}
 use Rattle.toml_span_tree.specs.Value.{view, inner_view, items_view, members_view, inner_or_taken}
 
 abbrev pub Entry : Type 0
@@ -32,23 +22,15 @@ inner_view-Table m = search (rules, the_lemmas)
 abbrev pub at_name : List ℕ → Key → Bool
 at_name name = is_at (λ k. slice_cmp nat_cmp name (cow_str_bytes k.name))
 
-found_or : (b c : Bool) (v : Value) (key : Option Span) (rest : Option Value) (d : Option (Option Span × Node)) → b ≡ c → option_map view rest ≡ option_map (λ e. e.1) d
-    → option_map view (cond b (Some v) rest) ≡ option_map (λ e. e.1) (cond c (Some (key, view v)) d)
-found_or b c v key rest d same e = grind (arith, nat_tests, common_steps)
-
 -- a look-up by name finds what the members have at that name
 pub view-lookup : (name : List ℕ) (es : List Entry) → option_map view (lookup (at_name name) es) ≡ get_member name (members_view es)
 view-lookup name [] = refl
-view-lookup name (e ∷ es) = found_or (at_name name e.0) (bytes_eq name (cow_str_bytes e.0.name)) e.1 (Some e.0.span) _ _ (is_eq-slice_cmp name (cow_str_bytes e.0.name)) (view-lookup name es)
+view-lookup name (e ∷ es) = grind (arith, nat_tests, common_steps, is_eq-slice_cmp name (cow_str_bytes e.0.name), view-lookup name es)
 
 -- the same, with the span of the key
-found_entry : (b c : Bool) (e : Entry) (rest : Option Entry) (d : Option (Option Span × Node)) → b ≡ c → option_map (λ e. (Some e.0.span, view e.1)) rest ≡ d
-    → option_map {U = Option Span × Node} (λ e. (Some e.0.span, view e.1)) (cond b (Some e) rest) ≡ cond c (Some (Some e.0.span, view e.1)) d
-found_entry b c e rest d same is = grind (arith, nat_tests, common_steps)
-
 pub entry_at-lookup : (name : List ℕ) (es : List Entry) → option_map (λ e. (Some e.0.span, view e.1)) (lookup_entry (at_name name) es) ≡ entry_at name (members_view es)
 entry_at-lookup name [] = refl
-entry_at-lookup name (e ∷ es) = found_entry (at_name name e.0) (bytes_eq name (cow_str_bytes e.0.name)) e _ _ (is_eq-slice_cmp name (cow_str_bytes e.0.name)) (entry_at-lookup name es)
+entry_at-lookup name (e ∷ es) = grind (arith, nat_tests, common_steps, is_eq-slice_cmp name (cow_str_bytes e.0.name), entry_at-lookup name es)
 
 pub is_some-view : (o : Option Value) → is_some o ≡ is_some (option_map view o)
 is_some-view o = grind (arith, nat_tests, common_steps)

@@ -1,10 +1,8 @@
 -- What the conversions of integers give.
-use Rattle.std.proofs.Common.{ℕ, ◌^◌, OkIff, FitsSigned, unsigned_abs, arith}
+use Rattle.toml_span_lex.proofs.Common.{ℕ, ◌^◌, OkIff, FitsSigned, unsigned_abs, arith, nat_tests, hbits}
 use Rattle.std.specs.Int.{FitsUnsignedBits, Width}
-use Rattle.std.proofs.lemmas.Bool.Decides.{nat_tests}
 use Rattle.toml_span_typed.specs.code.Integers.{Converts}
 use Rattle.toml_span_typed.specs.Reads.{signed, unsigned}
-use mir.Val.{hbits}
 
 -- a conversion to an unsigned type of so many bits
 pub unsigned_converts : (bits : ℕ) {E : Type 0}

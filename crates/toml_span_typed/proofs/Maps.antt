@@ -1,8 +1,5 @@
 -- One more entry of a table that is read as a map.
-use Rattle.std.proofs.lemmas.Grind.{common_steps}
-use Rattle.std.proofs.Common.{arith, ◌≡◌, ℕ, List, [], ◌∷◌, ◌++◌, map, Result, Ok, Err, String, Global, string_bytes, string_cmp, refl, ap, sym, ◌∙◌}
-use Rattle.std.specs.BTreeMap.{insert_entry}
-use Rattle.std.specs.Cow.{cow_str_bytes}
+use Rattle.toml_span_lex.proofs.Common.{common_steps, arith, ◌≡◌, ℕ, List, [], ◌∷◌, ◌++◌, map, Result, Ok, Err, String, Global, string_bytes, string_cmp, refl, ap, sym, ◌∙◌, insert_entry, cow_str_bytes}
 use Rattle.toml_span_tree.specs.Error.{ErrorContent}
 use Rattle.toml_span_tree.specs.Node.{Node}
 use Rattle.toml_span_tree.specs.Value.{members_view, view}

@@ -1,12 +1,5 @@
 -- Entries of a table, and the members that they are seen as.
-use Rattle.std.proofs.lemmas.Grind.{common_steps}
-use Rattle.std.proofs.Common.{arith, ◌≡◌, ℕ, List, [], ◌∷◌, length, map, Option, Some, None, option_map, cond, Bool, true, IfSome, Equal, nat_cmp, refl, sym, ap, ◌∙◌}
-use Rattle.std.specs.Cmp.Lexicographic.{slice_cmp}
-use Rattle.std.specs.Cow.{cow_str_bytes}
-use Rattle.std.specs.Map.{keys_of, lookup, lookup_entry, lookup_key, remove_entry}
-use Rattle.std.specs.Ordering.{is_eq}
-use Rattle.std.proofs.lemmas.Slice.Eq.{bytes_eq-Decides}
-use Rattle.std.proofs.lemmas.Map.Text.{is_eq-slice_cmp}
+use Rattle.toml_span_lex.proofs.Common.{common_steps, arith, ◌≡◌, ℕ, List, [], ◌∷◌, length, map, Option, Some, None, option_map, cond, Bool, true, IfSome, Equal, nat_cmp, refl, sym, ap, ◌∙◌, slice_cmp, cow_str_bytes, keys_of, lookup, lookup_entry, lookup_key, remove_entry, is_eq, bytes_eq-Decides, is_eq-slice_cmp}
 use Rattle.toml_span_lex.specs.declared.key.Key.{Key}
 use Rattle.toml_span_lex.specs.declared.span.Span.{Span}
 use Rattle.toml_span_tree.specs.Error.{ErrorContent}

@@ -1,8 +1,5 @@
 -- Parts of is_whole values are whole.
-use Rattle.std.proofs.lemmas.Bool.{cond_both}
-use Rattle.std.proofs.lemmas.Grind.{common_steps}
-use Rattle.std.proofs.Common.{arith, ℕ, List, Bool, Option, Some, option_map, IfSome, IsTrue, subst, ◌&&◌, ◌≡◌}
-use Rattle.std.specs.Str.{bytes_eq}
+use Rattle.toml_span_lex.proofs.Common.{cond_both, common_steps, arith, ℕ, List, Bool, Option, Some, option_map, IfSome, IsTrue, subst, ◌&&◌, ◌≡◌, bytes_eq}
 use Rattle.toml_span_lex.specs.declared.span.Span.{Span}
 use Rattle.toml_span_tree.specs.Node.{Members, Node, entry_at, member, no_members}
 use Rattle.toml_span_tree.specs.Value.{all_members_whole, is_whole}

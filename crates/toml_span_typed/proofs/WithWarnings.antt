@@ -1,5 +1,5 @@
 -- One more value at the end of those that were read, with its warnings.
-use Rattle.std.proofs.Common.{List, [], ◌∷◌, ◌++◌, Result, refl, ap, sym, subst, ◌∙◌}
+use Rattle.toml_span_lex.proofs.Common.{List, [], ◌∷◌, ◌++◌, Result, refl, ap, sym, subst, ◌∙◌}
 use Rattle.toml_span_tree.specs.Node.{Node}
 use Rattle.toml_span_tree.specs.Error.{ErrorContent}
 use Rattle.toml_span_typed.specs.code.WithWarnings.{AddsWithWarnings, AreReadWithWarnings}

@@ -1,4 +1,6 @@
 -- What the sections that are read so far make, whatever sections follow.
+use Rattle.std.specs.Box.{box_value}
+use Rattle.std.specs.Global.{Box}
 use Rattle.std.specs.Prelude.{◌≡◌, ℕ, List, [], ◌++◌, map, Result, Ok, Err, Option, Some, None, IfNone}
 use Rattle.std.specs.Prelude.{IfSome}
 use Rattle.toml_span_lex.specs.declared.stop.Stop.{Stop}
@@ -7,7 +9,6 @@ use Rattle.toml_span_read.specs.Data.{Block, block}
 use Rattle.toml_span_read.specs.Places.{IsInside}
 use Rattle.toml_span_read.specs.Keys.{SimpleKey}
 use Rattle.toml_span_read.specs.Borrowed.{AreWrittenRight as AreRightRead, sections_written}
-use Rattle.toml_span_read.specs.Grammar.{SpellsDocument}
 use Rattle.toml_span_read.specs.declared.section.Section.{Section}
 use Rattle.toml_span_read.specs.Read.{document}
 use Rattle.toml_span_read.specs.declared.fault.Fault.{Fault}
@@ -42,7 +43,7 @@ pub record Remaining (all rest : List Block) (root : Branch) : Type 0 where
   pub scope : IsScope root
 
 -- The tree has what these sections claim, and those that follow are left to place. Or this is their first clash.
-abbrev pub GrowsTo : List Block → Branch → Option Clash → Type 0
+abbrev pub GrowsTo : List Block → Branch → Option (Box Clash) → Type 0
 GrowsTo bs root None = (rest : List Block) → AreSections rest → Remaining (bs ++ rest) rest root
 GrowsTo bs root (Some c) =
     (rest : List Block) → AreSections rest → first_clash (claims (bs ++ rest)) ≡ Some (clash_told c)
@@ -52,7 +53,7 @@ Grows bs g = GrowsTo bs g.root g.clash
 
 -- a clash is told inside the first n bytes
 abbrev pub IsGrownInside : ℕ → Grown → Type 0
-IsGrownInside n g = IfSome g.clash (λ c. IsInside n c.meeting.span)
+IsGrownInside n g = IfSome g.clash (λ c. IsInside n (box_value c).meeting.span)
 
 -- what stands in the tree is borrowed as it was read
 abbrev pub GrownRight : List ℕ → List SimpleKey → Grown → Type 0
@@ -62,10 +63,10 @@ GrownRight text ps g = IfNone g.clash (AreBorrowedRight text ps (standing g.root
 abbrev pub IsBare : Grown → Type 0
 IsBare g = (g.clash ≡ None) × ((out-Branch g.root).tables.entries ≡ [])
 
--- The text spells these sections, and this is what they make.
+-- Reading the text gives these sections, and this is what they make.
 pub record IsGrown (text : List ℕ) (limit : ℕ) (g : Grown) : Type 0 where
   pub sections : List Section
-  pub spelled : SpellsDocument (map block sections) text limit
+  pub document : document text limit (Ok (map block sections))
   pub grows : Grows (map block sections) g
   pub bare : sections ≡ [] → IsBare g
   pub read : AreRightRead text (sections_written sections)

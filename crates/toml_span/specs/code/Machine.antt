@@ -1,4 +1,6 @@
 -- What the tree under construction keeps of the claims so far, path by path, and what it tells.
+use Rattle.std.specs.Box.{box_value}
+use Rattle.std.specs.Global.{Box}
 use Rattle.std.specs.Prelude.{◌≡◌, ⊤, ℕ, Bool, not, ◌||◌, if◌then◌else◌, List, [], ◌∷◌, Result, Ok, Err, Option, Some}
 use Rattle.std.specs.Prelude.{None, option_map, string_bytes}
 use Rattle.toml_span_tree.specs.Path.{Place, Path, Step}
@@ -73,8 +75,8 @@ clash_met st (claimed c cs) =
 clash_met st (scope inner cs) = or_else (clash_met nothing inner) (clash_met (show_all st inner) cs)
 
 -- what a halt tells
-abbrev pub clash_told : code.Clash → NamedClash
-clash_told c = record { meeting = c.meeting; name = string_bytes c.name }
+abbrev pub clash_told : Box code.Clash → NamedClash
+clash_told c = record { meeting = (box_value c).meeting; name = string_bytes (box_value c).name }
 
 -- Ok, where P holds, if there is no clash, and else that clash. It may be want of memory.
 abbrev pub Gives : {A : Type 0} → Result A Halt → Option NamedClash → (A → Type 0) → Type 0

@@ -1,4 +1,6 @@
 -- What a branch of the tree under construction keeps of the claims on it.
+use Rattle.std.specs.Box.{box_value}
+use Rattle.toml_span.specs.declared.claims.Clash as code
 use Rattle.std.specs.Prelude.{◌≡◌, ⊤, ℕ, Bool, nat_eq, if◌then◌else◌, List, [], ◌∷◌, ◌++◌, Option, Some, None}
 use Rattle.std.specs.Prelude.{string_bytes}
 use Rattle.std.specs.List.{list_any}
@@ -34,9 +36,13 @@ abbrev pub partner : List Mark → Mark → Option Meeting
 partner [] later = None
 partner (earlier ∷ marks) later = or_else (meets earlier later) (partner marks later)
 
+-- a clash over a name
+abbrev pub Tells : code.Clash → Meeting → List ℕ → Type 0
+Tells c m name = (c.meeting ≡ m) × (string_bytes c.name ≡ name)
+
 -- the halt at a clash over a name; or want of memory
 abbrev pub Halts : Halt → Meeting → List ℕ → Type 0
-Halts (Clash c) m name = (c.meeting ≡ m) × (string_bytes c.name ≡ name)
+Halts (Clash c) m name = Tells (box_value c) m name
 Halts (Memory e) m name = ⊤
 
 abbrev pub IsMemory : Halt → Type 0
@@ -58,4 +64,4 @@ deciding marks = or_else (first_by_header marks) (first marks)
 -- a clash is told inside the first n bytes
 abbrev pub IsHaltInside : ℕ → Halt → Type 0
 IsHaltInside n (Memory e) = ⊤
-IsHaltInside n (Clash c) = IsInside n c.meeting.span
+IsHaltInside n (Clash c) = IsInside n (box_value c).meeting.span

@@ -1,6 +1,5 @@
 -- What callers conclude from the clauses of `parse` and of the tree.
-use Rattle.std.proofs.Common.{◌≡◌, ◌↔◌, ℕ, pos, negsuc, Bool, true, false, nat_lt, if◌then◌else◌, List, Option, Some, None, option_map, Ok, length, refl, sym, ap, ◌∙◌, subst, true≢false}
-use Rattle.std.proofs.lemmas.Option.{none-some, same_Some}
+use Rattle.toml_span_lex.proofs.Common.{◌≡◌, ◌↔◌, ℕ, pos, negsuc, Bool, true, false, nat_lt, if◌then◌else◌, List, Option, Some, None, option_map, Ok, length, refl, sym, ap, ◌∙◌, subst, true≢false, none-some, same_Some}
 use Rattle.toml_span_lex.specs.declared.span.Span.{Span}
 use Rattle.toml_span_tree.specs.declared.value.Value.{Value}
 use Rattle.toml_span_tree.specs.Node.{Node, node, taken, scalar, array, table, text, integer, float, boolean, datetime}

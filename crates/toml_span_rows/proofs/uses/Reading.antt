@@ -1,7 +1,5 @@
 -- What the port of a document is read as.
-use Rattle.std.proofs.Common.{◌≡◌, ℕ, ◌^◌, inr, IfOk, IfErr, List, [], ◌∷◌, length, Option, Some, None, option_map, MatchOption, Result, Ok, Err, codes, refl, sym, ap, ◌∙◌, subst, pos}
-use Rattle.std.specs.Prelude.{⊤}
-use Rattle.std.proofs.lemmas.Option.{none-some, same_Some}
+use Rattle.toml_span_lex.proofs.Common.{◌≡◌, ℕ, ◌^◌, inr, IfOk, IfErr, List, [], ◌∷◌, length, Option, Some, None, option_map, MatchOption, Result, Ok, Err, codes, refl, sym, ap, ◌∙◌, subst, pos, ⊤, none-some, same_Some}
 use Rattle.toml_span_lex.specs.declared.span.Span.{Span}
 use Rattle.toml_span_lex.specs.declared.stop.Stop.{Stop}
 use Rattle.toml_span_lex.specs.declared.stop.Stop.TheVariants as stops

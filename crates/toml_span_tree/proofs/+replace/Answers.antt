@@ -1,16 +1,15 @@
 use Rattle.toml_span_tree.specs.declared.value.ValueInner.{the_lemmas}
-use Rattle.std.proofs.Common.{rules, ◌≡◌, BTreeMap, List, ℕ, Some, refl, option_map, option_and_then, sym, ap, ◌∙◌, arith}
-use Rattle.std.specs.Map.{lookup, set_value}
+use Rattle.toml_span_lex.proofs.Common.{rules, ◌≡◌, BTreeMap, List, ℕ, Some, refl, option_map, option_and_then, sym, ap, ◌∙◌, arith, lookup, set_value}
 use Rattle.toml_span_lex.specs.declared.key.Key.{Key}
 use Rattle.toml_span_tree.specs.declared.value.Value.{Value}
-use Rattle.toml_span_tree.specs.Node.{get_item, get_member, node, table}
+use Rattle.toml_span_tree.specs.Node.{get_item, node, table}
 use Rattle.toml_span_tree.specs.Path.{set_entry, set_element}
 use Rattle.toml_span_tree.specs.Value.{view, inner_view, items_view, members_view, inner_or_taken}
 use Rattle.toml_span_tree.specs.code.Pointer.{set_item, segments_behind, value_named, put_named}
 use Rattle.toml_span_tree.specs.Pointer.{segments}
-use Rattle.toml_span_tree.proofs.Values.{view_is, inner_view-Table, view-lookup, at_name}
-use Rattle.toml_span_tree.proofs.Pointers.{view-of_mut, get_item-lent, past_all}
-use Rattle.toml_span_tree.proofs.Puts.{view-made, view-set_value, view-set, set_entry-same, set_element-same, exchanged-in, exchanged-none, exchanged-as, exchanged-cut, exchanged-table, if_not_taken-false}
+use Rattle.toml_span_tree.proofs.Values.{view_is, inner_view-Table, at_name}
+use Rattle.toml_span_tree.proofs.Pointers.{get_item-lent, past_all}
+use Rattle.toml_span_tree.proofs.Puts.{member-lent, member-is, view-made, view-set_value, view-set, set_entry-same, set_element-same, exchanged-in, exchanged-none, exchanged-as, exchanged-cut, exchanged-table, if_not_taken-false}
 use Rattle.toml_span_tree.proofs.+replace.Goals as goal
 
 pub pointer::replace_element-returns-in-Some-get_mut :
@@ -53,11 +52,7 @@ pointer::replace_entry-returns-in-Some t c =
     let name = c.args.name.now in
     let child = c.in-Some.child in
     let after = c.replace_here.new.self in
-    let there : get_member name (members_view es) ≡ Some (view child.now) =
-    sym (view-lookup name es)
-    ∙ ap (option_map view) (ap (λ (n : List ℕ). lookup (at_name n) es) (sym c.named.ensures.0) ∙ sym c.get_mut.ensures.value)
-    ∙ sym (view-of_mut c.get_mut.result)
-    ∙ ap (option_map (λ v. view v.now)) c.in-Some.is in
+    let there = member-is c.get_mut.result child name es (c.get_mut.ensures.value ∙ ap (λ (n : List ℕ). lookup (at_name n) es) c.named.ensures.0) c.in-Some.is in
     let written =
     ap members_view ((c.get_mut.follows.holds after).0 ∙ ap (λ (n : List ℕ). set_value (at_name n) es after) c.named.ensures.0)
     ∙ view-set_value name es after in
@@ -71,10 +66,7 @@ pub pointer::replace_entry-returns : goal.pointer::replace_entry-returns
 pointer::replace_entry-returns t c =
     let es = c.args.table.now.entries in
     exchanged-none c.args.new (segments_behind (option_map (λ r. r.now) c.args.rest)) _ _
-    (sym (view-lookup c.args.name.now es)
-    ∙ ap (option_map view) (ap (λ (n : List ℕ). lookup (at_name n) es) (sym c.named.ensures.0) ∙ sym c.get_mut.ensures.value)
-    ∙ sym (view-of_mut c.get_mut.result)
-    ∙ ap (option_map (λ v. view v.now)) c.in-None.is)
+    (sym (member-lent c.get_mut.result c.args.name.now es (c.get_mut.ensures.value ∙ ap (λ (n : List ℕ). lookup (at_name n) es) c.named.ensures.0)) ∙ ap (option_map (λ v. view v.now)) c.in-None.is)
     (ap (λ (m : BTreeMap Key Value). members_view m.entries) c.get_mut.follows.holds-at-none)
 
 pub value::Value::replace_found-returns-in-Some : goal.value::Value::replace_found-returns-in-Some

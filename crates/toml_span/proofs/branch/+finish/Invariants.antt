@@ -1,9 +1,8 @@
-use Rattle.std.proofs.Common.{◌≡◌, ℕ, List, []}
+use Rattle.toml_span_lex.proofs.Common.{◌≡◌, ℕ, List, [], into_iter_items}
 use Rattle.toml_span_read.specs.Keys.{SimpleKey}
 use Rattle.toml_span.specs.Borrowed.{AreBorrowedRight}
 use Rattle.toml_span.specs.code.Borrowed.{array_standing, boxes_standing, entries_of, table_standing}
 use Rattle.toml_span.proofs.Finishing.{Filled, EntriesFilled}
-use Rattle.std.specs.Vec.Iter.{into_iter_items}
 use Rattle.toml_span.proofs.branch.+finish.Given as goal
 
 abbrev pub invariant-into_table-loop-key : goal.invariant-into_table-loop-key

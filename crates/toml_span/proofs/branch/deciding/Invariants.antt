@@ -1,4 +1,4 @@
-use Rattle.std.proofs.Common.{◌≡◌, drop}
+use Rattle.toml_span_lex.proofs.Common.{◌≡◌, drop}
 use Rattle.toml_span.specs.code.Marks.{first_by_header}
 use Rattle.toml_span.proofs.branch.deciding.Given as goal
 

@@ -1,5 +1,4 @@
-use Rattle.std.proofs.Common.{◌≡◌, ◌||◌, drop}
-use Rattle.std.specs.List.{list_any}
+use Rattle.toml_span_lex.proofs.Common.{◌≡◌, ◌||◌, drop, list_any}
 use Rattle.toml_span.specs.code.Marks.{partner, same_sort}
 use Rattle.toml_span.proofs.claims.knows.Given as goal
 

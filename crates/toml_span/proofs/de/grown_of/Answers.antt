@@ -1,4 +1,4 @@
-use Rattle.std.proofs.Common.{arith, rules, length, get_or, ◌≡◌, ◌<◌}
+use Rattle.toml_span_lex.proofs.Common.{arith, rules, length, get_or, ◌≡◌, ◌<◌}
 use Rattle.toml_span_read.proofs.KeyLemmas.{handed_on}
 use Rattle.toml_span_read.proofs.MemoryLemmas.{begun_on, keeps}
 use Rattle.toml_span_read.proofs.StepLemmas.{first_begun}
@@ -33,19 +33,19 @@ sections-preserved c =
       growing = growing-more c.args.text.now c.args.limit c.sections.at _ c.in_ok-section.section c.sections.grown c.grow.new.grown under here read.reads.0 read.section i.growing more.grows more.borrows;
     }
 
-pub returns-in_err-first-clause-gives : goal.returns-in_err-first-clause-gives
-returns-in_err-first-clause-gives c =
+pub returns-in_err-first-clause-grown : goal.returns-in_err-first-clause-grown
+returns-in_err-first-clause-grown c =
     rw (handed_on c.from_residual.result c.in_err-first.field-0.0 c.from_residual.ensures.1)
     (first-refused c.in_err-first.field-0.0 c.args.text.now c.args.limit c.in_err-first.ensures.first)
 
-pub returns-in_err-section-clause-gives : goal.returns-in_err-section-clause-gives
-returns-in_err-section-clause-gives c =
+pub returns-in_err-section-clause-grown : goal.returns-in_err-section-clause-grown
+returns-in_err-section-clause-grown c =
     let under : c.sections.at < length c.args.text.now = omega arith in
     rw (handed_on c.from_residual-in_err-section.result c.in_err-section.field-0.0 c.from_residual-in_err-section.ensures.1)
     (section-refused c.in_err-section.field-0.0 c.args.text.now c.args.limit c.sections.at c.sections.grown under c.sections.invariant.growing c.in_err-section.ensures.section)
 
-pub returns-clause-gives : goal.returns-clause-gives
-returns-clause-gives c =
+pub returns-clause-grown : goal.returns-clause-grown
+returns-clause-grown c =
     let end : c.sections.at ≡ length c.args.text.now = omega (arith, c.sections.invariant.boundary.0) in
     grown-whole c.args.text.now c.args.limit c.sections.at c.sections.grown c.sections.invariant.growing end
 

@@ -1,5 +1,4 @@
-use Rattle.std.proofs.Common.{◌≡◌, ◌-◌, ◌⊎◌, length, get_or}
-use Rattle.std.specs.Str.{IsCharBoundary}
+use Rattle.toml_span_lex.proofs.Common.{◌≡◌, ◌-◌, ◌⊎◌, length, get_or, IsCharBoundary}
 use Rattle.toml_span_read.proofs.MemoryLemmas.{Begun}
 use Rattle.toml_span.proofs.Growth.{Growing}
 use Rattle.toml_span.proofs.de.grown_of.Given as goal

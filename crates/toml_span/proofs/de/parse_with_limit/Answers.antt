@@ -1,4 +1,4 @@
-use Rattle.std.proofs.Common.{map}
+use Rattle.toml_span_lex.proofs.Common.{map}
 use Rattle.toml_span_read.specs.Borrowed.{sections_written}
 use Rattle.toml_span_read.specs.Data.{block}
 use Rattle.toml_span.specs.Borrowed.{keys_of}
@@ -9,30 +9,30 @@ use Rattle.toml_span.proofs.Refusals.{answers-fault, whole-tree}
 use Rattle.toml_span.proofs.de.parse_with_limit.Goals as goal
 
 pub tree_of-requires : goal.tree_of-requires
-tree_of-requires c = let g = c.in-Ok.ensures.gives in record { inside = grown_inside c.args.s.now c.args.limit g.sections c.in-Ok.grown g.spelled g.grows }
+tree_of-requires c = let g = c.in-Ok.ensures.grown in record { inside = grown_inside c.args.s.now c.args.limit g.sections c.in-Ok.grown g.document g.grows }
 
 pub returns-in-Ok-clause-answers : goal.returns-in-Ok-clause-answers
-returns-in-Ok-clause-answers c = let g = c.in-Ok.ensures.gives in c.tree_of.ensures.answers (map block g.sections) c.args.limit g.spelled g.grows
+returns-in-Ok-clause-answers c = let g = c.in-Ok.ensures.grown in c.tree_of.ensures.answers (map block g.sections) c.args.limit g.document g.grows
 
 pub returns-in-Ok-clause-whole : goal.returns-in-Ok-clause-whole
 returns-in-Ok-clause-whole c =
-    let g = c.in-Ok.ensures.gives in
-    whole-tree c.args.s.now c.args.limit c.tree_of.result (c.tree_of.ensures.answers (map block g.sections) c.args.limit g.spelled g.grows)
+    let g = c.in-Ok.ensures.grown in
+    whole-tree c.args.s.now c.args.limit c.tree_of.result (c.tree_of.ensures.answers (map block g.sections) c.args.limit g.document g.grows)
 
 pub returns-in-Ok-clause-borrows : goal.returns-in-Ok-clause-borrows
 returns-in-Ok-clause-borrows c =
-    let g = c.in-Ok.ensures.gives in
+    let g = c.in-Ok.ensures.grown in
     let keys = keys_of (sections_written g.sections) in
-    tree_borrows g.sections c.args.s.now c.args.limit c.tree_of.result g.spelled
+    tree_borrows g.sections c.args.s.now c.args.limit c.tree_of.result g.document
     (c.tree_of.ensures.borrows keys (g.borrows keys (all_from c.args.s.now (sections_written g.sections) g.read)))
 
 pub returns-in-Err-Fault-clause-answers : goal.returns-in-Err-Fault-clause-answers
-returns-in-Err-Fault-clause-answers c = answers-fault c.args.s.now c.args.limit _ c.in-Err-Fault.fault _ c.in-Err-Fault.field-0-is c.in-Err-Fault.ensures.gives c.in-Err-Fault.ensures.placed c.error_of.ensures
+returns-in-Err-Fault-clause-answers c = answers-fault c.args.s.now c.args.limit _ c.in-Err-Fault.fault _ c.in-Err-Fault.field-0-is c.in-Err-Fault.ensures.grown c.in-Err-Fault.ensures.placed c.error_of.ensures
 
 pub returns-in-Ok-clause-memory : goal.returns-in-Ok-clause-memory
 returns-in-Ok-clause-memory c =
-    let g = c.in-Ok.ensures.gives in
-    keeps-placed g.sections c.args.s.now c.args.limit c.tree_of.result g.spelled (λ none. c.tree_of.ensures.bare (g.bare none))
+    let g = c.in-Ok.ensures.grown in
+    keeps-placed g.sections c.args.s.now c.args.limit c.tree_of.result g.document (λ none. c.tree_of.ensures.bare (g.bare none))
 
 pub returns-in-Err-Memory-clause-memory : goal.returns-in-Err-Memory-clause-memory
 returns-in-Err-Memory-clause-memory c = keeps-on c.args.s.now _ c.in-Err-Memory.error c.in-Err-Memory.field-0-is c.in-Err-Memory.ensures.memory

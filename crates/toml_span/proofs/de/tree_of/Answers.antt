@@ -1,4 +1,4 @@
-use Rattle.std.proofs.Common.{arith, inr, length}
+use Rattle.toml_span_lex.proofs.Common.{arith, inr, length}
 use Rattle.toml_span.specs.code.Machine.{clash_told}
 use Rattle.toml_span.proofs.PlaceLemmas.{clash_inside}
 use Rattle.toml_span.proofs.Refusals.{answers-tree, first-of-halt}
@@ -8,26 +8,26 @@ pub line_info-place-requires : goal.line_info-place-requires
 line_info-place-requires c =
     let n = length c.args.text.now in
     let inside = clash_inside n _ _ c.in-Err-Clash.field-0-is (c.in-Err-Clash.ensures.placed n c.requires.inside) in
-    omega (arith, inside.0, inside.1)
+    rw c.into_inner-clash.ensures (omega (arith, inside.0, inside.1))
 
 pub returns-in-Ok-clause-answers : goal.returns-in-Ok-clause-answers
-returns-in-Ok-clause-answers c = λ bs limit spelled grows. answers-tree c.args.text.now limit bs _ spelled (c.in-Ok.ensures.gives bs grows)
+returns-in-Ok-clause-answers c = λ bs limit given grows. answers-tree c.args.text.now limit bs _ given (c.in-Ok.ensures.assembles bs grows)
 
 pub returns-in-Err-Clash-clause-answers : goal.returns-in-Err-Clash-clause-answers
-returns-in-Err-Clash-clause-answers c = λ bs limit spelled grows.
+returns-in-Err-Clash-clause-answers c = λ bs limit given grows.
     let n = length c.args.text.now in
     let place = c.line_info-place.result in
     let inside = clash_inside n _ _ c.in-Err-Clash.field-0-is (c.in-Err-Clash.ensures.placed n c.requires.inside) in inr (
       bs,
       clash_told c.in-Err-Clash.clash,
-      (spelled, first-of-halt _ n _ _ c.in-Err-Clash.field-0-is (c.in-Err-Clash.ensures.gives bs grows)),
+      (given, first-of-halt _ n _ _ c.in-Err-Clash.field-0-is (c.in-Err-Clash.ensures.assembles bs grows)),
       record {
         line = place.0;
         column = place.1;
-        tells = c.into_error.ensures;
+        tells = rw c.into_inner-clash.ensures at c.into_error.ensures;
         within = omega (arith, inside.0, inside.1);
         forward = inside.0;
-        place = c.line_info-place.ensures;
+        place = rw c.into_inner-clash.ensures at c.line_info-place.ensures;
       },
     )
 

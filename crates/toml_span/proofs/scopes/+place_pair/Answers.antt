@@ -1,29 +1,27 @@
-use Rattle.std.proofs.Common.{map, [], ◌≡◌, rules, refl, sym, ap, ◌∙◌}
-use Rattle.std.specs.Prelude.{⊤}
-use Rattle.std.specs.BTreeMap.Entry.{map_with_value}
-use Rattle.std.specs.declared.collections.btree_map.Entry.{Entry}
+use Rattle.toml_span_lex.proofs.Common.{map, [], ◌≡◌, rules, refl, sym, ap, ◌∙◌, ⊤, map_with_value, Entry}
 use Rattle.toml_span_read.specs.Keys.{simple_key}
 use Rattle.toml_span_read.proofs.EarlierTree.{parts-first}
 use Rattle.toml_span.specs.Claims.{pair_mark}
 use Rattle.toml_span.specs.declared.claims.Sort.TheVariants.{Dotted}
 use Rattle.toml_span.specs.declared.branch.Branch.TheViews.{out-Branch}
 use Rattle.toml_span.proofs.Claimed.{marked-roll}
-use Rattle.toml_span.proofs.Headers.{passes-dotted, passes-dotted-err, pair-found, pair-fresh, pair-beside}
-use Rattle.toml_span.proofs.Placed.{err-of, looked, sets-entry, told}
+use Rattle.toml_span.proofs.Headers.{passes-dotted, passes-dotted-err, pair-placed, pair-beside}
+use Rattle.toml_span.proofs.Placed.{err-of, looked, sets-entry, starts-found, starts-new, told, unclosed}
 use Rattle.toml_span.proofs.Borrowing.{front_from, keeps_child, keeps_marked, keeps_same, box_found}
 use Rattle.toml_span.specs.code.Borrowed.{standing}
+use Rattle.toml_span.specs.code.Tree.{is_entry_sort}
 use Rattle.toml_span.proofs.scopes.+place_pair.Goals as goal
 
-pub pass_pair-returns-in_err-claim-clause-gives : goal.pass_pair-returns-in_err-claim-clause-gives
-pass_pair-returns-in_err-claim-clause-gives t c = λ d v due value span.
+pub pass_pair-returns-in_err-claim-clause-places : goal.pass_pair-returns-in_err-claim-clause-places
+pass_pair-returns-in_err-claim-clause-places t c = λ d v due value span.
     passes-dotted-err c.args.node.now _ (simple_key c.args.part.now) (map simple_key c.args.rest.now) (simple_key d.last) v c.pair_mark.result c.from_residual.result c.in_err-claim.field-0.0 _ _
     (c.pair_mark.ensures ∙ ap (pair_mark Dotted c.args.part.now.span) span) (err-of c.from_residual.result c.in_err-claim.field-0.0 _ c.from_residual.ensures.1 (λ y p. p)) c.in_err-claim.ensures
 
-pub pass_pair-returns-clause-gives : goal.pass_pair-returns-clause-gives
-pass_pair-returns-clause-gives t c = λ d v due value span.
+pub pass_pair-returns-clause-places : goal.pass_pair-returns-clause-places
+pass_pair-returns-clause-places t c = λ d v due value span.
     passes-dotted c.args.node.now _ _ (simple_key c.args.part.now) (map simple_key c.args.rest.now) (simple_key d.last) v c.pair_mark.result c.place_pair.result
     (c.pair_mark.ensures ∙ ap (pair_mark Dotted c.args.part.now.span) span) c.in_ok-claim.ensures.0
-    (marked-roll c.pair_mark.result c.args.node.now _ c.in_ok-claim.ensures.1 refl refl refl) (c.place_pair.ensures.gives d v due value span)
+    (marked-roll c.pair_mark.result c.args.node.now _ c.in_ok-claim.ensures.1 refl refl refl) (c.place_pair.ensures.places d v due value span)
 
 pub pass_pair-returns-clause-borrows : goal.pass_pair-returns-clause-borrows
 pass_pair-returns-clause-borrows t c = λ text ps d due part rest last value.
@@ -36,8 +34,8 @@ pass_child-returns-clause-borrows t c = λ text ps d due part rest last value.
 pub place_pair-returns-in_default-clause-borrows : goal.place_pair-returns-in_default-clause-borrows
 place_pair-returns-in_default-clause-borrows t c = λ text ps d due parts last value. c.assign_due.ensures.borrows text ps d due last value
 
-pub place_pair-returns-in_err-child-in-Vacant-clause-gives : goal.place_pair-returns-in_err-child-in-Vacant-clause-gives
-place_pair-returns-in_err-child-in-Vacant-clause-gives t c = λ d v due value span.
+pub place_pair-returns-in_err-child-in-Vacant-clause-places : goal.place_pair-returns-in_err-child-in-Vacant-clause-places
+place_pair-returns-in_err-child-in-Vacant-clause-places t c = λ d v due value span.
     let n = out-Branch c.args.node.now in
     let front = parts-first c.args.inner.now c.part-item.result _ c.in-len1-up.len_at_least c.part-item.is in
     let missing = looked (simple_key c.part-item.result).name c.in_ok-clone.field-0 n.tables _ c.in_ok-clone.ensures.name (rw c.in-Vacant.is at c.in_ok-entry.ensures.found) in
@@ -47,8 +45,8 @@ place_pair-returns-in_err-child-in-Vacant-clause-gives t c = λ d v due value sp
     (pair-beside c.args.node.now _ (simple_key c.part-item.result) _ (simple_key d.last) v c.pair_mark-mark.result q.result e (λ u. ⊤) _ missing (c.pair_mark-mark.ensures ∙ ap (pair_mark Dotted c.part-item.result.span) span)
     (err-of q.result e _ q.ensures.1 (λ y p. p)) (told e _ _ (λ u. ⊤) c.in_err-child-in-Vacant.ensures))
 
-pub place_pair-returns-in-Occupied-clause-gives : goal.place_pair-returns-in-Occupied-clause-gives
-place_pair-returns-in-Occupied-clause-gives t c = λ d v due value span.
+pub place_pair-returns-in-Occupied-clause-places : goal.place_pair-returns-in-Occupied-clause-places
+place_pair-returns-in-Occupied-clause-places t c = λ d v due value span.
     let n = out-Branch c.args.node.now in
     let front = parts-first c.args.inner.now c.part-item.result _ c.in-len1-up.len_at_least c.part-item.is in
     let clone = c.in_ok-clone in
@@ -57,11 +55,11 @@ place_pair-returns-in-Occupied-clause-gives t c = λ d v due value span.
     let update = rw c.in-Occupied.is at c.in_ok-entry.ensures.update in
     let same = rw c.in-Occupied.is at c.in_ok-entry.ensures.same_map in
     let box = c.pass_child.new.child in
-    rw front (pair-found c.args.node.now _ c.into_mut.result.now.value box.value (simple_key c.part-item.result) _ (simple_key d.last) v c.pass_child.result found
-    (sets-entry c.args.node.now _ (map_with_value (Entry.Occupied c.in-Occupied.entry) box) (simple_key c.part-item.result).name clone.field-0 box clone.ensures.name (update.1 box) (search (rules, same))) (c.pass_child.ensures.gives d v due value span))
+    rw front (pair-placed c.args.node.now _ c.into_mut.result.now.value box.value (simple_key c.part-item.result) _ (simple_key d.last) v c.pass_child.result (starts-found _ _ _ found)
+    (sets-entry c.args.node.now _ (map_with_value (Entry.Occupied c.in-Occupied.entry) box) (simple_key c.part-item.result).name clone.field-0 box clone.ensures.name (update.1 box) (search (rules, same))) (c.pass_child.ensures.places d v due value span))
 
-pub place_pair-returns-in_ok-child-in-Vacant-clause-gives : goal.place_pair-returns-in_ok-child-in-Vacant-clause-gives
-place_pair-returns-in_ok-child-in-Vacant-clause-gives t c = λ d v due value span.
+pub place_pair-returns-in_ok-child-in-Vacant-clause-places : goal.place_pair-returns-in_ok-child-in-Vacant-clause-places
+place_pair-returns-in_ok-child-in-Vacant-clause-places t c = λ d v due value span.
     let n = out-Branch c.args.node.now in
     let front = parts-first c.args.inner.now c.part-item.result _ c.in-len1-up.len_at_least c.part-item.is in
     let missing = looked (simple_key c.part-item.result).name c.in_ok-clone.field-0 n.tables _ c.in_ok-clone.ensures.name (rw c.in-Vacant.is at c.in_ok-entry.ensures.found) in
@@ -70,9 +68,9 @@ place_pair-returns-in_ok-child-in-Vacant-clause-gives t c = λ d v due value spa
     let update = rw c.in-Vacant.is at c.in_ok-entry.ensures.update in
     let same = rw c.in-Vacant.is at c.in_ok-entry.ensures.same_map in
     let box = c.pass_child-in-Vacant.new.child in
-    rw front (pair-fresh c.args.node.now _ c.insert.result.now.value box.value (simple_key c.part-item.result) _ (simple_key d.last) v c.pair_mark-mark.result c.pass_child-in-Vacant.result missing (c.pair_mark-mark.ensures ∙ ap (pair_mark Dotted c.part-item.result.span) span)
-    fresh.0 (rw c.insert.ensures.value fresh.1.0)
-    (sets-entry c.args.node.now _ (map_with_value (Entry.Vacant c.in-Vacant.entry) box) (simple_key c.part-item.result).name clone.field-0 box clone.ensures.name (update.1 box) (search (rules, same))) (c.pass_child-in-Vacant.ensures.gives d v due value span))
+    rw front (pair-placed c.args.node.now _ c.insert.result.now.value box.value (simple_key c.part-item.result) _ (simple_key d.last) v c.pass_child-in-Vacant.result
+    (starts-new _ _ _ missing (unclosed _ c.pair_mark-mark.result _ fresh.0 (ap (λ m. is_entry_sort m.sort) c.pair_mark-mark.ensures)) (rw c.insert.ensures.value fresh.1.0))
+    (sets-entry c.args.node.now _ (map_with_value (Entry.Vacant c.in-Vacant.entry) box) (simple_key c.part-item.result).name clone.field-0 box clone.ensures.name (update.1 box) (search (rules, same))) (c.pass_child-in-Vacant.ensures.places d v due value span))
 
 pub place_pair-returns-in-Occupied-clause-borrows : goal.place_pair-returns-in-Occupied-clause-borrows
 place_pair-returns-in-Occupied-clause-borrows t c = λ text ps d due parts last value.

@@ -1,4 +1,4 @@
-use Rattle.std.proofs.Common.{◌+◌, ◌*◌, length}
+use Rattle.toml_span_lex.proofs.Common.{◌+◌, ◌*◌, length}
 use Rattle.toml_span.proofs.scopes.+place_pair.Given as goal
 
 abbrev pub decreases-place_pair : goal.decreases-place_pair

@@ -1,14 +1,12 @@
-use Rattle.std.proofs.Common.{◌≡◌, [], Some, rules, refl, sym, ap, ◌∙◌}
-use Rattle.std.proofs.lemmas.List.{nil_from_length}
+use Rattle.toml_span_lex.proofs.Common.{◌≡◌, [], Some, rules, refl, sym, ap, ◌∙◌, nil_from_length, w64, SFits, of_z, to_z, cow_str_bytes}
 use Rattle.std.proofs.lemmas.Int.{to_z-of_z}
-use mir.Syntax.{w64}
-use mir.Val.{SFits, of_z, to_z}
-use Rattle.std.specs.Cow.{cow_str_bytes}
 use Rattle.toml_span_tree.specs.Node.{text, integer, float, boolean, datetime}
 use Rattle.toml_span_tree.specs.Value.{inner_view, float_value, date_bytes}
 use Rattle.toml_span_tree.specs.declared.value.ValueInner.{the_lemmas as tree_lemmas}
 use Rattle.toml_span_tree.specs.declared.value.ValueInner.TheVariants.{Array, Table}
 use Rattle.toml_span_tree.specs.declared.value.ValueInner.TheVariants as inners
+use Rattle.toml_span_tree.specs.Path.{shape_of as tree_shape}
+use Rattle.toml_span_tree.proofs.Values.{inner_view-Array, inner_view-Table}
 use Rattle.toml_span_read.specs.Data.{view}
 use Rattle.toml_span_read.specs.declared.value.ValKind.{the_lemmas}
 use Rattle.toml_span_read.specs.Borrowed.{assignment_written, written}
@@ -16,7 +14,7 @@ use Rattle.toml_span.proofs.Placed.{err-of}
 use Rattle.toml_span.proofs.Borrowing as borrowing
 use Rattle.toml_span.proofs.Borrowing.{assignment_from, first_from, element_push, made_array, made_table, of_node}
 use Rattle.toml_span.proofs.Assignments.{inner-none, places-one, val_span, remains-first, placing-more, placing-err, placing-none, table-gives, table-err}
-use Rattle.toml_span.proofs.Values.{IsMade, made-more, elements-first, elements-err, elements-none, scalar-gives, array-gives, array-err, inline-gives, inline-err}
+use Rattle.toml_span.proofs.Values.{IsMade, made-more, elements-first, elements-err, elements-none, scalar-gives, array-reads, inline-reads, scope-gives, scope-err}
 use Rattle.toml_span_read.specs.declared.value.Val.{Val}
 use Rattle.toml_span_tree.specs.declared.value.Value.{Value}
 use Rattle.toml_span.proofs.scopes.+value_of.Goals as goal
@@ -40,30 +38,30 @@ array_of-loop-element-preserved t c = record {
       let before = c.loop-element.invariant.borrows text ps h in
       let first = first_from text ps written _ _ c.in-Some.element c.in-Some.ensures.steps.0 before.0 in
       (first.1, rw c.in_ok-push.ensures.items (element_push text ps c.in_ok-value_of.field-0 c.loop-element.array.items before.1 (c.in_ok-value_of.ensures.borrows text ps first.0)));
-  finished = made-more Val Value IsMade _ _ _ c.loop-element.array.items c.push.new.self.items c.in-Some.element c.in_ok-value_of.field-0 c.in-Some.ensures.steps.0 c.loop-element.invariant.finished c.in_ok-value_of.ensures.gives c.in_ok-push.ensures.items;
+  finished = made-more Val Value IsMade _ _ _ c.loop-element.array.items c.push.new.self.items c.in-Some.element c.in_ok-value_of.field-0 c.in-Some.ensures.steps.0 c.loop-element.invariant.finished c.in_ok-value_of.ensures.value c.in_ok-push.ensures.items;
 }
 
-pub array_of-returns-in_err-value_of-clause-gives : goal.array_of-returns-in_err-value_of-clause-gives
-array_of-returns-in_err-value_of-clause-gives t c =
+pub array_of-returns-in_err-value_of-clause-scope : goal.array_of-returns-in_err-value_of-clause-scope
+array_of-returns-in_err-value_of-clause-scope t c =
     let q = c.from_residual-in_err-value_of.result in
     let e = c.in_err-value_of.field-0.0 in
     elements-err _ _ _ c.in-Some.element c.loop-element.array.items (λ xs. inner_view (Array xs)) q e c.in-Some.ensures.steps.0 c.loop-element.invariant.finished
-    (err-of q e _ c.from_residual-in_err-value_of.ensures.1 (λ y p. p)) c.in_err-value_of.ensures.gives
+    (err-of q e _ c.from_residual-in_err-value_of.ensures.1 (λ y p. p)) c.in_err-value_of.ensures.value
 
-pub array_of-returns-clause-gives : goal.array_of-returns-clause-gives
-array_of-returns-clause-gives t c = elements-none _ _ c.loop-element.array (nil_from_length _ (sym c.loop-element.element-iterator.rest.ok.0 ∙ c.in-None.ensures.steps.0)) c.loop-element.invariant.finished
+pub array_of-returns-clause-scope : goal.array_of-returns-clause-scope
+array_of-returns-clause-scope t c = elements-none _ _ c.loop-element.array (nil_from_length _ (sym c.loop-element.element-iterator.rest.ok.0 ∙ c.in-None.ensures.steps.0)) c.loop-element.invariant.finished
 
 -- ---- assignments
 
-pub place_one-returns-clause-gives : goal.place_one-returns-clause-gives
-place_one-returns-clause-gives t c =
+pub place_one-returns-clause-places : goal.place_one-returns-clause-places
+place_one-returns-clause-places t c =
     places-one c.args.pair c.as_slice.result.now c.args.node.now c.place_pair.new.node c.place_pair.result c.as_slice.ensures.value
-    (c.place_pair.ensures.gives _ (view c.args.pair.value) refl c.value_of-value.ensures.gives (val_span c.args.pair.value))
+    (c.place_pair.ensures.places _ (view c.args.pair.value) refl c.value_of-value.ensures.value (val_span c.args.pair.value))
 
-pub place_one-returns-then-is_empty-clause-gives : goal.place_one-returns-then-is_empty-clause-gives
-place_one-returns-then-is_empty-clause-gives t c =
+pub place_one-returns-then-is_empty-clause-places : goal.place_one-returns-then-is_empty-clause-places
+place_one-returns-then-is_empty-clause-places t c =
     places-one c.args.pair [] c.args.node.now c.assign.new.node c.assign.result (inner-none c.args.pair c.if-is_empty.ensures)
-    (c.assign.ensures.gives (view c.args.pair.value) c.value_of-value.ensures.gives (val_span c.args.pair.value))
+    (c.assign.ensures.places (view c.args.pair.value) c.value_of-value.ensures.value (val_span c.args.pair.value))
 
 pub place_pairs-loop-pair-init : goal.place_pairs-loop-pair-init
 place_pairs-loop-pair-init t c = record {
@@ -81,45 +79,47 @@ place_pairs-loop-pair-preserved t c = record {
       let before = c.loop-pair.invariant.borrows text ps h node in
       let first = first_from text ps assignment_written _ _ c.in-Some.pair c.in-Some.ensures.steps.0 before.0 in
       (first.1, c.in_ok-place_one.ensures.borrows text ps first.0 before.1);
-  placing = placing-more c.loop-pair.node c.place_one.new.node _ _ _ _ c.in-Some.pair c.in-Some.ensures.steps.0 c.loop-pair.invariant.placing c.in_ok-place_one.ensures.gives;
+  placing = placing-more c.loop-pair.node c.place_one.new.node _ _ _ _ c.in-Some.pair c.in-Some.ensures.steps.0 c.loop-pair.invariant.placing c.in_ok-place_one.ensures.places;
 }
 
-pub place_pairs-returns-in_err-place_one-clause-gives : goal.place_pairs-returns-in_err-place_one-clause-gives
-place_pairs-returns-in_err-place_one-clause-gives t c =
+pub place_pairs-returns-in_err-place_one-clause-places : goal.place_pairs-returns-in_err-place_one-clause-places
+place_pairs-returns-in_err-place_one-clause-places t c =
     let q = c.from_residual.result in
     let e = c.in_err-place_one.field-0.0 in
     placing-err c.loop-pair.node c.place_one.new.node c.args.node.now c.place_one.new.node _ _ _ c.in-Some.pair q e c.in-Some.ensures.steps.0 c.loop-pair.invariant.placing
-    (err-of q e _ c.from_residual.ensures.1 (λ y p. p)) c.in_err-place_one.ensures.gives
+    (err-of q e _ c.from_residual.ensures.1 (λ y p. p)) c.in_err-place_one.ensures.places
 
-pub place_pairs-returns-clause-gives : goal.place_pairs-returns-clause-gives
-place_pairs-returns-clause-gives t c = placing-none c.loop-pair.node _ _ _ (nil_from_length _ (sym c.loop-pair.pair-iterator.rest.ok.0 ∙ c.in-None.ensures.steps.0)) c.loop-pair.invariant.placing
+pub place_pairs-returns-clause-places : goal.place_pairs-returns-clause-places
+place_pairs-returns-clause-places t c = placing-none c.loop-pair.node _ _ _ (nil_from_length _ (sym c.loop-pair.pair-iterator.rest.ok.0 ∙ c.in-None.ensures.steps.0)) c.loop-pair.invariant.placing
 
 -- ---- inline tables
 
-pub table_of-returns-in_err-place_pairs-clause-gives : goal.table_of-returns-in_err-place_pairs-clause-gives
-table_of-returns-in_err-place_pairs-clause-gives t c =
+pub table_of-returns-in_err-place_pairs-clause-scope : goal.table_of-returns-in_err-place_pairs-clause-scope
+table_of-returns-in_err-place_pairs-clause-scope t c =
     let q = c.from_residual.result in
     let e = c.in_err-place_pairs.field-0.0 in
-    table-err c.new-scope.result c.place_pairs.new.node _ (λ t. inner_view (Table t)) q e c.new-scope.ensures.fresh (err-of q e _ c.from_residual.ensures.1 (λ y p. p)) c.in_err-place_pairs.ensures.gives
+    table-err c.new-scope.result c.place_pairs.new.node _ (λ t. inner_view (Table t)) q e c.new-scope.ensures.fresh (err-of q e _ c.from_residual.ensures.1 (λ y p. p)) c.in_err-place_pairs.ensures.places
 
-pub table_of-returns-clause-gives : goal.table_of-returns-clause-gives
-table_of-returns-clause-gives t c =
-    table-gives c.new-scope.result c.place_pairs.new.node _ c.in_ok-into_table.field-0 c.new-scope.ensures.fresh c.in_ok-place_pairs.ensures.gives c.in_ok-into_table.ensures.finishes
+pub table_of-returns-clause-scope : goal.table_of-returns-clause-scope
+table_of-returns-clause-scope t c =
+    table-gives c.new-scope.result c.place_pairs.new.node _ c.in_ok-into_table.field-0 c.new-scope.ensures.fresh c.in_ok-place_pairs.ensures.places c.in_ok-into_table.ensures.finishes
 
-pub value_of-returns-in_err-array_of-in-Array-clause-gives : goal.value_of-returns-in_err-array_of-in-Array-clause-gives
-value_of-returns-in_err-array_of-in-Array-clause-gives t c =
+pub value_of-returns-in_err-array_of-in-Array-clause-value : goal.value_of-returns-in_err-array_of-in-Array-clause-value
+value_of-returns-in_err-array_of-in-Array-clause-value t c =
     let q = c.from_residual.result in
     let e = c.in_err-array_of-in-Array.field-0.0 in
-    array-err c.args.val c.in-Array.elements q e c.in-Array.is (err-of q e _ c.from_residual.ensures.1 (λ y p. p)) c.in_err-array_of-in-Array.ensures.gives
+    scope-err c.args.val _ _ (λ xs. inner_view (Array xs)) q e (array-reads c.args.val c.in-Array.elements c.in-Array.is)
+    (err-of q e _ c.from_residual.ensures.1 (λ y p. p)) c.in_err-array_of-in-Array.ensures.scope
 
-pub value_of-returns-in_err-table_of-in-Inline-clause-gives : goal.value_of-returns-in_err-table_of-in-Inline-clause-gives
-value_of-returns-in_err-table_of-in-Inline-clause-gives t c =
+pub value_of-returns-in_err-table_of-in-Inline-clause-value : goal.value_of-returns-in_err-table_of-in-Inline-clause-value
+value_of-returns-in_err-table_of-in-Inline-clause-value t c =
     let q = c.from_residual-in_err-table_of-in-Inline.result in
     let e = c.in_err-table_of-in-Inline.field-0.0 in
-    inline-err c.args.val c.in-Inline.pairs q e c.in-Inline.is (err-of q e _ c.from_residual-in_err-table_of-in-Inline.ensures.1 (λ y p. p)) c.in_err-table_of-in-Inline.ensures.gives
+    scope-err c.args.val _ _ (λ t. inner_view (Table t)) q e (inline-reads c.args.val c.in-Inline.pairs c.in-Inline.is)
+    (err-of q e _ c.from_residual-in_err-table_of-in-Inline.ensures.1 (λ y p. p)) c.in_err-table_of-in-Inline.ensures.scope
 
-pub value_of-returns-clause-gives : goal.value_of-returns-clause-gives
-value_of-returns-clause-gives t c =
+pub value_of-returns-clause-value : goal.value_of-returns-clause-value
+value_of-returns-clause-value t c =
     let v = c.args.val in
     let x = c.with_span.result in
     let inner = c.match-kind.inner in
@@ -134,8 +134,12 @@ value_of-returns-clause-gives t c =
       | value_of-in-Float w ↦ scalar-gives v inner _ _ x (float (float_value w.in-Float.text)) w.in-Float.is w.inner-is (search (rules, the_lemmas)) (search (rules, tree_lemmas)) seen
       | value_of-in-Boolean w ↦ scalar-gives v inner _ _ x (boolean w.in-Boolean.truth) w.in-Boolean.is w.inner-is (search (rules, the_lemmas)) (search (rules, tree_lemmas)) seen
       | value_of-in-Datetime w ↦ scalar-gives v inner _ _ x (datetime (date_bytes w.in-Datetime.text)) w.in-Datetime.is w.inner-is (search (rules, the_lemmas)) (search (rules, tree_lemmas)) seen
-      | value_of-in-Array+in_ok-array_of-in-Array w ↦ array-gives v w.in-Array.elements w.in_ok-array_of-in-Array.field-0 inner x w.in-Array.is w.inner-is seen w.in_ok-array_of-in-Array.ensures.gives
-      | value_of-in-Inline+in_ok-table_of-in-Inline w ↦ inline-gives v w.in-Inline.pairs w.in_ok-table_of-in-Inline.field-0 inner x w.in-Inline.is w.inner-is seen w.in_ok-table_of-in-Inline.ensures.gives
+      | value_of-in-Array+in_ok-array_of-in-Array w ↦
+          scope-gives v _ _ inner (Array w.in_ok-array_of-in-Array.field-0) x (array-reads v w.in-Array.elements w.in-Array.is) w.inner-is seen
+          (ap tree_shape (inner_view-Array w.in_ok-array_of-in-Array.field-0)) w.in_ok-array_of-in-Array.ensures.scope
+      | value_of-in-Inline+in_ok-table_of-in-Inline w ↦
+          scope-gives v _ _ inner (Table w.in_ok-table_of-in-Inline.field-0) x (inline-reads v w.in-Inline.pairs w.in-Inline.is) w.inner-is seen
+          (ap tree_shape (inner_view-Table w.in_ok-table_of-in-Inline.field-0)) w.in_ok-table_of-in-Inline.ensures.scope
     ]
 
 -- ---- what is borrowed

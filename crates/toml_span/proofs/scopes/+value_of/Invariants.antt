@@ -1,5 +1,4 @@
-use Rattle.std.proofs.Common.{ℕ, List, map}
-use Rattle.std.specs.Vec.Iter.{into_iter_items}
+use Rattle.toml_span_lex.proofs.Common.{ℕ, List, map, into_iter_items}
 use Rattle.toml_span_read.specs.Borrowed.{assignments_written, joined, written}
 use Rattle.toml_span_read.specs.Keys.{SimpleKey}
 use Rattle.toml_span.specs.code.Borrowed.{AreFrom, array_standing, standing}

@@ -1,7 +1,4 @@
-use Rattle.std.proofs.Common.{sym, ap, ◌∙◌}
-use Rattle.std.specs.Box.{box_value}
-use Rattle.std.specs.Cow.{cow_str_bytes}
-use Rattle.std.specs.Option.{option_copied, option_map}
+use Rattle.toml_span_lex.proofs.Common.{sym, ap, ◌∙◌, box_value, cow_str_bytes, option_copied, option_map}
 use Rattle.toml_span.specs.code.Machine.{met}
 use Rattle.toml_span.specs.code.Tree.{held_marks, marks}
 use Rattle.toml_span.proofs.Placed.{gives-map}

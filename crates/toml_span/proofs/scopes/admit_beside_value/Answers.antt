@@ -1,6 +1,4 @@
-use Rattle.std.proofs.Common.{[], ◌∷◌, sym, ap, ◌∙◌}
-use Rattle.std.specs.Cow.{cow_str_bytes}
-use Rattle.std.specs.Option.{option_map}
+use Rattle.toml_span_lex.proofs.Common.{[], ◌∷◌, sym, ap, ◌∙◌, cow_str_bytes, option_map}
 use Rattle.toml_span.specs.code.Machine.{met}
 use Rattle.toml_span.specs.code.Tree.{closed_marks}
 use Rattle.toml_span.proofs.KeyMaps.{entry-found, entry-missing}

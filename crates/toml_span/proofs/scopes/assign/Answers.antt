@@ -1,7 +1,4 @@
-use Rattle.std.proofs.Common.{◌≡◌, Some, [], ◌∷◌, is_eq, rules, refl, sym, ap, ◌∙◌}
-use Rattle.std.specs.BTreeMap.{BTreeMap, insert_entry}
-use Rattle.std.specs.BTreeMap.Entry.{map_with_value}
-use Rattle.std.specs.declared.collections.btree_map.Entry.{Entry}
+use Rattle.toml_span_lex.proofs.Common.{◌≡◌, Some, [], ◌∷◌, is_eq, rules, refl, sym, ap, ◌∙◌, BTreeMap, insert_entry, map_with_value, Entry}
 use Rattle.toml_span_lex.specs.declared.key.Key.{Key}
 use Rattle.toml_span_tree.specs.declared.value.Value.{Value}
 use Rattle.toml_span_read.proofs.EarlierTree.{key_cmp, same_name}
@@ -15,20 +12,20 @@ use Rattle.toml_span.proofs.Borrowing.{keeps_value}
 use Rattle.toml_span.proofs.KeyMaps.{entry-found, entry-missing}
 use Rattle.toml_span.proofs.scopes.assign.Goals as goal
 
-pub returns-in_err-admit_beside_table-clause-gives : goal.returns-in_err-admit_beside_table-clause-gives
-returns-in_err-admit_beside_table-clause-gives c = λ v value span.
+pub returns-in_err-admit_beside_table-clause-places : goal.returns-in_err-admit_beside_table-clause-places
+returns-in_err-admit_beside_table-clause-places c = λ v value span.
     refused-child c.args.node.now _ c.args.key v c.from_residual.result c.in_err-admit_beside_table.field-0.0 c.pair_mark-mark.result _ _
     (c.pair_mark-mark.ensures ∙ ap (pair_mark Assigned c.args.key.span) span) (err-of c.from_residual.result c.in_err-admit_beside_table.field-0.0 _ c.from_residual.ensures.1 (λ y p. p)) c.in_err-admit_beside_table.ensures
 
-pub returns-in_err-value-in-Vacant-clause-gives : goal.returns-in_err-value-in-Vacant-clause-gives
-returns-in_err-value-in-Vacant-clause-gives c = λ v value span.
+pub returns-in_err-value-in-Vacant-clause-places : goal.returns-in_err-value-in-Vacant-clause-places
+returns-in_err-value-in-Vacant-clause-places c = λ v value span.
     let none = rw c.in-Vacant.is at c.in_ok-entry.ensures.found in
     assigned-err c.args.node.now _ c.args.key v c.args.value c.from_residual-in_err-value-in-Vacant.result c.in_err-value-in-Vacant.field-0.0 c.pair_mark-mark.result _
     (ap (λ m. m.sort) c.pair_mark-mark.ensures) c.in_ok-admit_beside_table.ensures.0 (entry-missing (simple_key c.args.key).name (out-Branch c.args.node.now).values.entries none)
     c.in_err-value-in-Vacant.was (err-of c.from_residual-in_err-value-in-Vacant.result c.in_err-value-in-Vacant.field-0.0 _ c.from_residual-in_err-value-in-Vacant.ensures.1 (λ y p. p)) value
 
-pub returns-in-Occupied-clause-gives : goal.returns-in-Occupied-clause-gives
-returns-in-Occupied-clause-gives c = λ v value span before.
+pub returns-in-Occupied-clause-places : goal.returns-in-Occupied-clause-places
+returns-in-Occupied-clause-places c = λ v value span before.
     let earlier = c.key-earlier.result.now in
     let key = rw c.in-Occupied.is at c.in_ok-entry.ensures.found in
     let same = rw c.in-Occupied.is at c.in_ok-entry.ensures.same_key in
@@ -39,8 +36,8 @@ returns-in-Occupied-clause-gives c = λ v value span before.
     found (ap (λ m. m ∷ []) c.pair_mark.ensures) (ap (λ k. (simple_key k).name) c.key-earlier.ensures ∙ sym (same_name (simple_key c.args.key).name _ (ap is_eq same)))
     (c.pair_mark-mark.ensures ∙ ap (pair_mark Assigned c.args.key.span) span) c.admit.ensures before
 
-pub returns-in_ok-value-in-Vacant-clause-gives : goal.returns-in_ok-value-in-Vacant-clause-gives
-returns-in_ok-value-in-Vacant-clause-gives c = λ v value span before.
+pub returns-in_ok-value-in-Vacant-clause-places : goal.returns-in_ok-value-in-Vacant-clause-places
+returns-in_ok-value-in-Vacant-clause-places c = λ v value span before.
     let n = out-Branch c.args.node.now in
     let none = rw c.in-Vacant.is at c.in_ok-entry.ensures.found in
     let free = entry-missing (simple_key c.args.key).name n.values.entries none in

@@ -1,5 +1,4 @@
-use Rattle.std.proofs.Common.{[], subst, sym, ◌∙◌}
-use Rattle.std.proofs.lemmas.Option.{none-some, same_Some}
+use Rattle.toml_span_lex.proofs.Common.{[], subst, sym, ◌∙◌, none-some, same_Some}
 use Rattle.toml_span_read.specs.Borrowed.{key_written}
 use Rattle.toml_span_read.specs.Keys.{simple_key}
 use Rattle.toml_span.specs.code.Borrowed.{IsFrom, Keeps, ValueRight}
@@ -8,14 +7,14 @@ use Rattle.toml_span.specs.code.Relative.{pair_at}
 use Rattle.toml_span.specs.code.Tree.{counts}
 use Rattle.toml_span.proofs.scopes.assign_due.Goals as goal
 
-pub returns-in-Some-clause-gives : goal.returns-in-Some-clause-gives
-returns-in-Some-clause-gives c = λ d v due value span.
+pub returns-in-Some-clause-places : goal.returns-in-Some-clause-places
+returns-in-Some-clause-places c = λ d v due value span.
     let same = same_Some c.in-Some.next d (sym c.in-Some.is ∙ c.take.ensures.value ∙ due) in
     subst (λ x. ValueGives x.value v → Places c.args.node.now c.assign.new.node c.assign.result (pair_at [] (simple_key x.last) v) (counts c.args.node.now)) same
-    (λ given. c.assign.ensures.gives v given span) value
+    (λ given. c.assign.ensures.places v given span) value
 
-pub returns-in-None-clause-gives : goal.returns-in-None-clause-gives
-returns-in-None-clause-gives c = λ d v due value span. absurd (none-some d (sym c.in-None.is ∙ c.take.ensures.value ∙ due))
+pub returns-in-None-clause-places : goal.returns-in-None-clause-places
+returns-in-None-clause-places c = λ d v due value span. absurd (none-some d (sym c.in-None.is ∙ c.take.ensures.value ∙ due))
 
 pub returns-in-Some-clause-borrows : goal.returns-in-Some-clause-borrows
 returns-in-Some-clause-borrows c = λ text ps d due last value.

@@ -1,4 +1,4 @@
-use Rattle.std.proofs.Common.{sym, ap, ◌∙◌, subst}
+use Rattle.toml_span_lex.proofs.Common.{sym, ap, ◌∙◌, subst}
 use Rattle.toml_span.specs.code.Borrowed.{standing}
 use Rattle.toml_span.specs.code.Tree.{IsFresh}
 use Rattle.toml_span.proofs.Placed.{err-of, gives-err}

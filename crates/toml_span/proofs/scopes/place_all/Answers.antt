@@ -1,4 +1,4 @@
-use Rattle.std.proofs.Common.{◌∙◌}
+use Rattle.toml_span_lex.proofs.Common.{◌∙◌}
 use Rattle.toml_span_read.specs.Borrowed.{assignment_written}
 use Rattle.toml_span.proofs.Placed.{err-of}
 use Rattle.toml_span.proofs.Borrowing.{first_from}
@@ -19,18 +19,18 @@ loop-pair-preserved c = record {
       let before = c.loop-pair.invariant.borrows text ps h node in
       let first = first_from text ps assignment_written _ _ c.in-Some.pair c.in-Some.ensures.steps before.0 in
       (first.1, c.in_ok-place_one.ensures.borrows text ps first.0 before.1);
-  placing = placing-more c.loop-pair.node c.place_one.new.node _ _ _ _ c.in-Some.pair c.in-Some.ensures.steps c.loop-pair.invariant.placing c.in_ok-place_one.ensures.gives;
+  placing = placing-more c.loop-pair.node c.place_one.new.node _ _ _ _ c.in-Some.pair c.in-Some.ensures.steps c.loop-pair.invariant.placing c.in_ok-place_one.ensures.places;
 }
 
-pub returns-in_err-place_one-clause-gives : goal.returns-in_err-place_one-clause-gives
-returns-in_err-place_one-clause-gives c =
+pub returns-in_err-place_one-clause-places : goal.returns-in_err-place_one-clause-places
+returns-in_err-place_one-clause-places c =
     let q = c.from_residual.result in
     let e = c.in_err-place_one.field-0.0 in
     placing-err c.loop-pair.node c.place_one.new.node c.args.node.now c.place_one.new.node _ _ _ c.in-Some.pair q e c.in-Some.ensures.steps c.loop-pair.invariant.placing
-    (err-of q e _ c.from_residual.ensures.1 (λ y p. p)) c.in_err-place_one.ensures.gives
+    (err-of q e _ c.from_residual.ensures.1 (λ y p. p)) c.in_err-place_one.ensures.places
 
-pub returns-clause-gives : goal.returns-clause-gives
-returns-clause-gives c = placing-none c.loop-pair.node _ _ _ c.in-None.ensures.steps.0 c.loop-pair.invariant.placing
+pub returns-clause-places : goal.returns-clause-places
+returns-clause-places c = placing-none c.loop-pair.node _ _ _ c.in-None.ensures.steps.0 c.loop-pair.invariant.placing
 
 pub returns-clause-borrows : goal.returns-clause-borrows
 returns-clause-borrows c = λ text ps h node. (c.loop-pair.invariant.borrows text ps h node).1

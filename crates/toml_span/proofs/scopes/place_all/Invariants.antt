@@ -1,4 +1,4 @@
-use Rattle.std.proofs.Common.{ℕ, List}
+use Rattle.toml_span_lex.proofs.Common.{ℕ, List}
 use Rattle.toml_span_read.specs.Borrowed.{assignments_written}
 use Rattle.toml_span_read.specs.Keys.{SimpleKey}
 use Rattle.toml_span.specs.code.Borrowed.{AreFrom, standing}

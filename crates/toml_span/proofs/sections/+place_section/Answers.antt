@@ -1,8 +1,5 @@
-use Rattle.std.proofs.Common.{arith, ◌≡◌, ◌-◌, ◌<◌, length, vec_len, ◌∙◌, [], map, refl, rules, sym}
-use Rattle.std.specs.Prelude.{⊤}
-use Rattle.std.specs.BTreeMap.Entry.{map_with_value}
-use Rattle.std.proofs.lemmas.Bool.{eqb-true, false≢true}
-use Rattle.std.specs.declared.collections.btree_map.Entry.{Entry}
+use Rattle.toml_span_lex.proofs.Common.{arith, ◌≡◌, ◌-◌, ◌<◌, length, vec_len, ◌∙◌, [], map, refl, rules, sym, ⊤, map_with_value, false≢true, Entry}
+use Rattle.std.proofs.lemmas.Bool.{eqb-true}
 use Rattle.toml_span_read.proofs.EarlierTree.{parts-first}
 use Rattle.toml_span_read.specs.Data.{key_value}
 use Rattle.toml_span_read.specs.Keys.{simple_key}
@@ -10,45 +7,45 @@ use Rattle.toml_span.specs.declared.claims.Sort.TheVariants.{Passed}
 use Rattle.toml_span.specs.declared.branch.Branch.TheViews.{out-Branch}
 use Rattle.toml_span.specs.Claims.{key_value_claims, header_mark}
 use Rattle.toml_span.specs.code.Relative.{grown, section_at}
-use Rattle.toml_span.specs.code.Tree.{entries}
+use Rattle.toml_span.specs.code.Tree.{IsScope, entries}
 use Rattle.toml_span.proofs.Claimed.{marked-roll}
 use Rattle.toml_span.proofs.Nodes.{roll-out}
-use Rattle.toml_span.proofs.Headers.{descended, descended-err, no-latest, parts-below, parts-some, pass-again, pass-lent, pass-vec, section-beside, section-found, section-free, section-fresh}
+use Rattle.toml_span.proofs.Headers.{descended, opening-err, no-latest, parts-below, parts-some, pass-again, pass-vec, section-beside, section-placed, section-free}
 use Rattle.toml_span.proofs.Borrowing.{front_from, keeps_child, keeps_entry, keeps_marked, keeps_same, box_found}
-use Rattle.toml_span.proofs.Placed.{err-of, looked, sets-entry, told}
+use Rattle.toml_span.proofs.Placed.{err-of, looked, sets-entry, starts-found, starts-new, told}
 use Rattle.toml_span.specs.code.Borrowed.{standing}
 use Rattle.toml_span.proofs.sections.+place_section.Goals as goal
 
-pub descend-returns-in_err-claim-clause-gives : goal.descend-returns-in_err-claim-clause-gives
-descend-returns-in_err-claim-clause-gives t c =
-    descended-err c.args.head (simple_key c.args.part.now) (key_value_claims (map key_value c.args.pairs.items) []) (map simple_key c.args.rest.now) c.args.node.now _ c.from_residual.result c.in_err-claim.field-0.0 _ _ _
+pub descend-returns-in_err-claim-clause-places : goal.descend-returns-in_err-claim-clause-places
+descend-returns-in_err-claim-clause-places t c =
+    opening-err c.args.head (simple_key c.args.part.now) IsScope Passed _ c.args.node.now _ c.from_residual.result c.in_err-claim.field-0.0 _ _
     (err-of c.from_residual.result c.in_err-claim.field-0.0 _ c.from_residual.ensures.1 (λ y p. p)) (rw c.header_mark.ensures at c.in_err-claim.ensures)
 
-pub descend-returns-clause-gives : goal.descend-returns-clause-gives
-descend-returns-clause-gives t c =
+pub descend-returns-clause-places : goal.descend-returns-clause-places
+descend-returns-clause-places t c =
     let claimed = rw c.header_mark.ensures at c.in_ok-claim.ensures in
     descended c.args.head (simple_key c.args.part.now) (key_value_claims (map key_value c.args.pairs.items) []) (map simple_key c.args.rest.now) c.args.node.now _ c.place_section.new.node c.place_section.result claimed.0
-    (marked-roll (header_mark c.args.head Passed c.args.part.now.span) c.args.node.now _ claimed.1 refl refl refl) c.place_section.ensures.gives
+    (marked-roll (header_mark c.args.head Passed c.args.part.now.span) c.args.node.now _ claimed.1 refl refl refl) c.place_section.ensures.places
 
-pub pass_header-returns-then-is_empty-clause-gives : goal.pass_header-returns-then-is_empty-clause-gives
-pass_header-returns-then-is_empty-clause-gives t c = rw (parts-below c.args.rest.now (omega (arith, eqb-true (length c.args.rest.now) 0 (sym c.if-is_empty.ensures)))) c.end_header.ensures.gives
+pub pass_header-returns-then-is_empty-clause-places : goal.pass_header-returns-then-is_empty-clause-places
+pass_header-returns-then-is_empty-clause-places t c = rw (parts-below c.args.rest.now (omega (arith, eqb-true (length c.args.rest.now) 0 (sym c.if-is_empty.ensures)))) c.end_header.ensures.places
 
-pub pass_header-returns-in-Some-clause-gives : goal.pass_header-returns-in-Some-clause-gives
-pass_header-returns-in-Some-clause-gives t c =
+pub pass_header-returns-in-Some-clause-places : goal.pass_header-returns-in-Some-clause-places
+pass_header-returns-in-Some-clause-places t c =
     pass-vec c.args.head (simple_key c.args.part.now) (key_value_claims (map key_value c.args.pairs.items) []) (map simple_key c.args.rest.now) c.args.node.now c.in-Some.latest.now c.descend.new.node c.descend.result
-    (parts-some c.args.rest.now (sym c.if-is_empty.ensures)) (c.in-Some.ensures.variant.0 refl) c.in-Some.ensures.value c.descend.ensures.gives
+    (parts-some c.args.rest.now (sym c.if-is_empty.ensures)) (c.in-Some.ensures.variant.0 refl) c.in-Some.ensures.value c.descend.ensures.places
 
-pub pass_header-returns-in-None-clause-gives : goal.pass_header-returns-in-None-clause-gives
-pass_header-returns-in-None-clause-gives t c =
+pub pass_header-returns-in-None-clause-places : goal.pass_header-returns-in-None-clause-places
+pass_header-returns-in-None-clause-places t c =
     pass-again c.args.head (simple_key c.args.part.now) (key_value_claims (map key_value c.args.pairs.items) []) (map simple_key c.args.rest.now) c.args.node.now c.descend-in-None.new.node c.descend-in-None.result
-    (parts-some c.args.rest.now (sym c.if-is_empty.ensures)) (no-latest c.args.node.now (λ some. false≢true (c.in-None.ensures.variant.1 some))) c.descend-in-None.ensures.gives
+    (parts-some c.args.rest.now (sym c.if-is_empty.ensures)) (no-latest c.args.node.now (λ some. false≢true (c.in-None.ensures.variant.1 some))) c.descend-in-None.ensures.places
 
-pub place_section-returns-in_default-clause-gives : goal.place_section-returns-in_default-clause-gives
+pub place_section-returns-in_default-clause-places : goal.place_section-returns-in_default-clause-places
 unfolding section_at grown
-place_section-returns-in_default-clause-gives t c = rw (parts-below c.args.parts.now c.in_default.len_below) c.place_all.ensures.gives
+place_section-returns-in_default-clause-places t c = rw (parts-below c.args.parts.now c.in_default.len_below) c.place_all.ensures.places
 
-pub place_section-returns-in-Occupied-clause-gives : goal.place_section-returns-in-Occupied-clause-gives
-place_section-returns-in-Occupied-clause-gives t c =
+pub place_section-returns-in-Occupied-clause-places : goal.place_section-returns-in-Occupied-clause-places
+place_section-returns-in-Occupied-clause-places t c =
     let n = out-Branch c.args.node.now in
     let front = parts-first c.args.parts.now c.part-item.result _ c.in-len1-up.len_at_least c.part-item.is in
     let clone = c.in_ok-clone in
@@ -57,11 +54,12 @@ place_section-returns-in-Occupied-clause-gives t c =
     let update = rw c.in-Occupied.is at c.in_ok-entry.ensures.update in
     let same = rw c.in-Occupied.is at c.in_ok-entry.ensures.same_map in
     let box = c.pass_child.new.child in
-    rw front (section-found c.args.head (simple_key c.part-item.result) (key_value_claims (map key_value c.args.pairs.items) []) _ c.args.node.now _ c.into_mut.result.now.value box.value c.pass_child.result found
-    (sets-entry c.args.node.now _ (map_with_value (Entry.Occupied c.in-Occupied.entry) box) (simple_key c.part-item.result).name clone.field-0 box clone.ensures.name (update.1 box) (search (rules, same))) c.pass_child.ensures.gives)
+    rw front (section-placed c.args.head (simple_key c.part-item.result)
+    (key_value_claims (map key_value c.args.pairs.items) []) _ c.args.node.now _ c.into_mut.result.now.value box.value c.pass_child.result (starts-found _ _ _ found)
+    (sets-entry c.args.node.now _ (map_with_value (Entry.Occupied c.in-Occupied.entry) box) (simple_key c.part-item.result).name clone.field-0 box clone.ensures.name (update.1 box) (search (rules, same))) c.pass_child.ensures.places)
 
-pub place_section-returns-in_err-child-in-Vacant-clause-gives : goal.place_section-returns-in_err-child-in-Vacant-clause-gives
-place_section-returns-in_err-child-in-Vacant-clause-gives t c =
+pub place_section-returns-in_err-child-in-Vacant-clause-places : goal.place_section-returns-in_err-child-in-Vacant-clause-places
+place_section-returns-in_err-child-in-Vacant-clause-places t c =
     let n = out-Branch c.args.node.now in
     let front = parts-first c.args.parts.now c.part-item.result _ c.in-len1-up.len_at_least c.part-item.is in
     let missing = looked (simple_key c.part-item.result).name c.in_ok-clone.field-0 n.tables _ c.in_ok-clone.ensures.name (rw c.in-Vacant.is at c.in_ok-entry.ensures.found) in
@@ -70,8 +68,8 @@ place_section-returns-in_err-child-in-Vacant-clause-gives t c =
     let clash = rw (c.header_mark-mark.ensures, c.sort_of.ensures) at (told {B = Unit {0}} e _ _ (λ u. ⊤) c.in_err-child-in-Vacant.ensures) in
     rw front (section-beside c.args.head (simple_key c.part-item.result) (key_value_claims (map key_value c.args.pairs.items) []) _ c.args.node.now _ q.result e (λ u. ⊤) _ missing (err-of q.result e _ q.ensures.1 (λ y p. p)) clash)
 
-pub place_section-returns-in_ok-child-in-Vacant-clause-gives : goal.place_section-returns-in_ok-child-in-Vacant-clause-gives
-place_section-returns-in_ok-child-in-Vacant-clause-gives t c =
+pub place_section-returns-in_ok-child-in-Vacant-clause-places : goal.place_section-returns-in_ok-child-in-Vacant-clause-places
+place_section-returns-in_ok-child-in-Vacant-clause-places t c =
     let n = out-Branch c.args.node.now in
     let front = parts-first c.args.parts.now c.part-item.result _ c.in-len1-up.len_at_least c.part-item.is in
     let missing = looked (simple_key c.part-item.result).name c.in_ok-clone.field-0 n.tables _ c.in_ok-clone.ensures.name (rw c.in-Vacant.is at c.in_ok-entry.ensures.found) in
@@ -80,14 +78,15 @@ place_section-returns-in_ok-child-in-Vacant-clause-gives t c =
     let update = rw c.in-Vacant.is at c.in_ok-entry.ensures.update in
     let same = rw c.in-Vacant.is at c.in_ok-entry.ensures.same_map in
     let box = c.pass_child-in-Vacant.new.child in
-    rw front (section-fresh c.args.head (simple_key c.part-item.result) (key_value_claims (map key_value c.args.pairs.items) []) _ c.args.node.now _ c.insert.result.now.value box.value c.pass_child-in-Vacant.result missing
-    (section-free c.args.head (simple_key c.part-item.result) (key_value_claims (map key_value c.args.pairs.items) []) _ c.args.node.now fresh.0) (rw c.insert.ensures.value fresh.1.0)
-    (sets-entry c.args.node.now _ (map_with_value (Entry.Vacant c.in-Vacant.entry) box) (simple_key c.part-item.result).name clone.field-0 box clone.ensures.name (update.1 box) (search (rules, same))) c.pass_child-in-Vacant.ensures.gives)
+    rw front (section-placed c.args.head (simple_key c.part-item.result)
+    (key_value_claims (map key_value c.args.pairs.items) []) _ c.args.node.now _ c.insert.result.now.value box.value c.pass_child-in-Vacant.result
+    (starts-new _ _ _ missing
+    (section-free c.args.head (simple_key c.part-item.result) (key_value_claims (map key_value c.args.pairs.items) []) _ c.args.node.now fresh.0) (rw c.insert.ensures.value fresh.1.0))
+    (sets-entry c.args.node.now _ (map_with_value (Entry.Vacant c.in-Vacant.entry) box) (simple_key c.part-item.result).name clone.field-0 box clone.ensures.name (update.1 box) (search (rules, same))) c.pass_child-in-Vacant.ensures.places)
 
-pub pass_child-returns-clause-gives : goal.pass_child-returns-clause-gives
-pass_child-returns-clause-gives t c =
-    pass-lent c.args.head (simple_key c.args.part.now) (key_value_claims (map key_value c.args.pairs.items) []) (map simple_key c.args.rest.now) c.as_mut.result.now c.args.child.now.value c.pass_header.new.node c.pass_header.result
-    c.as_mut.ensures.value c.pass_header.ensures.gives
+pub pass_child-returns-clause-places : goal.pass_child-returns-clause-places
+pass_child-returns-clause-places t c =
+    rw c.as_mut.ensures.value at c.pass_header.ensures.places
 
 -- ---- what is borrowed
 

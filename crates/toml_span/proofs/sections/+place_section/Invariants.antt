@@ -1,4 +1,4 @@
-use Rattle.std.proofs.Common.{◌+◌, ◌*◌, length}
+use Rattle.toml_span_lex.proofs.Common.{◌+◌, ◌*◌, length}
 use Rattle.toml_span.proofs.sections.+place_section.Given as goal
 
 abbrev pub decreases-place_section : goal.decreases-place_section

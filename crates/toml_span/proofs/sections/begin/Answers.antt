@@ -1,4 +1,4 @@
-use Rattle.std.proofs.Common.{[]}
+use Rattle.toml_span_lex.proofs.Common.{[]}
 use Rattle.toml_span.proofs.sections.begin.Goals as goal
 
 pub returns-in_ok-grow-in-Some-clause-grows : goal.returns-in_ok-grow-in-Some-clause-grows

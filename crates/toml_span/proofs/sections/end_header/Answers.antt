@@ -1,5 +1,4 @@
-use Rattle.std.proofs.Common.{[], map, refl, subst, sym, ◌∙◌}
-use Rattle.std.proofs.lemmas.Bool.{not-false, not-true}
+use Rattle.toml_span_lex.proofs.Common.{[], map, refl, subst, sym, ◌∙◌, not-false, not-true}
 use Rattle.toml_span_read.specs.Data.{key_value}
 use Rattle.toml_span_read.specs.Keys.{simple_key}
 use Rattle.toml_span.specs.declared.claims.Sort.TheVariants.{ArrayOfTables}
@@ -15,19 +14,19 @@ use Rattle.toml_span.proofs.Nodes.{no-entries, some-entries}
 use Rattle.toml_span.proofs.sections.end_header.Goals as goal
 use Rattle.toml_span.proofs.sections.end_header.Goals.{then-is_empty+in_ok-claim, else-is_empty}
 
-pub returns-then-not-head-clause-gives : goal.returns-then-not-head-clause-gives
-returns-then-not-head-clause-gives c =
+pub returns-then-not-head-clause-places : goal.returns-then-not-head-clause-places
+returns-then-not-head-clause-places c =
     end-table c.args.head (simple_key c.args.part.now) (key_value_claims (map key_value c.args.pairs.items) []) c.args.node.now c.open_table.new.node c.open_table.result
-    (not-true c.args.head.array c.if-not-head.true) c.open_table.ensures.gives
+    (not-true c.args.head.array c.if-not-head.true) c.open_table.ensures.places
 
-pub returns-in_err-claim-clause-gives : goal.returns-in_err-claim-clause-gives
-returns-in_err-claim-clause-gives c =
+pub returns-in_err-claim-clause-places : goal.returns-in_err-claim-clause-places
+returns-in_err-claim-clause-places c =
     end-first-err c.args.head (simple_key c.args.part.now) (key_value_claims (map key_value c.args.pairs.items) []) c.args.node.now _ c.from_residual.result c.in_err-claim.field-0.0 _ _
     (not-false c.args.head.array c.if-not-head.false) (no-entries c.args.node.now (sym c.is_empty.ensures ∙ c.if-is_empty.true))
     (err-of c.from_residual.result c.in_err-claim.field-0.0 _ c.from_residual.ensures.1 (λ y p. p)) (rw c.header_mark-mark.ensures at c.in_err-claim.ensures)
 
-pub returns-clause-gives : goal.returns-clause-gives
-returns-clause-gives c =
+pub returns-clause-places : goal.returns-clause-places
+returns-clause-places c =
     let k = simple_key c.args.part.now in
     let m = header_mark c.args.head ArrayOfTables c.args.part.now.span in
     let tail = key_value_claims (map key_value c.args.pairs.items) [] in
@@ -37,11 +36,11 @@ returns-clause-gives c =
           let claimed = rw w.header_mark-mark.ensures at w.in_ok-claim.ensures in
           end-first c.args.head k tail c.args.node.now c.if-is_empty.node c.add_entry.new.node c.add_entry.result array
           (no-entries c.args.node.now (sym c.is_empty.ensures ∙ w.if-is_empty.true)) claimed.0
-          (subst (Marked m c.args.node.now) (sym w.node-is) (marked-roll m c.args.node.now _ claimed.1 refl refl refl)) c.add_entry.ensures.gives
+          (subst (Marked m c.args.node.now) (sym w.node-is) (marked-roll m c.args.node.now _ claimed.1 refl refl refl)) c.add_entry.ensures.places
       | else-is_empty w ↦
           end-further c.args.head k tail c.args.node.now c.add_entry.new.node c.add_entry.result array
           (some-entries c.args.node.now (sym c.is_empty.ensures ∙ w.if-is_empty.false))
-          (subst (λ n. Reaches IsOpen IsHeld n c.add_entry.new.node c.add_entry.result (adding c.args.head k tail (counts n [])) (one_more (counts n))) w.node-is c.add_entry.ensures.gives)
+          (subst (λ n. Reaches IsOpen IsHeld n c.add_entry.new.node c.add_entry.result (adding c.args.head k tail (counts n [])) (one_more (counts n))) w.node-is c.add_entry.ensures.places)
     ]
 
 pub returns-clause-borrows : goal.returns-clause-borrows

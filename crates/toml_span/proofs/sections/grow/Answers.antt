@@ -1,5 +1,4 @@
-use Rattle.std.proofs.Common.{◌≡◌, false, sym, ◌∙◌}
-use Rattle.std.specs.Prelude.{is_some}
+use Rattle.toml_span_lex.proofs.Common.{◌≡◌, false, sym, ◌∙◌, is_some}
 use Rattle.toml_span_read.specs.Data.{block}
 use Rattle.toml_span.proofs.Growth.{grows-clash, grows-more, right-more}
 use Rattle.toml_span.proofs.sections.grow.Goals as goal
@@ -7,7 +6,7 @@ use Rattle.toml_span.proofs.sections.grow.Goals as goal
 pub returns-in-Ok-clause-grows : goal.returns-in-Ok-clause-grows
 returns-in-Ok-clause-grows c = λ bs headed grows.
     let none : is_some c.args.grown.now.clash ≡ false = sym c.is_some.ensures ∙ c.if-is_some.false in
-    grows-more bs (block c.args.section) c.args.grown.now.root c.place.new.root c.args.grown.now.clash none headed grows c.in-Ok.ensures.gives
+    grows-more bs (block c.args.section) c.args.grown.now.root c.place.new.root c.args.grown.now.clash none headed grows c.in-Ok.ensures.places
 
 pub returns-in-Ok-clause-borrows : goal.returns-in-Ok-clause-borrows
 returns-in-Ok-clause-borrows c = λ text ps from right.
@@ -17,4 +16,4 @@ returns-in-Ok-clause-borrows c = λ text ps from right.
 pub returns-in-Err-Clash-clause-grows : goal.returns-in-Err-Clash-clause-grows
 returns-in-Err-Clash-clause-grows c = λ bs headed grows.
     let none : is_some c.args.grown.now.clash ≡ false = sym c.is_some.ensures ∙ c.if-is_some.false in
-    grows-clash bs (block c.args.section) c.args.grown.now.root c.place.new.root c.args.grown.now.clash _ c.in-Err-Clash.clash none c.in-Err-Clash.field-0-is headed grows c.in-Err-Clash.ensures.gives
+    grows-clash bs (block c.args.section) c.args.grown.now.root c.place.new.root c.args.grown.now.clash _ c.in-Err-Clash.clash none c.in-Err-Clash.field-0-is headed grows c.in-Err-Clash.ensures.places

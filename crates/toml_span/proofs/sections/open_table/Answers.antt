@@ -1,26 +1,28 @@
-use Rattle.std.proofs.Common.{refl, map, []}
+use Rattle.toml_span_lex.proofs.Common.{refl, map, []}
 use Rattle.toml_span_read.specs.Data.{key_value}
 use Rattle.toml_span_read.specs.Keys.{simple_key}
 use Rattle.toml_span.specs.Claims.{key_value_claims, header_mark}
+use Rattle.toml_span.specs.code.Placing.{Opens}
 use Rattle.toml_span.proofs.Claimed.{marked-roll}
 use Rattle.toml_span.proofs.Placed.{err-of}
 use Rattle.toml_span.proofs.Borrowing.{err_ok, keeps_marked}
-use Rattle.toml_span.proofs.Headers.{opened-table, opened-table-err}
+use Rattle.toml_span.proofs.Headers.{opened-table, opening-err}
 use Rattle.toml_span.proofs.sections.open_table.Goals as goal
 
 pub returns-in_err-claim : goal.returns-in_err-claim
 returns-in_err-claim c = record {
-  gives =
-      opened-table-err c.args.head (simple_key c.args.part.now) c.args.sort (key_value_claims (map key_value c.args.pairs.items) []) c.args.node.now _ c.from_residual.result c.in_err-claim.field-0.0 _ _
+  places =
+      opening-err c.args.head (simple_key c.args.part.now) (Opens c.args.sort) c.args.sort
+      (key_value_claims (map key_value c.args.pairs.items) []) c.args.node.now _ c.from_residual.result c.in_err-claim.field-0.0 _ _
       (err-of c.from_residual.result c.in_err-claim.field-0.0 _ c.from_residual.ensures.1 (λ y p. p)) (rw c.header_mark.ensures at c.in_err-claim.ensures);
   borrows = λ text ps pairs before. err_ok c.from_residual.result _ _ c.from_residual.ensures.1;
 }
 
 pub returns : goal.returns
 returns c = record {
-  gives =
+  places =
       let claimed = rw c.header_mark.ensures at c.in_ok-claim.ensures in
       opened-table c.args.head (simple_key c.args.part.now) c.args.sort (key_value_claims (map key_value c.args.pairs.items) []) c.args.node.now _ c.place_all.new.node c.place_all.result claimed.0
-      (marked-roll (header_mark c.args.head c.args.sort c.args.part.now.span) c.args.node.now _ claimed.1 refl refl refl) c.place_all.ensures.gives;
+      (marked-roll (header_mark c.args.head c.args.sort c.args.part.now.span) c.args.node.now _ claimed.1 refl refl refl) c.place_all.ensures.places;
   borrows = λ text ps pairs. keeps_marked text ps c.args.node.now _ _ c.place_all.result refl refl refl (c.place_all.ensures.borrows text ps pairs);
 }

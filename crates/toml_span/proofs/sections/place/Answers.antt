@@ -2,8 +2,8 @@ use Rattle.toml_span.proofs.Growth.{placed-block}
 use Rattle.toml_span.proofs.Borrowing.{section_from}
 use Rattle.toml_span.proofs.sections.place.Goals as goal
 
-pub returns-clause-gives : goal.returns-clause-gives
-returns-clause-gives c = placed-block c.args.section _ c.args.root.now c.place_section.new.node c.place_section.result c.as_slice.ensures c.place_section.ensures.gives
+pub returns-clause-places : goal.returns-clause-places
+returns-clause-places c = placed-block c.args.section _ c.args.root.now c.place_section.new.node c.place_section.result c.as_slice.ensures c.place_section.ensures.places
 
 pub returns-clause-borrows : goal.returns-clause-borrows
 returns-clause-borrows c = λ text ps h.

@@ -1,4 +1,4 @@
-use Rattle.std.proofs.Common.{◌≡◌, rules, subst}
+use Rattle.toml_span_lex.proofs.Common.{◌≡◌, rules, subst}
 use Rattle.toml_span.specs.Parsing.{IsRefusal}
 use Rattle.toml_span_lex.specs.declared.stop.Stop.TheVariants as stops
 use Rattle.toml_span_read.specs.Limits.{depth_limit}

@@ -1,17 +1,12 @@
 -- The walks down, one value at a time.
-use Rattle.std.proofs.Common.{◌≡◌, ◌+◌, ℕ, suc, Some, None, sym, ap, ◌∙◌, arith, length, drop, option_map, zero-add, refl}
-use Rattle.std.proofs.lemmas.List.{drop_all}
-use Rattle.std.specs.Cow.{cow_str_bytes}
-use Rattle.toml_span_tree.specs.Value.{view, inner_of, span_of, items_in, members_in, items_view, members_view}
+use Rattle.toml_span_lex.proofs.Common.{◌≡◌, ◌+◌, ℕ, [], nat_tests, common_steps, suc, Some, None, sym, ap, ◌∙◌, arith, length, drop, option_map, zero-add, refl, drop_all, cow_str_bytes}
+use Rattle.toml_span_tree.specs.Value.{view, inner_of}
 use Rattle.toml_span_tree.proofs.Sizes.{items_size-next, members_size-next}
-use Rattle.toml_span_tree.proofs.Values.{view_is}
-use Rattle.toml_span_tree.specs.Node.{node}
-use Rattle.toml_span_c.specs.Records.{no_span, record_of, entry_strings, node_entries, held_entries, items_entries, members_entries}
+use Rattle.toml_span_c.specs.Records.{no_span, record_of, entry_strings, node_entries, held_entries}
 use Rattle.toml_span_c.specs.code.Sites.{begun}
 use Rattle.toml_span_c.specs.declared.records.Record.{Record}
-use Rattle.toml_span_c.proofs.Held.{held-items, held-members, held-nothing, node-whole}
 use Rattle.toml_span_c.proofs.Puts.{puts-none, puts-own, fits-own, fits-same}
-use Rattle.toml_span_c.proofs.Walks.{items_left, members_left, upto-begin, upto-more, upto-all, items-split, members-split, entries-taken, entries-held, own_entry, puts-named, puts-same}
+use Rattle.toml_span_c.proofs.Walks.{items_left, members_left, upto-begin, upto-more, upto-all, items-split, members-split, entries-taken, entries-held, own_entry}
 use Rattle.toml_span_c.proofs.fill.+put_value.Goals as goal
 
 pub put_elements-loop-position-preserved : goal.put_elements-loop-position-preserved
@@ -49,8 +44,7 @@ put_entries-loop-key-preserved t c =
       so = λ k m at fits.
           upto-more _ k m (members_left parent i c.loop-key.key-iterator) (members_left parent (i + 1) c.next.new.self) (λ n. node_entries n parent i (Some (cow_str_bytes key.name)) key.span (view value)) _ _ _ _ _ _ _ _ _
           (λ n. members-split parent i n c.loop-key.key-iterator c.next.new.self key value split)
-          (λ n j here fit. puts-named _ n j parent i _ (cow_str_bytes key.name) key.span (view value) _ _ _ _ _ c.as_ref.ensures.value
-          (c.put_value.ensures n j here (fits-same _ n j _ _ (ap (λ s. node_entries n parent i (Some s) key.span (view value)) (sym c.as_ref.ensures.value)) fit)))
+          (λ n j here. rw (sym c.as_ref.ensures.value) (c.put_value.ensures n j here))
           fits (c.loop-key.invariant.so k m at fits);
     }
 
@@ -77,45 +71,28 @@ put_entries-loop-key-init t c =
     })
 
 pub put_held-returns-in-Some : goal.put_held-returns-in-Some
-put_held-returns-in-Some t c k m own at fits =
-    let inner = inner_of (view c.args.value.now) in
-    let items = c.in-Some.elements.now.items in
-    let some : items_in inner ≡ Some (items_view items) = sym c.as_array.ensures ∙ ap (λ o. option_map (λ a. items_view a.now.items) o) c.in-Some.is in
-    let named = ap (λ p. items_entries (suc k) p 0 (items_view c.as_slice.result.now)) own in
-    let same = ap (λ l. items_entries (suc k) k 0 (items_view l)) c.as_slice.ensures.value in
-    let all = named ∙ same ∙ sym (held-items k inner (items_view items) some) in
-    puts-same _ (suc k) m _ _ _ _ _ _ _ all (c.put_elements.ensures (suc k) m at (fits-same _ (suc k) m _ _ (sym all) fits))
+put_held-returns-in-Some t c k m own at fits = grind (arith, nat_tests, common_steps, c.put_elements.ensures (suc k) m at)
 
 pub put_held-returns-in-Some-as_table : goal.put_held-returns-in-Some-as_table
-put_held-returns-in-Some-as_table t c k m own at fits =
-    let inner = inner_of (view c.args.value.now) in
-    let entries = c.in-Some-as_table.table.now.entries in
-    let some : members_in inner ≡ Some (members_view entries) = sym c.as_table.ensures ∙ ap (λ o. option_map (λ a. members_view a.now.entries) o) c.in-Some-as_table.is in
-    let named = ap (λ p. members_entries (suc k) p 0 (members_view entries)) own in
-    let all = named ∙ sym (held-members k inner (members_view entries) some) in
-    puts-same _ (suc k) m _ _ _ _ _ _ _ all (c.put_entries.ensures (suc k) m at (fits-same _ (suc k) m _ _ (sym all) fits))
+put_held-returns-in-Some-as_table t c k m own at fits = grind (arith, nat_tests, common_steps, c.put_entries.ensures (suc k) m at)
 
 pub put_held-returns-in_default-as_table : goal.put_held-returns-in_default-as_table
 put_held-returns-in_default-as_table t c k m own at fits =
-    let inner = inner_of (view c.args.value.now) in
-    let no_items : items_in inner ≡ None = sym c.as_array.ensures ∙ ap (λ o. option_map (λ a. items_view a.now.items) o) c.in_default.is in
-    let no_members : members_in inner ≡ None = sym c.as_table.ensures ∙ ap (λ o. option_map (λ a. members_view a.now.entries) o) c.in_default-as_table.is in
-    puts-same _ (suc k) m _ _ _ _ _ _ _ (sym (held-nothing k inner no_items no_members)) (puts-none _ (suc k) m _ _ _ at)
+    let none : held_entries k (inner_of (view c.args.value.now)) ≡ [] = grind (arith, nat_tests, common_steps) in
+    rw none (puts-none _ (suc k) m _ _ _ at)
 
 pub put_value-returns-then-is_taken : goal.put_value-returns-then-is_taken
 put_value-returns-then-is_taken t c k m at fits =
-    let none = entries-taken k c.args.site.parent c.args.site.position _ c.args.site.key_span (view c.args.value.now) (sym c.is_taken.ensures ∙ c.if-is_taken.true) in
-    puts-same _ k m _ _ _ _ _ _ _ (sym none) (puts-none _ k m _ _ _ at)
+    rw (entries-taken k c.args.site.parent c.args.site.position _ c.args.site.key_span (view c.args.value.now) (sym c.is_taken.ensures ∙ c.if-is_taken.true)) (puts-none _ k m _ _ _ at)
 
 pub put_value-returns : goal.put_value-returns
 put_value-returns t c k m at fits =
     let document = c.args.document.now in
     let value = c.args.value.now in
     let inner = inner_of (view value) in
-    let span : span_of (view value) ≡ value.span = ap span_of (view_is value) in
     let site = c.args.site in
     let name = option_map (λ s. s.now) site.name in
-    let kept = entries-held k site.parent site.position name site.key_span (view value) inner value.span (node-whole (view value) ∙ ap (λ s. node inner s) span) (sym c.is_taken.ensures ∙ c.if-is_taken.false) in
+    let kept = entries-held k site.parent site.position name site.key_span (view value) (sym c.is_taken.ensures ∙ c.if-is_taken.false) in
     let own = own_entry k site.parent site.position name site.key_span (view value) inner in
     let (own_fits, held_fits) = fits-own document k m own (held_entries k inner) (fits-same document k m _ _ kept fits) in
     let first = c.begin_record-record.ensures.put m at.strings own_fits in
@@ -125,5 +102,4 @@ put_value-returns t c k m at fits =
     let begins = c.begin_record-record.ensures.begins m at.strings own_fits in
     let made = ap (λ (r : Record). record r { next = c.put_held.new.counts.nodes }) begins
     ∙ ap (λ (n : ℕ). record (record_of document m (begun site value)) { next = n }) below.counts.nodes in
-    puts-same document k m _ _ _ _ _ _ _ (sym kept)
-    (puts-own document _ k m behind own (held_entries k inner) _ _ _ _ _ _ _ _ refl made first.bytes below c.put_record.ensures at.nodes)
+    rw kept (puts-own document _ k m behind own (held_entries k inner) _ _ _ _ _ _ _ _ refl made first.bytes below c.put_record.ensures at.nodes)

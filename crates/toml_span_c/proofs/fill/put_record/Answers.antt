@@ -1,4 +1,4 @@
-use Rattle.std.proofs.Common.{arith, sym, ◌∷◌, []}
+use Rattle.toml_span_lex.proofs.Common.{arith, sym, ◌∷◌, []}
 use Rattle.toml_span_c.proofs.Arrays.{laid-set, laid-past}
 use Rattle.toml_span_c.proofs.fill.put_record.Goals as goal
 

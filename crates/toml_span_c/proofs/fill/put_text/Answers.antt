@@ -1,15 +1,12 @@
-use Rattle.std.proofs.Common.{sym, ◌∙◌, add-zero}
+use Rattle.toml_span_lex.proofs.Common.{sym, ◌∙◌, arith, nat_tests, common_steps}
 use Rattle.toml_span_c.proofs.Arrays.{laid-none}
 use Rattle.toml_span_c.proofs.fill.put_text.Goals as goal
 
 pub returns-in_default-clause-put : goal.returns-in_default-clause-put
-returns-in_default-clause-put c m e fits =
-    rw c.in_default.is (record { bytes = sym (laid-none m c.args.strings.now); count = e ∙ sym (add-zero m) })
+returns-in_default-clause-put c m e fits = grind (arith, nat_tests, common_steps, laid-none)
 
 pub returns-then-stands-clause-put : goal.returns-then-stands-clause-put
-returns-then-stands-clause-put c m e fits =
-    let there = sym c.stands.ensures ∙ c.if-stands.true in
-    rw (c.in-Some.is, there) (record { bytes = sym (laid-none m c.args.strings.now); count = e ∙ sym (add-zero m) })
+returns-then-stands-clause-put c m e fits = grind (arith, nat_tests, common_steps, laid-none)
 
 pub returns-clause-put : goal.returns-clause-put
 returns-clause-put c m e =

@@ -1,5 +1,4 @@
-use Rattle.std.proofs.Common.{ℕ, List, subst}
-use Rattle.std.specs.Prelude.{string_bytes}
+use Rattle.toml_span_lex.proofs.Common.{ℕ, List, subst, string_bytes}
 use Rattle.toml_span_report.specs.Errors.{IsReport}
 use Rattle.toml_span_report.specs.declared.colours.Style.TheVariants.{Plain}
 use Rattle.toml_span_tree.specs.Error.{content_of}

@@ -1,5 +1,4 @@
-use Rattle.std.proofs.Common.{◌≡◌, ◌≤◌, ◌<◌, ℕ, List, Result, Ok, Err, IfOk, IsUtf8, length, subst, arith}
-use Rattle.std.specs.declared.alloc.AllocError.{AllocError}
+use Rattle.toml_span_lex.proofs.Common.{nat_tests, common_steps, ◌≡◌, ◌≤◌, ◌<◌, ℕ, List, Result, Ok, Err, IfOk, IsUtf8, length, subst, arith, AllocError}
 use Rattle.toml_span_check.specs.declared.answer.Judged.{Judged}
 use Rattle.toml_span_check.specs.declared.answer.Judged.TheVariants.{Text, Document}
 use Rattle.toml_span_check.specs.declared.answer.Task.{Task}
@@ -10,18 +9,10 @@ use Rattle.toml_span_check.specs.code.Judged.{Judges, JudgesText}
 use Rattle.toml_span_check.proofs.answer.judge.Goals as goal
 
 long : (format : Format) (task : Task) (pointer name bytes : List ℕ) (answer : ℕ × List ℕ) → bound < length bytes → answer ≡ too_long format name → IsAnswer format task pointer name bytes answer
-long format task pointer name bytes answer above h = record {
-  long = λ _. h;
-  no_text = λ short. absurd (omega arith);
-  read = λ short. absurd (omega arith);
-}
+long format task pointer name bytes answer above h = grind (arith, nat_tests, common_steps)
 
 no_text : (format : Format) (task : Task) (pointer name bytes : List ℕ) (answer : ℕ × List ℕ) → length bytes ≤ bound → ¬ (IsUtf8 bytes) → answer ≡ not_utf8 format name → IsAnswer format task pointer name bytes answer
-no_text format task pointer name bytes answer small none h = record {
-  long = λ above. absurd (omega arith);
-  no_text = λ _ _. h;
-  read = λ _ some. absurd (none some);
-}
+no_text format task pointer name bytes answer small none h = grind (arith, nat_tests, common_steps)
 
 read : (format : Format) (task : Task) (pointer name bytes text : List ℕ) (answer : ℕ × List ℕ) → length bytes ≤ bound → IsUtf8 bytes → text ≡ bytes → IsRead format task pointer name text answer → IsAnswer format task pointer name bytes answer
 read format task pointer name bytes text answer small utf8 is h = record {

@@ -1,15 +1,11 @@
-use Rattle.std.proofs.Common.{◌≡◌, ℕ, List, Vec, Result, Ok, Err, IfOk, ◌++◌, ◌∙◌, ap, codes}
-use Rattle.std.specs.Global.{Global}
-use Rattle.std.specs.declared.alloc.AllocError.{AllocError}
+use Rattle.toml_span_lex.proofs.Common.{◌≡◌, ℕ, List, Vec, Result, IfOk, ◌++◌, ◌∙◌, ap, codes, Global, AllocError, arith, nat_tests, common_steps}
 use Rattle.toml_span_check.specs.Answer.{plain_fault, nothing_there}
 use Rattle.toml_span_check.specs.declared.faults.Format.{Format}
 use Rattle.toml_span_check.proofs.answer.nothing_there.Goals as goal
 
 told : (r : Result (Vec ℕ Global) AllocError) (format : Format) (pointer name message : List ℕ) → message ≡ codes "nothing stands at `" ++ pointer ++ codes "`" →
     IfOk r (λ out. out.items ≡ plain_fault format (codes "nothing-there") message name) → IfOk r (λ out. let a : ℕ × List ℕ = (1, out.items) in a ≡ nothing_there format pointer name)
-told (Err e) format pointer name message is h = tt
-told (Ok out) format pointer name message is h =
-    ap (λ (t : List ℕ). let a : ℕ × List ℕ = (1, t) in a) (h ∙ ap (λ m. plain_fault format (codes "nothing-there") m name) is)
+told r format pointer name message is h = grind (arith, nat_tests, common_steps)
 
 pub returns : goal.returns
 returns c =

@@ -1,5 +1,4 @@
-use Rattle.std.proofs.Common.{◌≡◌, drop}
-use Rattle.std.specs.List.{list_any}
+use Rattle.toml_span_lex.proofs.Common.{◌≡◌, drop, list_any}
 use Rattle.toml_span_check.specs.Dates.{begins_offset}
 use Rattle.toml_span_check.proofs.dates.has_offset.Given as goal
 

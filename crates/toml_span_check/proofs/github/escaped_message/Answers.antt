@@ -1,7 +1,4 @@
-use Rattle.std.proofs.Common.{sym, ap, ◌∙◌, map-id}
-use Rattle.std.proofs.lemmas.Iterator.{YieldsList-from_chars}
-use Rattle.std.proofs.lemmas.Iterator.Consumers.{YieldsList-end}
-use Rattle.std.specs.List.{flat_map}
+use Rattle.toml_span_lex.proofs.Common.{sym, ap, ◌∙◌, map-id, YieldsList-from_chars, YieldsList-end, flat_map}
 use Rattle.toml_span_check.specs.Github.{escaped_message, message_char}
 use Rattle.toml_span_check.proofs.github.escaped_message.Goals as goal
 

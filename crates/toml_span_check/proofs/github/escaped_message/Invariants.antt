@@ -1,5 +1,4 @@
-use Rattle.std.proofs.Common.{◌≡◌, string_bytes}
-use Rattle.std.specs.List.{flat_map}
+use Rattle.toml_span_lex.proofs.Common.{◌≡◌, string_bytes, flat_map}
 use Rattle.toml_span_check.specs.Github.{message_char}
 use Rattle.toml_span_check.proofs.github.escaped_message.Given as goal
 

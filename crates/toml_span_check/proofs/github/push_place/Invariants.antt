@@ -1,4 +1,4 @@
-use Rattle.std.proofs.Common.{◌≡◌, drop, map, string_bytes}
+use Rattle.toml_span_lex.proofs.Common.{◌≡◌, drop, map, string_bytes}
 use Rattle.toml_span_tree.specs.Diagnostic.{label_content}
 use Rattle.toml_span_check.specs.Github.{place_told}
 use Rattle.toml_span_check.proofs.github.push_place.Given as goal

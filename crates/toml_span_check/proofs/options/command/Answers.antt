@@ -1,5 +1,4 @@
-use Rattle.std.proofs.Common.{◌≡◌, ◌∙◌, ap, ap₂, false}
-use Rattle.std.proofs.lemmas.Result.{IfOk-weaker}
+use Rattle.toml_span_lex.proofs.Common.{◌≡◌, ◌∙◌, ap, ap₂, false, IfOk-weaker}
 use Rattle.clap.specs.Built.{AddsArg}
 use Rattle.clap.specs.Words.{App, Rule, app_of, rule_of, with_rule}
 use Rattle.clap.specs.Simple.{app_of_fields}

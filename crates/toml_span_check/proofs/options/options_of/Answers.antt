@@ -1,6 +1,4 @@
-use Rattle.std.proofs.Common.{◌≡◌, ◌∙◌, ap, refl, sym, subst, inl, inr, ℕ, Bool, true, List, [], ◌∷◌, map, Err, Option}
-use Rattle.std.proofs.lemmas.Result.{err_from_is_err_and}
-use Rattle.std.specs.Prelude.{unwrap_or}
+use Rattle.toml_span_lex.proofs.Common.{◌≡◌, ◌∙◌, ap, refl, sym, subst, inl, inr, ℕ, Bool, true, List, [], ◌∷◌, map, Err, Option, err_from_is_err_and, unwrap_or, arith, nat_tests, common_steps}
 use Rattle.clap.specs.Kinds.{HasKind, Kinds, or_else}
 use Rattle.clap.specs.Values as clap
 use Rattle.clap.specs.Words.{App, HasMatchesOf, all_of, fault_of, found_of, is_simple, is_simple_and_free, matches_of, rows_of}
@@ -36,17 +34,14 @@ unfolding refusals
 taken app words is h = ap (λ a. fault_of a words) (sym is) ∙ h (ap is_simple_and_free is ∙ is-free)
 
 first-among : (first next : Kinds) (e : Error) → HasKind first e → HasKind (or_else first next) e
-first-among [] next e (inl h) = inl h
-first-among [] next e (inr h) = absurd h
-first-among (k ∷ ks) next e h = h
+first-among first next e h = grind (arith, nat_tests, common_steps)
 
 mistaken : (words : List (List ℕ)) (t : Bool) (m : Mistake) (e : Error) → refusals words ≡ [] → asked (options words) t ≡ Err m → clap.kind_of e ≡ kind_of m →
     HasKind (faults words t) e
 mistaken words t m e fine is kind = rw (fine, is) (inr (inl kind))
 
 pub returns-in_err-command-clause-fails : goal.returns-in_err-command-clause-fails
-returns-in_err-command-clause-fails c =
-    let p = err_from_is_err_and c.from_residual.result c.from_residual.ensures.1 in rw p.1 (inl p.2)
+returns-in_err-command-clause-fails c = grind (arith, nat_tests, common_steps)
 
 pub returns-in_err-matches-clause-fails : goal.returns-in_err-matches-clause-fails
 returns-in_err-matches-clause-fails c =

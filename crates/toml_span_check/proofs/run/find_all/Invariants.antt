@@ -1,4 +1,4 @@
-use Rattle.std.proofs.Common.{map, take, string_bytes}
+use Rattle.toml_span_lex.proofs.Common.{map, take, string_bytes}
 use Rattle.toml_span_check.specs.Run.{FindsAll}
 use Rattle.toml_span_check.proofs.run.find_all.Given as goal
 

@@ -1,4 +1,4 @@
-use Rattle.std.proofs.Common.{◌∙◌, ap, not}
+use Rattle.toml_span_lex.proofs.Common.{◌∙◌, ap, not}
 use Rattle.toml_span_check.proofs.Endings.{begins-all, ends-cut, ends-empty, ends-failed, ends-told, ends-unwarned}
 use Rattle.toml_span_check.proofs.run.run_aloud.Goals as goal
 use Rattle.toml_span_check.proofs.run.run_aloud.Goals.{else-write_bytes-via-then-write_bytes+else-write_bytes-2, else-write_bytes-via-else-write_bytes}

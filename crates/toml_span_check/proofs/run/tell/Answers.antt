@@ -1,22 +1,10 @@
-use Rattle.std.proofs.Common.{◌∙◌, ◌+◌, ◌++◌, ◌∷◌, ap, inl, refl, sym, ℕ, List, [], String, map, take, drop, string_bytes}
-use Rattle.std.proofs.KnownBytes.{Appends-nil}
-use Rattle.std.specs.Global.{Global}
+use Rattle.toml_span_lex.proofs.Common.{◌∙◌, ◌+◌, ◌++◌, ◌∷◌, ap, sym, ℕ, List, [], String, map, take, drop, string_bytes, Appends-nil, Global, arith, nat_tests, common_steps}
 use Rattle.toml_span_check.specs.Run.{read_of}
 use Rattle.toml_span_check.proofs.Tellings.{tells-start, names-more, names-split, upto-next, stops-reading, stops-telling}
 use Rattle.toml_span_check.proofs.run.tell.Goals as goal
 
 pub loop-name-init : goal.loop-name-init
-loop-name-init g c = record {
-  good = c.requires;
-  told = (
-    inl refl,
-    (
-      [],
-      tells-start c.args.format c.args.task c.args.pointer.now (g.I.Inputs.log c.args.inputs.now) [] _ refl c.new-2.ensures.bytes,
-      (([], Appends-nil _, c.new.ensures.items), inl c.new.ensures.items),
-    ),
-  );
-}
+loop-name-init g c = grind (arith, nat_tests, common_steps, Appends-nil, tells-start)
 
 pub loop-name-preserved : goal.loop-name-preserved
 loop-name-preserved g c =

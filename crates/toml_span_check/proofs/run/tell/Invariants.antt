@@ -1,4 +1,4 @@
-use Rattle.std.proofs.Common.{◌≡◌, false, map, take, string_bytes}
+use Rattle.toml_span_lex.proofs.Common.{◌≡◌, false, map, take, string_bytes}
 use Rattle.toml_span_check.proofs.Tellings.{Upto}
 use Rattle.toml_span_check.proofs.run.tell.Given as goal
 

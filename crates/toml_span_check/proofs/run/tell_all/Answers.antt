@@ -1,19 +1,13 @@
-use Rattle.std.proofs.Common.{◌∙◌, ◌++◌, ap, length, map, refl, string_bytes, subst, sym, ℕ, List, Bor, String}
-use Rattle.std.proofs.lemmas.List.{length-map}
-use Rattle.std.specs.Global.{Global}
-use Rattle.toml_span_check.specs.Run.{FindsAll, summary, whole}
-use Rattle.toml_span_check.proofs.Tellings.{stops-finding, stops-files, stops-counting, whole-held}
+use Rattle.toml_span_lex.proofs.Common.{◌∙◌, ◌++◌, ap, length, map, refl, string_bytes, sym, length-map, arith, nat_tests, common_steps}
+use Rattle.toml_span_check.specs.Run.{summary, whole}
+use Rattle.toml_span_check.proofs.Tellings.{stops-finding, stops-counting, whole-held}
 use Rattle.toml_span_check.proofs.run.tell_all.Goals as goal
 
 pub returns-in_err-found : goal.returns-in_err-found
 returns-in_err-found g c = stops-finding c.args.format c.args.task c.args.pointer.now _ _ _ _ _ _ c.from_residual.result refl c.requires c.from_residual.ensures.1
 
 pub returns-in_err-telling : goal.returns-in_err-telling
-returns-in_err-telling g c =
-    let found = subst (λ (files : List (String Global)). FindsAll (map (λ (name : Bor (List ℕ)). name.now) c.args.names.now) (g.I.Inputs.log c.args.inputs.now) (g.I.Inputs.log c.find_all.new.inputs) (map (λ file. string_bytes file) files))
-    (sym c.as_slice-files.ensures.value) c.in_ok-found.ensures in
-    stops-files c.args.format c.args.task c.args.pointer.now _ (map (λ file. string_bytes file) c.as_slice-files.result.now) _ (g.I.Inputs.log c.find_all.new.inputs) _ _ _ _
-    c.in_err-telling.field-0.0 c.from_residual-in_err-telling.result found c.in_err-telling.ensures c.from_residual-in_err-telling.ensures.1
+returns-in_err-telling g c = grind (arith, nat_tests, common_steps)
 
 pub returns-in_err-push_summary : goal.returns-in_err-push_summary
 returns-in_err-push_summary g c =

@@ -1,5 +1,4 @@
-use Rattle.std.proofs.Common.{[], inl, refl, subst}
-use Rattle.std.proofs.KnownBytes.{Appends-nil}
+use Rattle.toml_span_lex.proofs.Common.{[], inl, refl, subst, Appends-nil}
 use Rattle.toml_span_check.specs.code.Judged.{Judges}
 use Rattle.toml_span_check.specs.declared.answer.Judged.{Judged}
 use Rattle.toml_span_check.proofs.Judged.{shows-bytes}

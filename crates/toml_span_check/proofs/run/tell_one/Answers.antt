@@ -1,6 +1,6 @@
-use Rattle.std.proofs.Common.{◌∙◌, ap, string_bytes}
+use Rattle.toml_span_lex.proofs.Common.{ap, arith, nat_tests, common_steps}
 use Rattle.toml_span_check.specs.Run.{read_of}
-use Rattle.toml_span_check.proofs.Judged.{told-one, stops-one, stops-count}
+use Rattle.toml_span_check.proofs.Judged.{stops-one, stops-count}
 use Rattle.toml_span_check.proofs.run.tell_one.Goals as goal
 
 pub returns-in_err-status-in-Ok : goal.returns-in_err-status-in-Ok
@@ -14,10 +14,4 @@ returns-in_err-count-in-Ok g c =
     (ap read_of c.in-Ok.is) c.as_slice.ensures.value c.in_ok-status-in-Ok.ensures c.from_residual-in_err-count-in-Ok.ensures.1
 
 pub returns-in_ok-count-in-Ok : goal.returns-in_ok-count-in-Ok
-returns-in_ok-count-in-Ok g c =
-    let same = c.in_ok-count-in-Ok.ensures in
-    told-one c.args.format c.args.task c.args.pointer.now c.args.name.now c.in-Ok.bytes.items _ _ c.in_ok-status-in-Ok.status _ _ _
-    (c.args.telling.now.held.items, string_bytes c.args.telling.now.errors, c.args.telling.now.status, c.args.telling.now.wrong)
-    (c.count.new.self.held.items, string_bytes c.count.new.self.errors, c.count.new.self.status, c.count.new.self.wrong) _
-    (ap read_of c.in-Ok.is) c.as_slice.ensures.value c.in_ok-status-in-Ok.ensures
-    (ap (λ t. t.held.items) same) (ap (λ t. string_bytes t.errors) same) (ap (λ t. t.status) same ∙ c.max-telling.ensures) (ap (λ t. t.wrong) same)
+returns-in_ok-count-in-Ok g c = grind (arith, nat_tests, common_steps)

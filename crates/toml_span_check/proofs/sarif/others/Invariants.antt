@@ -1,5 +1,4 @@
-use Rattle.std.proofs.Common.{◌≡◌, map, take, string_bytes}
-use Rattle.std.specs.List.{flat_map}
+use Rattle.toml_span_lex.proofs.Common.{◌≡◌, map, take, string_bytes, flat_map}
 use Rattle.toml_span_tree.specs.Diagnostic.{label_content}
 use Rattle.toml_span_check.specs.Sarif.{other}
 use Rattle.toml_span_check.proofs.sarif.others.Given as goal

@@ -1,4 +1,4 @@
-use Rattle.std.proofs.Common.{codes, string_bytes}
+use Rattle.toml_span_lex.proofs.Common.{codes, string_bytes}
 use Rattle.toml_span_check.specs.Sarif.{artifact, uri}
 use Rattle.toml_span_check.proofs.Pieces.{three}
 use Rattle.toml_span_check.proofs.sarif.push_artifact.Goals as goal

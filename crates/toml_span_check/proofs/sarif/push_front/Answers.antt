@@ -1,4 +1,4 @@
-use Rattle.std.proofs.Common.{◌++◌, ◌∙◌, ap, codes, string_bytes}
+use Rattle.toml_span_lex.proofs.Common.{◌++◌, ◌∙◌, ap, codes, string_bytes}
 use Rattle.toml_span_check.specs.Sarif.{front, level_of}
 use Rattle.toml_span_report.specs.Visible.{quoted}
 use Rattle.toml_span_check.proofs.Pieces.{seven}

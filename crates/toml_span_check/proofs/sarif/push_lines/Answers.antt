@@ -1,5 +1,4 @@
-use Rattle.std.proofs.Common.{codes, string_bytes}
-use Rattle.std.specs.Fmt.{decimal}
+use Rattle.toml_span_lex.proofs.Common.{codes, string_bytes, decimal}
 use Rattle.toml_span_check.specs.Sarif.{lines}
 use Rattle.toml_span_check.proofs.Pieces.{four-titled}
 use Rattle.toml_span_check.proofs.sarif.push_lines.Goals as goal

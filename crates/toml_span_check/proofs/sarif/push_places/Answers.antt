@@ -1,4 +1,4 @@
-use Rattle.std.proofs.Common.{codes, map, string_bytes}
+use Rattle.toml_span_lex.proofs.Common.{codes, map, string_bytes}
 use Rattle.toml_span_tree.specs.Diagnostic.{label_content}
 use Rattle.toml_span_check.specs.Sarif.{place_told, places, related}
 use Rattle.toml_span_check.proofs.Pieces.{five}

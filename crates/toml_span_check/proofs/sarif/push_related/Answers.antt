@@ -1,12 +1,10 @@
-use Rattle.std.proofs.Common.{◌++◌, ◌∙◌, ap, drop, map, string_bytes}
-use Rattle.toml_span_tree.specs.Diagnostic.{label_content}
+use Rattle.toml_span_lex.proofs.Common.{◌++◌, ◌∙◌, ap, drop, string_bytes, arith, nat_tests, common_steps}
 use Rattle.toml_span_check.specs.Sarif.{related}
 use Rattle.toml_span_check.proofs.Commas.{begins}
 use Rattle.toml_span_check.proofs.sarif.push_related.Goals as goal
 
 pub push_listed-requires : goal.push_listed-requires
-push_listed-requires c =
-    rw (c.as_str.ensures.value ∙ c.in_ok-others.ensures) (begins c.args.name.now c.args.text.now (map (label_content {F = Unit {0}}) c.args.labels.now))
+push_listed-requires c = grind (arith, nat_tests, common_steps, begins)
 
 pub returns : goal.returns
 unfolding related

@@ -1,4 +1,4 @@
-use Rattle.std.proofs.Common.{◌≡◌, ◌≤◌, suc, ◌++◌, drop, codes, string_bytes, false}
+use Rattle.toml_span_lex.proofs.Common.{◌≡◌, ◌≤◌, suc, ◌++◌, drop, codes, string_bytes, false}
 use Rattle.toml_span_tree.specs.Value.{view, items_view, members_view}
 use Rattle.toml_span_check.specs.Shown.{items_shown, members_shown}
 use Rattle.toml_span_tree.proofs.Sizes.{node_size, items_size, members_size}

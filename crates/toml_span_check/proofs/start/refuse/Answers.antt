@@ -1,5 +1,4 @@
-use Rattle.std.proofs.Common.{◌∙◌, inl, inr, refl, sym}
-use Rattle.std.proofs.KnownBytes.{Keeps-refl}
+use Rattle.toml_span_lex.proofs.Common.{◌∙◌, inl, inr, refl, sym, Keeps-refl, arith, nat_tests, common_steps}
 use Rattle.toml_span_check.proofs.start.refuse.Goals as goal
 
 pub returns-in-OutOfMemory : goal.returns-in-OutOfMemory
@@ -12,14 +11,7 @@ pub returns-in-DisplayVersion : goal.returns-in-DisplayVersion
 returns-in-DisplayVersion g c = inr (inl (sym c.kind.ensures ∙ c.in-DisplayVersion.is, c.say-in-DisplayVersion.ensures, Keeps-refl _))
 
 pub returns-in-Ok : goal.returns-in-Ok
-returns-in-Ok g c =
-    let says = c.say-in-Ok.ensures in
-    inr (inr (inl (
-      λ is. c.in_default.not-DisplayHelp (c.kind.ensures ∙ is),
-      λ is. c.in_default.not-DisplayVersion (c.kind.ensures ∙ is),
-      Keeps-refl _,
-      (c.in-Ok.ensures.0, rw (c.as_str.ensures.value ∙ c.in-Ok.ensures.1) at says),
-    )))
+returns-in-Ok g c = grind (arith, nat_tests, common_steps)
 
 pub returns-in-Err : goal.returns-in-Err
 returns-in-Err g c = inr (inr (inr (refl, Keeps-refl _, Keeps-refl _)))

@@ -1,5 +1,4 @@
-use Rattle.std.proofs.Common.{◌≡◌, take, string_bytes}
-use Rattle.std.specs.List.{flat_map}
+use Rattle.toml_span_lex.proofs.Common.{◌≡◌, take, string_bytes, flat_map}
 use Rattle.toml_span_check.specs.Words.{byte_text}
 use Rattle.toml_span_check.proofs.words.bytes_text.Given as goal
 

@@ -1,4 +1,4 @@
-use Rattle.std.proofs.Common.{length}
+use Rattle.toml_span_lex.proofs.Common.{length}
 use Rattle.toml_span_edit.proofs.texts.+begin_with.Given as goal
 
 abbrev pub decreases-begin_with : goal.decreases-begin_with

@@ -1,4 +1,4 @@
-use Rattle.toml_span_laws.proofs.AgainLines.{document_spelled}
+use Rattle.toml_span_laws.proofs.AgainLaws.{document_spelled}
 use Rattle.toml_span_laws.proofs.again.spelled_again.Goals as goal
 
 pub returns : goal.returns

@@ -1,4 +1,4 @@
-use Rattle.std.proofs.Common.{ℕ, List, arith, Result, Ok, Err}
+use Rattle.toml_span_lex.proofs.Common.{ℕ, List, arith, Result, Ok, Err}
 use Rattle.toml_span_tree.specs.Node.{Scalar, datetime}
 use Rattle.toml_span_tree.specs.Value.{date_bytes}
 use Rattle.toml_span_tree.specs.declared.date.DateText.{DateText}

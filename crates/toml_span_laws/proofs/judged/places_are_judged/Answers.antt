@@ -1,6 +1,4 @@
-use Rattle.std.proofs.Common.{rules, arith, ◌≡◌, length, inl, inr}
-use Rattle.std.specs.Str.{IsCharBoundary}
-use Rattle.std.proofs.lemmas.Bool.{cases_lt}
+use Rattle.toml_span_lex.proofs.Common.{rules, arith, ◌≡◌, length, inl, inr, IsCharBoundary, cases_lt}
 use Rattle.toml_span_laws.proofs.judged.places_are_judged.Goals as goal
 use Rattle.toml_span_laws.proofs.judged.places_are_judged.Goals.{then-is_char_boundary, else-is_char_boundary}
 

@@ -1,5 +1,4 @@
-use Rattle.std.proofs.Common.{◌<◌, ℕ}
-use Rattle.std.specs.Str.{IsCharBoundary}
+use Rattle.toml_span_lex.proofs.Common.{◌<◌, ℕ, IsCharBoundary}
 use Rattle.toml_span_laws.specs.code.Judged.{Judged}
 use Rattle.toml_span_laws.proofs.judged.places_are_judged.Given as goal
 

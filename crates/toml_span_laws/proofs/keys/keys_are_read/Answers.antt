@@ -1,5 +1,5 @@
 use Rattle.toml_span_read.proofs.KeyLemmas.{simple_sound, key_sound}
-use Rattle.toml_span_laws.proofs.KeyLaws.{simple_complete, key_complete}
+use Rattle.toml_span_laws.proofs.Complete.{simple_complete, key_complete}
 use Rattle.toml_span_laws.proofs.keys.keys_are_read.Goals as goal
 
 pub returns-clause-single : goal.returns-clause-single

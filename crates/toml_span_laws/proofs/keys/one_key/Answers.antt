@@ -1,5 +1,5 @@
-use Rattle.std.proofs.Common.{[]}
-use Rattle.toml_span_laws.proofs.KeyLaws.{simple_one, key_one}
+use Rattle.toml_span_lex.proofs.Common.{[]}
+use Rattle.toml_span_laws.proofs.OneReading.{simple_one, key_one}
 use Rattle.toml_span_laws.proofs.keys.one_key.Goals as goal
 
 pub returns-clause-single : goal.returns-clause-single

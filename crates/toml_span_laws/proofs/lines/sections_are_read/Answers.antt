@@ -1,4 +1,4 @@
-use Rattle.std.proofs.Common.{map}
+use Rattle.toml_span_lex.proofs.Common.{map}
 use Rattle.toml_span_read.proofs.InsideLemmas.{section_inside, first_sections_inside}
 use Rattle.toml_span_read.proofs.ReadSound.{section_sound, first_sound}
 use Rattle.toml_span_read.specs.Data.{block}

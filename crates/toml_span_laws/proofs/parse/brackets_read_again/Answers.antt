@@ -1,4 +1,4 @@
-use Rattle.toml_span_laws.proofs.ClaimedValues.{document-again}
+use Rattle.toml_span_laws.proofs.ReadAgain.{document-again}
 use Rattle.toml_span_laws.proofs.parse.brackets_read_again.Goals as goal
 
 pub returns : goal.returns

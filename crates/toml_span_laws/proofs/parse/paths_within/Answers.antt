@@ -1,4 +1,4 @@
-use Rattle.toml_span_laws.proofs.PathDepth.{flat-keys, flat-steps, tree-depth}
+use Rattle.toml_span_laws.proofs.DepthLaws.{flat-keys, flat-steps, tree-depth}
 use Rattle.toml_span_laws.proofs.parse.paths_within.Goals as goal
 
 pub returns : goal.returns

@@ -1,4 +1,4 @@
-use Rattle.toml_span_laws.proofs.ReadStrings.{flat-string, tree-string, tree-itself}
+use Rattle.toml_span_laws.proofs.ReadAgain.{flat-string, tree-string, tree-itself}
 use Rattle.toml_span_laws.proofs.parse.strings_show_the_text.Goals as goal
 
 pub returns : goal.returns

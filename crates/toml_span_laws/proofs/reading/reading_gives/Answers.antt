@@ -1,4 +1,4 @@
-use Rattle.std.proofs.Common.{[], arith}
+use Rattle.toml_span_lex.proofs.Common.{[], arith}
 use Rattle.toml_span_laws.proofs.SomeReading.{key_sure, value_sure, document_sure}
 use Rattle.toml_span_laws.proofs.reading.reading_gives.Goals as goal
 
@@ -10,4 +10,4 @@ returns-clause-value c = λ limit left n i b. let (r, h, e) = value_sure c.args.
 
 pub returns-clause-document : goal.returns-clause-document
 returns-clause-document c = λ limit.
-    let (r, h, e) = document_sure c.args.text.now limit c.first_place.result (c.utf8.text, c.places_are_judged.ensures) c.first_place.ensures.gives c.first_place.ensures.boundary in (r, h)
+    let (r, h, e) = document_sure c.args.text.now limit c.first_place.result (c.utf8.text, c.places_are_judged.ensures) c.first_place.ensures.place c.first_place.ensures.boundary in (r, h)

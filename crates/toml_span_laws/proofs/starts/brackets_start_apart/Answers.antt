@@ -1,4 +1,4 @@
-use Rattle.toml_span_laws.proofs.StartLaws.{document_starts_increase}
+use Rattle.toml_span_laws.proofs.AscendLaws.{document_starts_increase}
 use Rattle.toml_span_laws.proofs.starts.brackets_start_apart.Goals as goal
 
 pub returns : goal.returns

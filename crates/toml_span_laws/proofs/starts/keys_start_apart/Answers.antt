@@ -1,4 +1,4 @@
-use Rattle.toml_span_laws.proofs.StartLaws.{document_keys_increase}
+use Rattle.toml_span_laws.proofs.AscendLaws.{document_keys_increase}
 use Rattle.toml_span_laws.proofs.starts.keys_start_apart.Goals as goal
 
 pub returns : goal.returns

@@ -1,4 +1,4 @@
-use Rattle.toml_span_laws.proofs.UndatedLaws.{document_dated}
+use Rattle.toml_span_laws.proofs.WiderDocument.{document_dated}
 use Rattle.toml_span_laws.proofs.undated.undated_document.Goals as goal
 
 pub returns : goal.returns

@@ -1,4 +1,4 @@
-use Rattle.toml_span_laws.proofs.UndatedLaws.{value_dated}
+use Rattle.toml_span_laws.proofs.WiderDocument.{value_dated}
 use Rattle.toml_span_laws.proofs.undated.undated_value.Goals as goal
 
 pub returns : goal.returns

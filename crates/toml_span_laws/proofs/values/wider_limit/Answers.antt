@@ -1,4 +1,4 @@
-use Rattle.toml_span_laws.proofs.WiderLimit.{value_wider}
+use Rattle.toml_span_laws.proofs.WiderDocument.{value_wider}
 use Rattle.toml_span_laws.proofs.values.wider_limit.Goals as goal
 
 pub returns : goal.returns

@@ -1,6 +1,6 @@
 use Rattle.toml_span_lex.proofs.Runs.{boundary_after, blank_ascii}
 use Rattle.toml_span_lex.specs.Bytes.{is_blank}
-use Rattle.std.proofs.Common.{arith}
+use Rattle.toml_span_lex.proofs.Common.{arith}
 use Rattle.toml_span_lex.proofs.bytes.blanks_end.Goals as goal
 
 pub returns-then-not-is_blank-clause-boundary : goal.returns-then-not-is_blank-clause-boundary

@@ -1,5 +1,4 @@
-use Rattle.std.proofs.Common.{refl, arith}
-use Rattle.std.specs.Prelude.{not, ◌&&◌, ◌==◌}
+use Rattle.toml_span_lex.proofs.Common.{refl, arith, not, ◌&&◌, ◌==◌}
 use Rattle.toml_span_lex.specs.declared.bytes.TheConstants.{CLASS}
 use Rattle.toml_span_lex.specs.Bytes.{is_printed, backslash}
 use Rattle.toml_span_lex.proofs.Tables.{agree_below, from_table}

@@ -1,7 +1,6 @@
 use Rattle.toml_span_lex.proofs.Runs.{boundary_after, keylike_ascii}
 use Rattle.toml_span_lex.specs.Bytes.{is_keylike}
-use Rattle.std.proofs.Common.{arith, rules, inl, inr, ◌≡◌}
-use Rattle.std.proofs.lemmas.Bool.{cases_lt}
+use Rattle.toml_span_lex.proofs.Common.{arith, rules, inl, inr, ◌≡◌, cases_lt}
 use Rattle.toml_span_lex.proofs.bytes.keylike_end.Goals as goal
 
 pub loop-at-preserved : goal.loop-at-preserved

@@ -1,4 +1,4 @@
-use Rattle.std.proofs.Common.{arith, refl, ◌+◌}
+use Rattle.toml_span_lex.proofs.Common.{arith, refl, ◌+◌}
 use Rattle.toml_span_lex.specs.Bytes.{is_printed}
 use Rattle.toml_span_lex.proofs.Runs.{part_passes}
 use Rattle.toml_span_lex.proofs.bytes.printed_end.Goals as goal

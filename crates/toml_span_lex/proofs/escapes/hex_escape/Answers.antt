@@ -1,6 +1,5 @@
-use Rattle.std.proofs.Common.{arith, refl, ◌≡◌, ◌+◌, ◌<◌, get_or, length, add_assoc, false, true}
+use Rattle.toml_span_lex.proofs.Common.{arith, refl, ◌≡◌, ◌+◌, ◌<◌, get_or, length, add_assoc, false, true, nat_tests}
 use Rattle.toml_span_lex.specs.Escapes.{is_hex}
-use Rattle.std.proofs.lemmas.Bool.Decides.{nat_tests}
 use Rattle.toml_span_lex.proofs.Hex.{room, grows, hex_value_step, HexRun-more, hex_ascii, past_hex}
 use Rattle.toml_span_lex.proofs.Runs.{behind, char_fails}
 use Rattle.toml_span_lex.proofs.escapes.hex_escape.Goals as goal
@@ -19,10 +18,10 @@ overflow_mul-value c = let h = room c.loop-k.value 0 c.loop-k.k c.loop-k.invaria
 pub overflow_add-value : goal.overflow_add-value
 overflow_add-value c = let d = c.in-Some.ensures.value in let h = room c.loop-k.value c.in-Some.digit c.loop-k.k c.loop-k.invariant.below (omega arith) (omega (arith, d.0, d.1)) in omega arith
 
-pub returns-in-None-clause-gives : goal.returns-in-None-clause-gives
-returns-in-None-clause-gives c =
+pub returns-in-None-clause-hex : goal.returns-in-None-clause-hex
+returns-in-None-clause-hex c =
     let fails : is_hex (get_or c.args.text.now ((c.args.at + 1) + c.loop-k.k) 0) ≡ false = grind (arith, nat_tests, c.in-None.ensures.value) in
-    (omega arith, omega arith, c.loop-k.invariant.run, c.char_at-c.ensures.gives, char_fails is_hex c.args.text.now _ _ _ past_hex refl fails c.char_at-c.ensures.gives)
+    (omega arith, omega arith, c.loop-k.invariant.run, c.char_at-c.ensures.char, char_fails is_hex c.args.text.now _ _ _ past_hex refl fails c.char_at-c.ensures.char)
 
 pub loop-k-preserved : goal.loop-k-preserved
 loop-k-preserved c =

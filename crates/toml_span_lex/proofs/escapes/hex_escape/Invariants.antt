@@ -1,5 +1,4 @@
-use Rattle.std.proofs.Common.{◌≡◌, ◌+◌, ◌*◌, ◌^◌, ◌<◌}
-use Rattle.std.specs.Str.{IsCharBoundary}
+use Rattle.toml_span_lex.proofs.Common.{◌≡◌, ◌+◌, ◌*◌, ◌^◌, ◌<◌, IsCharBoundary}
 use Rattle.toml_span_lex.specs.Escapes as spec
 use Rattle.toml_span_lex.proofs.escapes.hex_escape.Given as goal
 

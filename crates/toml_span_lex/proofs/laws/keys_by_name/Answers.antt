@@ -1,5 +1,4 @@
-use Rattle.std.proofs.Common.{refl}
-use Rattle.std.specs.Cow.{cow_str_bytes}
+use Rattle.toml_span_lex.proofs.Common.{refl, cow_str_bytes}
 use Rattle.toml_span_lex.proofs.Texts.{equal_text, text_equal, tie_equal, equal_tie}
 use Rattle.toml_span_lex.proofs.laws.keys_by_name.Goals as goal
 

@@ -1,4 +1,4 @@
-use Rattle.std.proofs.Common.{◌≡◌, ◌<◌, ℕ, true, get_or}
+use Rattle.toml_span_lex.proofs.Common.{◌≡◌, ◌<◌, ℕ, true, get_or}
 use Rattle.toml_span_lex.specs.Pieces as spec
 use Rattle.toml_span_lex.proofs.pieces.all_plain.Given as goal
 

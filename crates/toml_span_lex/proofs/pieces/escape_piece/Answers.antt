@@ -1,5 +1,4 @@
-use Rattle.std.proofs.Common.{arith, refl, inl, inr, sym, ◌∙◌}
-use Rattle.std.proofs.lemmas.Bool.{false≢true}
+use Rattle.toml_span_lex.proofs.Common.{arith, refl, inl, inr, sym, ◌∙◌, false≢true}
 use Rattle.toml_span_lex.proofs.Runs.{behind}
 use Rattle.toml_span_lex.proofs.pieces.escape_piece.Goals as goal
 use Rattle.toml_span_lex.proofs.pieces.escape_piece.Goals.{else-multi-via-then-multi+else-ws_or_newline_at, else-multi-via-else-multi}
@@ -7,13 +6,13 @@ use Rattle.toml_span_lex.proofs.pieces.escape_piece.Goals.{else-multi-via-then-m
 pub escape-requires : goal.escape-requires
 escape-requires c = behind c.args.text.now c.args.at _ refl c.utf8.text c.requires.within (omega arith)
 
-pub returns-in-Err-clause-gives : goal.returns-in-Err-clause-gives
-returns-in-Err-clause-gives c = inr (inr (inr (inl (
+pub returns-in-Err-clause-piece : goal.returns-in-Err-clause-piece
+returns-in-Err-clause-piece c = inr (inr (inr (inl (
   refl,
   c.requires.here,
   (λ m. elim c.else-multi.branch [
     | else-multi-via-then-multi+else-ws_or_newline_at w ↦ cc w.ws_or_newline_at.ensures.gap
     | else-multi-via-else-multi w ↦ absurd (false≢true (sym w.if-multi.false ∙ m))
   ]),
-  c.in-Err.ensures.gives,
+  c.in-Err.ensures.escape,
 ))))

@@ -1,5 +1,4 @@
-use Rattle.std.proofs.Common.{arith, refl, rules, inl, inr, ◌+◌, ◌≡◌}
-use Rattle.std.proofs.lemmas.Bool.{cases_lt}
+use Rattle.toml_span_lex.proofs.Common.{arith, refl, rules, inl, inr, ◌+◌, ◌≡◌, cases_lt}
 use Rattle.toml_span_lex.specs.Pieces.{is_plain}
 use Rattle.toml_span_lex.proofs.Runs.{part_passes}
 use Rattle.toml_span_lex.proofs.pieces.plain_end.Goals as goal

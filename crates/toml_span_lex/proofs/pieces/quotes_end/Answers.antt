@@ -1,5 +1,4 @@
-use Rattle.std.proofs.Common.{arith}
-use Rattle.std.specs.Prelude.{◌==◌}
+use Rattle.toml_span_lex.proofs.Common.{arith, ◌==◌}
 use Rattle.toml_span_lex.proofs.Runs.{boundary_after, equal_ascii}
 use Rattle.toml_span_lex.proofs.pieces.quotes_end.Goals as goal
 

@@ -1,5 +1,4 @@
-use Rattle.std.proofs.Common.{◌≡◌, ◌≤◌, ◌<◌, ℕ, true, get_or}
-use Rattle.std.specs.Prelude.{◌==◌}
+use Rattle.toml_span_lex.proofs.Common.{◌≡◌, ◌≤◌, ◌<◌, ℕ, true, get_or, ◌==◌}
 use Rattle.toml_span_lex.proofs.pieces.quotes_end.Given as goal
 
 abbrev pub invariant-loop-at : goal.invariant-loop-at

@@ -1,4 +1,4 @@
-use Rattle.std.proofs.Common.{arith}
+use Rattle.toml_span_lex.proofs.Common.{arith}
 use Rattle.toml_span_lex.proofs.Runs.{boundary_gap}
 use Rattle.toml_span_lex.proofs.pieces.ws_and_newlines_end.Goals as goal
 

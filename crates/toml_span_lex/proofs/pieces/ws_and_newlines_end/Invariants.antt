@@ -1,4 +1,4 @@
-use Rattle.std.proofs.Common.{◌≡◌, ◌≤◌, ◌<◌, ℕ, true}
+use Rattle.toml_span_lex.proofs.Common.{◌≡◌, ◌≤◌, ◌<◌, ℕ, true}
 use Rattle.toml_span_lex.specs.Pieces as spec
 use Rattle.toml_span_lex.proofs.pieces.ws_and_newlines_end.Given as goal
 

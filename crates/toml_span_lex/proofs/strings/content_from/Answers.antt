@@ -1,4 +1,4 @@
-use Rattle.std.proofs.Common.{arith, refl, rules, ◌≡◌, ◌+◌, get_or}
+use Rattle.toml_span_lex.proofs.Common.{arith, refl, rules, ◌≡◌, ◌+◌, get_or}
 use Rattle.toml_span_lex.proofs.Runs.{behind, read_within}
 use Rattle.toml_span_lex.proofs.MadeStrings.{third_quote}
 use Rattle.toml_span_lex.proofs.strings.content_from.Goals as goal

@@ -1,26 +1,26 @@
-use Rattle.std.proofs.Common.{◌∙◌, get_or, ap, sym, Global}
+use Rattle.toml_span_lex.proofs.Common.{◌∙◌, get_or, ap, sym, Global}
 use Rattle.std.specs.declared.borrow.CowStr.TheVariants as cow
 use Rattle.toml_span_lex.proofs.MadeStrings.{no_string, no_ends, borrows_same, borrows_own, where_same, where_changed, is_string}
 use Rattle.toml_span_lex.proofs.strings.string_at.Goals as goal
 use Rattle.toml_span_lex.proofs.strings.string_at.Goals.{in-None, in-Some}
 
-pub returns-in-Err-clause-gives : goal.returns-in-Err-clause-gives
-returns-in-Err-clause-gives c =
+pub returns-in-Err-clause-string : goal.returns-in-Err-clause-string
+returns-in-Err-clause-string c =
     no_string Global c.args.text.now c.args.at c.content_from-from.result _ _ c.in-Err.stop (ap (λ xs. get_or xs c.args.at 0) c.as_bytes.ensures.value)
-    (rw c.as_bytes-2.ensures.value at c.opens_multi-multi.ensures) c.requires.quote c.content_from-from.ensures.begins c.in-Err.ensures.gives
+    (rw c.as_bytes-2.ensures.value at c.opens_multi-multi.ensures) c.requires.quote c.content_from-from.ensures.begins c.in-Err.ensures.content
 
 pub returns-in-Err-clause-ends : goal.returns-in-Err-clause-ends
 returns-in-Err-clause-ends c = no_ends Global c.args.text.now c.content_from-from.result c.in-Err.stop c.in-Err.ensures.ends
 
-pub returns-after-kept-clause-gives : goal.returns-after-kept-clause-gives
-returns-after-kept-clause-gives c =
+pub returns-after-kept-clause-string : goal.returns-after-kept-clause-string
+returns-after-kept-clause-string c =
     let text = c.args.text.now in
     let at = c.args.at in
     let from = c.content_from-from.result in
     let m = c.opens_multi-multi.result in
     let to = c.in-Ok.to in
     let end = c.in-Ok.end in
-    let g = c.in-Ok.ensures.gives in
+    let g = c.in-Ok.ensures.content in
     let qe = ap (λ xs. get_or xs at 0) c.as_bytes.ensures.value in
     let me = rw c.as_bytes-2.ensures.value at c.opens_multi-multi.ensures in
     let begins = c.content_from-from.ensures.begins in
@@ -44,7 +44,7 @@ returns-after-kept-clause-borrows c =
     let from = c.content_from-from.result in
     let m = c.opens_multi-multi.result in
     let to = c.in-Ok.to in
-    let g = c.in-Ok.ensures.gives in
+    let g = c.in-Ok.ensures.content in
     elim c.match-kept.branch [
       | in-None w ↦ rw (w.val-is, c.content_span-span.ensures) (where_same {Z = Global} text at from to m (cow.Borrowed w.range.result) c.requires.quote tt w.range.ensures.value)
       | in-Some w ↦

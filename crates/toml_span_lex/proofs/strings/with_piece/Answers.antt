@@ -1,5 +1,4 @@
-use Rattle.std.specs.Prelude.{encode_utf8}
-use Rattle.std.proofs.Common.{arith, ◌<◌, ◌+◌, ◌∙◌, ap, sym, ◌++◌, ◌∷◌, [], inl, inr, append-nil}
+use Rattle.toml_span_lex.proofs.Common.{encode_utf8, arith, ◌<◌, ◌+◌, ◌∙◌, ap, sym, ◌++◌, ◌∷◌, [], inl, inr, append-nil}
 use Rattle.toml_span_lex.proofs.PieceLemmas.{kept_own, change_at, change_more, escape_shorter, dropped_shorter, line_feed, crlf_shorter, crlf_return}
 use Rattle.toml_span_lex.proofs.strings.with_piece.Goals as goal
 

@@ -1,4 +1,4 @@
-use Rattle.std.proofs.Common.{refl, rules}
+use Rattle.toml_span_lex.proofs.Common.{refl, rules}
 use Rattle.toml_span_lex.proofs.Runs.{behind, behind_line, char_found, char_boundary}
 use Rattle.toml_span_lex.proofs.text.char_at.Goals as goal
 
@@ -8,8 +8,8 @@ returns-then-is_crlf-clause-boundary c = behind_line c.args.text.now c.args.at c
 pub returns-then-byte-lt128-clause-boundary : goal.returns-then-byte-lt128-clause-boundary
 returns-then-byte-lt128-clause-boundary c = behind c.args.text.now c.args.at _ refl c.utf8.text c.requires.within (search rules)
 
-pub returns-in-Some-clause-gives : goal.returns-in-Some-clause-gives
-returns-in-Some-clause-gives c =
+pub returns-in-Some-clause-char : goal.returns-in-Some-clause-char
+returns-in-Some-clause-char c =
     char_found c.args.text.now c.next.new.self.rest.now c.args.at c.len_utf8.result c.in-Some.c (search rules) c.len_utf8.ensures.value (let h = c.in-Some.ensures.steps in cc h.0)
 
 pub returns-in-Some-clause-boundary : goal.returns-in-Some-clause-boundary

@@ -1,4 +1,4 @@
-use Rattle.std.proofs.Common.{arith, refl, rules}
+use Rattle.toml_span_lex.proofs.Common.{arith, refl, rules}
 use Rattle.toml_span_lex.proofs.Runs.{behind, behind_line}
 use Rattle.toml_span_lex.proofs.text.line_end.Goals as goal
 

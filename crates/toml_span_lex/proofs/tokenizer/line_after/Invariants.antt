@@ -1,4 +1,4 @@
-use Rattle.std.proofs.Common.{◌≤◌, ◌<◌, ℕ}
+use Rattle.toml_span_lex.proofs.Common.{◌≤◌, ◌<◌, ℕ}
 use Rattle.toml_span_lex.specs.Text.{NoLineEnd}
 use Rattle.toml_span_lex.proofs.tokenizer.line_after.Given as goal
 

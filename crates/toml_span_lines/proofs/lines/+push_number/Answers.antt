@@ -1,6 +1,4 @@
-use Rattle.std.proofs.Common.{◌≡◌, arith, sym, ap, ◌∙◌, append_assoc, ◌++◌, ◌∷◌, [], ◌+◌, ◌/◌, ◌%◌}
-use Rattle.std.specs.Fmt.{decimal}
-use Rattle.std.proofs.lemmas.Fmt.{decimal_step, decimal_digit}
+use Rattle.toml_span_lex.proofs.Common.{◌≡◌, arith, sym, ap, ◌∙◌, append_assoc, ◌++◌, ◌∷◌, [], ◌+◌, ◌/◌, ◌%◌, decimal, decimal_step, decimal_digit}
 use Rattle.toml_span_lines.proofs.lines.+push_number.Goals as goal
 use Rattle.toml_span_lines.proofs.lines.+push_number.Goals.{then-number-ge10+in_ok-push_number, else-number-ge10}
 

@@ -1,6 +1,5 @@
-use Rattle.std.proofs.Common.{◌≡◌, ◌++◌, sym, ap, refl, ◌∙◌}
-use Rattle.std.specs.Cow.{cow_str_bytes}
-use Rattle.toml_span_tree.specs.Value.{view, inner_view, items_view, members_view, kind_name}
+use Rattle.toml_span_lex.proofs.Common.{◌≡◌, ◌++◌, sym, ap, refl, ◌∙◌, cow_str_bytes}
+use Rattle.toml_span_tree.specs.Value.{view, inner_view, items_view, members_view}
 use Rattle.toml_span_lines.specs.Lines.{line, node_lines, held_lines, items_lines, members_lines, position_segment, key_segment}
 use Rattle.toml_span_lines.proofs.Fronts.{holds-all, holds-more, fails-behind, stops-behind, goes-on}
 use Rattle.toml_span_lines.proofs.Walks.{node_lines-held, items_lines-next, members_lines-next, take-segment}
@@ -103,10 +102,8 @@ write_value-returns-in_err-write_line-clause-out g t c =
     let span = c.args.value.now.span in
     let i = inner_view c.as_ref-inner.result.now in
     let own = line c.as_slice.result.now c.type_str.result.now span.start span.end in
-    let same : held ++ own ≡ held ++ line path (kind_name i) span.start span.end =
-    ap (λ p. held ++ line p c.type_str.result.now span.start span.end) c.as_slice.ensures.value ∙ ap (λ k. held ++ line path k span.start span.end) c.type_str.ensures in
     fails-behind (Unit {0}) (Unit {0}) c.from_residual.result c.in_err-write_line.field-0.0 _ _ _ _ held held own (held_lines path i) _ _ _ c.from_residual.ensures.1 (holds-all _ held) c.in_err-write_line.ensures
-    (node_lines-held (view c.args.value.now) i span path held (held ++ own) _ c.as_ref-inner.ensures (sym c.is_taken.ensures ∙ c.if-is_taken.false) same refl)
+    (node_lines-held (view c.args.value.now) i span path held _ _ _ c.as_ref-inner.ensures (sym c.is_taken.ensures ∙ c.if-is_taken.false) c.as_slice.ensures.value c.type_str.ensures refl)
 
 pub write_value-returns-in-Array-clause-out : goal.write_value-returns-in-Array-clause-out
 write_value-returns-in-Array-clause-out g t c =
@@ -115,12 +112,10 @@ write_value-returns-in-Array-clause-out g t c =
     let span = c.args.value.now.span in
     let i = inner_view c.as_ref-inner.result.now in
     let own = line c.as_slice.result.now c.type_str.result.now span.start span.end in
-    let same : held ++ own ≡ held ++ line path (kind_name i) span.start span.end =
-    ap (λ p. held ++ line p c.type_str.result.now span.start span.end) c.as_slice.ensures.value ∙ ap (λ k. held ++ line path k span.start span.end) c.type_str.ensures in
     let below : items_lines path 0 (items_view c.as_slice-in-Array.result.now) ≡ held_lines path i =
     ap (λ es. items_lines path 0 (items_view es)) c.as_slice-in-Array.ensures.value ∙ sym (ap (held_lines path) (ap inner_view c.in-Array.is ∙ inner_view-Array c.in-Array.elements)) in
     goes-on c.write_elements.result _ _ _ _ (held ++ own) _ _ _ _ c.in_ok-write_line.ensures.1 c.write_elements.ensures.out
-    (node_lines-held (view c.args.value.now) i span path held (held ++ own) _ c.as_ref-inner.ensures (sym c.is_taken.ensures ∙ c.if-is_taken.false) same
+    (node_lines-held (view c.args.value.now) i span path held _ _ _ c.as_ref-inner.ensures (sym c.is_taken.ensures ∙ c.if-is_taken.false) c.as_slice.ensures.value c.type_str.ensures
     (ap (λ l. (held ++ own) ++ l) below))
 
 pub write_value-returns-in-Table-clause-out : goal.write_value-returns-in-Table-clause-out
@@ -130,10 +125,8 @@ write_value-returns-in-Table-clause-out g t c =
     let span = c.args.value.now.span in
     let i = inner_view c.as_ref-inner.result.now in
     let own = line c.as_slice.result.now c.type_str.result.now span.start span.end in
-    let same : held ++ own ≡ held ++ line path (kind_name i) span.start span.end =
-    ap (λ p. held ++ line p c.type_str.result.now span.start span.end) c.as_slice.ensures.value ∙ ap (λ k. held ++ line path k span.start span.end) c.type_str.ensures in
     let below : members_lines path (members_view c.in-Table.table.entries) ≡ held_lines path i =
     sym (ap (held_lines path) (ap inner_view c.in-Table.is ∙ inner_view-Table c.in-Table.table)) in
     goes-on c.write_entries.result _ _ _ _ (held ++ own) _ _ _ _ c.in_ok-write_line.ensures.1 c.write_entries.ensures.out
-    (node_lines-held (view c.args.value.now) i span path held (held ++ own) _ c.as_ref-inner.ensures (sym c.is_taken.ensures ∙ c.if-is_taken.false) same
+    (node_lines-held (view c.args.value.now) i span path held _ _ _ c.as_ref-inner.ensures (sym c.is_taken.ensures ∙ c.if-is_taken.false) c.as_slice.ensures.value c.type_str.ensures
     (ap (λ l. (held ++ own) ++ l) below))

@@ -1,4 +1,4 @@
-use Rattle.std.proofs.Common.{◌≡◌, ◌≤◌, ℕ, List, suc, ◌++◌, drop, false, length}
+use Rattle.toml_span_lex.proofs.Common.{◌≡◌, ◌≤◌, ℕ, List, suc, ◌++◌, drop, false, length}
 use Rattle.toml_span_tree.specs.Value.{view, items_view, members_view}
 use Rattle.toml_span_lines.specs.Held.{HoldsRest}
 use Rattle.toml_span_lines.specs.Lines.{items_lines, members_lines}

@@ -1,5 +1,4 @@
-use Rattle.std.proofs.Common.{◌≡◌, ◌++◌, ◌∷◌, drop}
-use Rattle.std.specs.List.{flat_map}
+use Rattle.toml_span_lex.proofs.Common.{◌≡◌, ◌++◌, ◌∷◌, drop, flat_map}
 use Rattle.toml_span_lines.specs.Lines.{shown_byte}
 use Rattle.toml_span_lines.proofs.lines.push_key.Given as goal
 

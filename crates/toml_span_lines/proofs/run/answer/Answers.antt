@@ -1,6 +1,4 @@
-use Rattle.std.proofs.Common.{◌≡◌, ◌≤◌, ℕ, List, Vec, Result, Ok, Err, IfOk, IsUtf8, length, subst, arith}
-use Rattle.std.specs.Global.{Global}
-use Rattle.std.specs.declared.alloc.AllocError.{AllocError}
+use Rattle.toml_span_lex.proofs.Common.{◌≡◌, ◌≤◌, ℕ, List, Vec, Result, Ok, Err, IfOk, IsUtf8, length, subst, arith, Global, AllocError}
 use Rattle.toml_span_lines.specs.Run.{bound, IsAnswer, IsShown}
 use Rattle.toml_span_lines.proofs.run.answer.Goals as goal
 

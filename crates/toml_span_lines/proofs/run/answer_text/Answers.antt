@@ -1,4 +1,4 @@
-use Rattle.std.proofs.Common.{inl, inr, refl}
+use Rattle.toml_span_lex.proofs.Common.{inl, inr, refl}
 use Rattle.toml_span_lines.proofs.TreeShown.{tree-document}
 use Rattle.toml_span_lines.proofs.run.answer_text.Goals as goal
 

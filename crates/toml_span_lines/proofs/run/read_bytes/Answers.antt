@@ -1,4 +1,4 @@
-use Rattle.std.proofs.Common.{arith, ℕ, ◌+◌, ◌++◌, ◌≤◌, ◌∙◌, take, length, length-append, length-take}
+use Rattle.toml_span_lex.proofs.Common.{arith, ℕ, ◌+◌, ◌++◌, ◌≤◌, ◌∙◌, take, length, length-append, length-take}
 use Rattle.toml_span_lines.specs.Run.{bound}
 use Rattle.toml_span_lines.proofs.Known.{consumes_more}
 use Rattle.toml_span_lines.proofs.run.read_bytes.Goals as goal

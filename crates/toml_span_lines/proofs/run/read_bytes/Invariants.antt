@@ -1,5 +1,4 @@
-use Rattle.std.proofs.Common.{◌≡◌, false, ◌-◌, ◌≤◌, ◌+◌, vec_len}
-use Rattle.std.specs.Io.KnownBytes.{Consumes}
+use Rattle.toml_span_lex.proofs.Common.{◌≡◌, false, ◌-◌, ◌≤◌, ◌+◌, vec_len, Consumes}
 use Rattle.toml_span_lines.specs.Run.{bound}
 use Rattle.toml_span_lines.proofs.run.read_bytes.Given as goal
 

@@ -1,6 +1,4 @@
-use Rattle.std.proofs.Common.{arith, take-add, sym, ◌++◌, ◌+◌, take, drop, ◌≡◌}
-use Rattle.std.proofs.Common.{length-take, length-drop}
-use Rattle.std.proofs.lemmas.List.{take_rest}
+use Rattle.toml_span_lex.proofs.Common.{arith, take-add, sym, ◌++◌, ◌+◌, take, drop, ◌≡◌, length-take, length-drop, take_rest}
 use Rattle.toml_span_lines.proofs.Known.{appends_more, stays_good}
 use Rattle.toml_span_lines.proofs.run.write_bytes.Goals as goal
 

@@ -1,5 +1,4 @@
-use Rattle.std.proofs.Common.{◌≡◌, false, ◌-◌, ◌≤◌, length, take}
-use Rattle.std.specs.Io.KnownBytes.{Appends}
+use Rattle.toml_span_lex.proofs.Common.{◌≡◌, false, ◌-◌, ◌≤◌, length, take, Appends}
 use Rattle.toml_span_lines.proofs.run.write_bytes.Given as goal
 
 abbrev pub invariant-loop-at : goal.invariant-loop-at

@@ -1,4 +1,4 @@
-use Rattle.std.specs.Io.KnownBytes.{Keeps}
+use Rattle.toml_span_lex.proofs.Common.{Keeps}
 use Rattle.toml_span_lines.proofs.told.read_again.Given as goal
 
 abbrev pub invariant-loop : goal.invariant-loop

@@ -1,4 +1,4 @@
-use Rattle.std.proofs.Common.{map, string_bytes, sym}
+use Rattle.toml_span_lex.proofs.Common.{map, string_bytes, sym}
 use Rattle.toml_span_report.specs.Report.{report_content}
 use Rattle.toml_span_report.specs.declared.colours.Style.TheVariants as styles
 use Rattle.toml_span_load.proofs.Loads.{are_told}

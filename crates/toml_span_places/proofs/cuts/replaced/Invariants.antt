@@ -1,4 +1,4 @@
-use Rattle.std.proofs.Common.{◌≡◌, ◌++◌, string_bytes, drop}
+use Rattle.toml_span_lex.proofs.Common.{◌≡◌, ◌++◌, string_bytes, drop}
 use Rattle.toml_span_places.specs.Cuts.{AreParts, replaced}
 use Rattle.toml_span_places.proofs.cuts.replaced.Given as goal
 

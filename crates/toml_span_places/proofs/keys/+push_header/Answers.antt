@@ -1,8 +1,7 @@
-use Rattle.std.proofs.Common.{sym}
+use Rattle.toml_span_lex.proofs.Common.{sym}
 use Rattle.toml_span_places.specs.Keys.{steps_of}
 use Rattle.toml_span_places.specs.code.Opened.{counts_of}
-use Rattle.toml_span_places.proofs.PathLemmas.{header_last, header_more, header_none, same_path_ok}
-use Rattle.toml_span_places.proofs.KeyLemmas.{header_listed, on_ok_same}
+use Rattle.toml_span_places.proofs.PathLemmas.{header_last, header_more, header_none, same_path_ok, header_listed, on_ok_same}
 use Rattle.toml_span_places.proofs.keys.+push_header.Goals as goal
 
 pub returns-in_default-clause-path : goal.returns-in_default-clause-path

@@ -1,4 +1,4 @@
-use Rattle.std.proofs.Common.{[], ◌++◌, ap, map, refl, sym}
+use Rattle.toml_span_lex.proofs.Common.{[], ◌++◌, ap, map, refl, sym}
 use Rattle.toml_span_read.specs.Data.{block}
 use Rattle.toml_span_places.specs.Keys.{section_keys, sections_keys, standing}
 use Rattle.toml_span_places.proofs.SectionLemmas.{listed_section}

@@ -1,4 +1,4 @@
-use Rattle.std.proofs.Common.{◌≡◌}
+use Rattle.toml_span_lex.proofs.Common.{◌≡◌}
 use Rattle.toml_span_places.specs.Lines.{behind_line}
 use Rattle.toml_span_places.proofs.lines.behind_line.Given as goal
 

@@ -1,4 +1,4 @@
-use Rattle.std.proofs.Common.{◌≡◌}
+use Rattle.toml_span_lex.proofs.Common.{◌≡◌}
 use Rattle.toml_span_places.specs.Lines.{blanks_start}
 use Rattle.toml_span_places.proofs.lines.blanks_start.Given as goal
 

@@ -1,4 +1,4 @@
-use Rattle.std.proofs.Common.{arith}
+use Rattle.toml_span_lex.proofs.Common.{arith}
 use Rattle.toml_span_places.proofs.OpenedLemmas.{counts_put}
 use Rattle.toml_span_places.proofs.opened.add.Goals as goal
 

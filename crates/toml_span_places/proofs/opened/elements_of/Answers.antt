@@ -1,4 +1,4 @@
-use Rattle.std.proofs.Common.{◌∙◌, ap, map, unwrap_or}
+use Rattle.toml_span_lex.proofs.Common.{◌∙◌, ap, map, unwrap_or}
 use Rattle.toml_span_places.specs.code.Opened.{sorted_step}
 use Rattle.toml_span_places.proofs.OpenedLemmas.{counts_read}
 use Rattle.toml_span_places.proofs.opened.elements_of.Goals as goal

@@ -1,4 +1,4 @@
-use Rattle.std.proofs.Common.{◌≡◌, ◌++◌, drop, map}
+use Rattle.toml_span_lex.proofs.Common.{◌≡◌, ◌++◌, drop, map}
 use Rattle.toml_span_tree.specs.Nodes.{step_of}
 use Rattle.toml_span_places.specs.code.Opened.{sorted_step}
 use Rattle.toml_span_places.proofs.opened.sorted_path.Given as goal

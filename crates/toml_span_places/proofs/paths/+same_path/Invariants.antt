@@ -1,4 +1,4 @@
-use Rattle.std.proofs.Common.{length}
+use Rattle.toml_span_lex.proofs.Common.{length}
 use Rattle.toml_span_places.proofs.paths.+same_path.Given as goal
 
 abbrev pub decreases-same_path : goal.decreases-same_path

@@ -1,8 +1,7 @@
-use Rattle.std.proofs.Common.{[], ap, map, sym}
+use Rattle.toml_span_lex.proofs.Common.{[], ap, map, sym}
 use Rattle.toml_span_tree.specs.Nodes.{step_of}
 use Rattle.toml_span_read.specs.Data.{block}
-use Rattle.toml_span_places.proofs.PointLemmas.{point_from}
-use Rattle.toml_span_places.proofs.SectionLemmas.{point_next}
+use Rattle.toml_span_places.proofs.SectionLemmas.{point_from, point_next}
 use Rattle.toml_span_places.proofs.points.insertion_point.Goals as goal
 
 pub loop-section-init : goal.loop-section-init

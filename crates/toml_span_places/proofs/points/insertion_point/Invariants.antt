@@ -1,11 +1,11 @@
-use Rattle.std.proofs.Common.{◌≡◌, List, drop, map}
+use Rattle.toml_span_lex.proofs.Common.{◌≡◌, List, drop, map}
 use Rattle.toml_span_tree.specs.Nodes.{step_of}
 use Rattle.toml_span_read.specs.Data.{block}
 use Rattle.toml_span_tree.specs.Path.{Path}
 use Rattle.toml_span.specs.Paths.{elements_added}
 use Rattle.toml_span_places.specs.code.Opened.{counts_of}
 use Rattle.toml_span_places.specs.Points.{insertion_point}
-use Rattle.toml_span_places.proofs.PointLemmas.{point_from}
+use Rattle.toml_span_places.proofs.SectionLemmas.{point_from}
 use Rattle.toml_span_places.proofs.points.insertion_point.Given as goal
 
 abbrev pub invariant-loop-section : goal.invariant-loop-section

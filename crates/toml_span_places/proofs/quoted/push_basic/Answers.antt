@@ -1,7 +1,4 @@
-use Rattle.std.proofs.Common.{sym, ap, ◌∙◌, map-id, string_bytes, ◌++◌}
-use Rattle.std.proofs.lemmas.Iterator.{YieldsList-from_chars}
-use Rattle.std.proofs.lemmas.Iterator.Consumers.{YieldsList-end}
-use Rattle.std.specs.List.{flat_map}
+use Rattle.toml_span_lex.proofs.Common.{sym, ap, ◌∙◌, map-id, string_bytes, ◌++◌, YieldsList-from_chars, YieldsList-end, flat_map}
 use Rattle.toml_span_places.specs.Quoted.{basic, basic_char}
 use Rattle.toml_span_places.proofs.quoted.push_basic.Goals as goal
 

@@ -1,5 +1,4 @@
-use Rattle.std.proofs.Common.{◌≡◌, ◌++◌, string_bytes}
-use Rattle.std.specs.List.{flat_map}
+use Rattle.toml_span_lex.proofs.Common.{◌≡◌, ◌++◌, string_bytes, flat_map}
 use Rattle.toml_span_places.specs.Quoted.{basic_char}
 use Rattle.toml_span_places.proofs.quoted.push_basic.Given as goal
 

@@ -1,4 +1,4 @@
-use Rattle.std.proofs.Common.{◌∙◌, sym}
+use Rattle.toml_span_lex.proofs.Common.{◌∙◌, sym}
 use Rattle.toml_span_places.specs.Keys.{steps_of}
 use Rattle.toml_span_places.specs.code.Opened.{counts_of}
 use Rattle.toml_span_places.proofs.PathLemmas.{header_last, header_more, header_none, same_path_ok}

@@ -1,4 +1,4 @@
-use Rattle.std.proofs.Common.{[], ◌∷◌, ◌++◌, ap, map, refl, sym}
+use Rattle.toml_span_lex.proofs.Common.{[], ◌∷◌, ◌++◌, ap, map, refl, sym}
 use Rattle.toml_span_read.specs.Data.{block}
 use Rattle.toml_span.specs.Paths.{section_path}
 use Rattle.toml_span_places.specs.Sections.{section_at, sections_from, standing_section}

@@ -1,5 +1,4 @@
-use Rattle.std.proofs.Common.{◌≡◌, None, map, option_map}
-use Rattle.std.specs.Prelude.{fold}
+use Rattle.toml_span_lex.proofs.Common.{◌≡◌, None, map, option_map, fold}
 use Rattle.toml_span_places.specs.Spots.{later, spot}
 use Rattle.toml_span_places.proofs.spots.innermost.Given as goal
 

@@ -1,4 +1,4 @@
-use Rattle.std.proofs.Common.{length}
+use Rattle.toml_span_lex.proofs.Common.{length}
 use Rattle.toml_span_places.proofs.tables.+push_dotted.Given as goal
 
 abbrev pub decreases-push_dotted : goal.decreases-push_dotted

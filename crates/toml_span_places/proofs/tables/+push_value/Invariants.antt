@@ -1,9 +1,8 @@
-use Rattle.std.proofs.Common.{◌≡◌, ◌≤◌, ◌++◌, suc, drop, map}
+use Rattle.toml_span_lex.proofs.Common.{◌≡◌, ◌≤◌, ◌++◌, suc, drop, map}
 use Rattle.toml_span_read.specs.Data.{view}
 use Rattle.toml_span_tree.specs.Nodes.{step_of}
 use Rattle.toml_span_places.specs.Tables.{standing_table}
-use Rattle.toml_span_places.proofs.TableLemmas.{assigned_tables, elements_tables}
-use Rattle.toml_span_places.proofs.ValueSizes.{assigned_size, elements_size, value_size}
+use Rattle.toml_span_places.proofs.ValueSizes.{assigned_size, assigned_tables, elements_size, elements_tables, value_size}
 use Rattle.toml_span_places.proofs.tables.+push_value.Given as goal
 
 abbrev pub decreases-push_value : goal.decreases-push_value

@@ -1,4 +1,4 @@
-use Rattle.std.proofs.Common.{◌≡◌, ◌++◌, drop, map}
+use Rattle.toml_span_lex.proofs.Common.{◌≡◌, ◌++◌, drop, map}
 use Rattle.toml_span_tree.specs.Nodes.{step_of}
 use Rattle.toml_span_places.specs.Tables.{forms_at, standing_table}
 use Rattle.toml_span_places.proofs.tables.forms_of.Given as goal

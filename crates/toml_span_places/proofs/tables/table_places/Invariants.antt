@@ -1,4 +1,4 @@
-use Rattle.std.proofs.Common.{◌≡◌, ◌++◌, List, drop, map}
+use Rattle.toml_span_lex.proofs.Common.{◌≡◌, ◌++◌, List, drop, map}
 use Rattle.toml_span_read.specs.Data.{block}
 use Rattle.toml_span_tree.specs.Path.{Path}
 use Rattle.toml_span.specs.Paths.{elements_added}

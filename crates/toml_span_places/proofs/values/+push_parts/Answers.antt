@@ -1,5 +1,5 @@
 use Rattle.toml_span_places.specs.Keys.{steps_of}
-use Rattle.toml_span_places.proofs.KeyLemmas.{on_ok_same, parts_listed}
+use Rattle.toml_span_places.proofs.PathLemmas.{on_ok_same, parts_listed}
 use Rattle.toml_span_places.proofs.values.+push_parts.Goals as goal
 
 pub returns-clause-keys : goal.returns-clause-keys

@@ -1,4 +1,4 @@
-use Rattle.std.proofs.Common.{length}
+use Rattle.toml_span_lex.proofs.Common.{length}
 use Rattle.toml_span_places.proofs.values.+push_parts.Given as goal
 
 abbrev pub decreases-push_parts : goal.decreases-push_parts

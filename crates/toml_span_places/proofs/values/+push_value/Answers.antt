@@ -1,10 +1,9 @@
-use Rattle.std.proofs.Common.{◌≡◌, ◌∷◌, [], ◌++◌, ◌∙◌, map, sym}
+use Rattle.toml_span_lex.proofs.Common.{◌≡◌, ◌∷◌, [], ◌++◌, ◌∙◌, map, refl, sym}
 use Rattle.toml_span_read.specs.Data.{view}
 use Rattle.toml_span_tree.specs.Nodes.{step_of}
 use Rattle.toml_span_tree.specs.Path.{position}
-use Rattle.toml_span_places.specs.Keys.{standing, value_keys}
-use Rattle.toml_span_places.proofs.ValueKeys.{elements_next}
-use Rattle.toml_span_places.proofs.ValueSizes.{elements_small}
+use Rattle.toml_span_places.specs.Keys.{item_keys, standing, value_keys}
+use Rattle.toml_span_places.proofs.ValueSizes.{elements_next, elements_small}
 use Rattle.toml_span_places.proofs.values.+push_value.Goals as goal
 
 pub push_items-loop-position-preserved : goal.push_items-loop-position-preserved
@@ -19,5 +18,5 @@ push_items-loop-position-preserved t c =
     c.in_ok-push_value.ensures ∙ rw (c.as_slice.ensures.value, c.in_ok-element.ensures) in
     record {
       small = elements_small l.position vs v _ c.loop-position-test.true here l.invariant.small;
-      out = elements_next c.args.text.now path l.position vs v _ _ _ c.loop-position-test.true here more l.invariant.out;
+      out = elements_next (item_keys c.args.text.now path) (λ i. value_keys c.args.text.now (path ++ (position i ∷ []))) (λ i x xs. refl) l.position vs v _ _ _ c.loop-position-test.true here more l.invariant.out;
     }

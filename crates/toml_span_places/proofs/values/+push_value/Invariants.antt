@@ -1,9 +1,8 @@
-use Rattle.std.proofs.Common.{◌≡◌, ◌≤◌, suc, ◌++◌, drop, map}
+use Rattle.toml_span_lex.proofs.Common.{◌≡◌, ◌≤◌, suc, ◌++◌, drop, map}
 use Rattle.toml_span_read.specs.Data.{view}
 use Rattle.toml_span_tree.specs.Nodes.{step_of}
 use Rattle.toml_span_places.specs.Keys.{standing}
-use Rattle.toml_span_places.proofs.ValueKeys.{assigned_keys, elements_keys}
-use Rattle.toml_span_places.proofs.ValueSizes.{assigned_size, elements_size, value_size}
+use Rattle.toml_span_places.proofs.ValueSizes.{assigned_keys, assigned_size, elements_keys, elements_size, value_size}
 use Rattle.toml_span_places.proofs.values.+push_value.Given as goal
 
 abbrev pub decreases-push_value : goal.decreases-push_value

@@ -1,8 +1,10 @@
-use Rattle.std.proofs.Common.{arith}
+use Rattle.toml_span_lex.proofs.Common.{arith, common_steps, nat_tests, ℕ, ◌≡◌, ◌<◌, true}
 use Rattle.toml_span_lex.proofs.Runs.{boundary_after}
 use Rattle.toml_span_read.specs.Dates.{is_date_byte}
-use Rattle.toml_span_read.proofs.DateLemmas.{date_ascii}
 use Rattle.toml_span_read.proofs.dates.date_run_end.Goals as goal
+
+date_ascii : (c : ℕ) → is_date_byte c ≡ true → c < 128
+date_ascii c h = grind (arith, nat_tests, common_steps)
 
 pub returns-then-not-is_date_byte-clause-boundary : goal.returns-then-not-is_date_byte-clause-boundary
 returns-then-not-is_date_byte-clause-boundary c =

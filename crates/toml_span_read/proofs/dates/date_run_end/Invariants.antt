@@ -1,4 +1,4 @@
-use Rattle.std.proofs.Common.{◌≡◌, ◌≤◌, ◌<◌, ℕ, true, get_or}
+use Rattle.toml_span_lex.proofs.Common.{◌≡◌, ◌≤◌, ◌<◌, ℕ, true, get_or}
 use Rattle.toml_span_read.specs.Dates as spec
 use Rattle.toml_span_read.proofs.dates.date_run_end.Given as goal
 

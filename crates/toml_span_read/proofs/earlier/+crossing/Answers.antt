@@ -1,5 +1,4 @@
-use Rattle.std.proofs.Common.{sym, ap, ◌∙◌}
-use Rattle.std.specs.Option.{option_copied}
+use Rattle.toml_span_lex.proofs.Common.{sym, ap, ◌∙◌, option_copied}
 use Rattle.toml_span_read.proofs.EarlierTree.{parts-first, finds-missing, finds-here, finds-below}
 use Rattle.toml_span_read.proofs.earlier.+crossing.Goals as goal
 

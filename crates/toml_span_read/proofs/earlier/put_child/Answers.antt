@@ -1,6 +1,4 @@
-use Rattle.std.proofs.Common.{arith, ◌≡◌, refl}
-use Rattle.std.proofs.lemmas.Grind.{common_steps}
-use Rattle.std.specs.Cow.{cow_str_bytes}
+use Rattle.toml_span_lex.proofs.Common.{arith, ◌≡◌, refl, common_steps, cow_str_bytes}
 use Rattle.toml_span_read.proofs.EarlierTree.{puts-key}
 use Rattle.toml_span_read.proofs.earlier.put_child.Goals as goal
 

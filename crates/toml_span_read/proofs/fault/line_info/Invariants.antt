@@ -1,5 +1,4 @@
-use Rattle.std.proofs.Common.{◌≡◌, ◌<◌, ◌≤◌, ◌⊎◌, ℕ, ◌+◌, false, take, get_or}
-use Rattle.std.specs.Prelude.{◌==◌, count_by}
+use Rattle.toml_span_lex.proofs.Common.{◌≡◌, ◌<◌, ◌≤◌, ◌⊎◌, ℕ, ◌+◌, false, take, get_or, ◌==◌, count_by}
 use Rattle.toml_span_read.proofs.fault.line_info.Given as goal
 
 abbrev pub invariant-loop-i : goal.invariant-loop-i

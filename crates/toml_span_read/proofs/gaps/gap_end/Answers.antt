@@ -1,4 +1,4 @@
-use Rattle.std.proofs.Common.{arith}
+use Rattle.toml_span_lex.proofs.Common.{arith}
 use Rattle.toml_span_read.proofs.Places.{gap_more}
 use Rattle.toml_span_read.proofs.gaps.gap_end.Goals as goal
 

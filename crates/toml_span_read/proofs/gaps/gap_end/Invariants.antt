@@ -1,5 +1,4 @@
-use Rattle.std.proofs.Common.{◌≤◌, ◌-◌, ℕ, List, length}
-use Rattle.std.specs.Str.{IsCharBoundary}
+use Rattle.toml_span_lex.proofs.Common.{◌≤◌, ◌-◌, ℕ, List, length, IsCharBoundary}
 use Rattle.toml_span_read.specs.Gaps.{GapBy}
 use Rattle.toml_span_read.proofs.gaps.gap_end.Given as goal
 

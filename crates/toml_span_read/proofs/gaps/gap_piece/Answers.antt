@@ -1,4 +1,4 @@
-use Rattle.std.proofs.Common.{rules, inl, refl}
+use Rattle.toml_span_lex.proofs.Common.{rules, inl, refl}
 use Rattle.toml_span_read.proofs.Places.{further_byte}
 use Rattle.toml_span_read.proofs.gaps.gap_piece.Goals as goal
 

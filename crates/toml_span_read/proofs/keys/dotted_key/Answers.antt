@@ -1,4 +1,4 @@
-use Rattle.std.proofs.Common.{arith, false}
+use Rattle.toml_span_lex.proofs.Common.{arith, false}
 use Rattle.toml_span_read.specs.Borrowed.{IsWrittenRight}
 use Rattle.toml_span_read.specs.code.Keys.{parts_found}
 use Rattle.toml_span_read.proofs.BorrowLemmas.{keys_more}

@@ -1,5 +1,4 @@
-use Rattle.std.proofs.Common.{◌≤◌, ◌-◌, false, length}
-use Rattle.std.specs.Str.{IsCharBoundary}
+use Rattle.toml_span_lex.proofs.Common.{◌≤◌, ◌-◌, false, length, IsCharBoundary}
 use Rattle.toml_span_read.specs.Borrowed.{AreWrittenRight, keys_written}
 use Rattle.toml_span_read.proofs.KeyLemmas.{Behind}
 use Rattle.toml_span_read.proofs.keys.dotted_key.Given as goal

@@ -1,5 +1,4 @@
-use Rattle.std.proofs.Common.{arith, [], ◌∷◌, true}
-use Rattle.std.proofs.lemmas.List.{map-append}
+use Rattle.toml_span_lex.proofs.Common.{arith, [], ◌∷◌, true, map-append}
 use Rattle.toml_span_read.specs.Borrowed.{IsWrittenRight}
 use Rattle.toml_span_read.specs.Keys.{simple_key}
 use Rattle.toml_span_read.specs.code.Keys.{header_found}

@@ -1,5 +1,4 @@
-use Rattle.std.proofs.Common.{◌≤◌, ◌-◌, true, length}
-use Rattle.std.specs.Str.{IsCharBoundary}
+use Rattle.toml_span_lex.proofs.Common.{◌≤◌, ◌-◌, true, length, IsCharBoundary}
 use Rattle.toml_span_read.specs.Borrowed.{AreWrittenRight, keys_written}
 use Rattle.toml_span_read.proofs.KeyLemmas.{Behind}
 use Rattle.toml_span_read.proofs.keys.header_key.Given as goal

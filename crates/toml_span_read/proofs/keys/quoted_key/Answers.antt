@@ -1,4 +1,4 @@
-use Rattle.std.proofs.Common.{refl, true, false}
+use Rattle.toml_span_lex.proofs.Common.{refl, true, false}
 use Rattle.toml_span_lex.specs.Tokens.{string}
 use Rattle.toml_span_read.specs.Read.{token}
 use Rattle.toml_span_read.proofs.keys.quoted_key.Goals as goal

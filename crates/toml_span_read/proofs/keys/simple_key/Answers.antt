@@ -1,4 +1,4 @@
-use Rattle.std.proofs.Common.{refl, sym}
+use Rattle.toml_span_lex.proofs.Common.{refl, sym}
 use Rattle.toml_span_lex.specs.Bytes.{is_keylike}
 use Rattle.toml_span_lex.specs.Tokens.{keylike}
 use Rattle.toml_span_read.specs.Read.{token}

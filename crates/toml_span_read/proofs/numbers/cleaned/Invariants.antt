@@ -1,5 +1,4 @@
-use Rattle.std.proofs.Common.{◌≡◌, ◌++◌, drop}
-use Rattle.std.specs.Prelude.{string_bytes}
+use Rattle.toml_span_lex.proofs.Common.{◌≡◌, ◌++◌, drop, string_bytes}
 use Rattle.toml_span_read.specs.Numbers.{cleaned}
 use Rattle.toml_span_read.proofs.numbers.cleaned.Given as goal
 

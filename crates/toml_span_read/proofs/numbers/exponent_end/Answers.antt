@@ -1,4 +1,4 @@
-use Rattle.std.proofs.Common.{rules}
+use Rattle.toml_span_lex.proofs.Common.{rules}
 use Rattle.toml_span_read.proofs.Places.{behind_byte}
 use Rattle.toml_span_read.proofs.numbers.exponent_end.Goals as goal
 

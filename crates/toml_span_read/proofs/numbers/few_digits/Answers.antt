@@ -1,5 +1,4 @@
-use Rattle.std.proofs.Common.{rules, arith, ◌≡◌, ◌≤◌, ◌-◌, true, get_or, refl}
-use Rattle.std.specs.Char.{is_ascii_digit}
+use Rattle.toml_span_lex.proofs.Common.{rules, arith, ◌≡◌, ◌≤◌, ◌-◌, true, get_or, refl, is_ascii_digit}
 use Rattle.toml_span_read.proofs.ShortIntegers.{few_more}
 use Rattle.toml_span_read.proofs.numbers.few_digits.Goals as goal
 

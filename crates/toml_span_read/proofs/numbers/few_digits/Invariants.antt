@@ -1,4 +1,4 @@
-use Rattle.std.proofs.Common.{◌<◌, ◌^◌}
+use Rattle.toml_span_lex.proofs.Common.{◌<◌, ◌^◌}
 use Rattle.toml_span_read.proofs.ShortIntegers.{FewDigits}
 use Rattle.toml_span_read.proofs.numbers.few_digits.Given as goal
 

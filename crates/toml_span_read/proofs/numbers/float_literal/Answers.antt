@@ -1,5 +1,4 @@
-use Rattle.std.proofs.Common.{rules, arith, ◌≡◌, ◌+◌, ◌∷◌, get_or, refl, ◌∙◌}
-use Rattle.std.specs.Prelude.{slice_range}
+use Rattle.toml_span_lex.proofs.Common.{rules, arith, ◌≡◌, ◌+◌, ◌∷◌, get_or, refl, ◌∙◌, slice_range}
 use Rattle.toml_span_read.proofs.NumberLemmas.{slice_cons, slice_ascii}
 use Rattle.toml_span_read.proofs.NumberReads.{float_on}
 use Rattle.toml_span_read.proofs.Places.{behind_byte}

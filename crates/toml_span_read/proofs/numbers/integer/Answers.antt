@@ -1,4 +1,4 @@
-use Rattle.std.proofs.Common.{rules, ◌≡◌, None}
+use Rattle.toml_span_lex.proofs.Common.{rules, ◌≡◌, None}
 use Rattle.toml_span_read.specs.Numbers.{magnitude}
 use Rattle.toml_span_read.specs.Numerals.{integer, signed}
 use Rattle.toml_span_read.proofs.NumberLemmas.{signed_past}

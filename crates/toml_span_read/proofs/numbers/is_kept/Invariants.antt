@@ -1,4 +1,4 @@
-use Rattle.std.proofs.Common.{◌≡◌, drop}
+use Rattle.toml_span_lex.proofs.Common.{◌≡◌, drop}
 use Rattle.toml_span_read.specs.Numbers.{cleaned}
 use Rattle.toml_span_read.proofs.numbers.is_kept.Given as goal
 

@@ -1,5 +1,4 @@
-use Rattle.std.proofs.Common.{rules, ◌≡◌, ◌≤◌, ◌^◌, false, get_or, refl}
-use Rattle.std.specs.Prelude.{filter}
+use Rattle.toml_span_lex.proofs.Common.{rules, ◌≡◌, ◌≤◌, ◌^◌, false, get_or, refl, filter}
 use Rattle.toml_span_read.specs.Numbers.{is_digit_in, sum_of_digits}
 use Rattle.toml_span_read.proofs.NumberLemmas.{sum_goes_on, sum_passes, sum_past}
 use Rattle.toml_span_read.proofs.numbers.magnitude.Goals as goal

@@ -1,4 +1,4 @@
-use Rattle.std.proofs.Common.{drop}
+use Rattle.toml_span_lex.proofs.Common.{drop}
 use Rattle.toml_span_read.proofs.NumberLemmas.{Summed}
 use Rattle.toml_span_read.proofs.numbers.magnitude.Given as goal
 

@@ -1,5 +1,4 @@
-use Rattle.std.proofs.Common.{rules, ◌≡◌, ◌<◌, ◌+◌, false, get_or}
-use Rattle.std.specs.Prelude.{◌==◌}
+use Rattle.toml_span_lex.proofs.Common.{rules, ◌≡◌, ◌<◌, ◌+◌, false, get_or, ◌==◌}
 use Rattle.toml_span_lex.specs.Bytes.{is_keylike}
 use Rattle.toml_span_tree.specs.Node.{integer}
 use Rattle.toml_span_read.specs.Data.{kind_view, scalar}

@@ -1,10 +1,13 @@
-use Rattle.std.proofs.Common.{arith, rules, ◌<◌, ℕ, length, map, Vec, Global}
+use Rattle.toml_span_lex.proofs.Common.{arith, rules, ℕ, Vec, Global, inl, inr, refl, Ok, Err}
 use Rattle.toml_span_read.specs.declared.value.Assignment.{Assignment}
 use Rattle.toml_span_read.specs.Borrowed.{IsWrittenRight, assignment_written}
 use Rattle.toml_span_read.specs.Data.{key_value}
+use Rattle.toml_span_read.specs.Read.{ends, goes_on, stops as stops_there}
+use Rattle.toml_span_read.specs.code.Values.{key_value_found}
+use Rattle.toml_span_read.proofs.FaultPlaces.{so_told}
 use Rattle.toml_span_read.proofs.BorrowLemmas.{joined_more}
 use Rattle.toml_span_read.proofs.CrossingPlaces.{assignment_spanned, crossing_placed}
-use Rattle.toml_span_read.proofs.LineRead.{goes_further, lines_begin, lines_more, lines_last, lines_stop, line_stops, rest_stops, crossing_stops}
+use Rattle.toml_span_read.proofs.LineRead.{goes_further, lines_stop}
 use Rattle.toml_span_read.proofs.MemoryLemmas.{forms_keep}
 use Rattle.toml_span_read.proofs.ValueRead.{map_end}
 use Rattle.toml_span_read.proofs.sections.assignments.Goals as goal
@@ -19,26 +22,25 @@ lines-init c =
       boundary = g.boundary;
       borrows = rw e tt;
       knows = rw e c.new-earlier.ensures;
-      whole = lines_begin c.new-found.result.items c.args.text.now c.args.limit c.args.from c.gap_end-at.result e g.run;
+      whole = rw e (λ r h. (c.gap_end-at.result, g.run, h));
     }
 
 pub returns-in-Err-clause-lines : goal.returns-in-Err-clause-lines
 returns-in-Err-clause-lines c =
-    let l : c.lines.at < length c.args.text.now = omega arith in
-    let go = goes_further c.args.text.now c.lines.at l (search rules) in
-    line_stops c.in-Err.stop (map key_value c.lines.found.items) c.args.text.now c.args.limit c.args.from c.lines.at c.lines.invariant.whole go c.in-Err.ensures.pair
+    let go = goes_further c.args.text.now c.lines.at (omega arith) (search rules) in
+    so_told _ _ c.in-Err.stop c.in-Err.ensures.pair (λ e h. c.lines.invariant.whole (Err e) (stops_there _ e (inr (go, inr (e, h, refl)))))
 
 pub returns-in-Err-next_line-clause-lines : goal.returns-in-Err-next_line-clause-lines
 returns-in-Err-next_line-clause-lines c =
-    let l : c.lines.at < length c.args.text.now = omega arith in
-    let go = goes_further c.args.text.now c.lines.at l (search rules) in
-    rest_stops c.in-Err-next_line.stop (map key_value c.lines.found.items) (key_value c.in-Ok.read.0) c.args.text.now c.args.limit c.args.from c.lines.at _ c.lines.invariant.whole go c.in-Ok.ensures.pair c.in-Err-next_line.ensures.rest
+    let go = goes_further c.args.text.now c.lines.at (omega arith) (search rules) in
+    so_told _ _ c.in-Err-next_line.stop c.in-Err-next_line.ensures.rest
+    (λ e h. c.lines.invariant.whole (Err e) (stops_there _ e (inr (go, inl (key_value_found c.in-Ok.read, c.in-Ok.ensures.pair, inr (e, h, refl))))))
 
 pub returns-in-Err-add_clear-clause-lines : goal.returns-in-Err-add_clear-clause-lines
 returns-in-Err-add_clear-clause-lines c =
-    let l : c.lines.at < length c.args.text.now = omega arith in
-    let go = goes_further c.args.text.now c.lines.at l (search rules) in
-    crossing_stops c.in-Err-add_clear.stop c.lines.found.items c.add_clear.new.values.items c.in-Ok.read.0 c.args.text.now c.args.limit c.args.from c.lines.at _ _ c.lines.invariant.whole go c.in-Ok.ensures.pair c.in-Ok-next_line.ensures.rest c.in-Err-add_clear.ensures.adds
+    let go = goes_further c.args.text.now c.lines.at (omega arith) (search rules) in
+    so_told _ _ c.in-Err-add_clear.stop c.in-Err-add_clear.ensures.adds (λ e h. c.lines.invariant.whole (Err e) (stops_there _ e
+    (inr (go, inl (key_value_found c.in-Ok.read, c.in-Ok.ensures.pair, inl (_, c.in-Ok-next_line.ensures.rest, inr (e, inr (e, h, refl), refl)))))))
 
 pub returns-in-Err-add_clear-clause-read : goal.returns-in-Err-add_clear-clause-read
 returns-in-Err-add_clear-clause-read c =
@@ -47,8 +49,7 @@ returns-in-Err-add_clear-clause-read c =
 
 pub lines-preserved : goal.lines-preserved
 lines-preserved c =
-    let l : c.lines.at < length c.args.text.now = omega arith in
-    let go = goes_further c.args.text.now c.lines.at l (search rules) in
+    let go = goes_further c.args.text.now c.lines.at (omega arith) (search rules) in
     let v = c.in-Ok.ensures in
     let t = c.in-Ok-next_line.ensures in
     let a = c.in_default.ensures.adds in
@@ -60,11 +61,12 @@ lines-preserved c =
       boundary = g.boundary;
       borrows = joined_more (IsWrittenRight c.args.text.now) assignment_written c.lines.found.items c.add_clear.new.values.items c.in-Ok.read.0 a.0 i.borrows v.borrows;
       knows = c.in_default.ensures.knows;
-      whole = rw (map_end key_value c.lines.found.items c.add_clear.new.values.items c.in-Ok.read.0 a.0) (lines_more (map key_value c.lines.found.items) (key_value c.in-Ok.read.0) c.args.text.now c.args.limit c.args.from c.lines.at _ _ _ i.whole go v.pair t.rest a.1 g.run);
+      whole = rw (map_end key_value c.lines.found.items c.add_clear.new.values.items c.in-Ok.read.0 a.0)
+          (λ r more. i.whole r (goes_on _ _ r (inr (go, inl (key_value_found c.in-Ok.read, v.pair, inl (_, t.rest, inl (_, inl (a.1, refl), (_, g.run, refl)))))) more));
     }
 
 pub returns-clause-lines : goal.returns-clause-lines
-returns-clause-lines c = lines_last c.lines.found.items c.args.text.now c.args.limit c.args.from c.lines.at c.lines.invariant.whole (lines_stop c.args.text.now c.lines.at (search rules))
+returns-clause-lines c = c.lines.invariant.whole (Ok (_, _)) (ends _ _ (inl (lines_stop c.args.text.now c.lines.at (search rules), refl)))
 
 pub returns-in-Err-clause-memory : goal.returns-in-Err-clause-memory
 returns-in-Err-clause-memory c =
@@ -80,6 +82,3 @@ pub returns-in-Err-add_clear-clause-memory : goal.returns-in-Err-add_clear-claus
 returns-in-Err-add_clear-clause-memory c =
     let begun = c.lines.invariant.begun in
     forms_keep (Vec Assignment Global × ℕ) c.in-Err-add_clear.stop c.args.text.now c.args.from (begun.0, begun.1, omega (arith, begun.2))
-
-pub returns-clause-read : goal.returns-clause-read
-returns-clause-read c = (c.lines.invariant.forward, c.lines.invariant.boundary)

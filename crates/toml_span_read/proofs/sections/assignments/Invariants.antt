@@ -1,5 +1,4 @@
-use Rattle.std.proofs.Common.{ℕ, ◌≤◌, ◌-◌, length, map}
-use Rattle.std.specs.Str.{IsCharBoundary}
+use Rattle.toml_span_lex.proofs.Common.{ℕ, ◌≤◌, ◌-◌, length, map, IsCharBoundary}
 use Rattle.toml_span_read.specs.Borrowed.{AreWrittenRight, assignments_written}
 use Rattle.toml_span_read.specs.Data.{key_value}
 use Rattle.toml_span_read.specs.code.Earlier.{Knows}

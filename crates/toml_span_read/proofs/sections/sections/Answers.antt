@@ -1,14 +1,14 @@
-use Rattle.std.proofs.Common.{arith, ◌≡◌, ◌<◌, ℕ, length, map, Option, Vec}
-use Rattle.std.specs.Global.{Global}
+use Rattle.toml_span_lex.proofs.Common.{arith, inr, refl, ◌≡◌, ◌<◌, ℕ, length, map, Option, Vec, Global}
 use Rattle.toml_span_read.specs.Data.{block}
 use Rattle.toml_span_read.specs.code.Sections.{sections_found}
 use Rattle.toml_span_read.specs.declared.fault.Fault.{Fault}
 use Rattle.toml_span_read.specs.declared.section.Section.{Section}
 use Rattle.toml_span_read.proofs.BorrowLemmas as borrow
+use Rattle.toml_span_read.proofs.FaultPlaces.{so_told}
 use Rattle.toml_span_read.proofs.KeyLemmas.{handed_on}
 use Rattle.toml_span_read.proofs.LineRead.{blocks_end, section_on, document_read, document_stops, document_refused}
 use Rattle.toml_span_read.proofs.MemoryLemmas.{begun_on, keeps, keeps_same}
-use Rattle.toml_span_read.proofs.StepLemmas.{Begins, begins_none, begins_some, first_begun, first_keeps}
+use Rattle.toml_span_read.proofs.StepLemmas.{Begins, begins_with, first_begun, first_keeps}
 use Rattle.toml_span_read.proofs.sections.sections.Goals as goal
 use Rattle.toml_span_read.proofs.sections.sections.Goals.{in-Some+in_default, in-None}
 
@@ -17,8 +17,8 @@ sections-init c =
     let first = c.in_ok-first.ensures in
     let e = c.new-found.ensures.items in
     let b : Begins c.args.text.now c.args.limit c.in_ok-first.at c.match-first.found.items = elim c.match-first.branch [
-      | in-Some+in_default w ↦ rw w.found-is (begins_some c.args.text.now c.args.limit c.in_ok-first.at c.in_ok-first.first _ c.new-found.result.items w.add.new.items.items w.in-Some.is e w.in_default.ensures first.reads.0 first.first)
-      | in-None w ↦ rw w.found-is (begins_none c.args.text.now c.args.limit c.in_ok-first.at c.in_ok-first.first c.new-found.result.items w.in-None.is e first.reads.0 first.first)
+      | in-Some+in_default w ↦ rw w.found-is (begins_with _ _ _ c.in_ok-first.first _ (rw (w.in-Some.is, w.in_default.ensures, e) refl) first.reads.0 first.first)
+      | in-None w ↦ rw w.found-is (begins_with _ _ _ c.in_ok-first.first _ (rw (w.in-None.is, e) refl) first.reads.0 first.first)
     ] in
     record {
       boundary = first.reads.1.0;
@@ -50,29 +50,17 @@ returns-clause-document c =
 pub returns-in-Err-clause-memory : goal.returns-in-Err-clause-memory
 returns-in-Err-clause-memory c = first_keeps c.args.text.now c.args.limit c.in_ok-first.at c.in_ok-first.first _ c.in-Some.is c.in_ok-first.ensures.first
 
-pub returns-in_err-first-clause-placed : goal.returns-in_err-first-clause-placed
-returns-in_err-first-clause-placed c = rw (handed_on c.from_residual.result c.in_err-first.field-0.0 c.from_residual.ensures.1) c.in_err-first.ensures.reads
-
 pub returns-in_err-first-clause-document : goal.returns-in_err-first-clause-document
-returns-in_err-first-clause-document c = rw (handed_on c.from_residual.result c.in_err-first.field-0.0 c.from_residual.ensures.1) (document_refused sections_found c.in_err-first.field-0.0 c.args.text.now c.args.limit c.in_err-first.ensures.first)
-
-pub returns-in_err-first-clause-borrows : goal.returns-in_err-first-clause-borrows
-returns-in_err-first-clause-borrows c = rw (handed_on c.from_residual.result c.in_err-first.field-0.0 c.from_residual.ensures.1) tt
+returns-in_err-first-clause-document c = rw (handed_on c.from_residual.result c.in_err-first.field-0.0 c.from_residual.ensures.1) (so_told _ _ c.in_err-first.field-0.0 c.in_err-first.ensures.first (document_refused c.args.text.now c.args.limit))
 
 pub returns-in_err-first-clause-memory : goal.returns-in_err-first-clause-memory
 returns-in_err-first-clause-memory c = rw (handed_on c.from_residual.result c.in_err-first.field-0.0 c.from_residual.ensures.1) (keeps_same (Option Section × ℕ) (Vec Section Global) c.in_err-first.field-0.0 c.args.text.now c.in_err-first.ensures.memory)
-
-pub returns-in_err-section-clause-placed : goal.returns-in_err-section-clause-placed
-returns-in_err-section-clause-placed c = rw (handed_on c.from_residual-in_err-section.result c.in_err-section.field-0.0 c.from_residual-in_err-section.ensures.1) c.in_err-section.ensures.reads
 
 pub returns-in_err-section-clause-document : goal.returns-in_err-section-clause-document
 returns-in_err-section-clause-document c =
     let under : c.sections.at < length c.args.text.now = omega arith in
     rw (handed_on c.from_residual-in_err-section.result c.in_err-section.field-0.0 c.from_residual-in_err-section.ensures.1)
     (document_stops sections_found c.in_err-section.field-0.0 c.args.text.now c.args.limit c.sections.at (map block c.sections.found.items) c.sections.invariant.whole under c.in_err-section.ensures.section)
-
-pub returns-in_err-section-clause-borrows : goal.returns-in_err-section-clause-borrows
-returns-in_err-section-clause-borrows c = rw (handed_on c.from_residual-in_err-section.result c.in_err-section.field-0.0 c.from_residual-in_err-section.ensures.1) tt
 
 pub returns-in_err-section-clause-memory : goal.returns-in_err-section-clause-memory
 returns-in_err-section-clause-memory c = rw (handed_on c.from_residual-in_err-section.result c.in_err-section.field-0.0 c.from_residual-in_err-section.ensures.1) (keeps (Vec Section Global) Fault c.in_err-section.field-0.0 c.args.text.now c.sections.at c.sections.invariant.begun (omega arith))

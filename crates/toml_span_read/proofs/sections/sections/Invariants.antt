@@ -1,5 +1,4 @@
-use Rattle.std.proofs.Common.{◌≡◌, ◌-◌, ◌⊎◌, length, map, get_or}
-use Rattle.std.specs.Str.{IsCharBoundary}
+use Rattle.toml_span_lex.proofs.Common.{◌≡◌, ◌-◌, ◌⊎◌, length, map, get_or, IsCharBoundary}
 use Rattle.toml_span_read.specs.Borrowed.{AreWrittenRight, sections_written}
 use Rattle.toml_span_read.specs.Data.{block}
 use Rattle.toml_span_read.proofs.LineRead.{DocumentFrom}

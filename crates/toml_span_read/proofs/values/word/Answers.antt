@@ -1,4 +1,4 @@
-use Rattle.std.proofs.Common.{true, false}
+use Rattle.toml_span_lex.proofs.Common.{true, false}
 use Rattle.toml_span_read.proofs.ValueRead.{truth_read, number_bare, letters_number, other_read}
 use Rattle.toml_span_read.proofs.values.word.Goals as goal
 

@@ -1,10 +1,9 @@
 use Rattle.toml_span_lex.specs.Tokens.{string}
 use Rattle.toml_span_lex.proofs.Within.{token_within}
-use Rattle.toml_span_read.proofs.StringLemmas.{string_read}
 use Rattle.toml_span_read.proofs.wanted.pieced_string.Goals as goal
 
 pub returns-in-String-clause-string : goal.returns-in-String-clause-string
 returns-in-String-clause-string c =
-    let h = string_read c.args.text.now c.args.at c.in-Ok.end c.in-Ok.span c.in-Ok.token _ _ _ c.in-Ok.ensures.gives c.in-String.is in
+    let h = rw c.in-String.is at c.in-Ok.ensures.string in
     let w = token_within c.args.text.now c.args.at _ _ (string _ _ _) h.0 in
     (_, h.0, h.1, record { on = w.0; boundary = c.in-Ok.ensures.ends })

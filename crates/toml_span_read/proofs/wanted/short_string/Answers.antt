@@ -1,4 +1,4 @@
-use Rattle.std.proofs.Common.{rules, ◌≡◌, ◌<◌, ◌+◌, get_or, ap, Global}
+use Rattle.toml_span_lex.proofs.Common.{rules, ◌≡◌, ◌<◌, ◌+◌, get_or, ap, Global}
 use Rattle.std.specs.declared.borrow.CowStr.TheVariants as cow
 use Rattle.toml_span_read.proofs.ShortStrings.{short_read, behind_quote}
 use Rattle.toml_span_read.proofs.wanted.short_string.Goals as goal

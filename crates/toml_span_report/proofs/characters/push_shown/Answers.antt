@@ -1,6 +1,4 @@
-use Rattle.std.proofs.Common.{sym, ◌∙◌, map-id}
-use Rattle.std.proofs.lemmas.Iterator.{YieldsList-from_chars}
-use Rattle.std.proofs.lemmas.Iterator.Consumers.{YieldsList-end}
+use Rattle.toml_span_lex.proofs.Common.{sym, ◌∙◌, map-id, YieldsList-from_chars, YieldsList-end}
 use Rattle.toml_span_report.specs.Characters.{shown}
 use Rattle.toml_span_report.proofs.characters.push_shown.Goals as goal
 

@@ -1,4 +1,4 @@
-use Rattle.std.proofs.Common.{◌≡◌, ◌++◌, string_bytes, replicate}
+use Rattle.toml_span_lex.proofs.Common.{◌≡◌, ◌++◌, string_bytes, replicate}
 use Rattle.toml_span_report.proofs.characters.push_times.Given as goal
 
 abbrev pub invariant-loop-count : goal.invariant-loop-count

@@ -1,4 +1,4 @@
-use Rattle.std.proofs.Common.{List, map}
+use Rattle.toml_span_lex.proofs.Common.{List, map}
 use Rattle.toml_span_typed.specs.Errors.{all}
 use Rattle.toml_span_report.specs.Errors.{AddsReports}
 use Rattle.toml_span_report.specs.Report.{ReportContent, report_content}

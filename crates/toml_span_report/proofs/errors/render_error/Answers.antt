@@ -1,4 +1,4 @@
-use Rattle.std.proofs.lemmas.Result.{IfOk-weaker}
+use Rattle.toml_span_lex.proofs.Common.{IfOk-weaker}
 use Rattle.toml_span_report.specs.Report.{report_content}
 use Rattle.toml_span_report.proofs.errors.render_error.Goals as goal
 

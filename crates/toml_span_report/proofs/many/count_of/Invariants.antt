@@ -1,5 +1,4 @@
-use Rattle.std.proofs.Common.{◌≡◌, ◌≤◌, map, take}
-use Rattle.std.specs.List.{count_by}
+use Rattle.toml_span_lex.proofs.Common.{◌≡◌, ◌≤◌, map, take, count_by}
 use Rattle.toml_span_report.specs.Many.{is_of}
 use Rattle.toml_span_report.specs.Report.{report_content}
 use Rattle.toml_span_report.proofs.many.count_of.Given as goal

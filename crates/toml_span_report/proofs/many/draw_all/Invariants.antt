@@ -1,4 +1,4 @@
-use Rattle.std.proofs.Common.{◌≡◌, map, take}
+use Rattle.toml_span_lex.proofs.Common.{◌≡◌, map, take}
 use Rattle.toml_span_report.specs.Many.{drawn, drawn_content}
 use Rattle.toml_span_report.specs.Report.{report_content}
 use Rattle.toml_span_report.proofs.many.draw_all.Given as goal

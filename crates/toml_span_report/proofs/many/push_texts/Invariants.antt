@@ -1,5 +1,4 @@
-use Rattle.std.proofs.Common.{◌≡◌, ◌++◌, map, take, string_bytes}
-use Rattle.std.specs.List.{flat_map}
+use Rattle.toml_span_lex.proofs.Common.{◌≡◌, ◌++◌, map, take, string_bytes, flat_map}
 use Rattle.toml_span_report.specs.Many.{drawn_content, with_blank_line}
 use Rattle.toml_span_report.proofs.many.push_texts.Given as goal
 

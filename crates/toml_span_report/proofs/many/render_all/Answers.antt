@@ -1,6 +1,4 @@
-use Rattle.std.proofs.Common.{◌≡◌, ℕ, List, map, rules, ap, ◌∙◌, subst}
-use Rattle.std.proofs.lemmas.List.Sorted.{IsNonDecreasingBy-from_sort_by_key, answers_always}
-use Rattle.std.proofs.lemmas.Result.{IfOk-weaker}
+use Rattle.toml_span_lex.proofs.Common.{◌≡◌, ℕ, List, map, rules, ap, ◌∙◌, subst, IsNonDecreasingBy-from_sort_by_key, answers_always, IfOk-weaker}
 use Rattle.toml_span_report.specs.Many.{AreInOrder, drawn, drawn_content, joined}
 use Rattle.toml_span_report.specs.Report.{report_content}
 use Rattle.toml_span_report.proofs.OrderLemmas.{in_order, map_twice}

@@ -1,5 +1,4 @@
-use Rattle.std.proofs.Common.{◌≡◌, ℕ, List, [], map, option_map, length, arith, sym, subst}
-use Rattle.std.proofs.lemmas.List.{get_or-map, length-map}
+use Rattle.toml_span_lex.proofs.Common.{◌≡◌, ℕ, List, [], map, option_map, length, arith, sym, subst, get_or-map, length-map}
 use Rattle.toml_span_report.proofs.NearestLemmas.{IsBest, best_all, best_nearer, best_same}
 use Rattle.toml_span_report.proofs.names.nearest.Goals as goal
 use Rattle.toml_span_report.proofs.names.nearest.Goals.{then-distance-bound, else-distance-bound}

@@ -1,4 +1,4 @@
-use Rattle.std.proofs.Common.{map, option_map}
+use Rattle.toml_span_lex.proofs.Common.{map, option_map}
 use Rattle.toml_span_report.proofs.NearestLemmas.{IsBest}
 use Rattle.toml_span_report.proofs.names.nearest.Given as goal
 

@@ -1,5 +1,4 @@
-use Rattle.std.proofs.Common.{ap, ◌∙◌, length, ◌+◌, ◌-◌, take, drop}
-use Rattle.std.specs.Str.{chars}
+use Rattle.toml_span_lex.proofs.Common.{ap, ◌∙◌, length, ◌+◌, ◌-◌, take, drop, chars}
 use Rattle.toml_span_report.specs.Places.{column}
 use Rattle.toml_span_report.proofs.places.column.Goals as goal
 

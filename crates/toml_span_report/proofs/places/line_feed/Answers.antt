@@ -1,5 +1,4 @@
-use Rattle.std.proofs.Common.{arith, sym, length, eq-eqb}
-use Rattle.std.proofs.lemmas.List.Sums.{position_or_len_is}
+use Rattle.toml_span_lex.proofs.Common.{arith, sym, length, eq-eqb, position_or_len_is}
 use Rattle.toml_span_report.specs.Places.{is_line_feed}
 use Rattle.toml_span_report.proofs.places.line_feed.Goals as goal
 

@@ -1,4 +1,4 @@
-use Rattle.std.proofs.Common.{◌≡◌, ◌<◌, ℕ, false, get_or}
+use Rattle.toml_span_lex.proofs.Common.{◌≡◌, ◌<◌, ℕ, false, get_or}
 use Rattle.toml_span_report.specs.Places.{is_line_feed}
 use Rattle.toml_span_report.proofs.places.line_feed.Given as goal
 

@@ -1,4 +1,4 @@
-use Rattle.std.proofs.Common.{◌≡◌, ◌≤◌}
+use Rattle.toml_span_lex.proofs.Common.{◌≡◌, ◌≤◌}
 use Rattle.toml_span_report.specs.Places.{line_start}
 use Rattle.toml_span_report.proofs.places.line_start.Given as goal
 

@@ -1,4 +1,4 @@
-use Rattle.std.proofs.lemmas.Str.{IsCharBoundary-start}
+use Rattle.toml_span_lex.proofs.Common.{IsCharBoundary-start}
 use Rattle.toml_span_report.proofs.places.mark_end.Goals as goal
 
 pub returns-else-bytes-gt2-clause-boundary : goal.returns-else-bytes-gt2-clause-boundary

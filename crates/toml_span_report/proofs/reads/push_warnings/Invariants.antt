@@ -1,4 +1,4 @@
-use Rattle.std.proofs.Common.{List, drop, map}
+use Rattle.toml_span_lex.proofs.Common.{List, drop, map}
 use Rattle.toml_span_tree.specs.Error.{content_of}
 use Rattle.toml_span_report.specs.Errors.{AddsReports}
 use Rattle.toml_span_report.specs.Report.{ReportContent, report_content}

@@ -1,4 +1,4 @@
-use Rattle.std.proofs.Common.{◌≡◌, map, drop}
+use Rattle.toml_span_lex.proofs.Common.{◌≡◌, map, drop}
 use Rattle.toml_span_report.specs.Rendering.{first_primary}
 use Rattle.toml_span_report.specs.Strips.{marked_line_of}
 use Rattle.toml_span_report.proofs.rendering.main_strip.Given as goal

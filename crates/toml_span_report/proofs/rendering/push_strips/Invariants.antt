@@ -1,4 +1,4 @@
-use Rattle.std.proofs.Common.{◌≡◌, ◌++◌, map, drop, None, string_bytes}
+use Rattle.toml_span_lex.proofs.Common.{◌≡◌, ◌++◌, map, drop, None, string_bytes}
 use Rattle.toml_span_report.specs.Rendering.{drawn}
 use Rattle.toml_span_report.specs.Strips.{marked_line_of}
 use Rattle.toml_span_report.proofs.rendering.push_strips.Given as goal

@@ -1,4 +1,4 @@
-use Rattle.std.proofs.Common.{◌≡◌, map, take}
+use Rattle.toml_span_lex.proofs.Common.{◌≡◌, map, take}
 use Rattle.toml_span_report.specs.Rendering.{greatest}
 use Rattle.toml_span_report.specs.Strips.{marked_line_of}
 use Rattle.toml_span_report.proofs.rendering.width_of.Given as goal

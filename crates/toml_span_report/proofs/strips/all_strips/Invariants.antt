@@ -1,4 +1,4 @@
-use Rattle.std.proofs.Common.{◌≡◌, map, take}
+use Rattle.toml_span_lex.proofs.Common.{◌≡◌, map, take}
 use Rattle.toml_span_tree.specs.Diagnostic.{label_content}
 use Rattle.toml_span_report.specs.Strips.{all_marked_lines, marked_line_of}
 use Rattle.toml_span_report.proofs.strips.all_strips.Given as goal

@@ -1,5 +1,4 @@
-use Rattle.std.proofs.Common.{arith}
-use Rattle.std.proofs.lemmas.Grind.{common_steps}
+use Rattle.toml_span_lex.proofs.Common.{arith, common_steps}
 use Rattle.toml_span_report.specs.Strips.{marked_lines_of}
 use Rattle.toml_span_report.proofs.strips.place_label.Goals as goal
 

@@ -1,4 +1,4 @@
-use Rattle.std.proofs.Common.{◌≡◌, map, drop}
+use Rattle.toml_span_lex.proofs.Common.{◌≡◌, map, drop}
 use Rattle.toml_span_report.specs.Strips.{window_from, marked_line_of}
 use Rattle.toml_span_report.proofs.strips.window_from.Given as goal
 

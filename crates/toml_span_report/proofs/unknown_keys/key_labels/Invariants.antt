@@ -1,4 +1,4 @@
-use Rattle.std.proofs.Common.{◌≡◌, map, take}
+use Rattle.toml_span_lex.proofs.Common.{◌≡◌, map, take}
 use Rattle.toml_span_tree.specs.Diagnostic.{label_content}
 use Rattle.toml_span_tree.specs.Error.{marked_keys}
 use Rattle.toml_span_report.specs.UnknownKeys.{key_label}

@@ -1,4 +1,4 @@
-use Rattle.std.proofs.Common.{◌≡◌, map, take}
+use Rattle.toml_span_lex.proofs.Common.{◌≡◌, map, take}
 use Rattle.toml_span_tree.specs.Error.{marked_keys}
 use Rattle.toml_span_report.proofs.unknown_keys.key_names.Given as goal
 

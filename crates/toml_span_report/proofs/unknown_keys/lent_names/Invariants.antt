@@ -1,4 +1,4 @@
-use Rattle.std.proofs.Common.{◌≡◌, map, take, string_bytes}
+use Rattle.toml_span_lex.proofs.Common.{◌≡◌, map, take, string_bytes}
 use Rattle.toml_span_report.proofs.unknown_keys.lent_names.Given as goal
 
 abbrev pub invariant-loop-name : goal.invariant-loop-name

@@ -1,6 +1,4 @@
-use Rattle.std.proofs.Common.{◌≡◌, ◌++◌, ℕ, List, codes, append_assoc, ap, arith, sym, string_bytes, ◌∙◌}
-use Rattle.std.proofs.lemmas.Bool.Decides.{nat_tests}
-use Rattle.std.proofs.lemmas.Result.{on_ok_weaker}
+use Rattle.toml_span_lex.proofs.Common.{◌≡◌, ◌++◌, ℕ, List, codes, append_assoc, ap, arith, sym, string_bytes, ◌∙◌, nat_tests, on_ok_weaker}
 use Rattle.toml_span_report.specs.UnknownKeys.{in_place_of, named}
 use Rattle.toml_span_report.proofs.unknown_keys.push_in_place_of.Goals as goal
 

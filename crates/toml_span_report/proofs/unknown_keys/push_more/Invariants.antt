@@ -1,5 +1,4 @@
-use Rattle.std.proofs.Common.{◌≡◌, ◌++◌, codes, map, take, string_bytes}
-use Rattle.std.specs.List.{flat_map}
+use Rattle.toml_span_lex.proofs.Common.{◌≡◌, ◌++◌, codes, map, take, string_bytes, flat_map}
 use Rattle.toml_span_report.specs.UnknownKeys.{named}
 use Rattle.toml_span_report.proofs.unknown_keys.push_more.Given as goal
 

@@ -1,6 +1,4 @@
-use Rattle.std.proofs.Common.{◌≡◌, length, map, take, string_bytes}
-use Rattle.std.specs.List.{flat_map}
-use Rattle.std.specs.Option.{option_to_list}
+use Rattle.toml_span_lex.proofs.Common.{◌≡◌, length, map, take, string_bytes, flat_map, option_to_list}
 use Rattle.toml_span_report.specs.UnknownKeys.{suggestion_for}
 use Rattle.toml_span_report.proofs.unknown_keys.suggestions.Given as goal
 

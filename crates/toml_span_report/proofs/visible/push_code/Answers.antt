@@ -1,6 +1,4 @@
-use Rattle.std.proofs.Common.{arith}
-use Rattle.std.proofs.lemmas.Grind.{common_steps}
-use Rattle.std.proofs.lemmas.Result.{on_ok_weaker}
+use Rattle.toml_span_lex.proofs.Common.{arith, common_steps, on_ok_weaker}
 use Rattle.toml_span_report.specs.Visible.{escape}
 use Rattle.toml_span_report.proofs.visible.push_code.Goals as goal
 

@@ -1,5 +1,4 @@
-use Rattle.std.proofs.Common.{◌≡◌, string_bytes}
-use Rattle.std.specs.List.{flat_map}
+use Rattle.toml_span_lex.proofs.Common.{◌≡◌, string_bytes, flat_map}
 use Rattle.toml_span_report.specs.Visible.{line_char}
 use Rattle.toml_span_report.proofs.visible.visible_lines.Given as goal
 

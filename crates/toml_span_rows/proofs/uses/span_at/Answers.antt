@@ -1,4 +1,4 @@
-use Rattle.std.proofs.Common.{sym}
+use Rattle.toml_span_lex.proofs.Common.{sym}
 use Rattle.toml_span_tree.specs.Value.{view}
 use Rattle.toml_span_rows.proofs.uses.Conclusions.{reads-value, reads-nothing, span-place}
 use Rattle.toml_span_rows.proofs.uses.span_at.Goals as goal

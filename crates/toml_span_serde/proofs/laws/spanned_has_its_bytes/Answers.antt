@@ -1,4 +1,4 @@
-use Rattle.std.proofs.Common.{subst}
+use Rattle.toml_span_lex.proofs.Common.{subst}
 use Rattle.toml_span_serde.specs.Ahead.{ahead}
 use Rattle.toml_span_serde.specs.Reads.{BeginsAt}
 use Rattle.toml_span_serde.proofs.Spans.{ok_map, stands_of}

@@ -1,6 +1,4 @@
-use Rattle.std.proofs.Common.{take}
-use Rattle.std.specs.Fmt.{HasWritten, IsPlainFormatter}
-use Rattle.std.specs.List.{flat_map}
+use Rattle.toml_span_lex.proofs.Common.{take, HasWritten, IsPlainFormatter, flat_map}
 use Rattle.toml_span_serde.specs.Texts.{further_text}
 use Rattle.toml_span_serde.proofs.misfit.write_further.Given as goal
 

@@ -1,6 +1,4 @@
-use Rattle.std.proofs.Common.{take, map, ◌++◌, codes, string_bytes}
-use Rattle.std.specs.Fmt.{HasWritten, IsPlainFormatter}
-use Rattle.std.specs.List.{flat_map}
+use Rattle.toml_span_lex.proofs.Common.{take, map, ◌++◌, codes, string_bytes, HasWritten, IsPlainFormatter, flat_map}
 use Rattle.toml_span_report.specs.UnknownKeys.{named}
 use Rattle.toml_span_serde.proofs.misfit.write_more.Given as goal
 

@@ -1,6 +1,4 @@
-use Rattle.std.proofs.Common.{take, ◌++◌, codes}
-use Rattle.std.specs.Fmt.{HasWritten, IsPlainFormatter}
-use Rattle.std.specs.List.{flat_map}
+use Rattle.toml_span_lex.proofs.Common.{take, ◌++◌, codes, HasWritten, IsPlainFormatter, flat_map}
 use Rattle.toml_span_serde.specs.Misfits.{words_of}
 use Rattle.toml_span_serde.proofs.misfit.write_parted.Given as goal
 

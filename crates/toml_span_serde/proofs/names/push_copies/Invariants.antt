@@ -1,4 +1,4 @@
-use Rattle.std.proofs.Common.{◌≡◌, ◌++◌, map, take, string_bytes}
+use Rattle.toml_span_lex.proofs.Common.{◌≡◌, ◌++◌, map, take, string_bytes}
 use Rattle.toml_span_serde.proofs.names.push_copies.Given as goal
 
 abbrev pub invariant-loop-text : goal.invariant-loop-text

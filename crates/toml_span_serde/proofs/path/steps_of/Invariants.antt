@@ -1,4 +1,4 @@
-use Rattle.std.proofs.Common.{◌≡◌, map, take}
+use Rattle.toml_span_lex.proofs.Common.{◌≡◌, map, take}
 use Rattle.toml_span_serde.specs.Misfits.{path_of}
 use Rattle.toml_span_serde.specs.Walk.{down_of}
 use Rattle.toml_span_serde.proofs.path.steps_of.Given as goal

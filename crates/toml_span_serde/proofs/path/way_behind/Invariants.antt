@@ -1,4 +1,4 @@
-use Rattle.std.proofs.Common.{◌≡◌, [], drop, map}
+use Rattle.toml_span_lex.proofs.Common.{◌≡◌, [], drop, map}
 use Rattle.toml_span_serde.specs.Tasks.{piece_of}
 use Rattle.toml_span_serde.specs.Walk.{walked, way_of}
 use Rattle.toml_span_serde.proofs.path.way_behind.Given as goal

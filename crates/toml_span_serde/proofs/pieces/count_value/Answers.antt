@@ -1,5 +1,4 @@
-use Rattle.std.proofs.Common.{◌∙◌, ap, map, sym}
-use Rattle.std.proofs.lemmas.List.{drop_all}
+use Rattle.toml_span_lex.proofs.Common.{◌∙◌, ap, map, sym, drop_all}
 use Rattle.toml_span_serde.specs.Tasks.{piece_of}
 use Rattle.toml_span_serde.proofs.Counts.{counted, counted-value, ends-here}
 use Rattle.toml_span_serde.proofs.pieces.count_value.Goals as goal

@@ -1,4 +1,4 @@
-use Rattle.std.proofs.Common.{◌≡◌, ◌≤◌, drop, map}
+use Rattle.toml_span_lex.proofs.Common.{◌≡◌, ◌≤◌, drop, map}
 use Rattle.toml_span_serde.specs.Tasks.{piece_of}
 use Rattle.toml_span_serde.proofs.Counts.{counted}
 use Rattle.toml_span_serde.proofs.pieces.count_value.Given as goal

@@ -1,5 +1,4 @@
-use Rattle.std.proofs.Common.{[], ◌∷◌, ◌++◌, sym, ap, ◌∙◌, append_assoc}
-use Rattle.std.proofs.lemmas.List.{append-nil, drop_all}
+use Rattle.toml_span_lex.proofs.Common.{[], ◌∷◌, ◌++◌, sym, ap, ◌∙◌, append_assoc, arith, nat_tests, common_steps}
 use Rattle.toml_span_tree.specs.Value.{items_view}
 use Rattle.toml_span_serde.specs.Pieces.{array_begins, piece, items_pieces}
 use Rattle.toml_span_serde.specs.Tasks.{all_pieces}
@@ -19,8 +18,4 @@ loop-element-preserved c =
     c.loop-element-test.true (sym c.element-item.is) c.loop-element.invariant (all_pieces-push _ _ _ c.in_ok-push-2.ensures.items)
 
 pub returns : goal.returns
-returns c =
-    sym (append-nil (all_pieces c.loop-element.tasks.items))
-    ∙ ap (λ es. all_pieces c.loop-element.tasks.items ++ items_pieces (items_view es))
-    (sym (drop_all c.loop-element.element-index c.deref-element-items.result.now c.loop-element-test.false))
-    ∙ c.loop-element.invariant
+returns c = grind (arith, nat_tests, common_steps)

@@ -1,4 +1,4 @@
-use Rattle.std.proofs.Common.{◌≡◌, ◌++◌, ◌∷◌, drop}
+use Rattle.toml_span_lex.proofs.Common.{◌≡◌, ◌++◌, ◌∷◌, drop}
 use Rattle.toml_span_tree.specs.Value.{items_view}
 use Rattle.toml_span_serde.specs.Pieces.{array_begins, items_pieces, piece}
 use Rattle.toml_span_serde.specs.Tasks.{all_pieces}

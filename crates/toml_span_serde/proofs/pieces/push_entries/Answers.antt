@@ -1,5 +1,4 @@
-use Rattle.std.proofs.Common.{[], ◌∷◌, ◌++◌, sym, ap, ◌∙◌, append_assoc}
-use Rattle.std.proofs.lemmas.List.{append-nil}
+use Rattle.toml_span_lex.proofs.Common.{[], ◌∷◌, ◌++◌, ap, ◌∙◌, append_assoc, arith, nat_tests, common_steps}
 use Rattle.toml_span_tree.specs.Value.{members_view}
 use Rattle.toml_span_serde.specs.Pieces.{table_begins, piece, key, members_pieces}
 use Rattle.toml_span_serde.specs.Tasks.{all_pieces}
@@ -21,7 +20,4 @@ loop-key-preserved c =
     (all_pieces-push _ _ _ c.in_ok-push-3.ensures.items)
 
 pub returns : goal.returns
-returns c =
-    sym (append-nil (all_pieces c.loop-key.tasks.items))
-    ∙ ap (λ es. all_pieces c.loop-key.tasks.items ++ members_pieces (members_view es)) (sym c.in-None.ensures.steps.0)
-    ∙ c.loop-key.invariant
+returns c = grind (arith, nat_tests, common_steps)

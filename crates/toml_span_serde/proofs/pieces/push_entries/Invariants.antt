@@ -1,4 +1,4 @@
-use Rattle.std.proofs.Common.{◌≡◌, ◌++◌, ◌∷◌}
+use Rattle.toml_span_lex.proofs.Common.{◌≡◌, ◌++◌, ◌∷◌}
 use Rattle.toml_span_tree.specs.Value.{members_view}
 use Rattle.toml_span_serde.specs.Pieces.{table_begins, members_pieces, piece}
 use Rattle.toml_span_serde.specs.Tasks.{all_pieces}

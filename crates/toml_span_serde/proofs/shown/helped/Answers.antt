@@ -1,5 +1,4 @@
-use Rattle.std.proofs.Common.{◌≡◌, ◌∙◌, option_map, subst, sym}
-use Rattle.std.specs.Result.{IfOk}
+use Rattle.toml_span_lex.proofs.Common.{◌≡◌, ◌∙◌, option_map, subst, sym, IfOk}
 use Rattle.toml_span_report.specs.Report.{report_content, with_help}
 use Rattle.toml_span_serde.specs.Shown.{with_meant}
 use Rattle.toml_span_serde.proofs.shown.helped.Goals as goal

@@ -1,5 +1,4 @@
-use Rattle.std.proofs.Common.{ap, subst, ◌∙◌}
-use Rattle.std.proofs.lemmas.Result.{IfOk-weaker}
+use Rattle.toml_span_lex.proofs.Common.{ap, subst, ◌∙◌, IfOk-weaker}
 use Rattle.toml_span_report.specs.Errors.{TellsError}
 use Rattle.toml_span_report.specs.Rendering.{report_text}
 use Rattle.toml_span_report.specs.Report.{report_content}

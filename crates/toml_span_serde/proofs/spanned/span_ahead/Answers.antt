@@ -1,4 +1,4 @@
-use Rattle.std.proofs.Common.{refl, [], ◌∷◌}
+use Rattle.toml_span_lex.proofs.Common.{refl, [], ◌∷◌}
 use Rattle.toml_span_serde.proofs.spanned.span_ahead.Goals as goal
 
 pub returns : goal.returns

@@ -1,4 +1,4 @@
-use Rattle.std.proofs.Common.{◌≡◌, drop}
+use Rattle.toml_span_lex.proofs.Common.{◌≡◌, drop}
 use Rattle.toml_span_serde.specs.Tried.{is_among}
 use Rattle.toml_span_serde.proofs.tried.is_among.Given as goal
 

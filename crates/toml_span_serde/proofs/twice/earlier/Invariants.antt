@@ -1,4 +1,4 @@
-use Rattle.std.proofs.Common.{◌≡◌, ◌+◌, ◌≤◌, length, map, reverse, string_bytes, take}
+use Rattle.toml_span_lex.proofs.Common.{◌≡◌, ◌+◌, ◌≤◌, length, map, reverse, string_bytes, take}
 use Rattle.toml_span_serde.specs.Tasks.{piece_of}
 use Rattle.toml_span_serde.specs.Twice as spec
 use Rattle.toml_span_serde.proofs.twice.earlier.Given as goal

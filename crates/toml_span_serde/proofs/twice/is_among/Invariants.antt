@@ -1,6 +1,4 @@
-use Rattle.std.proofs.Common.{◌≡◌, drop, map, string_bytes}
-use Rattle.std.specs.List.{list_any}
-use Rattle.std.specs.Str.{bytes_eq}
+use Rattle.toml_span_lex.proofs.Common.{◌≡◌, drop, map, string_bytes, list_any, bytes_eq}
 use Rattle.toml_span_serde.proofs.twice.is_among.Given as goal
 
 abbrev pub invariant-loop-one : goal.invariant-loop-one

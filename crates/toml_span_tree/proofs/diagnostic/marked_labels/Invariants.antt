@@ -1,4 +1,4 @@
-use Rattle.std.proofs.Common.{◌≡◌, [], ◌∷◌, map, take}
+use Rattle.toml_span_lex.proofs.Common.{◌≡◌, [], ◌∷◌, map, take}
 use Rattle.toml_span_tree.specs.Error.{marked_keys}
 use Rattle.toml_span_tree.specs.Diagnostic.{label_content, primary, secondary}
 use Rattle.toml_span_tree.proofs.diagnostic.marked_labels.Given as goal

@@ -1,5 +1,4 @@
-use Rattle.std.proofs.Common.{◌≡◌, ◌++◌, ℕ, List, IfOk, append_assoc, codes, map, string_bytes, subst, sym}
-use Rattle.std.specs.Fmt.{decimal}
+use Rattle.toml_span_lex.proofs.Common.{◌≡◌, ◌++◌, ℕ, List, IfOk, append_assoc, codes, map, string_bytes, subst, sym, decimal}
 use Rattle.toml_span_tree.specs.Listed.{listed, quoted}
 use Rattle.toml_span_tree.proofs.diagnostic.unexpected_keys.Goals as goal
 

@@ -1,4 +1,4 @@
-use Rattle.std.proofs.Common.{◌≡◌, List, ◌++◌, take, map}
+use Rattle.toml_span_lex.proofs.Common.{◌≡◌, List, ◌++◌, take, map}
 use Rattle.serde_json.specs.View as made
 use Rattle.toml_span_tree.specs.Value.{view, members_view}
 use Rattle.toml_span_tree.specs.Json.{json_of, json_members}

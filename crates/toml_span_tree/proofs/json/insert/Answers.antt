@@ -1,6 +1,6 @@
 use Rattle.serde_json.proofs.Views.{members_view-insert_entry}
 use Rattle.serde_json.specs.View.{members_view}
-use Rattle.std.proofs.Common.{ap, ◌∙◌}
+use Rattle.toml_span_lex.proofs.Common.{ap, ◌∙◌}
 use Rattle.toml_span_tree.proofs.json.insert.Goals as goal
 
 pub returns : goal.returns

@@ -1,4 +1,4 @@
-use Rattle.std.proofs.Common.{[], refl, option_and_then, ap, ◌∙◌}
+use Rattle.toml_span_lex.proofs.Common.{[], refl, option_and_then, ap, ◌∙◌}
 use Rattle.toml_span_tree.specs.code.Pointer.{value_named}
 use Rattle.toml_span_tree.proofs.Pointers.{pointed-found, pointer-empty}
 use Rattle.toml_span_tree.proofs.laws.empty_pointer.Goals as goal

@@ -1,6 +1,4 @@
-use Rattle.std.proofs.Common.{◌++◌, codes, take}
-use Rattle.std.specs.Fmt.{HasWritten, IsPlainFormatter}
-use Rattle.std.specs.List.{flat_map}
+use Rattle.toml_span_lex.proofs.Common.{◌++◌, codes, take, HasWritten, IsPlainFormatter, flat_map}
 use Rattle.toml_span_tree.proofs.listed.write_more.Given as goal
 
 abbrev pub invariant-loop-item : goal.invariant-loop-item

@@ -1,9 +1,4 @@
-use Rattle.std.proofs.Common.{[], rules, sym, ap, ◌∙◌, map-id}
-use Rattle.std.proofs.Output.{has_written_append, has_written_of_eq}
-use Rattle.std.proofs.lemmas.List.{flat_map_more}
-use Rattle.std.proofs.lemmas.Iterator.{YieldsList-from_chars}
-use Rattle.std.proofs.lemmas.Iterator.Consumers.{YieldsList-end}
-use Rattle.std.specs.List.{flat_map}
+use Rattle.toml_span_lex.proofs.Common.{[], rules, sym, ap, ◌∙◌, map-id, has_written_append, has_written_of_eq, flat_map_more, YieldsList-from_chars, YieldsList-end, flat_map}
 use Rattle.toml_span_tree.specs.Listed.{quoted_char}
 use Rattle.toml_span_tree.proofs.listed.write_quoted_chars.Goals as goal
 

@@ -1,5 +1,4 @@
-use Rattle.std.specs.Fmt.{HasWritten, IsPlainFormatter}
-use Rattle.std.specs.List.{flat_map}
+use Rattle.toml_span_lex.proofs.Common.{HasWritten, IsPlainFormatter, flat_map}
 use Rattle.toml_span_tree.specs.Listed.{quoted_char}
 use Rattle.toml_span_tree.proofs.listed.write_quoted_chars.Given as goal
 

@@ -1,4 +1,4 @@
-use Rattle.std.proofs.Common.{◌≡◌}
+use Rattle.toml_span_lex.proofs.Common.{◌≡◌}
 use Rattle.toml_span_tree.specs.Node.{get_member}
 use Rattle.toml_span_tree.specs.Value.{members_view}
 use Rattle.toml_span_tree.proofs.lookup.entry_named.Given as goal

@@ -1,6 +1,4 @@
-use Rattle.std.proofs.Common.{◌≡◌, List, ◌++◌, append_assoc, codes, rules}
-use Rattle.std.specs.Fmt.{HasWritten}
-use Rattle.std.proofs.Output.{has_written_append, has_written_of_eq}
+use Rattle.toml_span_lex.proofs.Common.{◌≡◌, List, ◌++◌, append_assoc, codes, rules, HasWritten, has_written_append, has_written_of_eq}
 use Rattle.toml_span_tree.proofs.message.deprecated.Goals as goal
 
 regrouped : {A : Type 0} (a b c d : List A) → a ++ (b ++ c ++ d) ≡ a ++ b ++ c ++ d

@@ -1,6 +1,4 @@
-use Rattle.std.proofs.Common.{◌++◌, append_assoc, codes, map, rules, string_bytes, sym}
-use Rattle.std.specs.Fmt.{HasWritten}
-use Rattle.std.proofs.Output.{has_written_append, has_written_of_eq}
+use Rattle.toml_span_lex.proofs.Common.{◌++◌, append_assoc, codes, map, rules, string_bytes, sym, HasWritten, has_written_append, has_written_of_eq}
 use Rattle.toml_span_tree.specs.Error.{marked_keys}
 use Rattle.toml_span_tree.specs.Listed.{listed, quoted, quoted_key}
 use Rattle.toml_span_tree.proofs.message.unexpected_keys.Goals as goal

@@ -1,6 +1,4 @@
-use Rattle.std.proofs.Common.{List, map, subst, rules}
-use Rattle.std.proofs.lemmas.List.Sorted.{IsNonDecreasingBy-from_sort_by_key, IsPermutation-map}
-use Rattle.std.specs.List.Sorted.{IsPermutation}
+use Rattle.toml_span_lex.proofs.Common.{List, map, subst, rules, IsNonDecreasingBy-from_sort_by_key, IsPermutation-map, IsPermutation}
 use Rattle.toml_span_tree.proofs.Values.{Entry}
 use Rattle.toml_span_tree.specs.Order.{entry_of, start_of}
 use Rattle.toml_span_tree.proofs.order.in_text_order.Goals as goal

@@ -1,4 +1,4 @@
-use Rattle.std.proofs.Common.{◌≡◌, ◌++◌, map}
+use Rattle.toml_span_lex.proofs.Common.{◌≡◌, ◌++◌, map}
 use Rattle.toml_span_tree.specs.Order.{entry_of}
 use Rattle.toml_span_tree.proofs.order.listed.Given as goal
 

@@ -1,4 +1,4 @@
-use Rattle.std.proofs.Common.{List, option_and_then, sym, ap, ◌∙◌, arith}
+use Rattle.toml_span_lex.proofs.Common.{List, option_and_then, sym, ap, ◌∙◌, arith}
 use Rattle.toml_span_tree.specs.declared.value.Value.{Value}
 use Rattle.toml_span_tree.specs.Value.{items_view}
 use Rattle.toml_span_tree.specs.Node.{get_item}

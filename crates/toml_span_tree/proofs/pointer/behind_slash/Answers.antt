@@ -1,5 +1,4 @@
-use Rattle.std.proofs.Common.{arith}
-use Rattle.std.proofs.lemmas.Str.Pattern.{strip_prefix_char}
+use Rattle.toml_span_lex.proofs.Common.{arith, strip_prefix_char}
 use Rattle.toml_span_tree.proofs.pointer.behind_slash.Goals as goal
 
 pub returns-in-None : goal.returns-in-None

@@ -1,5 +1,4 @@
-use Rattle.std.proofs.Common.{ℕ, ap, ◌∙◌, arith, length, length-append}
-use Rattle.std.proofs.lemmas.Str.Pattern.{split_parts}
+use Rattle.toml_span_lex.proofs.Common.{ℕ, ap, ◌∙◌, arith, length, length-append, split_parts}
 use Rattle.toml_span_tree.specs.Pointer.{segments}
 use Rattle.toml_span_tree.proofs.Pointers.{segments-last, segments-more}
 use Rattle.toml_span_tree.proofs.pointer.cut.Goals as goal

@@ -1,35 +1,19 @@
 -- The inner value is lent.
-use Rattle.toml_span_tree.proofs.Walks.{◌≡◌, ℕ, ◌+◌, List, [], ◌∷◌, refl, sym, ap, ◌∙◌, proved, after, head, arm_body, full_share, ent, sep, ftrue, fat, flft, named, erased, Ty, Val, Vals, vptr, of_list, fact, tables, sem, GName, ‵, raw, ◌⊛◌, some, later, at_ret, mean, ◌$◌, ◌∵◌, !, qed, done, move, keep, drop, use1, use2, split, split3, join, fsplit3, fjoin, pick, await, rewrite, suffices, frame, group, by, enter, of_opd, addr, load, stop, fld, first, exec, returns, switches_on, whole, live, vrt, look_tag, alloc_all, pass_all, free_all, look_at, get, through, sets, sets_last, env, open_ref, no, shows, Is, mem, part_at, MutRef, mut_vals, mut_Tells, RattleType, follows, lends_Part, plain, mut_ref_to, named_lft, nothing, heard, peeks, only, Stays, walk_of, says, stay_dropped, Goes-spent_ref, ends_at, then_runs}
-use borrow.Table.OneValue.{part_out_at, part_in_at}
-use borrow.Enum.Lend.{kept_variant, variant_apart, variant_put}
-use borrow.Enum.Known.{at, choose}
-use base.Fml.{fex}
-use denote.Memory.{lone}
-use denote.RattleType.{Valss, owns}
-use denote.Struct.Field.{Field, rows}
-use denote.Struct.Values.{Values, intos}
-use denote.Enum.Enum.{payload, tag, in_a_row}
-use denote.Enum.Declared.{tag_of, variants, intoss}
-use Rattle.toml_span_tree.specs.declared.value.Value.{Value}
-use Rattle.toml_span_tree.specs.contracts.value.Value as value
-use seplogic.Ra.Ura.{Ura}
-use base.Logic.{SProp}
-use types.Logic.{Logic}
-use denote.Ref.{NamedLft}
-use contract.Lifetimes.{Lfts}
+use Rattle.toml_span_tree.proofs.Walks.{ℕ, ◌+◌, [], ◌∷◌, refl, sym, proved, after, head, arm_body, full_share, ent, sep, ftrue, flft, named, erased, Ty, vptr, fact, tables, sem, GName, ‵, raw, ◌⊛◌, some, later, at_ret, mean, ◌$◌, ◌∵◌, !, qed, done, move, keep, drop, use1, use2, split, split3, join, fsplit3, fjoin, pick, await, suffices, frame, group, by, enter, of_opd, addr, load, stop, fld, first, exec, returns, switches_on, whole, vrt, look_tag, alloc_all, pass_all, free_all, look_at, get, through, sets, sets_last, env, open_ref, no, mem, part_at, MutRef, mut_vals, mut_Tells, RattleType, follows, lends_Part, plain, mut_ref_to, named_lft, nothing, heard, Stays, walk_of, says, stay_dropped, Goes-spent_ref, ends_at, then_runs, lone, Value, Ura, SProp, Logic, NamedLft, Lfts, Option, Some, inl, inr}
+use denote.Struct.Values.{intos}
 use Rattle.toml_span_tree.specs.code.Lending.{IsHeld}
 use Rattle.toml_span_tree.specs.declared.value.ValueInner.{ValueInner}
+use borrow.Struct.Lend.{kept_record_as, record_apart_as, record_fill_as}
+use borrow.Enum.SameAs.{Enum-same}
+use Rattle.toml_span_tree.proofs.pointer.inner_of.Statement.{statement}
+use Rattle.toml_span_tree.proofs.Payloads.{Payload, payload, opened, taken}
+use Rattle.toml_span_tree.specs.contracts.value.Value as value
 use Rattle.toml_span_tree.specs.contracts.value.ValueInner as inner
 use Rattle.toml_span_tree.proofs.value.ValueInner.TheLaws as inner_laws
 use Rattle.toml_span_tree.proofs.value.Value.TheLaws as laws
-use Rattle.std.proofs.Common.{Option, Some}
 use Rattle.std.specs.contracts.option.Option as O
 use Rattle.std.proofs.option.Option.TheLaws as O_laws
-use borrow.Struct.Lend.{kept_record_as, record_apart_as, record_fill_as}
-use borrow.Enum.SameAs.{Enum-same}
-use denote.Struct.Field.{row_field}
 use Rattle.toml_span_tree.specs.contracts.pointer.inner_of as f
-use Rattle.toml_span_tree.proofs.pointer.inner_of.Statement.{statement}
 use Rattle.toml_span_tree.proofs.pointer.inner_of.Code as code
 
 abbrev a_of : Lfts 2 → NamedLft
@@ -49,14 +33,8 @@ module _ (a : NamedLft) where
   abbrev P : RattleType
   P = O.the_row I
 
-  abbrev Fs : List Field
-  Fs = row_field I ∷ []
-
-  abbrev pays : (v : Values Fs) (us : List Val) → payload (variants (O.the_type I)) ((O.the_type I).to (at (O.enum I) 1 v)) us ≡ fex (Valss (rows Fs)) (in_a_row (rows Fs) (owns (rows Fs) (intos Fs v)) us)
-  pays v us = λ i. payload (variants (O.the_type I)) (intoss (O.enum I).parts ((O.enum I).beta (choose (O.enum I).parts 1 v) i)) us
-
-  abbrev tags : (v : Values Fs) → tag_of (O.the_type I) (at (O.enum I) 1 v) ≡ 1
-  tags v = λ i. tag (variants (O.the_type I)) (intoss (O.enum I).parts ((O.enum I).beta (choose (O.enum I).parts 1 v) i))
+  of_some : Payload P I Some 1
+  of_some = payload (O.enum I) 1 I I (λ m. m) (λ m b o. refl) (λ m. inr (inl (m, tt))) (λ m us. refl) (λ m. refl) (O_laws.the_loose I (inner_laws.the_row_laws a)).1.0 refl refl refl refl
 
   module _ {M : Type 1} {𝓤 : Ura M} (𝓛 : Logic 𝓤) (b o : ℕ) where
     abbrev KeptV : Value → SProp 𝓤
@@ -71,19 +49,10 @@ module _ (a : NamedLft) where
     back_v v w = record_fill_as (value.the_type a) (laws.the_loose a) 0 0 P (λ x. x) (λ x. x) (λ y b o. Enum-same (O.the_type I) full_share y b o) (λ y b o. sym (Enum-same (O.the_type I) full_share y b o))
         (value.struct a).as_values (value.struct a).Ghost (value.struct a).make (λ v. tt) (λ x. refl) (λ v g. λ i. intos (value.struct a).parts ((value.struct a).beta v g i)) refl M 𝓤 𝓛 v w b o
 
-    abbrev KeptO : ValueInner → SProp 𝓤
-    KeptO i = mean 𝓛 (kept_variant (O.the_type I) 1 Fs (O_laws.the_loose I (inner_laws.the_row_laws a)).1.0 (at (O.enum I) 1) pays tags refl 0 8 M 𝓤 𝓛 (i, tt) b o)
-
-    apart_o : (i : ValueInner) → ent 𝓤 (sem 𝓛 (part_at P full_share (Some i) b o)) (sep 𝓤 (sem 𝓛 (part_at I full_share i b (o + 8))) (KeptO i))
-    apart_o i = variant_apart (O.the_type I) 1 Fs (O_laws.the_loose I (inner_laws.the_row_laws a)).1.0 (at (O.enum I) 1) pays tags refl 0 8 𝓛 refl refl refl (i, tt) b o
-
-    back_o : (i w : ValueInner) → ent 𝓤 (sep 𝓤 (sem 𝓛 (part_at I full_share w b (o + 8))) (KeptO i)) (sem 𝓛 (part_at P full_share (Some w) b o))
-    back_o i w = variant_put (O.the_type I) 1 Fs (O_laws.the_loose I (inner_laws.the_row_laws a)).1.0 (at (O.enum I) 1) pays tags refl 0 8 𝓛 refl w (i, tt) b o
-
   module _ {M : Type 1} {𝓤 : Ura M} (𝓛 : Logic 𝓤) (b o : ℕ) where
-    back : (v : Value) (i w : ValueInner) → ent 𝓤 (sep 𝓤 (sem 𝓛 (part_at I full_share w b (o + 0 + 8))) (sep 𝓤 (KeptO 𝓛 b (o + 0) i) (KeptV 𝓛 b o v))) (sem 𝓛 (part_at V full_share (record { value = Some w; span = v.span }) b o))
-    back v i w = qed 𝓛 (‵ (part_at I full_share w b (o + 0 + 8)) ∷ raw (KeptO 𝓛 b (o + 0) i) ∷ raw (KeptV 𝓛 b o v) ∷ []) ∵
-        use2 𝓛 (‵ (part_at P full_share (Some w) b (o + 0))) (back_o 𝓛 b (o + 0) i w) $ by ! (back_v 𝓛 b o v (Some w))
+    back : (v : Value) (i w : ValueInner) → ent 𝓤 (sep 𝓤 (sem 𝓛 (part_at I full_share w b (o + 0 + 8))) (sep 𝓤 (of_some.Kept 𝓛 i b (o + 0)) (KeptV 𝓛 b o v))) (sem 𝓛 (part_at V full_share (record { value = Some w; span = v.span }) b o))
+    back v i w = qed 𝓛 (‵ (part_at I full_share w b (o + 0 + 8)) ∷ raw (of_some.Kept 𝓛 i b (o + 0)) ∷ raw (KeptV 𝓛 b o v) ∷ []) ∵
+        use2 𝓛 (‵ (part_at P full_share (Some w) b (o + 0))) (of_some.back 𝓛 i w b (o + 0)) $ by ! (back_v 𝓛 b o v (Some w))
 
 pub inner_of_spec : {M : Type 1} → statement M
 inner_of_spec 𝓤 𝓛 𝓜 𝓡 wired =
@@ -104,21 +73,15 @@ inner_of_spec 𝓤 𝓛 𝓜 𝓡 wired =
     enter ! _ _ _ _ _ $ alloc_all ! (λ l. pass_all ! refl ((tt, tt), tt) $ let En = env fn.locals l in
     fsplit3 ! $ drop ! $ open_ref ! tt (mem R) $
     use1 𝓛 (‵ (part_at OR full_share r.now.value b (o + 0)) ⊛ raw (KeptV α 𝓛 b o r.now)) (apart_v α 𝓛 b o r.now) $ split ! $
-    rewrite ! 0 (λ (x : Option ValueInner). ‵ (part_at OR full_share x b (o + 0))) asked.1 refl $
-    use1 𝓛 (some (λ (w : Val). ‵ (fat full_share ω b (o + 0) w) ⊛ ‵ (OR.own_val (Some m) (w ∷ [])))) (part_out_at 𝓛 OR refl full_share (Some m) b (o + 0) ω refl) $ pick ! (λ w. split ! $ move ! (1 ∷ []) $
-    peeks ! OR (Is OR) (shows 𝓛 OR) (Some m) (w ∷ []) (λ p. let us : Vals = of_list p.0 in move ! (1 ∷ []) $
-    let is : w ≡ live 1 us = ap only p.1.0 ∙ ap (λ (n : ℕ). live n us) (tags α (m, tt)) in
-    rewrite ! 0 (λ (v : Val). ‵ (fat full_share ω b (o + 0) v)) is refl $
+    opened ! (of_some α) r.now.value m asked.1 b (o + 0) ω refl (λ us.
     -- [the option's cell; what it owns; what is kept of the value; the open borrow, in three entries; κ']
     sets ! (addr ! (through ! refl (fld ! refl (stop !)))) refl (tt, tt) $
     first ! $ switches_on ! (load ! (through ! refl (vrt ! refl (fld ! refl (stop !)))) (look_tag ! 0 (whole !))) $
     exec ! 𝓣.C 𝓣.Λ En (arm_body 0 (head (after 1 fn.body))) (then_runs 𝓛 𝓣.C 𝓣.Λ En (after 2 fn.body) (at_ret En Post)) $
-    rewrite ! 0 (λ (v : Val). ‵ (fat full_share ω b (o + 0) v)) (sym is) refl $
-    use2 𝓛 (‵ (part_at OR full_share (Some m) b (o + 0))) (part_in_at 𝓛 OR refl full_share (Some m) b (o + 0) ω refl w) $
-    use1 𝓛 (‵ (part_at F full_share m b (o + 0 + 8)) ⊛ raw (KeptO α 𝓛 b (o + 0) m)) (apart_o α 𝓛 b (o + 0) m) $ split ! $ move ! (1 ∷ 2 ∷ []) $ join ! $ move ! (2 ∷ 3 ∷ 4 ∷ 1 ∷ 0 ∷ []) $ group ! 5 $
+    taken ! (of_some α) m b (o + 0) ω refl $ move ! (1 ∷ 2 ∷ []) $ join ! $ move ! (2 ∷ 3 ∷ 4 ∷ 1 ∷ 0 ∷ []) $ group ! 5 $
     let put : ValueInner → Value = λ i. record { value = Some i; span = r.now.span } in
     use1 𝓛 (later (some (λ (δ : GName). ‵ ((MutRef (named 0) κ F).own_val (record { ref_ptr = (b, o + 0 + 8); ghost_name = δ; now = m }) (vptr b (o + 0 + 8) ∷ [])) ⊛ ‵ (flft κ q) ⊛ ‵ (follows R F γ δ put))))
-    (lends_Part 𝓛 R F put (named 0) κ q b o b (o + 0 + 8) γ (sep 𝓤 (KeptO α 𝓛 b (o + 0) m) (KeptV α 𝓛 b o r.now)) (back α 𝓛 b o r.now m) (R.coded.code r.now) (R.coded.code r.now) m) $ await ! tt $ pick ! (λ δ. split3 ! $
+    (lends_Part 𝓛 R F put (named 0) κ q b o b (o + 0 + 8) γ (sep 𝓤 ((of_some α).Kept 𝓛 m b (o + 0)) (KeptV α 𝓛 b o r.now)) (back α 𝓛 b o r.now m) (R.coded.code r.now) (R.coded.code r.now) m) $ await ! tt $ pick ! (λ δ. split3 ! $
     -- [the inner reference; κ; follows; κ']
     sets ! (addr ! (through ! refl (vrt ! refl (fld ! refl (stop !))))) refl (tt, tt) $
     sets_last ! (addr ! (through ! refl (stop !))) refl (tt, tt) $
@@ -127,4 +90,4 @@ inner_of_spec 𝓤 𝓛 𝓜 𝓡 wired =
     returns ! (look_at ! 0 refl) $ free_all ! refl $
     suffices ! _ (ends_at 𝓛 f.ended stayed c Y (vptr b (o + 0 + 8)) (record { ref_ptr = (b, o + 0 + 8); ghost_name = δ; now = m }) (tt, tt) (tt, tt)) $
     nothing ! $ move ! (4 ∷ 0 ∷ []) $ join ! $ move ! (2 ∷ 0 ∷ []) $ join ! $ move ! (1 ∷ []) $
-    nothing ! $ nothing ! $ fjoin ! $ join ! $ move ! (1 ∷ 0 ∷ []) $ join ! $ frame ! $ says ! asked.1 $ done !))))))
+    nothing ! $ nothing ! $ fjoin ! $ join ! $ move ! (1 ∷ 0 ∷ []) $ join ! $ frame ! $ says ! asked.1 $ done !)))))

@@ -1,4 +1,4 @@
-use Rattle.std.proofs.Common.{ap, option_map}
+use Rattle.toml_span_lex.proofs.Common.{ap, option_map}
 use Rattle.toml_span_tree.proofs.Lent.{more-some}
 use Rattle.toml_span_tree.proofs.pointer.is_last.Goals as goal
 

@@ -1,55 +1,25 @@
 -- The value at a key is lent.
-use Rattle.toml_span_tree.proofs.Walks.{◌≡◌, ℕ, List, [], ◌∷◌, refl, lit<, full_share, Bor, MutBor, proved, id⊢, emp, ftrue, flft, named, vptr, fact, fact_i, tables, ‵, raw, ◌⊛◌, some, later, at_ret, ◌$◌, ◌∵◌, !, qed, done, move, keep, drop, use0, use1, use2, split, split3, join, fjoin, pick, await, rewrite, suffices, frame, by, enter, of_opd, addr, stop, no_more, and_then, returns, alloc_all, pass_all, free_all, look_at, get, through, sets, sets_last, lands_as, env, yes, no, MutRef, mut_vals, mut_Tells, RattleType, follows_so, plain, mut_ref_to, named_lft, nothing, heard, calls_at, Lasts, lasts, triple_of, Stays, walk_of, says, stay_dropped, Goes-dropped, Goes-spent_ref, ends_at, framed}
-use denote.Ref.{NamedLft, ShrRef, shr_vals, shr_Tells}
-use denote.Signature.{shr_ref_to}
+use Rattle.toml_span_tree.proofs.Walks.{◌∙◌, ap, ◌≡◌, [], ◌∷◌, refl, lit<, full_share, Bor, MutBor, proved, id⊢, emp, ftrue, flft, named, vptr, fact, fact_i, tables, ‵, raw, ◌⊛◌, at_ret, ◌$◌, ◌∵◌, !, qed, move, keep, drop, use0, use1, use2, split, split3, join, rewrite, enter, of_opd, addr, stop, no_more, and_then, returns, alloc_all, pass_all, free_all, look_at, get, through, sets, sets_last, lands_as, env, yes, no, MutRef, mut_vals, mut_Tells, RattleType, follows_so, plain, mut_ref_to, named_lft, nothing, heard, calls_at, lasts, triple_of, Stays, walk_of, stay_dropped, Goes-dropped, Goes-spent_ref, ends_at, framed, NamedLft, ShrRef, shr_vals, shr_Tells, shr_ref_to, arg, layout, Laws, arg_laws, arg_copy, of_field, of_copyable, glues, bare, Dict, impl, tcons, tnil, dnil, not-mem-nil, left, right, Lfts, ◌⊑◌, ⊑_meet, BTreeMap, Option, IsSome, Key, Value, ⊤, get_tag, get_in, vrt, in_variant, whole, fld, first, exec, switches_on, after, head, arm_body, then_runs, lends_member, begins, ends, args, gives, group, cow_str_bytes, get_member, members_view}
 use denote.Struct.Field.{shr_ref_field}
 use denote.Struct.Laws.{shr_ref_laws, shr_ref_copy}
-use denote.Param.{arg, layout}
-use denote.Param.Laws.{Laws, IsCopy, arg_laws, arg_copy, of_field, of_copyable}
+use denote.Param.Laws.{IsCopy}
 use denote.Param.Shared.{copy_shared}
-use denote.Param.NoDrop.{glues}
-use mir.Raw.{raw as bare}
-use mir.Syntax.{Dict, impl, tcons, tnil, dnil}
-use mathlib.Core.List.{not-mem-nil}
-use base.Share.{left, right}
-use contract.Lifetimes.{Lfts}
-use contract.BorrowLft.{◌⊑◌, ⊑_meet}
-use Rattle.std.proofs.Common.{BTreeMap, Option, Some, IsSome}
 use Rattle.std.specs.declared.collections.btree_map.Comparable.{Ghosts}
-use Rattle.toml_span_lex.specs.declared.key.Key.{Key}
-use Rattle.toml_span_tree.specs.declared.value.Value.{Value}
+use Rattle.std.specs.Option.{ghost_name_of, IfSome}
+use Rattle.std.specs.Map.{lookup}
+use Rattle.std.specs.List.{IsAmong}
+use Rattle.std.specs.BTreeMap.{WritesThrough, values, IsOrdered}
+use Rattle.std.specs.Prelude.{option_map}
+use Rattle.toml_span_tree.proofs.Values.{at_name}
+use Rattle.toml_span_tree.proofs.Lent.{member-some}
+use Rattle.toml_span_tree.proofs.Puts.{member-is, view-set_value}
+use Rattle.toml_span_tree.proofs.Loans.{so_some, some_opened, held}
+use Rattle.toml_span_tree.proofs.pointer.member_of.Statement.{statement}
 use Rattle.toml_span_tree.specs.contracts.value.Value as value
 use Rattle.toml_span_tree.proofs.value.Value.TheLaws as value_laws
 use Rattle.toml_span_lex.specs.contracts.key.Key as key
 use Rattle.toml_span_lex.proofs.key.Key.TheLaws as key_laws
 use Rattle.std.specs.contracts.option.Option as O
-use Rattle.std.specs.Option.{ghost_name_of, IfSome}
-use Rattle.std.specs.Map.{lookup}
-use Rattle.std.specs.List.{IsAmong}
-use Rattle.std.specs.BTreeMap.{WritesThrough, values, IsOrdered}
-use Rattle.std.specs.Prelude.{⊤, option_map}
-use mathlib.Core.Option.{some as some'}
-use base.Logic.{ent, SProp, via, ex_i}
-use seplogic.Ra.Ura.{Ura}
-use types.Logic.{Logic}
-use types.Kit.{Item, ⋆}
-use prog.Memory.{Memory}
-use prog.Routine.{Routine}
-use contract.Monad.{Fun}
-use contract.Lifetimes.{Shares, AllOutlive}
-use mir.Val.{vcons, vnil}
-use types.ByLocal.{get_tag, get_in}
-use types.Match.{live, vrt, in_variant}
-use types.Part.{whole}
-use types.Run.{fld, first, exec, switches_on}
-use Rattle.toml_span_tree.proofs.Walks.{after, head, arm_body, then_runs}
-use Rattle.toml_span_tree.proofs.Values.{at_name}
-use Rattle.toml_span_tree.proofs.Lent.{member-some, member-is, member-set}
-use Rattle.toml_span_tree.proofs.Loans.{so_weaken, some_opened}
-use Rattle.std.specs.Cow.{cow_str_bytes}
-use Rattle.toml_span_tree.specs.Node.{get_member}
-use Rattle.toml_span_tree.specs.Value.{view, members_view}
-use Rattle.toml_span_tree.specs.Path.{set_entry}
 use Rattle.std.specs.contracts.alloc.Global as global
 use Rattle.std.proofs.alloc.Global.TheLaws as global_laws
 use Rattle.std.specs.contracts.collections.BTreeMap as tree
@@ -70,7 +40,6 @@ use Rattle.toml_span_lex.proofs.key.KeyPartialOrd.TheImpl.Met as partial_ord-met
 use Rattle.std.specs.contracts.collections.BTreeMap.get_mut as g
 use Rattle.std.proofs.collections.BTreeMap.get_mut.Met as g-thm
 use Rattle.toml_span_tree.specs.contracts.pointer.member_of as f
-use Rattle.toml_span_tree.proofs.pointer.member_of.Statement.{statement}
 use Rattle.toml_span_tree.proofs.pointer.member_of.Code as code
 
 abbrev a_of : Lfts 3 → NamedLft
@@ -123,25 +92,6 @@ LA = arg_laws (bare (layout global.the_row)) no global.the_row global_laws.the_r
 abbrev drops : Dict
 drops = impl ("toml_span_tree::Destruct++none::drop" ∷ []) (tcons (layout A) tnil) dnil
 
-module _ {M : Type 1} {𝓤 : Ura M} (𝓛 : Logic 𝓤) (at_mem : Memory → SProp 𝓤) (run' : Routine → Fun 𝓤) (κs : Lfts 3) (qs : Shares 3) (bounds : AllOutlive 3 f.ended.signature.outlives κs) (r : MutBor (BTreeMap Key Value)) (name : Bor Key) where
-  abbrev Y : (walk_of 𝓛 f.ended stayed (f.clauses 𝓛 at_mem run')).Ghost
-  Y = ((κs, qs, bounds, (r, (name, tt)), (mut_vals r, (shr_vals name, tt))), tt)
-
-  abbrev text : List ℕ
-  text = cow_str_bytes name.now.name
-
-  abbrev Left : MutBor Value → List (Item 𝓤)
-  Left x = ‵ ((MutRef (named 0) κs.0 (value.the_row (a_of κs))).own_val x (mut_vals x))
-      ∷ ‵ (follows_so (table_row (a_of κs)) (value.the_row (a_of κs)) r.ghost_name (some' x.ghost_name) (λ w n. members_view n.entries ≡ set_entry text (view w) (members_view r.now.entries)) (λ _. ⊤))
-      ∷ ‵ (flft κs.0 qs.0) ∷ ‵ (flft κs.1.0 qs.1.0) ∷ ‵ (flft κs.1.1.0 qs.1.1.0) ∷ []
-
-  -- the return, with a reference x
-  leaves_with : (x : MutBor Value) → get_member text (members_view r.now.entries) ≡ Some (view x.now) → ent 𝓤 (⋆ 𝓛 (Left x)) ((walk_of 𝓛 f.ended stayed (f.clauses 𝓛 at_mem run')).post Y (vptr x.ref_ptr.0 x.ref_ptr.1))
-  leaves_with x is =
-      qed 𝓛 (Left x) ∵ suffices ! _ (ends_at 𝓛 f.ended stayed (f.clauses 𝓛 at_mem run') Y (vptr x.ref_ptr.0 x.ref_ptr.1) x (tt, (tt, tt)) (tt, (tt, tt))) $
-      nothing ! $ move ! (5 ∷ 0 ∷ []) $ join ! $ move ! (4 ∷ 0 ∷ []) $ join ! $ move ! (3 ∷ 0 ∷ []) $ join ! $ move ! (1 ∷ []) $
-      nothing ! $ nothing ! $ fjoin ! $ nothing ! $ fjoin ! $ join ! $ move ! (1 ∷ 0 ∷ []) $ join ! $ frame ! $ says ! is $ done !
-
 pub member_of_spec : {M : Type 1} → statement M
 unfolding Rattle.toml_span_tree.proofs.Destruct++none.drop.Code.code
 member_of_spec 𝓤 𝓛 𝓜 𝓡 wired =
@@ -170,20 +120,19 @@ member_of_spec 𝓤 𝓛 𝓜 𝓡 wired =
     let G = triple_of 𝓛 E.signature (g.spec (K α) (V α) A (Q α β) ord.ghosts ord.dict is_eq.ghosts is_eq.dict eq.ghosts eq.dict partial_ord.ghosts partial_ord.dict heap.ghosts heap.dict drops (compares α) (compares_dict α) (ref_clone.ghosts (K α)) (ref_clone.dict (K α)) 𝓛 𝓜.mem 𝓡.returns) in
     let z : G.Ghost = (((κ, (κ', (κ', ([], (κ'', tt))))), (q, (left q', (right q', (full_share, (q'', tt))))), (bounds.0, (bounds.0, ((λ x m. absurd (not-mem-nil m)), tt))), (r, (name, tt)), (mut_vals r, (shr_vals name, tt))), tt) in
     let fn = code.function in
-    let Post = (walk_of 𝓛 f.ended stayed c).post ((κs, qs, bounds, a, (mut_vals r, (shr_vals name, tt))), tt) in
+    let Y : (walk_of 𝓛 f.ended stayed c).Ghost = ((κs, qs, bounds, a, (mut_vals r, (shr_vals name, tt))), tt) in
+    let Post = (walk_of 𝓛 f.ended stayed c).post Y in
     let OR = O.the_row (MutRef (named 0) κ W) in
     let within = key_laws.the_within α κ'' bounds.1.0 in
-    qed 𝓛 (((‵ (flft κ q) ⊛ ‵ (flft κ' q') ⊛ ‵ (flft κ'' q'') ⊛ ‵ ftrue) ⊛ ‵ ((MutRef (named 0) κ R).own_val r (mut_vals r)) ⊛ ‵ ((ShrRef (named 2) κ'' (key.the_row α)).own_val name (shr_vals name)) ⊛ ‵ ftrue)
-    ∷ raw (fact 𝓤 (IsSome (get_member (cow_str_bytes name.now.name) (members_view r.now.entries)))) ∷ []) ∵
-    move ! (1 ∷ []) $ heard ! _ (λ asked.
-    split ! $ split3 ! $ move ! (2 ∷ []) $ split ! $ move ! (4 ∷ []) $ split3 ! $ keep ! (0 ∷ 1 ∷ 5 ∷ 6 ∷ 3 ∷ []) $
-    -- [the reference; the key; κ; κ'; κ'']
+    let es = r.now.entries in let text = cow_str_bytes name.now.name in
+    let tokens = ‵ (flft κ q) ⊛ ‵ (flft κ' q') ⊛ ‵ (flft κ'' q'') ⊛ ‵ ftrue in
+    qed 𝓛 ((tokens ⊛ ‵ ((MutRef (named 0) κ R).own_val r (mut_vals r)) ⊛ ‵ ((ShrRef (named 2) κ'' (key.the_row α)).own_val name (shr_vals name)) ⊛ ‵ ftrue)
+    ∷ raw (fact 𝓤 (IsSome (get_member text (members_view es)))) ∷ []) ∵ begins ! (λ asked.
+    -- [the reference; the key; the tokens]
     enter ! _ _ _ _ _ $ alloc_all ! (λ l. pass_all ! refl ((tt, tt), ((tt, tt), tt)) $ let En = env fn.locals l in
     sets ! (addr ! (through ! refl (stop !))) refl (tt, tt) $
-    nothing ! $ move ! (2 ∷ 0 ∷ []) $ join ! $ move ! (1 ∷ 0 ∷ []) $ join ! $
-    move ! (2 ∷ []) $ use1 𝓛 (‵ (flft κ' (left q')) ⊛ ‵ (flft κ' (right q'))) (𝓛.lfts.lft_split κ' q') $ split ! $
-    nothing ! $ move ! (5 ∷ 0 ∷ []) $ join ! $ use0 𝓛 (‵ (flft [] full_share)) (𝓛.lfts.lft-nil full_share) $ join ! $
-    move ! (2 ∷ 0 ∷ []) $ join ! $ move ! (1 ∷ 0 ∷ []) $ join ! $ move ! (2 ∷ 0 ∷ []) $ join ! $ join ! $
+    move ! (2 ∷ []) $ split3 ! $ move ! (1 ∷ []) $ use1 𝓛 (‵ (flft κ' (left q')) ⊛ ‵ (flft κ' (right q'))) (𝓛.lfts.lft_split κ' q') $ split ! $
+    use0 𝓛 (‵ (flft [] full_share)) (𝓛.lfts.lft-nil full_share) $ move ! (3 ∷ 1 ∷ 2 ∷ 0 ∷ 4 ∷ []) $ group ! 5 $ move ! (1 ∷ 2 ∷ 0 ∷ []) $ args ! $
     -- [what the call takes; the facts that it asks for]
     nothing ! $ use0 𝓛 (raw (fact 𝓤 (κ'' ⊑ (Q α β).lives))) (fact_i 𝓤 _ (emp 𝓤) (⊑_meet κ'' κ'' (K α).lives (λ x m. m) within)) $ join ! $
     use0 𝓛 (raw (fact 𝓤 ([] ⊑ A.lives))) (fact_i 𝓤 _ (emp 𝓤) (λ x m. m)) $ join ! $
@@ -191,25 +140,19 @@ member_of_spec 𝓤 𝓛 𝓜 𝓡 wired =
     use0 𝓛 (raw (fact 𝓤 (κ' ⊑ (K α).lives))) (fact_i 𝓤 _ (emp 𝓤) (key_laws.the_within α κ' (λ x m. m))) $ join ! $
     move ! (1 ∷ 0 ∷ []) $ use2 𝓛 (raw (G.pre z)) (id⊢ 𝓤 _) $
     calls_at ! (framed 𝓤 𝓛.H 𝓜 𝓣) G met z (and_then ! (get ! refl) (and_then ! (get ! refl) (no_more !))) (λ v.
-    let es = r.now.entries in let text = cow_str_bytes name.now.name in
     let P : Value → BTreeMap Key Value → Type 0 = WritesThrough ord.ghosts.cmp (ord.ghosts.cmp name.now) r.now in
     let P₀ : BTreeMap Key Value → Type 0 = λ n. n ≡ r.now in
-    use1 𝓛 (later (some (λ (y : Option (MutBor Value)). ((‵ (flft κ q) ⊛ ‵ (flft κ' (left q')) ⊛ ‵ (flft κ' (right q')) ⊛ ‵ (flft [] full_share) ⊛ ‵ (flft κ'' q'') ⊛ ‵ ftrue) ⊛ ‵ (OR.own_val y (v ∷ []))) ⊛
-    some (λ (ws : Lasts E z.0.0 z.0.3). ‵ (lasts E z.0.0 z.0.3 ws) ⊛ (‵ (follows_so R W r.ghost_name (ghost_name_of y) P P₀) ⊛ (raw (fact 𝓤 (option_map (λ x. x.now) y ≡ lookup (at_name text) es)) ⊛
-    (raw (fact 𝓤 (IfSome y (λ x. IsAmong (values r.now) x.now))) ⊛ raw (fact 𝓤 (IsOrdered ord.ghosts.cmp r.now))))))))) (id⊢ 𝓤 _) $
-    await ! tt $ pick ! (λ y. split ! $ move ! (1 ∷ []) $ pick ! (λ ws. split ! $ drop ! $ split ! $ move ! (1 ∷ []) $ split ! $ move ! (1 ∷ []) $ drop ! $ heard ! _ (λ told.
-    use0 𝓛 (some (λ (x : MutBor Value). raw (fact 𝓤 (y ≡ Some x)))) (via 𝓤 _ (fact_i 𝓤 _ (emp 𝓤) (member-some y text es told asked).1) (ex_i 𝓤 (λ (x : MutBor Value). fact 𝓤 (y ≡ Some x)) (member-some y text es told asked).0)) $
-    pick ! (λ x. heard ! _ (λ is_x.
-    -- [follows; the tokens with the result]
-    rewrite ! 0 (λ (u : Option (MutBor Value)). ‵ (follows_so R W r.ghost_name (ghost_name_of u) P P₀)) is_x refl $
-    use1 𝓛 (‵ (follows_so R W r.ghost_name (some' x.ghost_name) (λ w n. members_view n.entries ≡ set_entry text (view w) (members_view es)) (λ _. ⊤)))
-    (so_weaken 𝓛 R W r.ghost_name P (λ w n. members_view n.entries ≡ set_entry text (view w) (members_view es)) P₀ (λ _. ⊤) (λ w n h. member-set text es n.entries w h.0) (λ n h. tt) (some' x.ghost_name)) $
-    move ! (1 ∷ []) $ split ! $ move ! (1 ∷ []) $ rewrite ! 0 (λ (u : Option (MutBor Value)). ‵ (OR.own_val u (v ∷ []))) is_x refl $
-    use1 𝓛 (raw (fact 𝓤 (v ≡ live 1 (vcons (vptr x.ref_ptr.0 x.ref_ptr.1) vnil))) ⊛ ‵ ((MutRef (named 0) κ W).own_val x (mut_vals x))) (some_opened 𝓛 κ W x v) $ split ! $ heard ! _ (λ vis.
-    -- [the reference; the tokens; follows]
-    move ! (1 ∷ []) $ split3 ! $ move ! (2 ∷ []) $ split3 ! $ move ! (2 ∷ []) $ split ! $
-    move ! (5 ∷ 2 ∷ []) $ use2 𝓛 (‵ (flft κ' q')) (𝓛.lfts.lft_join κ' q') $
-    -- [κ'; κ''; true; nothing; κ; the reference; follows]
+    gives ! tt OR v (‵ (flft κ q) ⊛ ‵ (flft κ' (left q')) ⊛ ‵ (flft κ' (right q')) ⊛ ‵ (flft [] full_share) ⊛ ‵ (flft κ'' q'') ⊛ ‵ ftrue) (lasts E z.0.0 z.0.3)
+    (λ y. ‵ (follows_so R W r.ghost_name (ghost_name_of y) P P₀) ⊛ raw (fact 𝓤 (option_map (λ x. x.now) y ≡ lookup (at_name text) es)) ⊛ raw (fact 𝓤 (IfSome y (λ x. IsAmong (values r.now) x.now))) ⊛ raw (fact 𝓤 (IsOrdered ord.ghosts.cmp r.now)))
+    (id⊢ 𝓤 _) (λ y. split ! $ move ! (1 ∷ []) $ split ! $ heard ! _ (λ told. drop ! $ let some_y = member-some y text es told asked in let x = some_y.0 in
+    -- [what is lent; the option; the tokens]
+    rewrite ! 0 (λ (u : Option (MutBor Value)). ‵ (follows_so R W r.ghost_name (ghost_name_of u) P P₀)) some_y.1 refl $
+    use1 𝓛 (‵ (lends_member r text x)) (so_some 𝓛 R W r x P _ P₀ (λ _. ⊤) (λ w n h. ap members_view h.0 ∙ view-set_value text es w) r.now tt) $
+    rewrite ! 1 (λ (u : Option (MutBor Value)). ‵ (OR.own_val u (v ∷ []))) some_y.1 refl $ move ! (1 ∷ []) $
+    use1 𝓛 (raw (fact 𝓤 (v ≡ held 𝓛 κ W x v)) ⊛ ‵ ((MutRef (named 0) κ W).own_val x (mut_vals x))) (some_opened 𝓛 κ W x v) $ split ! $ heard ! _ (λ vis.
+    -- [the reference; what is lent; the tokens]
+    move ! (2 ∷ []) $ split3 ! $ move ! (2 ∷ []) $ split3 ! $ move ! (4 ∷ 0 ∷ []) $ use2 𝓛 (‵ (flft κ' q')) (𝓛.lfts.lft_join κ' q') $ move ! (3 ∷ 0 ∷ 2 ∷ []) $ group ! 3 $
+    -- [the tokens; nothing; the reference; what is lent]
     lands_as ! vis refl (tt, (record { fits = lit< tt }, (tt, tt))) $
     first ! $ switches_on ! (get_tag ! (vrt ! refl (fld ! refl (stop !))) (whole !)) $
     exec ! 𝓣.C 𝓣.Λ En (arm_body 0 (head (after 2 fn.body))) (then_runs 𝓛 𝓣.C 𝓣.Λ En (after 3 fn.body) (at_ret En Post)) $
@@ -217,4 +160,5 @@ member_of_spec 𝓤 𝓛 𝓜 𝓡 wired =
     sets_last ! (addr ! (through ! refl (stop !))) refl (tt, tt) $
     exec ! 𝓣.C 𝓣.Λ En (after 3 fn.body) (at_ret En Post) $
     sets ! (of_opd ! (get ! refl)) refl (tt, tt) $
-    returns ! (look_at ! 0 refl) $ free_all ! refl $ keep ! (5 ∷ 6 ∷ 4 ∷ 0 ∷ 1 ∷ []) $ by ! (leaves_with 𝓛 𝓜.mem 𝓡.returns κs qs bounds r name x (member-is y x text es told is_x))))))))))))
+    returns ! (look_at ! 0 refl) $ free_all ! refl $ keep ! (2 ∷ 3 ∷ 0 ∷ []) $
+    ends ! (ends_at 𝓛 f.ended stayed c Y (vptr x.ref_ptr.0 x.ref_ptr.1) x (tt, (tt, tt)) (tt, (tt, tt))) (member-is y x text es told some_y.1))))))))

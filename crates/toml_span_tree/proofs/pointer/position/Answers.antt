@@ -1,5 +1,4 @@
-use Rattle.std.proofs.Common.{List, ℕ, None, refl, subst, arith}
-use Rattle.std.proofs.lemmas.Str.Parse.{parse_plain}
+use Rattle.toml_span_lex.proofs.Common.{List, ℕ, None, refl, subst, arith, parse_plain}
 use Rattle.toml_span_tree.specs.Pointer.{position_of}
 use Rattle.toml_span_tree.specs.code.Pointer.{PositionIs}
 use Rattle.toml_span_tree.proofs.Pointers.{PositionIs-none, lead-one, lead-other, no_form-empty, no_form-plus, no_form-zero, numerals, spelt}

@@ -1,5 +1,4 @@
-use Rattle.std.proofs.Common.{List, ℕ, option_map, ap, ◌∙◌}
-use Rattle.std.specs.Map.{lookup}
+use Rattle.toml_span_lex.proofs.Common.{List, ℕ, option_map, ap, ◌∙◌, lookup}
 use Rattle.toml_span_tree.specs.Value.{view}
 use Rattle.toml_span_tree.proofs.Values.{view-of_ref, view-lookup, at_name}
 use Rattle.toml_span_tree.proofs.pointer.table_entry.Goals as goal

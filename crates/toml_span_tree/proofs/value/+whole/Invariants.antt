@@ -1,4 +1,4 @@
-use Rattle.std.proofs.Common.{◌≡◌, drop}
+use Rattle.toml_span_lex.proofs.Common.{◌≡◌, drop}
 use Rattle.toml_span_tree.specs.Value.{items_view, members_view, all_whole, all_members_whole}
 use Rattle.toml_span_tree.proofs.value.+whole.Given as goal
 

@@ -1,4 +1,4 @@
-use Rattle.std.proofs.Common.{refl}
+use Rattle.toml_span_lex.proofs.Common.{refl}
 use Rattle.toml_span.proofs.Growth.{grows-none}
 use Rattle.toml_span.proofs.sections.Grown.new.Goals as goal
 

@@ -1,4 +1,4 @@
-use Rattle.toml_span_laws.proofs.EntryDecides.{no-passage}
+use Rattle.toml_span_laws.proofs.OneScope.{no-passage}
 use Rattle.toml_span_laws.proofs.parse.clashes.no_header_through_an_element_decides.Goals as goal
 
 pub returns : goal.returns

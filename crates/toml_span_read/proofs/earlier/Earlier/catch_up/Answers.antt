@@ -1,4 +1,4 @@
-use Rattle.std.proofs.Common.{refl, sym}
+use Rattle.toml_span_lex.proofs.Common.{refl, sym}
 use Rattle.toml_span_read.specs.code.Earlier.{holds}
 use Rattle.toml_span_read.proofs.EarlierKnows.{tells_init, tells_next}
 use Rattle.toml_span_read.proofs.earlier.Earlier.catch_up.Goals as goal

@@ -1,4 +1,4 @@
-use Rattle.std.proofs.Common.{◌≡◌, ℕ, List, map, take}
+use Rattle.toml_span_lex.proofs.Common.{◌≡◌, ℕ, List, map, take}
 use Rattle.toml_span_read.specs.code.Earlier.{TellsEarliest, holds}
 use Rattle.toml_span_read.specs.Data.{key_value}
 use Rattle.toml_span_read.proofs.earlier.Earlier.catch_up.Given as goal

@@ -1,8 +1,8 @@
-use Rattle.std.proofs.Common.{arith, map, Some, None, refl, sym}
+use Rattle.toml_span_lex.proofs.Common.{arith, length-map, map, Some, None, refl, sym}
 use Rattle.toml_span_read.specs.Data.{key_value}
 use Rattle.toml_span_read.specs.Keys.{simple_key}
 use Rattle.toml_span_read.specs.code.Earlier.{holds}
-use Rattle.toml_span_read.proofs.EarlierKnows.{length_parts, clear_short, clear_found, crossing_found, knows_more, tells_all, finds_same}
+use Rattle.toml_span_read.proofs.EarlierKnows.{clear_short, clear_found, crossing_found, knows_more, tells_all, finds_same}
 use Rattle.toml_span_read.proofs.earlier.Earlier.fault.Goals as goal
 
 pub returns-then-inner-self : goal.returns-then-inner-self
@@ -11,7 +11,7 @@ returns-then-inner-self c =
     let inner = map simple_key c.key_of-key.result.now.inner.items in
     let last = simple_key c.key_of-key.result.now.last in
     let key = sym c.key_of-key.ensures in
-    let l = length_parts c.key_of-key.result.now.inner.items in (
+    let l = length-map c.key_of-key.result.now.inner.items simple_key in (
       clear_short key_values (key_value c.args.next.now) inner last c.args.self.now.fewest key c.requires.fewest (omega (arith, l, c.len-inner.ensures, c.if-inner-self.true)),
       knows_more c.args.self.now _ key_values (key_value c.args.next.now) inner last key c.requires refl refl (omega (arith, c.if-inner-self.true)) (omega (arith, l, c.len-inner.ensures)),
     )
@@ -23,7 +23,7 @@ returns-in-None c =
     let inner = map simple_key keys in
     let last = simple_key c.key_of-key.result.now.last in
     let key = sym c.key_of-key.ensures in
-    let l = length_parts keys in
+    let l = length-map keys simple_key in
     let new = c.catch_up.new.self in
     let knows = c.in_ok-catch_up.ensures.knows in
     let tells = tells_all new c.args.values.now knows c.in_ok-catch_up.ensures.all in

@@ -1,4 +1,4 @@
-use Rattle.std.proofs.Common.{ap}
+use Rattle.toml_span_lex.proofs.Common.{ap}
 use Rattle.toml_span_serde.specs.declared.misfit.Reason.TheVariants as is
 use Rattle.toml_span_serde.proofs.reader.ReaderFormat.duplicate.Goals as goal
 

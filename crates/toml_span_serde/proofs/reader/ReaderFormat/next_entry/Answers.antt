@@ -1,4 +1,4 @@
-use Rattle.std.proofs.Common.{ap}
+use Rattle.toml_span_lex.proofs.Common.{ap}
 use Rattle.toml_span_serde.specs.Tasks.{piece_content, piece_of}
 use Rattle.toml_span_serde.proofs.Rows.{ahead-same}
 use Rattle.toml_span_serde.proofs.reader.ReaderFormat.next_entry.Goals as goal

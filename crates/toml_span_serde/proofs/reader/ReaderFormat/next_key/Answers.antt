@@ -1,4 +1,4 @@
-use Rattle.std.proofs.Common.{◌∙◌, ◌∷◌, ap, sym}
+use Rattle.toml_span_lex.proofs.Common.{◌∙◌, ◌∷◌, ap, sym}
 use Rattle.toml_span_serde.specs.Tasks.{piece_content, piece_of}
 use Rattle.toml_span_serde.proofs.reader.ReaderFormat.next_key.Goals as goal
 

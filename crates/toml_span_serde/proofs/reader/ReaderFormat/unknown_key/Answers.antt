@@ -1,4 +1,4 @@
-use Rattle.std.proofs.Common.{◌∙◌, ap, map, refl, string_bytes}
+use Rattle.toml_span_lex.proofs.Common.{◌∙◌, ap, map, refl, string_bytes}
 use Rattle.toml_span_serde.proofs.reader.ReaderFormat.unknown_key.Goals as goal
 
 pub returns-in-Ok : goal.returns-in-Ok

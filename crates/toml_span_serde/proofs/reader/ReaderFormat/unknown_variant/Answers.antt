@@ -1,4 +1,4 @@
-use Rattle.std.proofs.Common.{◌∙◌, ap, refl, slice_get}
+use Rattle.toml_span_lex.proofs.Common.{◌∙◌, ap, refl, slice_get}
 use Rattle.toml_span_serde.specs.Ahead.{laid}
 use Rattle.toml_span_serde.specs.Misreads.{told_text_in}
 use Rattle.toml_span_serde.proofs.reader.ReaderFormat.unknown_variant.Goals as goal

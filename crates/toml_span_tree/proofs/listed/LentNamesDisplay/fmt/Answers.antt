@@ -1,4 +1,4 @@
-use Rattle.std.proofs.Output.{has_written_of_eq}
+use Rattle.toml_span_lex.proofs.Common.{has_written_of_eq}
 use Rattle.toml_span_tree.specs.Listed.{quoted}
 use Rattle.toml_span_tree.proofs.ListedNames.{listed_map}
 use Rattle.toml_span_tree.proofs.listed.LentNamesDisplay.fmt.Goals as goal

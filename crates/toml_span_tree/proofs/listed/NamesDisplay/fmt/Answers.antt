@@ -1,5 +1,4 @@
-use Rattle.std.proofs.Common.{string_bytes}
-use Rattle.std.proofs.Output.{has_written_of_eq}
+use Rattle.toml_span_lex.proofs.Common.{string_bytes, has_written_of_eq}
 use Rattle.toml_span_tree.specs.Listed.{quoted}
 use Rattle.toml_span_tree.proofs.ListedNames.{listed_map}
 use Rattle.toml_span_tree.proofs.listed.NamesDisplay.fmt.Goals as goal

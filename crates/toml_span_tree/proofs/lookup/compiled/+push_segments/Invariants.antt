@@ -1,4 +1,4 @@
-use Rattle.std.proofs.Common.{length}
+use Rattle.toml_span_lex.proofs.Common.{length}
 use Rattle.toml_span_tree.proofs.lookup.compiled.+push_segments.Given as goal
 
 abbrev pub decreases-push_segments : goal.decreases-push_segments

@@ -1,4 +1,4 @@
-use Rattle.std.proofs.Common.{option_map, ap, ◌∙◌}
+use Rattle.toml_span_lex.proofs.Common.{option_map, ap, ◌∙◌}
 use Rattle.toml_span_tree.specs.Names.{name_in}
 use Rattle.toml_span_tree.specs.Value.{view}
 use Rattle.toml_span_tree.proofs.Values.{view-of_ref, view-lookup}

@@ -1,4 +1,4 @@
-use Rattle.std.proofs.Common.{option_and_then, ap, ◌∙◌, sym}
+use Rattle.toml_span_lex.proofs.Common.{option_and_then, ap, ◌∙◌, sym}
 use Rattle.toml_span_tree.specs.code.Pointer.{value_named}
 use Rattle.toml_span_tree.specs.Pointer.{segments}
 use Rattle.toml_span_tree.specs.Value.{view}

@@ -1,4 +1,4 @@
-use Rattle.std.proofs.Common.{length}
+use Rattle.toml_span_lex.proofs.Common.{length}
 use Rattle.toml_span_tree.proofs.value.Value.+found.Given as goal
 
 abbrev pub decreases-found : goal.decreases-found

@@ -1,5 +1,4 @@
-use Rattle.std.proofs.Common.{◌≡◌, List, ◌∷◌, drop, map, option_and_then, ap, ◌∙◌, sym}
-use Rattle.std.proofs.lemmas.List.{drop_more, take_rest}
+use Rattle.toml_span_lex.proofs.Common.{◌≡◌, List, ◌∷◌, drop, map, option_and_then, ap, ◌∙◌, sym, drop_more, take_rest}
 use Rattle.toml_span_lex.specs.declared.key.Key.{Key}
 use Rattle.toml_span_tree.specs.Names.{name_in}
 use Rattle.toml_span_tree.specs.code.Pointer.{value_named}

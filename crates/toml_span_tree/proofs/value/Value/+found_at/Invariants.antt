@@ -1,4 +1,4 @@
-use Rattle.std.proofs.Common.{length}
+use Rattle.toml_span_lex.proofs.Common.{length}
 use Rattle.toml_span_tree.proofs.value.Value.+found_at.Given as goal
 
 abbrev pub decreases-found_at : goal.decreases-found_at

@@ -1,5 +1,4 @@
-use Rattle.std.proofs.Common.{is_some, option_and_then, ap, ◌∙◌, List, ℕ}
-use Rattle.std.specs.Map.{lookup}
+use Rattle.toml_span_lex.proofs.Common.{is_some, option_and_then, ap, ◌∙◌, List, ℕ, lookup}
 use Rattle.toml_span_tree.specs.Node.{get_member}
 use Rattle.toml_span_tree.proofs.Values.{view-lookup, is_some-view, at_name}
 use Rattle.toml_span_tree.proofs.value.Value.has_key.Goals as goal

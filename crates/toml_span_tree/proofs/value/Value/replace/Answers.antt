@@ -1,20 +1,15 @@
-use Rattle.std.proofs.Common.{Some, refl, option_and_then, sym, ap, ◌∙◌, arith}
-use Rattle.std.proofs.lemmas.Str.Pattern.{strip_prefix_char}
+use Rattle.toml_span_lex.proofs.Common.{Some, refl, sym, ap, ◌∙◌, arith, strip_prefix_char}
 use Rattle.toml_span_tree.specs.Value.{view}
-use Rattle.toml_span_tree.specs.code.Pointer.{value_named}
 use Rattle.toml_span_tree.specs.Pointer.{segments}
-use Rattle.toml_span_tree.proofs.Pointers.{pointed-found, pointer-empty, pointer-slash, pointer-other}
-use Rattle.toml_span_tree.proofs.Puts.{put_pointed-found, exchanged-done, exchanged-refused}
+use Rattle.toml_span_tree.proofs.Pointers.{pointer-slash, pointed-empty, pointed-other}
+use Rattle.toml_span_tree.proofs.Puts.{put-empty, exchanged-done, exchanged-refused}
 use Rattle.toml_span_tree.proofs.value.Value.replace.Goals as goal
 
 pub returns-then-is_empty-clause-done : goal.returns-then-is_empty-clause-done
 returns-then-is_empty-clause-done c =
     let n = view c.args.self.now in
     let p = c.args.pointer.now in
-    let empty = pointer-empty p (grind arith) in (
-      pointed-found p n ∙ ap (option_and_then (λ names. value_named names n)) empty ∙ ap (λ v. Some (view v)) (sym c.replace.ensures.value),
-      ap view c.replace.ensures.after ∙ sym (put_pointed-found p _ (view c.args.new) n empty),
-    )
+    (pointed-empty p n (grind arith) ∙ ap (λ v. Some (view v)) (sym c.replace.ensures.value), ap view c.replace.ensures.after ∙ put-empty p n (view c.args.new) (grind arith))
 
 pub returns-in-Some-clause-done : goal.returns-in-Some-clause-done
 returns-in-Some-clause-done c =
@@ -35,4 +30,4 @@ returns-in-None-clause-refused c =
     let n = view c.args.self.now in
     let p = c.args.pointer.now in
     let other = rw c.in-None.is at (strip_prefix_char 47 p c.strip_prefix.result c.strip_prefix.ensures.cases (omega arith)) in
-    (refl, pointed-found p n ∙ ap (option_and_then (λ names. value_named names n)) (pointer-other p (grind arith) other), refl)
+    (refl, pointed-other p n (grind arith) other, refl)

@@ -1,6 +1,4 @@
-use Rattle.std.proofs.Common.{◌≡◌, map, ◌∙◌, arith}
-use Rattle.std.specs.BTreeMap.{keys}
-use Rattle.std.proofs.lemmas.Grind.{common_steps}
+use Rattle.toml_span_lex.proofs.Common.{◌≡◌, map, ◌∙◌, arith, keys, common_steps}
 use Rattle.toml_span_typed.specs.code.TableHelper.{key_text}
 use Rattle.toml_span_typed.proofs.Tables.{key_place, names-of_keys}
 use Rattle.toml_span_typed.proofs.de_helpers.table_helper.key_names.Goals as goal

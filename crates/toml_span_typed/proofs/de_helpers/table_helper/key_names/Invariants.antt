@@ -1,5 +1,4 @@
-use Rattle.std.proofs.Common.{◌≡◌, ◌++◌, map}
-use Rattle.std.specs.BTreeMap.{keys}
+use Rattle.toml_span_lex.proofs.Common.{◌≡◌, ◌++◌, map, keys}
 use Rattle.toml_span_typed.specs.code.TableHelper.{key_text}
 use Rattle.toml_span_typed.proofs.Tables.{key_place}
 use Rattle.toml_span_typed.proofs.de_helpers.table_helper.key_names.Given as goal

@@ -1,5 +1,4 @@
-use Rattle.std.proofs.Common.{ℕ, List, ap, ◌∙◌}
-use Rattle.std.specs.Map.{lookup, lookup_key, remove_entry}
+use Rattle.toml_span_lex.proofs.Common.{ℕ, List, ap, ◌∙◌, lookup, lookup_key, remove_entry}
 use Rattle.toml_span_tree.specs.Value.{members_view}
 use Rattle.toml_span_tree.proofs.Values.{at_name}
 use Rattle.toml_span_typed.proofs.Tables.{entry-of_parts, named-of_equal, without-of_name}

@@ -1,5 +1,4 @@
-use Rattle.std.proofs.Common.{map, take}
-use Rattle.std.specs.Fmt.{HasWritten, IsPlainFormatter}
+use Rattle.toml_span_lex.proofs.Common.{map, take, HasWritten, IsPlainFormatter}
 use Rattle.toml_span_tree.specs.Error.{content_of}
 use Rattle.toml_span_typed.specs.Errors.{lines}
 use Rattle.toml_span_typed.proofs.deser_error.DeserErrorDisplay.fmt.Given as goal

@@ -1,5 +1,4 @@
-use Rattle.std.proofs.Common.{◌≡◌, List, [], ◌∷◌, ◌++◌, ap, sym, ◌∙◌, append_assoc, arith}
-use Rattle.std.proofs.lemmas.Grind.{common_steps}
+use Rattle.toml_span_lex.proofs.Common.{◌≡◌, List, [], ◌∷◌, ◌++◌, ap, sym, ◌∙◌, append_assoc, arith, common_steps}
 use Rattle.toml_span_tree.specs.Value.{all_members_whole, is_whole, members_view, view}
 use Rattle.toml_span_tree.proofs.Values.{Entry}
 use Rattle.toml_span_typed.specs.code.Errors.{all_of_option}

@@ -1,4 +1,4 @@
-use Rattle.std.proofs.Common.{◌≡◌, IsTrue, ◌++◌, map}
+use Rattle.toml_span_lex.proofs.Common.{◌≡◌, IsTrue, ◌++◌, map}
 use Rattle.toml_span_tree.specs.Error.{content_of}
 use Rattle.toml_span_tree.specs.Value.{all_members_whole, members_view}
 use Rattle.toml_span_typed.specs.Maps.{EntriesRead, names_of, shown_pair, values_of}

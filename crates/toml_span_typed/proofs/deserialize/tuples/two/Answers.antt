@@ -1,5 +1,4 @@
-use Rattle.std.proofs.Common.{arith, ap, ◌∙◌}
-use Rattle.std.proofs.lemmas.Grind.{common_steps}
+use Rattle.toml_span_lex.proofs.Common.{arith, ap, ◌∙◌, common_steps}
 use Rattle.toml_span_tree.specs.Node.{Inner, node}
 use Rattle.toml_span_tree.proofs.Values.{inner_view-Array}
 use Rattle.toml_span_typed.proofs.Tuples.{told_count}

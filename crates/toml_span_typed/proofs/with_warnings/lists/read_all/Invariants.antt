@@ -1,5 +1,4 @@
-use Rattle.std.proofs.Common.{◌≡◌, IsTrue, ◌++◌, map}
-use Rattle.std.specs.Vec.Iter.{into_iter_items}
+use Rattle.toml_span_lex.proofs.Common.{◌≡◌, IsTrue, ◌++◌, map, into_iter_items}
 use Rattle.toml_span_tree.specs.Error.{content_of}
 use Rattle.toml_span_tree.specs.Value.{all_whole, items_view}
 use Rattle.toml_span_typed.specs.Reads.{nodes_of}

@@ -1,5 +1,4 @@
-use Rattle.std.proofs.Common.{List, ◌++◌, Some, map, sym, ap, ◌∙◌, arith}
-use Rattle.std.proofs.lemmas.Str.Pattern.{strip_prefix_char}
+use Rattle.toml_span_lex.proofs.Common.{List, ◌++◌, Some, map, sym, ap, ◌∙◌, arith, strip_prefix_char}
 use Rattle.toml_span_lex.specs.declared.key.Key.{Key}
 use Rattle.toml_span_tree.specs.Names.{name_in}
 use Rattle.toml_span_tree.specs.Pointer.{segments}

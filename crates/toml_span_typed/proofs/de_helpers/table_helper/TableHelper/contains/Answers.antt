@@ -1,5 +1,4 @@
-use Rattle.std.proofs.Common.{ℕ, List, ap, is_some, ◌∙◌}
-use Rattle.std.specs.Map.{lookup}
+use Rattle.toml_span_lex.proofs.Common.{ℕ, List, ap, is_some, ◌∙◌, lookup}
 use Rattle.toml_span_tree.proofs.Values.{at_name, is_some-view, view-lookup}
 use Rattle.toml_span_typed.proofs.de_helpers.table_helper.TableHelper.contains.Goals as goal
 

@@ -1,5 +1,4 @@
-use Rattle.std.proofs.Common.{◌≡◌, [], ◌∷◌, List, sym, subst, ap, ◌∙◌, OnOk, OnErr, Result, Ok, Err}
-use Rattle.std.proofs.lemmas.Bool.{false≢true}
+use Rattle.toml_span_lex.proofs.Common.{◌≡◌, [], ◌∷◌, List, sym, subst, ap, ◌∙◌, OnOk, OnErr, Result, Ok, Err, false≢true}
 use Rattle.toml_span_tree.specs.Error.{ErrorContent}
 use Rattle.toml_span_typed.specs.TableHelper.{State, keeping, state_of, unasked, unexpected_entries}
 use Rattle.toml_span_typed.proofs.Tables.{filled-of_entries, unasked-of_entries}

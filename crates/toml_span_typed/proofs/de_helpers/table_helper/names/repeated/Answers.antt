@@ -1,8 +1,4 @@
-use Rattle.std.proofs.Common.{◌≡◌, append_assoc, ◌+◌, ◌∷◌, ◌++◌, Option, Some, map, drop, cond, ap, sym, ◌∙◌, arith}
-use Rattle.std.proofs.lemmas.Grind.{common_steps}
-use Rattle.std.proofs.lemmas.Map.Text.{btree_map_updates_str}
-use Rattle.std.specs.Map.{lookup}
-use Rattle.std.specs.Str.{bytes_eq}
+use Rattle.toml_span_lex.proofs.Common.{◌≡◌, append_assoc, ◌+◌, ◌∷◌, ◌++◌, Option, Some, map, drop, cond, ap, sym, ◌∙◌, arith, common_steps, btree_map_updates_str, lookup, bytes_eq}
 use Rattle.toml_span_lex.specs.declared.span.Span.{Span}
 use Rattle.toml_span_tree.specs.Error.{content_of}
 use Rattle.toml_span_typed.specs.Names as spec

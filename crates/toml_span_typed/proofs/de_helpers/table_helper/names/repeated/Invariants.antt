@@ -1,9 +1,4 @@
-use Rattle.std.proofs.Common.{◌≡◌, ℕ, List, ◌++◌, drop, map}
-use Rattle.std.specs.BTreeMap.{get_by}
-use Rattle.std.specs.Cmp.Lexicographic.{slice_cmp}
-use Rattle.std.specs.Map.{lookup}
-use Rattle.std.specs.Ordering.{nat_cmp}
-use Rattle.std.specs.Str.{bytes_eq}
+use Rattle.toml_span_lex.proofs.Common.{◌≡◌, ℕ, List, ◌++◌, drop, map, get_by, slice_cmp, lookup, nat_cmp, bytes_eq}
 use Rattle.toml_span_tree.specs.Error.{content_of}
 use Rattle.toml_span_typed.specs.Names as spec
 use Rattle.toml_span_typed.specs.Names.{Name, named}

@@ -1,6 +1,4 @@
-use Rattle.std.proofs.Common.{rules, subst, sym, ◌∙◌}
-use Rattle.std.proofs.lemmas.Iterator.{items_from_drains}
-use Rattle.std.proofs.lemmas.Iterator.Consumers.{YieldsList-from_first}
+use Rattle.toml_span_lex.proofs.Common.{rules, subst, sym, ◌∙◌, items_from_drains, YieldsList-from_first}
 use Rattle.std.proofs.lemmas.List.{map-id}
 use Rattle.std.specs.HashMap.{IsFromIterResult}
 use Rattle.std.specs.String.{string_eq}

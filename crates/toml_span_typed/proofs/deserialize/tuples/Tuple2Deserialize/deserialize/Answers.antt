@@ -1,4 +1,4 @@
-use Rattle.std.proofs.Common.{ap, map, sym, ◌∙◌}
+use Rattle.toml_span_lex.proofs.Common.{ap, map, sym, ◌∙◌}
 use Rattle.toml_span_tree.specs.Error.{content_of}
 use Rattle.toml_span_tree.specs.Value.{view}
 use Rattle.toml_span_typed.specs.code.Errors.{all_of_option}
