@@ -6,7 +6,7 @@ use Rattle.toml_span_tree.specs.Node.{node}
 use Rattle.toml_span_tree.specs.Value.{view, inner_view}
 use Rattle.toml_span_tree.specs.declared.value.Value.{Value}
 use Rattle.toml_span_tree.specs.declared.value.ValueInner.TheVariants.{Table as table_inner}
-use Rattle.toml_span_lex.specs.Tokenizer.{FirstPlace}
+use Rattle.toml_span_lex.specs.Text.{FirstPlace}
 use Rattle.toml_span_lex.specs.declared.stop.Stop.{Stop}
 use Rattle.toml_span_read.specs.Borrowed.{IsWrittenRight as IsRightRead, AreWrittenRight as AreRightRead, section_written, sections_written}
 use Rattle.toml_span_read.specs.Data.{Block, block, key_value, first_block}

@@ -2,7 +2,7 @@
 use Rattle.toml_span_lex.proofs.Common.{◌≡◌, ℕ, ◌<◌, ◌≤◌, Bool, List, [], ◌∷◌, ◌++◌, map, length, arith, Result, Ok, Err, refl, ◌∙◌, IsOk, false≢true, AllocError, nat_tests, common_steps}
 use Rattle.toml_span_lex.specs.declared.stop.Stop.{Stop}
 use Rattle.toml_span_lex.specs.declared.stop.Stop.TheVariants as stops
-use Rattle.toml_span_lex.specs.Tokenizer.{FirstPlace}
+use Rattle.toml_span_lex.specs.Text.{FirstPlace}
 use Rattle.toml_span.specs.declared.sections.Grown.{Grown}
 use Rattle.toml_span_read.specs.declared.fault.Fault.{Fault}
 use Rattle.toml_span_tree.specs.declared.error.Error.{Error}

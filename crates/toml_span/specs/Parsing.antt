@@ -11,7 +11,7 @@ use Rattle.toml_span_read.specs.Data.{Block, block}
 use Rattle.toml_span_read.specs.declared.section.Section.{Section}
 use Rattle.toml_span_read.specs.Borrowed.{sections_written}
 use Rattle.toml_span_read.specs.declared.fault.Fault.{Fault}
-use Rattle.toml_span_read.specs.Places.{StartsInside, IsLineInfo}
+use Rattle.toml_span_read.specs.Faults.{StartsInside, IsLineInfo}
 use Rattle.toml_span_read.specs.Faults.{Tells}
 use Rattle.toml_span_read.specs.Read.{document}
 use Rattle.toml_span.specs.Claims.{claims}

@@ -9,7 +9,7 @@ use Rattle.toml_span_tree.specs.declared.error.Error.{Error}
 use Rattle.toml_span_tree.specs.Error.{ErrorContent, content_of}
 use Rattle.toml_span_typed.specs.Errors.{Errors, one}
 use Rattle.toml_span.specs.Parsing.{IsTree, IsRefusal}
-use Rattle.toml_span_read.specs.Limits.{depth_limit}
+use Rattle.toml_span_read.specs.Data.{depth_limit}
 
 -- the text has a tree, of which the type's reading allows the answer
 abbrev pub IsRead : {T : Type 0} → (Node → Result T Errors → Node → Type 0) → List ℕ → Result T Errors → Type 0

@@ -1,7 +1,7 @@
 //! Reads a document as a type, and tells where a span stands.
 ghost use Rattle.std.specs.Prelude.{◌≡◌, ◌+◌, ℕ, IfOk, IfErr, Ok, length, map, min};
 ghost use Rattle.toml_span_tree.specs.Error.{content_of};
-ghost use Rattle.toml_span_read.specs.Places.{IsLineInfo};
+ghost use Rattle.toml_span_read.specs.Faults.{IsLineInfo};
 ghost use Rattle.toml_span.specs.Reading.{IsRead, IsReadWithWarnings, NotRead, NotReadWithWarnings};
 
 use crate::de::parse;

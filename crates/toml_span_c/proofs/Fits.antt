@@ -10,7 +10,8 @@ use Rattle.toml_span_tree.specs.Path.{Path, Step, key, position, Shape, shape_sc
 use Rattle.toml_span_read.specs.Data.{ParsedValue, parsed, scalar, array, inline, ParsedItems, no_items, item, ParsedPairs, no_pairs, pair, KeyValue, Block, first_block}
 use Rattle.toml_span_read.specs.Grammar.{SpellsScalar, Spells, SpellsItems, SpellsPairs, SpellsKeyValues, OpensHeader, ClosesHeader, SpellsHeader, SpellsSections, SpellsDocument}
 use Rattle.toml_span_read.specs.Keys.{SimpleKey, SpellsSimpleKey, Onward, SpellsKey}
-use Rattle.toml_span_read.specs.Numbers.{cleaned, is_negative, SpecialFloat}
+use Rattle.toml_span_read.specs.Numbers.{SpecialFloat}
+use Rattle.toml_span_read.specs.Numerals.{cleaned, is_negative}
 use Rattle.toml_span_read.proofs.InsideLemmas.{tail_inside}
 use Rattle.toml_span_read.proofs.SpanLaws.{value_lies}
 use Rattle.toml_span.specs.declared.claims.Head.{Head}

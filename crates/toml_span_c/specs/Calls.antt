@@ -7,7 +7,7 @@ use Rattle.toml_span_c.specs.declared.faults.FaultRecord.{FaultRecord}
 use Rattle.toml_span_c.specs.declared.records.Counts.{Counts}
 use Rattle.toml_span_c.specs.declared.records.Record.{Record}
 use Rattle.toml_span_lex.specs.declared.stop.Stop.TheVariants as stops
-use Rattle.toml_span_read.specs.Limits.{depth_limit}
+use Rattle.toml_span_read.specs.Data.{depth_limit}
 use Rattle.toml_span_tree.specs.Error.{ErrorContent, content_of}
 use Rattle.toml_span_tree.specs.Value.{view}
 use Rattle.toml_span_tree.specs.declared.error.Error.{Error}

@@ -21,7 +21,7 @@ use Rattle.toml_span_check.specs.declared.answer.Form.{Form}
 use Rattle.toml_span_check.specs.declared.answer.Form.TheVariants.{Plain, Tagged, Items}
 use Rattle.toml_span_lines.specs.Lines.{tree_lines}
 use Rattle.toml_span_lines.specs.Run.{bound}
-use Rattle.toml_span_read.specs.Limits.{depth_limit}
+use Rattle.toml_span_read.specs.Data.{depth_limit}
 
 -- the text for a fault that has no place
 abbrev pub plain_fault : Format → List ℕ → List ℕ → List ℕ → List ℕ

@@ -1,6 +1,6 @@
 //! What is done with the text of a file.
 ghost use Rattle.std.specs.Prelude.{IfOk};
-ghost use Rattle.toml_span_read.specs.Limits.{depth_limit};
+ghost use Rattle.toml_span_read.specs.Data.{depth_limit};
 ghost use Rattle.toml_span.specs.Parsing.{IsTree};
 
 use crate::changes::{Kind, path_text, push_lines, push_name};

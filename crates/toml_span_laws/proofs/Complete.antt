@@ -13,7 +13,8 @@ use Rattle.toml_span_read.specs.Faults.{begins_bare, begins_number}
 use Rattle.toml_span_read.specs.Gaps.{MaximalGap, Closes, Separator}
 use Rattle.toml_span_read.specs.Grammar.{truth_text, SpellsScalar, Spells, SpellsItems, SpellsPairs, SpellsPair, SpellsKeyValue, SpellsKeyValues, SpellsLines, ClosesHeader, SpellsHeader, SpellsSection, SpellsSections, SpellsDocument}
 use Rattle.toml_span_read.specs.Keys.{SimpleKey, opens_string, SpellsKey, SpellsSimpleKey, Onward}
-use Rattle.toml_span_read.specs.Numbers.{IsNumber, behind_sign, SpecialFloat, UnsignedDecimal}
+use Rattle.toml_span_read.specs.Numbers.{IsNumber, SpecialFloat, UnsignedDecimal}
+use Rattle.toml_span_read.specs.Numerals.{behind_sign}
 use Rattle.toml_span_read.specs.Numerals.{special}
 use Rattle.toml_span_read.specs.Read as read
 use Rattle.toml_span_read.specs.Read.{Reading, token, ValueEnd, Loop, ends, goes_on, on, done, key_of, Parts, onward}

@@ -9,7 +9,7 @@ use Rattle.toml_span_read.specs.declared.fault.Fault.{Fault}
 use Rattle.toml_span_read.specs.Read.{Reading, after, Standing, token, text_end, no_token, StandsAt, choice, Turn, on, done, Loop, ends, stops, goes_on, run_at, number_or_word, next_section, key_of, string_of, Parts, onward, behind, missing, ValueEnd, Items, Pairs, Blocks, HeaderEnd}
 use Rattle.toml_span_lex.specs.Bytes.{is_blank, is_keylike, MaximalRun}
 use Rattle.toml_span_lex.specs.Strings.{IsString}
-use Rattle.toml_span_lex.specs.Tokenizer.{FirstPlace}
+use Rattle.toml_span_lex.specs.Text.{FirstPlace}
 use Rattle.toml_span_lex.proofs.PieceLemmas.{Cut-forward, ends as string_ends_at}
 use Rattle.toml_span_lex.proofs.Unique.{run_unique}
 use Rattle.toml_span_read.specs.declared.fault.Due.{Due}

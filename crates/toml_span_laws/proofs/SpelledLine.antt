@@ -1,7 +1,7 @@
 -- A key and a value as they are spelled, with an equals sign between them, are a document of one assignment.
 use Rattle.toml_span_lex.proofs.Common.{◌≡◌, ℕ, ◌+◌, ◌<◌, ◌≤◌, true, false, List, [], ◌∷◌, ◌++◌, length, get_or, drop, arith, inr, sym, ◌∙◌, refl, ap, subst, append-nil, append_assoc, length-append, codes, ◌==◌, ◌||◌, or_parts, drop_more, get_or_past, encode_ascii, len_utf8_ascii, nat_tests, common_steps}
 use Rattle.toml_span_lex.specs.Bytes.{is_blank}
-use Rattle.toml_span_lex.specs.Tokenizer.{FirstPlace}
+use Rattle.toml_span_lex.specs.Text.{FirstPlace}
 use Rattle.toml_span_tree.specs.Node.{Node, node}
 use Rattle.toml_span_tree.specs.Value.{is_whole}
 use Rattle.toml_span_read.specs.Data.{ParsedValue, KeyValue, from_to, first_block}

@@ -3,7 +3,8 @@ use Rattle.std.specs.Prelude.{◌≡◌, ℕ, ◌+◌, ◌-◌, List, [], ◌∷
 use Rattle.toml_span_lex.specs.declared.span.Span.{Span}
 use Rattle.toml_span_tree.specs.Node.{Scalar, text, integer, float, boolean, datetime, Node}
 use Rattle.toml_span_read.specs.Keys.{SimpleKey}
-use Rattle.toml_span_read.specs.Data.{ParsedValue, parsed, ParsedInner, scalar, array, inline, ParsedItems, no_items, first_block}
+use Rattle.toml_span_read.specs.Data.{ParsedValue, parsed, ParsedInner, scalar, array, inline, ParsedItems, no_items}
+use Rattle.toml_span_read.specs.Data.{first_block}
 use Rattle.toml_span_read.specs.Data.{item, ParsedPairs, no_pairs}
 use Rattle.toml_span_read.specs.Data.{pair, KeyValue, parsed_span, Block}
 use Rattle.toml_span_read.specs.Earlier.{part_names}

@@ -5,7 +5,7 @@ ghost use Rattle.toml_span_lex.specs.declared.stop.Stop.{Stop};
 ghost use Rattle.toml_span_tree.specs.declared.error.Error.{Error};
 ghost use Rattle.toml_span_read.specs.declared.section.Section.{Section};
 ghost use Rattle.toml_span_lex.specs.Bytes.{is_blank, left_bracket, MaximalRun};
-ghost use Rattle.toml_span_lex.specs.Tokenizer.{FirstPlace};
+ghost use Rattle.toml_span_lex.specs.Text.{FirstPlace};
 ghost use Rattle.toml_span_read.specs.declared.fault.Fault.{Fault};
 ghost use Rattle.toml_span_read.specs.Gaps.{MaximalGap, begins_gap, BlankLines, BehindLines};
 ghost use Rattle.toml_span_read.specs.Keys.{SimpleKey};

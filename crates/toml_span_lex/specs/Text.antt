@@ -1,10 +1,10 @@
 -- Characters and line ends at a place of a text, and the folded text. Behind the end of a text stand zeros:
 -- `slice_index` gives 0 there. So a byte that is asked for and is not 0, as that of a line end, is within the text.
 use Rattle.std.specs.Prelude.{◌≡◌, ℕ, ◌+◌, ◌⊎◌, Bool, true, false, ◌&&◌, ◌==◌, List, [], ◌∷◌, ◌++◌, if◌then◌else◌, drop}
-use Rattle.std.specs.Prelude.{slice_index, encode_utf8}
+use Rattle.std.specs.Prelude.{length, slice_index, encode_utf8}
 use Rattle.std.specs.Char.{len_utf8}
 use Rattle.std.specs.Str.{chars, IsCharBoundary}
-use Rattle.toml_span_lex.specs.Bytes.{line_feed, carriage_return}
+use Rattle.toml_span_lex.specs.Bytes.{line_feed, carriage_return, byte_order_mark}
 
 -- ---- at a place
 
@@ -25,6 +25,12 @@ abbrev pub CharAt : List ℕ → ℕ → ℕ → ℕ → Type 0
 CharAt text i c j =
     ((is_crlf text i ≡ true) × (c ≡ line_feed) × (j ≡ i + 2))
     ⊎ ((is_crlf text i ≡ false) × (j ≡ i + len_utf8 c) × (drop i text ≡ encode_utf8 c ++ drop j text))
+
+-- A new tokenizer stands at the start, or behind a byte order mark there.
+abbrev pub FirstPlace : List ℕ → ℕ → Type 0
+FirstPlace text at =
+    CharAt text 0 byte_order_mark at
+    ⊎ ((at ≡ 0) × ((length text ≡ 0) ⊎ ((c : ℕ) × (j : ℕ) × CharAt text 0 c j × (c ≡ byte_order_mark → ⊥))))
 
 -- not between the two bytes of a line end
 abbrev pub KeepsLineEnd : List ℕ → ℕ → Type 0

@@ -2,7 +2,7 @@
 use Rattle.std.specs.Prelude.{◌≡◌, ℕ, ◌≤◌, ◌<◌, ◌+◌, ◌⊎◌, Bool, true, false, List, length, slice_index, Result, Ok, Err}
 use Rattle.std.specs.Prelude.{Option, Some, None, codes}
 use Rattle.std.specs.Cow.{cow_str_bytes, IsBorrowedStr}
-use Rattle.toml_span_lex.specs.Bytes.{hash, byte_order_mark}
+use Rattle.toml_span_lex.specs.Bytes.{hash}
 use Rattle.toml_span_lex.specs.Text.{LineEnd, NoLineEnd, CharAt}
 use Rattle.toml_span_lex.specs.Strings.{NeedsMemory, Borrows}
 use Rattle.toml_span_lex.specs.Tokens.{Lexeme, newline, comment, keylike, string, lexeme, words, Stands, IsUnexpected}
@@ -20,12 +20,6 @@ use Rattle.toml_span_lex.specs.declared.stop.Stop.TheVariants as stops
 pub record Cursor : Type 0 where
   pub text : List ℕ
   pub at : ℕ
-
--- A new tokenizer stands at the start, or behind a byte order mark there.
-abbrev pub FirstPlace : List ℕ → ℕ → Type 0
-FirstPlace text at =
-    CharAt text 0 byte_order_mark at
-    ⊎ ((at ≡ 0) × ((length text ≡ 0) ⊎ ((c : ℕ) × (j : ℕ) × CharAt text 0 c j × (c ≡ byte_order_mark → ⊥))))
 
 -- ---- refusals
 

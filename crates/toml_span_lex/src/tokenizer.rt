@@ -3,7 +3,7 @@ ghost use Rattle.std.specs.Prelude.{◌≡◌, ℕ, ◌≤◌, ◌<◌, List, le
 ghost use Rattle.std.specs.Str.{IsCharBoundary};
 ghost use Rattle.toml_span_lex.specs.Bytes.{MaximalRun, apostrophe, is_blank, line_feed, hash, quotation_mark};
 ghost use Rattle.toml_span_lex.specs.code.Text.{LeadsTo};
-ghost use Rattle.toml_span_lex.specs.Text.{KeepsLineEnd, IsFoldedPlace};
+ghost use Rattle.toml_span_lex.specs.Text.{FirstPlace, KeepsLineEnd, IsFoldedPlace};
 ghost use Rattle.toml_span_lex.specs.Tokenizer as spec;
 ghost use Rattle.toml_span_lex.specs.Tokenizer.{Cursor};
 ghost use Rattle.toml_span_lex.specs.Tokens.{lexeme, begins_alone};
@@ -34,7 +34,7 @@ pub struct Tokenizer<'a> {
 
 impl<'a> Model for Tokenizer<'a> {
     ghost use Rattle.std.specs.Prelude.{ℕ, List};
-    ghost use Rattle.toml_span_lex.specs.Text.{IsFoldedPlace};
+    ghost use Rattle.toml_span_lex.specs.Text.{FirstPlace, IsFoldedPlace};
     ghost use Rattle.toml_span_lex.specs.Tokenizer.{Cursor};
 
     ghost Value = { Cursor };
@@ -46,7 +46,7 @@ impl<'a> Model for Tokenizer<'a> {
 
 /// Where reading begins: at the start, or behind a byte order mark there.
 pub fn first_place(text: &str) -> usize
-    ensures place { spec.FirstPlace text.now result }
+    ensures place { FirstPlace text.now result }
     ensures boundary { IsCharBoundary text.now result }
     ensures whole { KeepsLineEnd text.now result }
 {
@@ -140,7 +140,7 @@ impl<'a> Tokenizer<'a> {
     /// A tokenizer at the start of the text, behind a byte order mark if one stands there.
     pub fn new(input: &'a str) -> Self
         ensures text { result.text ≡ input.now }
-        ensures at { spec.FirstPlace input.now result.at }
+        ensures at { FirstPlace input.now result.at }
     {
         Tokenizer {
             input,

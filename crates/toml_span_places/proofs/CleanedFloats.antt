@@ -4,7 +4,8 @@ use Rattle.std.proofs.lemmas.Bool.{eqb-true}
 use Rattle.std.proofs.lemmas.List.{get_or-drop}
 use Rattle.toml_span_lex.proofs.PieceLemmas.{slice_join}
 use Rattle.toml_span_tree.specs.Node.{float, finite}
-use Rattle.toml_span_read.specs.Numbers.{is_digit_in, is_figure, Digits, behind_sign, is_exponent, Exponent, Fraction, FloatLiteral, cleaned}
+use Rattle.toml_span_read.specs.Numbers.{Digits, Exponent, Fraction, FloatLiteral}
+use Rattle.toml_span_read.specs.Numerals.{is_digit_in, is_figure, behind_sign, is_exponent, cleaned}
 use Rattle.toml_span_read.proofs.NumberLemmas.{clash, sign_on, digits_on, slice_cons}
 use Rattle.toml_span_places.specs.Again.{IsFloatText}
 use Rattle.toml_span_places.proofs.NumbersAgain.{Plain, plain_in}

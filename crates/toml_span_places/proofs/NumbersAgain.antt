@@ -7,7 +7,8 @@ use Rattle.toml_span_tree.specs.Node.{integer}
 use Rattle.toml_span_read.specs.Dates.{is_date_byte}
 use Rattle.toml_span_read.specs.Data.{from_to}
 use Rattle.toml_span_read.specs.Grammar.{SpellsScalar}
-use Rattle.toml_span_read.specs.Numbers.{is_digit_in, Digits, is_figure, sum_of_digits, magnitude, behind_sign, is_negative, IsSigned}
+use Rattle.toml_span_read.specs.Numbers.{Digits, IsSigned}
+use Rattle.toml_span_read.specs.Numerals.{is_digit_in, is_figure, sum_of_digits, magnitude, behind_sign, is_negative}
 use Rattle.toml_span_read.proofs.NumberLemmas.{digit_figure, no_keylike_figure, digit_no_underscore, stands_alone}
 use Rattle.toml_span_read.proofs.ShortIntegers.{decimal_digit as digit_ten, short_spelled}
 use Rattle.toml_span_places.proofs.Parts.{Part, tail, here, byte_at, next, range, within, each}

@@ -3,7 +3,10 @@ use Rattle.toml_span_lex.proofs.Common.{◌≡◌, ℕ, ℤ, ◌+◌, ◌-◌, �
 use Rattle.toml_span_lex.specs.Bytes.{is_keylike}
 use Rattle.toml_span_tree.specs.Node.{Scalar, text as text_scalar, integer, float, boolean, datetime, finite, infinite, not_a_number}
 use Rattle.toml_span_read.specs.Dates.{is_date_byte}
-use Rattle.toml_span_read.specs.Numbers.{is_digit_in, is_figure, Digits, sum_of_digits, magnitude, behind_sign, is_exponent, is_negative, UnsignedDecimal, DecimalInteger, radix_at, RadixInteger, Exponent, Fraction, FloatLiteral, SpecialFloat, IsNumber, cleaned}
+use Rattle.toml_span_read.specs.Numbers.{Digits, UnsignedDecimal, DecimalInteger, RadixInteger, Exponent, Fraction}
+use Rattle.toml_span_read.specs.Numbers.{FloatLiteral, SpecialFloat, IsNumber}
+use Rattle.toml_span_read.specs.Numerals.{is_digit_in, is_figure, sum_of_digits, magnitude, behind_sign, is_exponent}
+use Rattle.toml_span_read.specs.Numerals.{is_negative, radix_at, cleaned}
 use Rattle.toml_span_read.proofs.NumberLemmas.{digit_figure, no_keylike_figure, digits_on, digits_stop, sign_on}
 use Rattle.toml_span_places.proofs.Moves.{Moves, either, said, also, Copied, At, further, behind, nothing, byte, stays, first, run, same_range}
 use Rattle.toml_span_places.proofs.NumbersAgain.{off_bytes}

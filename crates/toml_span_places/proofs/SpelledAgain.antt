@@ -10,7 +10,8 @@ use Rattle.toml_span_read.specs.Dates.{begins_date, is_date_byte}
 use Rattle.toml_span_read.specs.Gaps.{begins_gap, MaximalGap, Separator, Closes}
 use Rattle.toml_span_read.specs.Grammar.{truth_text, SpellsScalar, Spells, SpellsInner, SpellsItems, SpellsPairs}
 use Rattle.toml_span_read.specs.Keys.{SimpleKey, SpellsSimpleKey, SpellsKey}
-use Rattle.toml_span_read.specs.Numbers.{is_digit_in, behind_sign, is_negative, radix_at, SpecialFloat, FloatLiteral, cleaned}
+use Rattle.toml_span_read.specs.Numbers.{SpecialFloat, FloatLiteral}
+use Rattle.toml_span_read.specs.Numerals.{is_digit_in, behind_sign, is_negative, radix_at, cleaned}
 use Rattle.toml_span_read.proofs.NumberLemmas.{digit_keylike, slice_first, stands_alone}
 use Rattle.toml_span_read.proofs.ShortIntegers.{decimal_keylike}
 use Rattle.toml_span_places.specs.Again.{parts_off, HasValue, HoldsValue, HaveValues, HaveEntries, IsFloatText, IsScalarText, HasFloatTexts, InnerHasFloatTexts, ItemsHaveFloatTexts, MembersHaveFloatTexts, IsWithin, InnerIsWithin, ItemsAreWithin, MembersAreWithin, ReadsAsValue}

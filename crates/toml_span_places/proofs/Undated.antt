@@ -3,7 +3,8 @@ use Rattle.toml_span_lex.proofs.Common.{◌≡◌, ℕ, ◌+◌, ◌<◌, ◌≤
 use Rattle.std.proofs.lemmas.Bool.{eqb-true}
 use Rattle.toml_span_tree.specs.Node.{Scalar, text as text_scalar, integer, float, boolean, datetime, finite, infinite, not_a_number}
 use Rattle.toml_span_read.specs.Dates.{begins_date}
-use Rattle.toml_span_read.specs.Numbers.{is_figure, behind_sign, Digits, Exponent, Fraction, SpecialFloat, IsNumber}
+use Rattle.toml_span_read.specs.Numbers.{Digits, Exponent, Fraction, SpecialFloat, IsNumber}
+use Rattle.toml_span_read.specs.Numerals.{is_figure, behind_sign}
 use Rattle.toml_span_read.proofs.NumberLemmas.{clash, digits_stop, no_sign}
 
 digit_other : (c k : ℕ) → is_ascii_digit c ≡ true → is_ascii_digit k ≡ false → (c == k) ≡ false

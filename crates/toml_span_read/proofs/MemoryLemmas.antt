@@ -1,7 +1,7 @@
 -- Memory is wanted only where there is something to keep.
 use Rattle.toml_span_lex.proofs.Common.{common_steps, nat_tests, ◌≡◌, ℕ, ◌<◌, ◌≤◌, List, [], ◌∷◌, ◌++◌, length, arith, Err, Some}
 use Rattle.toml_span_lex.specs.declared.stop.Stop.{Stop}
-use Rattle.toml_span_lex.specs.Tokenizer.{FirstPlace}
+use Rattle.toml_span_lex.specs.Text.{FirstPlace}
 use Rattle.toml_span_read.specs.declared.section.Section.{Section}
 use Rattle.toml_span_read.specs.Data.{KeyValue, first_block}
 use Rattle.toml_span_read.specs.Gaps.{MaximalGap}

@@ -5,7 +5,9 @@ use Rattle.toml_span_lex.specs.Bytes.{is_keylike}
 use Rattle.toml_span_tree.specs.Node.{text as text_scalar, finite, infinite, not_a_number, Scalar, integer, float, boolean, datetime}
 use Rattle.toml_span_read.specs.declared.numbers.Numeral.{Numeral}
 use Rattle.toml_span_read.specs.declared.numbers.Numeral.TheVariants as numerals
-use Rattle.toml_span_read.specs.Numbers.{is_digit_in, Digits, magnitude, behind_sign, is_negative, IsSigned, UnsignedDecimal, DecimalInteger, radix_at, RadixInteger, is_exponent, Exponent, Fraction, FloatLiteral, SpecialFloat, IsNumber}
+use Rattle.toml_span_read.specs.Numbers.{Digits, IsSigned, UnsignedDecimal, DecimalInteger, RadixInteger, Exponent}
+use Rattle.toml_span_read.specs.Numbers.{Fraction, FloatLiteral, SpecialFloat, IsNumber}
+use Rattle.toml_span_read.specs.Numerals.{is_digit_in, magnitude, behind_sign, is_negative, radix_at, is_exponent}
 use Rattle.toml_span_read.specs.Numerals as spec
 use Rattle.toml_span_read.specs.Numerals.{run_end, scalar_of, integer_part, exponent_digits, exponent, fraction, signed, decimal, special, special_end, unsigned, numeral, number, radix_integer}
 use Rattle.toml_span_read.specs.code.Numbers.{Passes}

@@ -4,7 +4,8 @@ use Rattle.std.proofs.Math.Nat.{pow-succ', one-le-pow, le-mul_of_pos_right}
 use Rattle.std.proofs.lemmas.List.{get_or-drop}
 use Rattle.toml_span_lex.specs.Bytes.{is_keylike, MaximalRun}
 use Rattle.toml_span_lex.proofs.Unique.{run_unique}
-use Rattle.toml_span_read.specs.Numbers.{is_digit_in, is_figure, Digits, behind_sign, is_exponent, FloatLiteral, Exponent, Fraction, sum_of_digits, goes_on}
+use Rattle.toml_span_read.specs.Numbers.{Digits, FloatLiteral, Exponent, Fraction, goes_on}
+use Rattle.toml_span_read.specs.Numerals.{is_digit_in, is_figure, behind_sign, is_exponent, sum_of_digits}
 use Rattle.toml_span_read.specs.Numerals.{invalid_number, run_end, figures_end, are_digits, digits_end, signed}
 use Rattle.toml_span_read.specs.code.Numbers.{DigitGives, Passes}
 

@@ -7,10 +7,12 @@ use Rattle.toml_span_tree.specs.Node.{Scalar, text as text_scalar, integer, floa
 use Rattle.toml_span_read.specs.declared.fault.Fault.{Fault}
 use Rattle.toml_span_read.specs.declared.numbers.Numeral.{Numeral}
 use Rattle.toml_span_read.specs.declared.numbers.Numeral.TheVariants as numerals
-use Rattle.toml_span_read.specs.Numbers.{Digits, UnsignedDecimal, Exponent, Fraction, FloatLiteral, SpecialFloat, IsNumber, IsSigned, behind_sign, is_negative, radix_at, magnitude, is_exponent}
+use Rattle.toml_span_read.specs.Numbers.{Digits, UnsignedDecimal, Exponent, Fraction, FloatLiteral, SpecialFloat}
+use Rattle.toml_span_read.specs.Numbers.{IsNumber, IsSigned}
+use Rattle.toml_span_read.specs.Numerals.{behind_sign, is_negative, radix_at, magnitude, is_exponent}
 use Rattle.toml_span_read.specs.Numerals as spec
 use Rattle.toml_span_read.specs.Numerals.{Read, ◌>>=◌, invalid_number, run_end, scalar_of, digits_end, integer_part, exponent_digits, exponent, fraction, signed, decimal, special, special_end, unsigned, numeral, number, radix_integer}
-use Rattle.toml_span_read.specs.Places.{StartsInside}
+use Rattle.toml_span_read.specs.Faults.{StartsInside}
 use Rattle.toml_span_read.specs.code.Gaps.{Further}
 use Rattle.toml_span_read.specs.code.Numbers.{Passes, NumeralStands}
 use Rattle.toml_span_read.proofs.NumberLemmas.{bool_cases, byte_is, here, figure_keylike, digits_sound, digits_on, run_passes, passes_on, sign_on, behind_plus_sign, stands_alone, slice_some, range_length, range_at}

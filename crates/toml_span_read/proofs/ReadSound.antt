@@ -2,7 +2,7 @@
 use Rattle.toml_span_lex.proofs.Common.{common_steps, ◌≡◌, ℕ, zero, suc, ◌+◌, ◌≤◌, Bool, true, false, List, [], ◌∷◌, ◌++◌, length, get_or, arith, inl, inr, sym, refl, ap, append-nil, append_assoc, Result, Ok, slice_range, if◌then◌else◌, ◌||◌, is_some, nat_tests, bytes_eq-Decides}
 use Rattle.toml_span_lex.specs.Bytes.{is_blank, is_keylike, MaximalRun}
 use Rattle.toml_span_lex.specs.Tokens.{RunAt}
-use Rattle.toml_span_lex.specs.Tokenizer.{FirstPlace}
+use Rattle.toml_span_lex.specs.Text.{FirstPlace}
 use Rattle.toml_span_tree.specs.Node.{Scalar}
 use Rattle.toml_span_read.specs.declared.fault.Due.{Due}
 use Rattle.toml_span_read.specs.declared.fault.Due.TheVariants as dues

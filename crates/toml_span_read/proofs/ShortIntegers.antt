@@ -7,7 +7,8 @@ use Rattle.toml_span_read.specs.declared.value.ValKind.{ValKind}
 use Rattle.toml_span_read.specs.Data.{kind_view, scalar}
 use Rattle.toml_span_read.specs.Dates.{begins_date}
 use Rattle.toml_span_read.specs.code.Gaps.{Further}
-use Rattle.toml_span_read.specs.Numbers.{is_digit_in, magnitude, DecimalInteger, IsSigned, behind_sign}
+use Rattle.toml_span_read.specs.Numbers.{DecimalInteger, IsSigned}
+use Rattle.toml_span_read.specs.Numerals.{is_digit_in, magnitude, behind_sign}
 use Rattle.toml_span_read.specs.Faults.{begins_number}
 use Rattle.toml_span_read.specs.Numerals.{number}
 use Rattle.toml_span_read.specs.Read as read

@@ -1,6 +1,6 @@
 -- What is read section by section.
 use Rattle.toml_span_lex.proofs.Common.{arith, common_steps, nat_tests, ◌≡◌, sym, ap, ◌∙◌, ℕ, List, [], ◌∷◌, map, Ok, Option, Some, None, IfSome}
-use Rattle.toml_span_lex.specs.Tokenizer.{FirstPlace}
+use Rattle.toml_span_lex.specs.Text.{FirstPlace}
 use Rattle.toml_span_read.specs.declared.section.Section.{Section}
 use Rattle.toml_span_read.specs.declared.value.Assignment.{Assignment}
 use Rattle.toml_span_read.specs.Borrowed.{AreWrittenRight, assignments_written, section_written, sections_written}

@@ -74,6 +74,10 @@ first_block (ev ∷ evs) =
       key_values = ev ∷ evs;
     } ∷ []
 
+-- the greatest limit that a call may set, and that of `parse`
+abbrev pub depth_limit : ℕ
+depth_limit = 128
+
 -- ---- what is read, seen so
 
 -- these values, and then those

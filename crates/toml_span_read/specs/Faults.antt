@@ -1,7 +1,7 @@
 -- Faults: what is told of what is wrong in a text, and how a token is called where another one is due. Which fault is
 -- told, and where, is in `Read`.
-use Rattle.std.specs.Prelude.{◌≡◌, ℕ, ◌+◌, Bool, ◌||◌, ◌==◌, List}
-use Rattle.std.specs.Prelude.{if◌then◌else◌, length, Some, codes}
+use Rattle.std.specs.Prelude.{◌≡◌, ℕ, ◌+◌, ◌<◌, ◌≤◌, ◌⊎◌, Bool, false, ◌||◌, ◌==◌, List, take, length, slice_index}
+use Rattle.std.specs.Prelude.{if◌then◌else◌, Some, codes, count_by}
 use Rattle.std.specs.Char.{is_ascii_digit}
 use Rattle.toml_span_lex.specs.declared.tokens.Error.{Error}
 use Rattle.toml_span_lex.specs.declared.tokens.Error.TheVariants as errors
@@ -16,7 +16,6 @@ use Rattle.toml_span_read.specs.declared.fault.Found.TheVariants as founds
 use Rattle.toml_span_read.specs.declared.fault.Fault.{Fault}
 use Rattle.toml_span_read.specs.declared.fault.FaultKind.{FaultKind}
 use Rattle.toml_span_read.specs.declared.fault.FaultKind.TheVariants as kinds
-use Rattle.toml_span_read.specs.Places.{IsLineInfo}
 
 -- ---- words
 
@@ -70,6 +69,20 @@ error_kind kinds.UnquotedString = tree.unquoted_string
 error_kind (kinds.Wanted expected found) = tree.wanted (due_words expected) (found_words found)
 error_kind kinds.MultilineStringKey = tree.multiline_string_key
 error_kind (kinds.DottedKeyInvalidType first) = tree.dotted_key_invalid_type first
+
+-- The place i stands in this line at this column, both counted from 0: so many line feeds stand before it, and so
+-- many bytes behind the last of them, or behind the start of the text.
+pub record IsLineInfo (text : List ℕ) (i line column : ℕ) : Type 0 where
+  pub start : ℕ
+  pub line_is : line ≡ count_by (λ c. c == line_feed) (take i text)
+  pub begins : (start ≡ 0) ⊎ ((k : ℕ) × (start ≡ k + 1) × (slice_index text k ≡ line_feed))
+  pub same_line : (k : ℕ) → start ≤ k → k < i → (slice_index text k == line_feed) ≡ false
+  pub column_is : start + column ≡ i
+
+-- a fault starts within the text, and does not end before it starts
+pub record StartsInside (text : List ℕ) (fault : Fault) : Type 0 where
+  pub within : fault.span.start ≤ length text
+  pub forward : fault.span.start ≤ fault.span.end
 
 -- the error tells this fault of this text
 abbrev pub Tells : List ℕ → Fault → tree.ErrorContent → Type 0

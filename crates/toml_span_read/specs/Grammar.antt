@@ -7,14 +7,15 @@ use Rattle.toml_span_lex.specs.Bytes.{is_keylike, left_bracket, right_bracket, i
 use Rattle.toml_span_lex.specs.Bytes.{left_brace, right_brace}
 use Rattle.toml_span_lex.specs.Strings.{IsString}
 use Rattle.toml_span_lex.specs.Tokens.{RunAt}
-use Rattle.toml_span_lex.specs.Tokenizer.{FirstPlace}
+use Rattle.toml_span_lex.specs.Text.{FirstPlace}
 use Rattle.toml_span_tree.specs.Date.{IsDateText}
 use Rattle.toml_span_tree.specs.Node.{Scalar, integer, float, boolean, datetime, text as text_scalar}
 use Rattle.toml_span_read.specs.Dates.{begins_date, IsCandidate}
 use Rattle.toml_span_read.specs.Numbers.{IsNumber}
 use Rattle.toml_span_read.specs.Gaps.{MaximalGap, Separator, Closes, Equals, Tail}
 use Rattle.toml_span_read.specs.Keys.{SpellsKey, SimpleKey}
-use Rattle.toml_span_read.specs.Data.{ParsedValue, parsed, ParsedInner, scalar, ParsedItems, no_items, item, first_block, from_to, last_end}
+use Rattle.toml_span_read.specs.Data.{ParsedValue, parsed, ParsedInner, scalar, ParsedItems, no_items, item}
+use Rattle.toml_span_read.specs.Data.{first_block, from_to, last_end}
 use Rattle.toml_span_read.specs.Data.{ParsedPairs, no_pairs, pair, KeyValue}
 use Rattle.toml_span_read.specs.Data.{array as array_node, inline as inline_node, Block}
 use Rattle.toml_span_read.specs.Earlier.{Clear}

@@ -5,10 +5,6 @@ use Rattle.toml_span_read.specs.Data.{item, ParsedPairs, no_pairs}
 use Rattle.toml_span_read.specs.Data.{pair, KeyValue, key_value}
 use Rattle.toml_span_read.specs.declared.section.Section.{Section}
 
--- the greatest limit that a call may set, and that of `parse`
-abbrev pub depth_limit : ℕ
-depth_limit = 128
-
 -- The depth of a value is the number of brackets and braces open round it plus the number of all key parts of its own
 -- assignment or pair and of those round it. It is at most the limit, and so is the number of parts of each key.
 abbrev mutual

@@ -1,30 +1,13 @@
 -- How integers and floats are spelled (TOML 1.1, "Integer", "Float").
-use Rattle.std.specs.Prelude.{◌≡◌, ℕ, ℤ, pos, neg_ℤ, ◌+◌, ◌*◌, ◌^◌, ◌<◌, ◌≤◌, ◌⊎◌, Bool, true, false, not, ◌&&◌}
-use Rattle.std.specs.Prelude.{◌||◌, ◌==◌, nat_lt, if◌then◌else◌, List, [], ◌∷◌, map, filter, length}
-use Rattle.std.specs.Prelude.{slice_index, slice_range, Option, Some, None, codes}
-use Rattle.std.specs.Char.{is_ascii_hexdigit, digit_value}
-use Rattle.toml_span_lex.specs.Bytes.{underscore, MaximalRun, plus, dash, is_keylike, period, digit_zero, small_b}
-use Rattle.toml_span_lex.specs.Bytes.{small_e, small_x}
+use Rattle.std.specs.Prelude.{◌≡◌, ℕ, ℤ, pos, neg_ℤ, ◌+◌, ◌^◌, ◌<◌, ◌≤◌, ◌⊎◌, Bool, true, false, ◌||◌, List, length}
+use Rattle.std.specs.Prelude.{slice_index, slice_range, Some, codes}
+use Rattle.toml_span_lex.specs.Bytes.{underscore, MaximalRun, is_keylike, period, digit_zero}
 use Rattle.toml_span_tree.specs.Node.{finite, infinite, not_a_number, Scalar, text as text_scalar, integer, float}
 use Rattle.toml_span_tree.specs.Node.{boolean, datetime}
-
--- ---- letters
-
-abbrev pub capital_e : ℕ
-capital_e = 69
-
-abbrev pub small_o : ℕ
-small_o = 111
+use Rattle.toml_span_read.specs.Numerals.{is_digit_in, is_figure, magnitude, behind_sign, is_negative, radix_at}
+use Rattle.toml_span_read.specs.Numerals.{is_exponent, cleaned}
 
 -- ---- digits
-
--- a digit of this radix: `DIGIT` for 10, `HEXDIG` for 16, `digit0-7` for 8, `digit0-1` for 2
-abbrev pub is_digit_in : ℕ → ℕ → Bool
-is_digit_in radix c = is_ascii_hexdigit c && nat_lt (digit_value c) radix
-
--- a digit or an underscore
-abbrev pub is_figure : ℕ → ℕ → Bool
-is_figure radix c = is_digit_in radix c || c == underscore
 
 -- all the digits and underscores from i on, which end at j; the first is a digit, and behind each underscore stands a
 -- digit
@@ -36,23 +19,7 @@ pub record Digits (radix : ℕ) (text : List ℕ) (i j : ℕ) : Type 0 where
   pub between : (k : ℕ) → i ≤ k → k < j → slice_index text k ≡ underscore
       → is_digit_in radix (slice_index text (k + 1)) ≡ true
 
--- the sum of digits times the powers of the radix
-abbrev pub sum_of_digits : ℕ → List ℕ → ℕ
-sum_of_digits radix [] = 0
-sum_of_digits radix (c ∷ cs) = digit_value c * radix ^ length cs + sum_of_digits radix cs
-
--- what the digits from i to j write, underscores left out
-abbrev pub magnitude : ℕ → List ℕ → ℕ → ℕ → ℕ
-magnitude radix text i j = sum_of_digits radix (filter (is_digit_in radix) (slice_range text i j))
-
 -- ---- integers
-
--- `[ minus / plus ]`
-abbrev pub behind_sign : List ℕ → ℕ → ℕ
-behind_sign text i = if slice_index text i == plus || slice_index text i == dash then i + 1 else i
-
-abbrev pub is_negative : List ℕ → ℕ → Bool
-is_negative text i = slice_index text i == dash
 
 -- the number with its sign, within 64 bits
 abbrev pub IsSigned : Bool → ℕ → ℤ → Type 0
@@ -74,14 +41,6 @@ pub record DecimalInteger (n : ℤ) (text : List ℕ) (i j : ℕ) : Type 0 where
   pub ends : goes_on text j ≡ false
   pub value : IsSigned (is_negative text i) (magnitude 10 text (behind_sign text i) j) n
 
--- `hex-prefix = %x30.78` (0x), `oct-prefix = %x30.6F` (0o), `bin-prefix = %x30.62` (0b)
-abbrev pub radix_at : List ℕ → ℕ → Option ℕ
-radix_at text i =
-    if not (slice_index text i == digit_zero) then None
-    else (if slice_index text (i + 1) == small_x then Some 16
-    else (if slice_index text (i + 1) == small_o then Some 8
-    else (if slice_index text (i + 1) == small_b then Some 2 else None)))
-
 -- a prefix, and digits of its radix
 --
 -- `hex-int = hex-prefix HEXDIG *( HEXDIG / underscore HEXDIG )`,
@@ -95,10 +54,6 @@ pub record RadixInteger (n : ℤ) (text : List ℕ) (i j : ℕ) : Type 0 where
   pub value : IsSigned false (magnitude radix text (i + 2) j) n
 
 -- ---- floats
-
--- `"e"`, of either case
-abbrev pub is_exponent : ℕ → Bool
-is_exponent c = c == small_e || c == capital_e
 
 -- `exp = "e" float-exp-part`, `float-exp-part = [ minus / plus ] zero-prefixable-int`
 pub record Exponent (text : List ℕ) (i j : ℕ) : Type 0 where
@@ -116,11 +71,6 @@ pub record FloatLiteral (text : List ℕ) (i j : ℕ) : Type 0 where
   pub integer_part : UnsignedDecimal text (behind_sign text i) integer_end
   pub rest : Exponent text integer_end j ⊎ ((m : ℕ) × Fraction text integer_end m × ((j ≡ m) ⊎ Exponent text m j))
   pub ends : is_keylike (slice_index text j) ≡ false
-
--- the text of a float as it is kept: without pluses and underscores, with a capital letter before the exponent
-abbrev pub cleaned : List ℕ → List ℕ
-cleaned literal =
-    map (λ c. if c == small_e then capital_e else c) (filter (λ c. not (c == plus || c == underscore)) literal)
 
 -- `special-float = [ minus / plus ] ( inf / nan )`
 pub record SpecialFloat (word : List ℕ) (text : List ℕ) (i j : ℕ) : Type 0 where

@@ -4,17 +4,16 @@
 --
 -- A number begins at i. Its first run, of letters, digits, dashes and underscores, goes from a to b: a is i, or behind
 -- a plus. Each later run is a piece, from start to end, whose digits begin at `from`.
+use Rattle.std.specs.Char.{is_ascii_hexdigit, digit_value}
 use Rattle.std.specs.List.{prefix_len, list_all, range_with_len}
 use Rattle.std.specs.Option.{ok_or, option_map_or}
-use Rattle.std.specs.Prelude.{ℕ, ℤ, pos, neg_ℤ, ◌+◌, ◌-◌, ◌^◌, Bool, true, false, not, ◌&&◌, ◌||◌, ◌==◌, nat_lt, nat_le}
-use Rattle.std.specs.Prelude.{if◌then◌else◌, List, drop, slice_index, slice_range, codes, Option, Some, None, is_some}
-use Rattle.std.specs.Prelude.{Result, Ok, Err}
+use Rattle.std.specs.Prelude.{ℕ, ℤ, pos, neg_ℤ, ◌+◌, ◌*◌, ◌-◌, ◌^◌, Bool, true, false, not, ◌&&◌, ◌||◌, ◌==◌, nat_lt}
+use Rattle.std.specs.Prelude.{nat_le, if◌then◌else◌, List, [], ◌∷◌, map, filter, length, drop, slice_index, slice_range}
+use Rattle.std.specs.Prelude.{codes, Option, Some, None, is_some, Result, Ok, Err}
 use Rattle.std.specs.Str.{bytes_eq}
-use Rattle.toml_span_lex.specs.Bytes.{is_keylike, plus, dash, period, digit_zero, underscore}
+use Rattle.toml_span_lex.specs.Bytes.{is_keylike, plus, dash, period, digit_zero, underscore, small_b, small_e, small_x}
 use Rattle.toml_span_tree.specs.Node as scalars
 use Rattle.toml_span_tree.specs.Node.{Scalar, float, infinite, not_a_number}
-use Rattle.toml_span_read.specs.Numbers.{is_digit_in, is_figure, is_exponent, is_negative, behind_sign, radix_at}
-use Rattle.toml_span_read.specs.Numbers.{magnitude, cleaned}
 use Rattle.toml_span_read.specs.declared.fault.Fault.{Fault}
 use Rattle.toml_span_read.specs.declared.fault.FaultKind.TheVariants as kinds
 use Rattle.toml_span_read.specs.declared.numbers.Numeral.{Numeral}
@@ -32,7 +31,32 @@ Err e >>= f = Err e
 abbrev pub invalid_number : ℕ → ℕ → Fault
 invalid_number start end = record { kind = kinds.InvalidNumber; span = record { start = start; end = end } }
 
+-- ---- letters
+
+abbrev pub capital_e : ℕ
+capital_e = 69
+
+abbrev pub small_o : ℕ
+small_o = 111
+
 -- ---- digits
+
+-- a digit of this radix: `DIGIT` for 10, `HEXDIG` for 16, `digit0-7` for 8, `digit0-1` for 2
+abbrev pub is_digit_in : ℕ → ℕ → Bool
+is_digit_in radix c = is_ascii_hexdigit c && nat_lt (digit_value c) radix
+
+-- a digit or an underscore
+abbrev pub is_figure : ℕ → ℕ → Bool
+is_figure radix c = is_digit_in radix c || c == underscore
+
+-- the sum of digits times the powers of the radix
+abbrev pub sum_of_digits : ℕ → List ℕ → ℕ
+sum_of_digits radix [] = 0
+sum_of_digits radix (c ∷ cs) = digit_value c * radix ^ length cs + sum_of_digits radix cs
+
+-- what the digits from i to j write, underscores left out
+abbrev pub magnitude : ℕ → List ℕ → ℕ → ℕ → ℕ
+magnitude radix text i j = sum_of_digits radix (filter (is_digit_in radix) (slice_range text i j))
 
 -- where the run from i on ends
 unfoldable pub run_end : List ℕ → ℕ → ℕ
@@ -57,6 +81,21 @@ digits_end radix text start from end =
     else Err (invalid_number start end)
 
 -- ---- integers
+
+-- `[ minus / plus ]`
+abbrev pub behind_sign : List ℕ → ℕ → ℕ
+behind_sign text i = if slice_index text i == plus || slice_index text i == dash then i + 1 else i
+
+abbrev pub is_negative : List ℕ → ℕ → Bool
+is_negative text i = slice_index text i == dash
+
+-- `hex-prefix = %x30.78` (0x), `oct-prefix = %x30.6F` (0o), `bin-prefix = %x30.62` (0b)
+abbrev pub radix_at : List ℕ → ℕ → Option ℕ
+radix_at text i =
+    if not (slice_index text i == digit_zero) then None
+    else (if slice_index text (i + 1) == small_x then Some 16
+    else (if slice_index text (i + 1) == small_o then Some 8
+    else (if slice_index text (i + 1) == small_b then Some 2 else None)))
 
 -- `unsigned-dec-int = DIGIT / digit1-9 1*( DIGIT / underscore DIGIT )`: of a 0 before another digit that one is told
 unfoldable pub integer_part : List ℕ → ℕ → ℕ → ℕ → Read ℕ
@@ -83,6 +122,10 @@ radix_integer radix text start end =
     if nat_lt m end then Err (invalid_number start end) else integer radix text false start start end)
 
 -- ---- floats
+
+-- `"e"`, of either case
+abbrev pub is_exponent : ℕ → Bool
+is_exponent c = c == small_e || c == capital_e
 
 -- the digits of an exponent are all of their piece
 unfoldable pub exponent_digits : List ℕ → ℕ → ℕ → ℕ → ℕ → ℕ → Read ℕ
@@ -153,6 +196,11 @@ numeral text i =
     else if slice_index text (i + 1) == dash || is_some (radix_at text (i + 1))
     then Err (invalid_number i (run_end text (i + 1)))
     else unsigned text i (i + 1) (run_end text (i + 1))
+
+-- the text of a float as it is kept: without pluses and underscores, with a capital letter before the exponent
+abbrev pub cleaned : List ℕ → List ℕ
+cleaned literal =
+    map (λ c. if c == small_e then capital_e else c) (filter (λ c. not (c == plus || c == underscore)) literal)
 
 -- the number that is read with this literal
 abbrev pub scalar_of : Numeral → List ℕ → Scalar

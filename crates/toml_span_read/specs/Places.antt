@@ -1,28 +1,11 @@
--- Places in a text: lines and columns, and where faults, keys, headers and values stand.
-use Rattle.std.specs.Prelude.{◌≡◌, ℕ, ◌+◌, ◌<◌, ◌≤◌, ◌⊎◌, false, ◌==◌, List, [], ◌∷◌, map, take, length, slice_index}
-use Rattle.std.specs.Prelude.{count_by}
-use Rattle.toml_span_lex.specs.Bytes.{line_feed}
+-- Places in a text: where keys, headers and values stand.
+use Rattle.std.specs.Prelude.{ℕ, ◌<◌, ◌≤◌, List, [], ◌∷◌, map}
 use Rattle.toml_span_lex.specs.declared.span.Span.{Span}
-use Rattle.toml_span_read.specs.declared.fault.Fault.{Fault}
 use Rattle.toml_span_read.specs.Keys.{SimpleKey, simple_key}
 use Rattle.toml_span_read.specs.Data.{ParsedValue, parsed, ParsedInner, scalar, array, inline, ParsedItems, no_items}
 use Rattle.toml_span_read.specs.Data.{item, ParsedPairs, no_pairs}
 use Rattle.toml_span_read.specs.Data.{pair, KeyValue, key_value}
 use Rattle.toml_span_read.specs.declared.section.Section.{Section}
-
--- The place i stands in this line at this column, both counted from 0: so many line feeds stand before it, and so
--- many bytes behind the last of them, or behind the start of the text.
-pub record IsLineInfo (text : List ℕ) (i line column : ℕ) : Type 0 where
-  pub start : ℕ
-  pub line_is : line ≡ count_by (λ c. c == line_feed) (take i text)
-  pub begins : (start ≡ 0) ⊎ ((k : ℕ) × (start ≡ k + 1) × (slice_index text k ≡ line_feed))
-  pub same_line : (k : ℕ) → start ≤ k → k < i → (slice_index text k == line_feed) ≡ false
-  pub column_is : start + column ≡ i
-
--- a fault starts within the text, and does not end before it starts
-pub record StartsInside (text : List ℕ) (fault : Fault) : Type 0 where
-  pub within : fault.span.start ≤ length text
-  pub forward : fault.span.start ≤ fault.span.end
 
 -- ---- keys and headers stand inside the text
 

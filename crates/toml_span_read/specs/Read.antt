@@ -10,11 +10,12 @@ use Rattle.toml_span_lex.specs.Bytes.{is_blank, MaximalRun, comma, equals, left_
 use Rattle.toml_span_lex.specs.Bytes.{right_brace}
 use Rattle.toml_span_lex.specs.declared.span.Span.{Span}
 use Rattle.toml_span_lex.specs.declared.tokens.Error.{Error}
-use Rattle.toml_span_lex.specs.Tokenizer.{FirstPlace}
+use Rattle.toml_span_lex.specs.Text.{FirstPlace}
 use Rattle.toml_span_lex.specs.Tokens.{Lexeme, keylike, string, Stands, IsNoToken}
 use Rattle.toml_span_tree.specs.Date.{IsDateText}
 use Rattle.toml_span_tree.specs.Node.{Scalar, boolean, datetime, text as text_scalar}
-use Rattle.toml_span_read.specs.Data.{ParsedValue, parsed, ParsedInner, scalar, array as array_node, no_items, onto, from_to, last_end, first_block}
+use Rattle.toml_span_read.specs.Data.{ParsedValue, parsed, ParsedInner, scalar, array as array_node, no_items, onto}
+use Rattle.toml_span_read.specs.Data.{first_block, from_to, last_end}
 use Rattle.toml_span_read.specs.Data.{inline as inline_node, no_pairs, pairs_onto, KeyValue, Block}
 use Rattle.toml_span_read.specs.Dates.{begins_date, IsCandidate}
 use Rattle.toml_span_read.specs.declared.fault.Due.{Due}

@@ -9,7 +9,7 @@ use Rattle.toml_span_read.specs.Data.{Block, block}
 use Rattle.toml_span_read.specs.Read.{document}
 use Rattle.toml_span_read.specs.Faults.{Tells}
 use Rattle.toml_span_read.specs.Gaps.{MaximalGap}
-use Rattle.toml_span_read.specs.Places.{StartsInside}
+use Rattle.toml_span_read.specs.Faults.{StartsInside}
 use Rattle.toml_span_read.specs.declared.fault.Fault.{Fault}
 use Rattle.toml_span_read.specs.declared.section.Section.{Section}
 

@@ -8,7 +8,7 @@ ghost use Rattle.toml_span_tree.specs.Node.{integer, float};
 ghost use Rattle.toml_span_tree.specs.Value.{float_value};
 ghost use Rattle.toml_span_read.specs.Data.{kind_view, scalar};
 ghost use Rattle.toml_span_read.specs.Numbers as spec;
-ghost use Rattle.toml_span_read.specs.Numbers.{sum_of_digits, is_digit_in, behind_sign};
+ghost use Rattle.toml_span_read.specs.Numerals.{sum_of_digits, is_digit_in, behind_sign};
 ghost use Rattle.toml_span_read.specs.Numerals as numerals;
 ghost use Rattle.toml_span_read.specs.code.Faults.{Advances};
 ghost use Rattle.toml_span_read.specs.code.Gaps.{Further};
@@ -155,7 +155,7 @@ fn integer(text: &str, piece: Span, from: usize, radix: u8, negative: bool) -> R
 #[inline]
 fn radix_of(text: &str, run: usize) -> Option<u8>
     requires { run < usize.MAX }
-    ensures { result ≡ spec.radix_at text.now run }
+    ensures { result ≡ numerals.radix_at text.now run }
 {
     if byte_at(text, run) != b'0' {
         return None;
@@ -215,7 +215,7 @@ fn integer_part(text: &str, run: Span, from: usize) -> Result<usize, Fault>
 /// Whether the exponent of a float begins with this byte.
 #[inline]
 fn is_exponent(byte: u8) -> bool
-    ensures { result ≡ spec.is_exponent byte }
+    ensures { result ≡ numerals.is_exponent byte }
 {
     byte == b'e' || byte == b'E'
 }
@@ -430,7 +430,7 @@ fn few_digits(text: &str, from: usize) -> (u64, usize)
     ensures forward { from ≤ result.1 }
     ensures within { result.1 ≤ length text.now }
     ensures digits { (k : ℕ) → from ≤ k → k < result.1 → is_ascii_digit (slice_index text.now k) ≡ true }
-    ensures value { result.0 ≡ spec.magnitude 10 text.now from result.1 }
+    ensures value { result.0 ≡ numerals.magnitude 10 text.now from result.1 }
 {
     let bytes = text.as_bytes();
     let mut value: u64 = 0;
@@ -475,7 +475,7 @@ fn is_clean(byte: u8) -> bool
 
 /// Whether the literal of a float is kept as it stands.
 fn is_kept(literal: &str) -> bool
-    ensures { result ≡ true → spec.cleaned literal.now ≡ literal.now }
+    ensures { result ≡ true → numerals.cleaned literal.now ≡ literal.now }
 {
     for byte in literal.as_bytes() {
         if !is_clean(*byte) {
@@ -488,7 +488,7 @@ fn is_kept(literal: &str) -> bool
 /// A float's literal without pluses and underscores, with `E` before its exponent.
 fn cleaned(alloc: Global, literal: &str) -> Result<String, AllocError>
     requires ascii { (k : ℕ) → slice_index literal.now k < 128 }
-    ensures { IfOk result (λ kept. string_bytes kept ≡ spec.cleaned literal.now) }
+    ensures { IfOk result (λ kept. string_bytes kept ≡ numerals.cleaned literal.now) }
 {
     if is_kept(literal) {
         return String::from_str(alloc, literal);
@@ -526,7 +526,7 @@ fn float_literal<'a>(text: &'a str, at: usize, end: usize) -> &'a str
     requires end { IsCharBoundary text.now end }
     requires float { spec.FloatLiteral text.now at end }
     ensures ascii { (k : ℕ) → slice_index result.now k < 128 }
-    ensures cleaned { spec.cleaned result.now ≡ spec.cleaned (slice_range text.now at end) }
+    ensures cleaned { numerals.cleaned result.now ≡ numerals.cleaned (slice_range text.now at end) }
 {
     if byte_at(text, at) == b'+' {
         &text[at + 1..end]

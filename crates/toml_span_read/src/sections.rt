@@ -15,8 +15,8 @@ ghost use Rattle.toml_span_read.specs.Reading.{OnlyFormsTakeMemory, ReadsDocumen
 ghost use Rattle.toml_span_read.specs.code.Faults.{Advances, Gives, IsPlacedEnd};
 ghost use Rattle.toml_span_read.specs.code.Gaps.{Further};
 ghost use Rattle.toml_span_lex.specs.Bytes.{is_blank, left_bracket, MaximalRun};
-ghost use Rattle.toml_span_lex.specs.Tokenizer.{FirstPlace};
-ghost use Rattle.toml_span_read.specs.Limits.{depth_limit};
+ghost use Rattle.toml_span_lex.specs.Text.{FirstPlace};
+ghost use Rattle.toml_span_read.specs.Data.{depth_limit};
 
 use crate::earlier::{Earlier, add_clear};
 use crate::fault::{Due, Fault, error_of};

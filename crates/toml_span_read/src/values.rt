@@ -1,5 +1,5 @@
 //! Values.
-ghost use Rattle.toml_span_read.specs.Limits.{depth_limit};
+ghost use Rattle.toml_span_read.specs.Data.{depth_limit};
 ghost use Rattle.std.specs.Prelude.{◌≡◌, ◌+◌, ◌-◌, ◌<◌, ◌≤◌, ◌||◌, ◌==◌, ◌⊎◌, ◌++◌, ◌∷◌, [], true, false, length};
 ghost use Rattle.std.specs.Prelude.{slice_index, map, IfOk};
 ghost use Rattle.std.specs.Str.{IsCharBoundary};

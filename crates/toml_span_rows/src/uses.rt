@@ -6,7 +6,7 @@ ghost use Rattle.toml_span_tree.specs.Path.{Place, key, shape_scalar};
 ghost use Rattle.toml_span.specs.Parsing.{IsRefusal};
 ghost use Rattle.toml_span_laws.specs.Document.{IsDocument, StandsAt};
 ghost use Rattle.toml_span_rows.specs.uses.Fields.{NoPort};
-ghost use Rattle.toml_span_read.specs.Limits.{depth_limit};
+ghost use Rattle.toml_span_read.specs.Data.{depth_limit};
 
 pub(crate) mod first;
 pub(crate) mod servers;

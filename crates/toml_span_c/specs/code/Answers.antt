@@ -5,7 +5,7 @@ use Rattle.toml_span_c.specs.Calls.{IsText}
 use Rattle.toml_span_c.specs.declared.answer.Answer.{Answer}
 use Rattle.toml_span_c.specs.declared.answer.Answer.TheVariants.{Tree, Fault, Unread, Memory}
 use Rattle.toml_span_lex.specs.declared.stop.Stop.TheVariants as stops
-use Rattle.toml_span_read.specs.Limits.{depth_limit}
+use Rattle.toml_span_read.specs.Data.{depth_limit}
 
 abbrev pub IsAnswer : List ℕ → Answer → Type 0
 IsAnswer bytes (Tree text root) = IsText bytes × (text.now ≡ bytes) × IsTree bytes depth_limit root

@@ -3,7 +3,7 @@ use Rattle.std.specs.Prelude.{ℕ, List, Result, Ok, Err}
 use Rattle.toml_span_lex.specs.declared.stop.Stop.{Stop}
 use Rattle.toml_span_lex.specs.declared.stop.Stop.TheVariants as stops
 use Rattle.toml_span_read.specs.declared.fault.Fault.{Fault}
-use Rattle.toml_span_read.specs.Places.{StartsInside}
+use Rattle.toml_span_read.specs.Faults.{StartsInside}
 use Rattle.toml_span_read.specs.Read.{Reading}
 use Rattle.toml_span_read.specs.code.Gaps.{Further}
 

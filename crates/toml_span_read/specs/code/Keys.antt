@@ -9,7 +9,7 @@ use Rattle.toml_span_read.specs.declared.value.DottedKey.{DottedKey}
 use Rattle.toml_span_read.specs.Keys.{SimpleKey, simple_key, parts}
 use Rattle.toml_span_read.specs.Read as read
 use Rattle.toml_span_read.specs.Read.{Parts}
-use Rattle.toml_span_read.specs.Places.{StartsInside}
+use Rattle.toml_span_read.specs.Faults.{StartsInside}
 use Rattle.toml_span_read.specs.code.Gaps.{Further, DotGives}
 
 abbrev pub key_found : Key × ℕ → SimpleKey × ℕ

@@ -3,11 +3,12 @@ use Rattle.std.specs.Char.{digit_value}
 use Rattle.std.specs.Prelude.{◌≡◌, ℕ, ◌^◌, ◌<◌, ◌≤◌, true, false, List, length, slice_index, slice_range, Result, Ok}
 use Rattle.std.specs.Prelude.{Err, Option, Some, None}
 use Rattle.toml_span_lex.specs.Bytes.{is_keylike}
-use Rattle.toml_span_read.specs.Numbers.{is_digit_in, IsNumber}
+use Rattle.toml_span_read.specs.Numbers.{IsNumber}
+use Rattle.toml_span_read.specs.Numerals.{is_digit_in}
 use Rattle.toml_span_read.specs.Numerals.{scalar_of}
 use Rattle.toml_span_read.specs.declared.fault.Fault.{Fault}
 use Rattle.toml_span_read.specs.declared.numbers.Numeral.{Numeral}
-use Rattle.toml_span_read.specs.Places.{StartsInside}
+use Rattle.toml_span_read.specs.Faults.{StartsInside}
 
 abbrev pub DigitGives : ℕ → ℕ → Option ℕ → Type 0
 DigitGives radix c None = is_digit_in radix c ≡ false

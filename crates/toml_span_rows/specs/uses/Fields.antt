@@ -9,7 +9,7 @@ use Rattle.toml_span_tree.specs.Node.{Node, node, Inner, taken, scalar, array, t
 use Rattle.toml_span_tree.specs.Path.{Path, Place, Shape, shape_taken, shape_scalar, shape_array, shape_table, key}
 use Rattle.toml_span_typed.specs.Errors.{Errors, one}
 use Rattle.toml_span_typed.specs.Reads.{read_integer, unsigned}
-use Rattle.toml_span_read.specs.Limits.{depth_limit}
+use Rattle.toml_span_read.specs.Data.{depth_limit}
 use Rattle.toml_span.specs.Parsing.{IsRefusal}
 use Rattle.toml_span_laws.specs.Document.{IsDocument}
 

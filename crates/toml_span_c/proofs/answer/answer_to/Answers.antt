@@ -1,7 +1,7 @@
 use Rattle.toml_span_lex.proofs.Common.{◌≡◌, rules, subst}
 use Rattle.toml_span.specs.Parsing.{IsRefusal}
 use Rattle.toml_span_lex.specs.declared.stop.Stop.TheVariants as stops
-use Rattle.toml_span_read.specs.Limits.{depth_limit}
+use Rattle.toml_span_read.specs.Data.{depth_limit}
 use Rattle.toml_span_c.proofs.answer.answer_to.Goals as goal
 
 pub returns-in-Err-Fault : goal.returns-in-Err-Fault

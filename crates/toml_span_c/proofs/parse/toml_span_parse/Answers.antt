@@ -1,4 +1,4 @@
-use Rattle.toml_span_read.specs.Limits.{depth_limit}
+use Rattle.toml_span_read.specs.Data.{depth_limit}
 use Rattle.toml_span_c.proofs.Bound.{tree-fits}
 use Rattle.toml_span_c.proofs.parse.toml_span_parse.Goals as goal
 

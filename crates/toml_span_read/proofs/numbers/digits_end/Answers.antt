@@ -1,5 +1,5 @@
 use Rattle.toml_span_lex.proofs.Common.{rules, arith, ◌≡◌, ◌≤◌, ◌<◌, sym, ◌∙◌, true, false, get_or, length, ◌==◌, false≢true}
-use Rattle.toml_span_read.specs.Numbers.{is_digit_in}
+use Rattle.toml_span_read.specs.Numerals.{is_digit_in}
 use Rattle.toml_span_read.specs.Numerals.{digits_end}
 use Rattle.toml_span_read.proofs.NumberLemmas.{digit_some, digit_none, no_figure, reading_digit, reading_underscore, digits_read, digits_complete, no_digits_inside, no_digits_at_end, no_keylike_figure}
 use Rattle.toml_span_read.proofs.numbers.digits_end.Goals as goal

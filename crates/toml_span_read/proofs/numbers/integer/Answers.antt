@@ -1,5 +1,5 @@
 use Rattle.toml_span_lex.proofs.Common.{rules, ◌≡◌, None}
-use Rattle.toml_span_read.specs.Numbers.{magnitude}
+use Rattle.toml_span_read.specs.Numerals.{magnitude}
 use Rattle.toml_span_read.specs.Numerals.{integer, signed}
 use Rattle.toml_span_read.proofs.NumberLemmas.{signed_past}
 use Rattle.toml_span_read.proofs.numbers.integer.Goals as goal

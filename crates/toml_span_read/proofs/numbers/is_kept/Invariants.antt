@@ -1,5 +1,5 @@
 use Rattle.toml_span_lex.proofs.Common.{◌≡◌, drop}
-use Rattle.toml_span_read.specs.Numbers.{cleaned}
+use Rattle.toml_span_read.specs.Numerals.{cleaned}
 use Rattle.toml_span_read.proofs.numbers.is_kept.Given as goal
 
 abbrev pub invariant-loop-byte : goal.invariant-loop-byte

@@ -1,5 +1,5 @@
 use Rattle.toml_span_lex.proofs.Common.{rules, ◌≡◌, ◌≤◌, ◌^◌, false, get_or, refl, filter}
-use Rattle.toml_span_read.specs.Numbers.{is_digit_in, sum_of_digits}
+use Rattle.toml_span_read.specs.Numerals.{is_digit_in, sum_of_digits}
 use Rattle.toml_span_read.proofs.NumberLemmas.{sum_goes_on, sum_passes, sum_past}
 use Rattle.toml_span_read.proofs.numbers.magnitude.Goals as goal
 use Rattle.toml_span_read.proofs.numbers.magnitude.Goals.{in-Some+in_ok-value, in_default}
