@@ -5,8 +5,7 @@ use Rattle.toml_span_lex.specs.declared.key.Key.{Key}
 use Rattle.toml_span_tree.specs.Path.{Path, Step, key, position}
 use Rattle.toml_span_tree.specs.Value.{view}
 use Rattle.toml_span_tree.specs.declared.value.Value.{Value}
-use Rattle.toml_span_read.specs.Data.{ParsedValue as Read, parsed_span}
-use Rattle.toml_span_read.specs.Keys.{simple_key}
+use Rattle.toml_span_read.specs.Data.{ParsedValue as Read, parsed_span, simple_key}
 use Rattle.toml_span.specs.declared.claims.Halt.{Halt}
 use Rattle.toml_span.specs.declared.claims.Halt.TheVariants.{Memory, Clash}
 use Rattle.toml_span.specs.declared.claims.Mark.{Mark}

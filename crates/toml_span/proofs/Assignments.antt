@@ -7,8 +7,7 @@ use Rattle.toml_span_tree.specs.Path.{Place, reached, place_of as tree_place}
 use Rattle.toml_span_tree.specs.Value.{inner_view}
 use Rattle.toml_span_tree.specs.declared.value.Value.{Value}
 use Rattle.toml_span_tree.specs.declared.value.ValueInner.TheVariants.{Table}
-use Rattle.toml_span_read.specs.Data.{KeyValue, view, key_value, parsed_span}
-use Rattle.toml_span_read.specs.Keys.{simple_key}
+use Rattle.toml_span_read.specs.Data.{KeyValue, view, key_value, parsed_span, simple_key}
 use Rattle.toml_span_read.specs.declared.value.Assignment.{Assignment}
 use Rattle.toml_span_read.specs.declared.value.Val.{Val}
 use Rattle.toml_span_read.proofs.Views.{key_value_is, view_is}

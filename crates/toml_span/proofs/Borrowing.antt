@@ -4,7 +4,7 @@ use Rattle.toml_span_lex.specs.declared.key.Key.{Key}
 use Rattle.toml_span_lex.specs.declared.span.Span.{Span}
 use Rattle.toml_span_tree.specs.declared.value.Value.{Value}
 use Rattle.toml_span_tree.specs.declared.value.ValueInner.{ValueInner, the_lemmas as tree_lemmas}
-use Rattle.toml_span_read.specs.Keys.{SimpleKey}
+use Rattle.toml_span_read.specs.Data.{SimpleKey, block}
 use Rattle.toml_span_read.proofs.EarlierTree.{key_cmp}
 use Rattle.toml_span_read.proofs.BorrowLemmas.{all_append, all_front, all_behind, written_is, assignment_written_is}
 use Rattle.toml_span.specs.declared.branch.Branch.{Branch}
@@ -23,7 +23,6 @@ use Rattle.toml_span_read.specs.declared.value.ValKind.{ValKind, the_lemmas as r
 use Rattle.toml_span_read.specs.Borrowed.{Written, string as string_written, name as name_written, AreWrittenRight as AreRightRead, joined, key_written, keys_written, written, kind_written, assignment_written, assignments_written, section_written, sections_written}
 use Rattle.toml_span.specs.declared.claims.Halt.{Halt}
 use Rattle.toml_span_read.specs.Read as read
-use Rattle.toml_span_read.specs.Data.{block}
 use Rattle.toml_span.specs.Parsing.{IsBorrowedTree}
 use Rattle.toml_span.proofs.Placed.{with_tables}
 use Rattle.toml_span_tree.specs.declared.value.ValueInner.TheVariants as inners

@@ -2,8 +2,7 @@
 use Rattle.toml_span_lex.proofs.Common.{◌≡◌, ℕ, suc, true, List, [], ◌∷◌, Option, Some, option_map, refl, ⊤, IfSome, false≢true, and_parts, AllByRecursion, arith, nat_tests, common_steps}
 use Rattle.toml_span_tree.specs.Path.{Path, Step, Place}
 use Rattle.toml_span_read.proofs.BorrowLemmas.{all_append}
-use Rattle.toml_span_read.specs.Data.{ParsedValue as Read, parsed, ParsedInner, scalar, array, inline, ParsedItems, no_items, item, ParsedPairs, no_pairs, pair, KeyValue}
-use Rattle.toml_span_read.specs.Keys.{SimpleKey}
+use Rattle.toml_span_read.specs.Data.{ParsedValue as Read, parsed, ParsedInner, scalar, array, inline, ParsedItems, no_items, item, ParsedPairs, no_pairs, pair, KeyValue, SimpleKey}
 use Rattle.toml_span.specs.Claims.{Claim, Claims, no_claims, claimed, scope, followed, dotted, assigned, element, key_claims, value_claims, inner_claims, item_claims, pair_claims, key_value_claims}
 use Rattle.toml_span.specs.Clashes.{or_else}
 use Rattle.toml_span.specs.Flat.{flat, all_claims, claims_at, first_claim_by_header, deciding_claim}

@@ -9,8 +9,7 @@ use Rattle.toml_span_tree.specs.declared.value.ValueInner.TheVariants.{Table as 
 use Rattle.toml_span_lex.specs.Text.{FirstPlace}
 use Rattle.toml_span_lex.specs.declared.stop.Stop.{Stop}
 use Rattle.toml_span_read.specs.Borrowed.{IsWrittenRight as IsRightRead, AreWrittenRight as AreRightRead, section_written, sections_written}
-use Rattle.toml_span_read.specs.Data.{Block, block, key_value, first_block}
-use Rattle.toml_span_read.specs.Keys.{SimpleKey, simple_key}
+use Rattle.toml_span_read.specs.Data.{Block, block, key_value, first_block, SimpleKey, simple_key}
 use Rattle.toml_span_read.specs.code.Faults.{Gives}
 use Rattle.toml_span_read.specs.code.Sections.{first_blocks, first_found, section_found, sections_found}
 use Rattle.toml_span_read.specs.Reading.{HoldsForm}

@@ -3,8 +3,7 @@ use Rattle.toml_span_lex.proofs.Common.{◌≡◌, ◌<◌, ◌-◌, Global, Vec
 use Rattle.std.proofs.Math.ListN.{length-set}
 use Rattle.toml_span_tree.specs.Path.{Path, key}
 use Rattle.toml_span_lex.specs.declared.key.Key.{Key}
-use Rattle.toml_span_read.specs.Data.{ParsedValue as Read, parsed_span}
-use Rattle.toml_span_read.specs.Keys.{SimpleKey, simple_key}
+use Rattle.toml_span_read.specs.Data.{ParsedValue as Read, parsed_span, SimpleKey, simple_key}
 use Rattle.toml_span.specs.declared.claims.Halt.{Halt}
 use Rattle.toml_span.specs.declared.claims.Mark.{Mark}
 use Rattle.toml_span.specs.declared.claims.Sort.{Sort}

@@ -8,9 +8,9 @@ use Rattle.toml_span_read.specs.declared.fault.Fault.{Fault}
 use Rattle.toml_span_tree.specs.declared.error.Error.{Error}
 use Rattle.toml_span_tree.specs.declared.value.Value.{Value}
 use Rattle.toml_span_read.specs.declared.section.Section.{Section}
-use Rattle.toml_span_read.specs.Data.{KeyValue, Block, block, first_block}
+use Rattle.toml_span_read.specs.Data.{KeyValue, Block, block, first_block, SimpleKey}
 use Rattle.toml_span_read.specs.Gaps.{MaximalGap}
-use Rattle.toml_span_read.specs.Keys.{SimpleKey, SpellsKey}
+use Rattle.toml_span_read.specs.Keys.{SpellsKey}
 use Rattle.toml_span_read.specs.Grammar.{OpensHeader, SpellsKeyValues, SpellsSection, SpellsSections}
 use Rattle.toml_span_read.specs.Read as read
 use Rattle.toml_span_read.proofs.ReadSound.{document_sound}

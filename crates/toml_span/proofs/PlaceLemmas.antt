@@ -4,8 +4,7 @@ use Rattle.std.specs.Global.{Box}
 use Rattle.toml_span_lex.proofs.Common.{Ok, ◌≡◌, ℕ, List, [], ◌∷◌, map, length, Option, Some, None, option_map, true, append-nil, ⊤, IfSome, false≢true, arith, nat_tests, common_steps}
 use Rattle.toml_span_tree.specs.Path.{Path}
 use Rattle.toml_span_read.specs.Places.{IsInside, PartsInside, KeysInside, InnerKeysInside, ItemKeysInside, PairKeysInside, KeyValuesInside, SectionsInside}
-use Rattle.toml_span_read.specs.Data.{ParsedValue as Read, parsed, ParsedInner, scalar, array, inline, ParsedItems, no_items, item, ParsedPairs, no_pairs, pair, KeyValue, Block, block}
-use Rattle.toml_span_read.specs.Keys.{SimpleKey}
+use Rattle.toml_span_read.specs.Data.{ParsedValue as Read, parsed, ParsedInner, scalar, array, inline, ParsedItems, no_items, item, ParsedPairs, no_pairs, pair, KeyValue, Block, block, SimpleKey}
 use Rattle.toml_span_read.specs.Read as read
 use Rattle.toml_span_read.proofs.ReadSound.{document_sound}
 use Rattle.toml_span_read.specs.declared.section.Section.{Section}

@@ -8,10 +8,10 @@ use Rattle.toml_span_tree.specs.declared.value.Value.{Value}
 use Rattle.toml_span_read.specs.declared.fault.Fault.{Fault}
 use Rattle.toml_span_tree.specs.Error.{content_of}
 use Rattle.toml_span_tree.specs.Value.{is_whole, view}
-use Rattle.toml_span_read.specs.Data.{KeyValue, Block, first_block}
+use Rattle.toml_span_read.specs.Data.{KeyValue, Block, first_block, SimpleKey}
 use Rattle.toml_span_read.specs.code.Faults.{IsPlacedStop}
 use Rattle.toml_span_read.specs.Faults.{Tells}
-use Rattle.toml_span_read.specs.Keys.{SimpleKey, SpellsKey}
+use Rattle.toml_span_read.specs.Keys.{SpellsKey}
 use Rattle.toml_span_read.specs.Read as read
 use Rattle.toml_span_read.specs.Grammar.{SpellsDocument, SpellsSections}
 use Rattle.toml_span.specs.declared.claims.Clash.{Clash}

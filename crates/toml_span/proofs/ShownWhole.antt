@@ -4,14 +4,13 @@ use Rattle.toml_span_lex.specs.declared.span.Span.{Span}
 use Rattle.toml_span_tree.specs.Node.{Node, node, Inner, taken, scalar, array, table, Items, no_items, item, Members, no_members, member, entry_at, element_at}
 use Rattle.toml_span_tree.specs.Path.{Path, key, position, Place, shape_of, reached, place_of, node_at, Shape, shape_taken, shape_scalar, shape_array, shape_table}
 use Rattle.toml_span_tree.specs.Value.{inner_of, holds_nothing, is_taken, is_whole, all_whole, all_members_whole}
-use Rattle.toml_span_read.specs.Data.{Block, ParsedInner, KeyValue}
+use Rattle.toml_span_read.specs.Data.{Block, ParsedInner, KeyValue, SimpleKey}
 use Rattle.toml_span.specs.Claims.{claims, Claim, value_shape, parsed_inner, key_value_claims, end_claims, header_claims, section_claims, claims_behind}
 use Rattle.toml_span.specs.Flat.{flat, Shows}
 use Rattle.toml_span.specs.Ordered.{HasOneEach, ItemsHaveOneEach, MembersHaveOneEach}
 use Rattle.toml_span.proofs.EachClaim.{flat-decides, Each, each-followed, key_values-each}
 use Rattle.toml_span.proofs.Grafts.{same_step-self}
 use Rattle.toml_span.proofs.Ordered.{same-name}
-use Rattle.toml_span_read.specs.Keys.{SimpleKey}
 use Rattle.toml_span.specs.declared.claims.Head.{Head}
 use Rattle.toml_span.specs.Paths.{enter, with_key}
 

@@ -12,7 +12,7 @@ use Rattle.toml_span_lex.specs.Strings.{BorrowsWhereSame}
 use Rattle.toml_span_tree.specs.declared.value.ValueInner.TheOpen.{ValueInner-F, Value-F}
 use Rattle.toml_span_tree.specs.declared.value.Value.{Value}
 use Rattle.toml_span_tree.specs.declared.value.ValueInner.TheFolds.{fold-Value}
-use Rattle.toml_span_read.specs.Keys.{SimpleKey}
+use Rattle.toml_span_read.specs.Data.{SimpleKey}
 use Rattle.toml_span_read.specs.Borrowed.{Written, string as string_written, name as name_written}
 
 -- ---- what stands in a tree

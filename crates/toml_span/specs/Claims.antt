@@ -2,10 +2,8 @@
 use Rattle.std.specs.Prelude.{ℕ, zero, suc, if◌then◌else◌, List, [], ◌∷◌, Option, Some, None}
 use Rattle.toml_span_lex.specs.declared.span.Span.{Span}
 use Rattle.toml_span_tree.specs.Path.{Path, Place, Shape, shape_array, shape_table, shape_scalar}
-use Rattle.toml_span_read.specs.Keys.{SimpleKey}
-use Rattle.toml_span_read.specs.Data.{ParsedInner, scalar, array, inline, ParsedValue, parsed, parsed_span, ParsedItems}
-use Rattle.toml_span_read.specs.Data.{no_items, item, ParsedPairs}
-use Rattle.toml_span_read.specs.Data.{no_pairs, pair, KeyValue, Block}
+use Rattle.toml_span_read.specs.Data.{SimpleKey, ParsedInner, scalar, array, inline, ParsedValue, parsed, parsed_span}
+use Rattle.toml_span_read.specs.Data.{ParsedItems, no_items, item, ParsedPairs, no_pairs, pair, KeyValue, Block}
 use Rattle.toml_span.specs.declared.claims.Mark.{Mark}
 use Rattle.toml_span.specs.declared.claims.Sort.{Sort}
 use Rattle.toml_span.specs.declared.claims.Sort.TheVariants.{ArrayOfTables, TableElement, Dotted, Assigned}

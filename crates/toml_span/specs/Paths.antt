@@ -3,8 +3,7 @@ use Rattle.std.specs.Prelude.{ℕ, zero, suc, Bool, true, false, ◌&&◌, nat_e
 use Rattle.std.specs.Prelude.{length}
 use Rattle.std.specs.Str.{bytes_eq}
 use Rattle.toml_span_tree.specs.Path.{Step, key, position, Path}
-use Rattle.toml_span_read.specs.Keys.{SimpleKey}
-use Rattle.toml_span_read.specs.Data.{Block}
+use Rattle.toml_span_read.specs.Data.{SimpleKey, Block}
 
 abbrev pub same_step : Step → Step → Bool
 same_step (key name) (key other) = bytes_eq name other

@@ -1,6 +1,6 @@
 //! The tree under construction.
 ghost use Rattle.std.specs.Prelude.{◌≡◌, ℕ, List, [], false, IfOk, IfSome, IsOk};
-ghost use Rattle.toml_span_read.specs.Keys.{SimpleKey};
+ghost use Rattle.toml_span_read.specs.Data.{SimpleKey};
 ghost use Rattle.toml_span.specs.Flat as kept;
 ghost use Rattle.toml_span.specs.code.Marks as code;
 ghost use Rattle.toml_span.specs.Borrowed.{AreBorrowedRight, held, value_standing};

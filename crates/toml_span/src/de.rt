@@ -2,10 +2,8 @@
 ghost use Rattle.std.specs.Prelude.{◌≡◌, ◌≤◌, ℕ, List, true, IfOk, IfErr, IsOk, length};
 ghost use Rattle.toml_span_lex.specs.Text.{FirstPlace};
 ghost use Rattle.toml_span_read.specs.code.Faults.{IsPlacedStop};
-ghost use Rattle.toml_span_read.specs.Keys.{SimpleKey};
-ghost use Rattle.toml_span_read.specs.Data.{Block};
+ghost use Rattle.toml_span_read.specs.Data.{SimpleKey, Block, depth_limit};
 ghost use Rattle.toml_span_read.specs.Reading.{OnlyFormsTakeMemory};
-ghost use Rattle.toml_span_read.specs.Data.{depth_limit};
 ghost use Rattle.toml_span_tree.specs.Value.{is_whole, view};
 ghost use Rattle.toml_span.specs.Borrowed.{AreBorrowedRight, value_standing};
 ghost use Rattle.toml_span.specs.code.Growing.{GrownGives, GrownRight, Grows, IsBare, IsGrownInside};

@@ -7,7 +7,7 @@ ghost use Rattle.toml_span_tree.specs.declared.value.ValueInner.TheVariants as i
 ghost use Rattle.toml_span_read.specs.Borrowed.{assignment_written, assignments_written, joined, key_written};
 ghost use Rattle.toml_span_read.specs.Borrowed.{keys_written, written};
 ghost use Rattle.toml_span_read.specs.Data.{key_value, view, onto, no_items, ParsedValue as Read, parsed_span};
-ghost use Rattle.toml_span_read.specs.Keys.{SimpleKey, simple_key as part_of};
+ghost use Rattle.toml_span_read.specs.Data.{SimpleKey, simple_key as part_of};
 ghost use Rattle.toml_span.specs.code.Borrowed.{AreFrom, IsFrom, Keeps, ValueRight, array_standing};
 ghost use Rattle.toml_span.specs.code.Borrowed.{standing, table_standing};
 ghost use Rattle.toml_span.specs.Borrowed.{AreBorrowedRight};

@@ -1,8 +1,7 @@
 //! Sections placed one by one into a tree.
 ghost use Rattle.std.specs.Prelude.{◌≡◌, ℕ, List, map, [], ◌∷◌, ◌++◌, IfOk, IfErr, IfSome, IsOk, IsOkAnd, None, OnOk};
 ghost use Rattle.toml_span_read.specs.Borrowed.{assignments_written, key_written, keys_written, section_written};
-ghost use Rattle.toml_span_read.specs.Data.{key_value, Block, block};
-ghost use Rattle.toml_span_read.specs.Keys.{SimpleKey, simple_key as part_of};
+ghost use Rattle.toml_span_read.specs.Data.{key_value, Block, block, SimpleKey, simple_key as part_of};
 ghost use Rattle.toml_span_read.specs.code.Sections.{first_blocks};
 ghost use Rattle.toml_span.specs.declared.claims.Sort.TheVariants.{Passed};
 ghost use Rattle.toml_span.specs.code.Borrowed.{AreFrom, IsFrom, Keeps, ValueRight};

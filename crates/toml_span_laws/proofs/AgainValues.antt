@@ -12,8 +12,8 @@ use Rattle.toml_span_places.proofs.DatesAgain.{date_carried}
 use Rattle.toml_span_laws.specs.Again.{moved_span, moved_parts, moved, moved_inner, moved_items, moved_pairs}
 use Rattle.toml_span_laws.proofs.AgainStrings.{runs, worded, gap, sign, closes, dot, no_dot, string, string_on, spans, equal_moved}
 use Rattle.toml_span_read.specs.Gaps.{Separator, MaximalGap}
-use Rattle.toml_span_read.specs.Keys.{SimpleKey, SpellsSimpleKey, Onward, SpellsKey}
-use Rattle.toml_span_read.specs.Data.{ParsedValue, parsed, ParsedInner, scalar, array, inline, ParsedItems, no_items, item, ParsedPairs, no_pairs, pair, KeyValue, from_to}
+use Rattle.toml_span_read.specs.Keys.{SpellsSimpleKey, Onward, SpellsKey}
+use Rattle.toml_span_read.specs.Data.{SimpleKey, ParsedValue, parsed, ParsedInner, scalar, array, inline, ParsedItems, no_items, item, ParsedPairs, no_pairs, pair, KeyValue, from_to}
 use Rattle.toml_span_read.specs.Earlier.{part_names, NoneAt, NoneThrough, Clear}
 
 -- ---- numbers, truth values and dates

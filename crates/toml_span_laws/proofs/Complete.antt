@@ -7,12 +7,12 @@ use Rattle.toml_span_lex.specs.declared.span.Span.{Span}
 use Rattle.toml_span_lex.proofs.Unique.{or_true}
 use Rattle.toml_span_tree.specs.Node.{Scalar, text as text_scalar, integer, float, boolean, datetime, finite, infinite, not_a_number}
 use Rattle.toml_span_read.specs.declared.fault.Due.{Due}
-use Rattle.toml_span_read.specs.Data.{ParsedValue, parsed, scalar, array, inline, ParsedItems, no_items, item, onto, ParsedPairs, no_pairs, pair, pairs_onto, KeyValue, Block, from_to, first_block}
+use Rattle.toml_span_read.specs.Data.{ParsedValue, parsed, scalar, array, inline, ParsedItems, no_items, item, onto, ParsedPairs, no_pairs, pair, pairs_onto, KeyValue, Block, from_to, first_block, SimpleKey}
 use Rattle.toml_span_read.specs.Dates.{begins_date}
 use Rattle.toml_span_read.specs.Faults.{begins_bare, begins_number}
 use Rattle.toml_span_read.specs.Gaps.{MaximalGap, Closes, Separator}
 use Rattle.toml_span_read.specs.Grammar.{truth_text, SpellsScalar, Spells, SpellsItems, SpellsPairs, SpellsPair, SpellsKeyValue, SpellsKeyValues, SpellsLines, ClosesHeader, SpellsHeader, SpellsSection, SpellsSections, SpellsDocument}
-use Rattle.toml_span_read.specs.Keys.{SimpleKey, opens_string, SpellsKey, SpellsSimpleKey, Onward}
+use Rattle.toml_span_read.specs.Keys.{opens_string, SpellsKey, SpellsSimpleKey, Onward}
 use Rattle.toml_span_read.specs.Numbers.{IsNumber, SpecialFloat, UnsignedDecimal}
 use Rattle.toml_span_read.specs.Numerals.{behind_sign}
 use Rattle.toml_span_read.specs.Numerals.{special}

@@ -1,7 +1,7 @@
 -- What is spelled is within the limit, and so are the keys and the steps of the paths of a document.
 use Rattle.toml_span_lex.proofs.Common.{◌≡◌, ℕ, ◌+◌, List, [], ◌∷◌, ◌++◌, length, map, sym, ◌∙◌, subst, arith, nat_tests, common_steps, suc, ◌*◌, ◌≤◌, false, length-append, Some, None, option_map, refl, ap}
 use Rattle.toml_span_lex.specs.declared.span.Span.{Span}
-use Rattle.toml_span_read.specs.Data.{ParsedValue, parsed, ParsedInner, scalar, array, inline, ParsedItems, no_items, item, ParsedPairs, no_pairs, pair, KeyValue, block, Block, first_block}
+use Rattle.toml_span_read.specs.Data.{ParsedValue, parsed, ParsedInner, scalar, array, inline, ParsedItems, no_items, item, ParsedPairs, no_pairs, pair, KeyValue, block, Block, first_block, SimpleKey}
 use Rattle.toml_span_read.specs.declared.section.Section.{Section}
 use Rattle.toml_span_read.specs.Limits.{Within, WithinInner, WithinItems, WithinPairs, WithinKeyValues, WithinSection, WithinSections}
 use Rattle.toml_span_read.specs.Grammar.{Spells, SpellsInner, SpellsItems, SpellsPairs, SpellsKeyValues, SpellsLines, SpellsSection, SpellsDocument}
@@ -11,7 +11,6 @@ use Rattle.toml_span_tree.specs.Node as tree
 use Rattle.toml_span_tree.specs.Path.{Path, key, position, Place, reached, place_of, node_at}
 use Rattle.toml_span_tree.specs.Value.{view}
 use Rattle.toml_span_tree.specs.declared.value.Value.{Value}
-use Rattle.toml_span_read.specs.Keys.{SimpleKey}
 use Rattle.toml_span_laws.proofs.FirstClash.{mapped}
 use Rattle.toml_span.specs.declared.claims.Head.{Head}
 use Rattle.toml_span.specs.Paths.{elements_added, opened_by, section_path, enter, target, with_key, with_position}

@@ -4,8 +4,7 @@ use Rattle.std.proofs.lemmas.List.{append-nil}
 use Rattle.toml_span_lex.specs.declared.span.Span.{Span}
 use Rattle.toml_span_read.specs.declared.fault.Fault.{Fault}
 use Rattle.toml_span_read.specs.declared.fault.FaultKind.TheVariants as kinds
-use Rattle.toml_span_read.specs.Data.{KeyValue, parsed_span}
-use Rattle.toml_span_read.specs.Keys.{SimpleKey}
+use Rattle.toml_span_read.specs.Data.{KeyValue, parsed_span, SimpleKey}
 use Rattle.toml_span_read.specs.Earlier.{part_names, NoneAt, EarliestAt, NoneThrough, Clear, Crossing}
 use Rattle.toml_span_read.proofs.EarlierLemmas.{snoc_same, clear_of, through_none}
 use Rattle.toml_span_read.proofs.EarlierKnows.{same_path, behind_part}

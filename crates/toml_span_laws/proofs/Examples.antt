@@ -4,8 +4,7 @@ use Rattle.toml_span_lex.specs.declared.span.Span.{Span}
 use Rattle.toml_span_tree.specs.Node as tree
 use Rattle.toml_span_tree.specs.Node.{integer}
 use Rattle.toml_span_tree.specs.Path.{Path, key, position, Shape, shape_scalar, shape_table, Place, place_at}
-use Rattle.toml_span_read.specs.Data.{ParsedValue, parsed, scalar, KeyValue, Block, last_end}
-use Rattle.toml_span_read.specs.Keys.{SimpleKey}
+use Rattle.toml_span_read.specs.Data.{ParsedValue, parsed, scalar, KeyValue, Block, last_end, SimpleKey}
 use Rattle.toml_span.specs.declared.claims.Sort.{Sort}
 use Rattle.toml_span.specs.declared.claims.Sort.TheVariants.{Passed, StandardTable, Dotted, Assigned}
 use Rattle.toml_span.specs.Paths.{same_path, enter, target, opened_by}

@@ -12,14 +12,13 @@ use Rattle.toml_span_read.specs.declared.fault.Fault.{Fault}
 use Rattle.toml_span_read.specs.Read.{Reading, after, Standing, token, text_end, no_token, StandsAt, choice, Turn, on, done, Loop, ends, stops, goes_on, key_of, Parts, onward, ValueEnd, Items, Pairs, Blocks}
 use Rattle.toml_span_lex.specs.Bytes.{is_blank, is_printed, MaximalRun}
 use Rattle.toml_span_read.specs.Gaps.{GapPiece, begins_gap, GapBy, MaximalGap, Dot, NoDot, Skipped, Tail, NoTail}
-use Rattle.toml_span_read.specs.Keys.{SimpleKey}
+use Rattle.toml_span_read.specs.Data.{SimpleKey, KeyValue}
 use Rattle.toml_span_read.specs.Read as read
 use Rattle.toml_span_read.proofs.NumberLemmas.{same_byte}
 use Rattle.toml_span_lex.specs.Text.{LineEnd, NoLineEnd, CharAt}
 use Rattle.toml_span_lex.specs.Text.{FirstPlace}
 use Rattle.toml_span_lex.proofs.Unique.{run_unique, line_unique}
 use Rattle.toml_span_read.specs.declared.fault.Due.{Due}
-use Rattle.toml_span_read.specs.Data.{KeyValue}
 use Rattle.toml_span_read.specs.Dates.{is_date_byte, continues_date}
 use Rattle.toml_span_laws.proofs.EarlierLaws.{clear_crossing, crossing_one}
 

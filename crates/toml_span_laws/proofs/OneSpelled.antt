@@ -7,9 +7,9 @@ use Rattle.toml_span_tree.specs.Node.{Scalar}
 use Rattle.toml_span_tree.specs.declared.error.Error.{Error}
 use Rattle.toml_span_read.specs.declared.fault.Fault.{Fault}
 use Rattle.toml_span_read.specs.declared.section.Section.{Section}
-use Rattle.toml_span_read.specs.Data.{ParsedValue, Block, block}
+use Rattle.toml_span_read.specs.Data.{ParsedValue, Block, block, SimpleKey}
 use Rattle.toml_span_read.specs.Grammar.{Spells, SpellsHeader, SpellsDocument}
-use Rattle.toml_span_read.specs.Keys.{SimpleKey, SpellsKey}
+use Rattle.toml_span_read.specs.Keys.{SpellsKey}
 use Rattle.toml_span_read.specs.Numbers.{IsNumber}
 use Rattle.toml_span_read.specs.Numerals.{number}
 use Rattle.toml_span_read.specs.Read as read

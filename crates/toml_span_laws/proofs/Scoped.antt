@@ -1,8 +1,7 @@
 -- How the claims of a document stand in scopes: each has a parent in its scope, and each scope inside stands below an assigned claim.
 use Rattle.toml_span_lex.proofs.Common.{◌≡◌, ℕ, zero, suc, ◌<◌, ◌⊎◌, Bool, true, false, List, [], ◌∷◌, ◌++◌, Option, Some, None, arith, refl, sym, ap, ◌∙◌, subst, append_assoc, append-nil, inl, inr, ⊤, if◌then◌else◌, cases_Bool, cases_lt, nat_tests, common_steps}
 use Rattle.toml_span_tree.specs.Path.{Path, Step, key, position}
-use Rattle.toml_span_read.specs.Data.{ParsedValue, parsed, scalar, array, inline, ParsedItems, no_items, item, ParsedPairs, no_pairs, pair, KeyValue, Block}
-use Rattle.toml_span_read.specs.Keys.{SimpleKey}
+use Rattle.toml_span_read.specs.Data.{ParsedValue, parsed, scalar, array, inline, ParsedItems, no_items, item, ParsedPairs, no_pairs, pair, KeyValue, Block, SimpleKey}
 use Rattle.toml_span.specs.declared.claims.Sort.{Sort}
 use Rattle.toml_span.specs.declared.claims.Sort.TheVariants.{Passed, StandardTable, ArrayOfTables, TableElement, Assigned}
 use Rattle.toml_span.specs.declared.claims.Head.{Head}

@@ -15,11 +15,10 @@ use Rattle.toml_span_lex.proofs.Unique.{run_unique}
 use Rattle.toml_span_read.specs.declared.fault.Due.{Due}
 use Rattle.toml_span_read.specs.declared.fault.Due.TheVariants as dues
 use Rattle.toml_span_read.specs.declared.numbers.Numeral.{Numeral}
-use Rattle.toml_span_read.specs.Data.{ParsedInner, KeyValue}
+use Rattle.toml_span_read.specs.Data.{ParsedInner, KeyValue, SimpleKey}
 use Rattle.toml_span_read.specs.Dates.{begins_date}
 use Rattle.toml_span_read.specs.Faults.{begins_bare, begins_number}
 use Rattle.toml_span_read.specs.Gaps.{MaximalGap}
-use Rattle.toml_span_read.specs.Keys.{SimpleKey}
 use Rattle.toml_span_read.specs.Numerals.{number, numeral, run_end, special}
 use Rattle.toml_span_read.specs.code.Gaps.{DotGives, TailGives}
 use Rattle.toml_span_read.specs.Read as read

@@ -1,7 +1,8 @@
 -- What is assigned in a document is spelled, and the claims behind each are those of its value.
 use Rattle.toml_span_lex.proofs.Common.{◌≡◌, ℕ, zero, suc, true, List, [], ◌∷◌, refl, inl, inr, ⊤, cases_Bool, ◌+◌, ◌≤◌, ◌⊎◌, ◌++◌, length, arith, sym, ap, ◌∙◌, nat_tests, common_steps}
 use Rattle.toml_span_tree.specs.Path.{Path, shape_scalar}
-use Rattle.toml_span_read.specs.Keys.{SimpleKey, SpellsKey}
+use Rattle.toml_span_read.specs.Keys.{SpellsKey}
+use Rattle.toml_span_read.specs.Data.{SimpleKey, ParsedValue, parsed, scalar, array, inline, ParsedItems, no_items, item, ParsedPairs, no_pairs, pair, KeyValue, parsed_span, Block}
 use Rattle.toml_span.specs.declared.claims.Sort.{Sort}
 use Rattle.toml_span.specs.declared.claims.Sort.TheVariants.{Passed, StandardTable, ArrayOfTables, TableElement, Assigned}
 use Rattle.toml_span.specs.declared.claims.Head.{Head}
@@ -9,7 +10,6 @@ use Rattle.toml_span.specs.Claims.{Claim, Claims, no_claims, claimed, scope, hea
 use Rattle.toml_span.specs.Flat.{by_header}
 use Rattle.toml_span.specs.Paths.{with_key, with_position, enter, elements_added, opened_by, section_path}
 use Rattle.toml_span_tree.specs.Node.{Scalar}
-use Rattle.toml_span_read.specs.Data.{ParsedValue, parsed, scalar, array, inline, ParsedItems, no_items, item, ParsedPairs, no_pairs, pair, KeyValue, parsed_span, Block}
 use Rattle.toml_span_read.specs.Grammar.{Spells, SpellsItems, SpellsPairs, SpellsDocument, SpellsKeyValues}
 use Rattle.toml_span.proofs.Grafts.{followed-assoc}
 use Rattle.toml_span.proofs.EachClaim.{Each}

@@ -1,10 +1,10 @@
 -- The way of each key from the table of its section: a clear one goes through no value of its section, and a dotted key that goes through a value is never what is told first.
 use Rattle.toml_span_lex.proofs.Common.{◌≡◌, ℕ, suc, ◌+◌, List, [], ◌∷◌, ◌++◌, length, map, refl, sym, ap, ◌∙◌, subst, append_assoc, append-nil, inl, inr, ⊤, append_cancel_left, arith, nat_tests, common_steps, ◌<◌, ◌≤◌, ◌⊎◌, Bool, true, false, if◌then◌else◌}
 use Rattle.toml_span_tree.specs.Path.{Path, key}
-use Rattle.toml_span_read.specs.Data.{ParsedValue, parsed, scalar, array, inline, ParsedItems, no_items, item, ParsedPairs, no_pairs, pair, KeyValue, Block, first_block}
+use Rattle.toml_span_read.specs.Data.{ParsedValue, parsed, scalar, array, inline, ParsedItems, no_items, item, ParsedPairs, no_pairs, pair, KeyValue, Block, first_block, SimpleKey}
 use Rattle.toml_span_read.specs.Earlier.{Clear, NoneAt, part_names}
 use Rattle.toml_span_read.specs.Grammar.{Spells, SpellsItems, SpellsPairs, SpellsKeyValues, SpellsDocument, SpellsLines, SpellsSections}
-use Rattle.toml_span_read.specs.Keys.{SimpleKey, SpellsKey}
+use Rattle.toml_span_read.specs.Keys.{SpellsKey}
 use Rattle.toml_span.specs.declared.claims.Sort.TheVariants.{Dotted, Assigned, StandardTable}
 use Rattle.toml_span.specs.Claims.{Claim, Claims, no_claims, claimed, scope, followed, key_claims, value_claims, inner_claims, item_claims, pair_claims, key_value_claims, element, assigned, dotted, header_claim, end_claims, header_claims, section_claims, claims_behind, claims, head_of}
 use Rattle.toml_span.specs.Paths.{with_key, with_position, enter, target, elements_added, opened_by, section_path}

@@ -2,7 +2,7 @@
 use Rattle.toml_span_lex.proofs.Common.{◌≡◌, ℕ, List, [], ◌∷◌, ◌++◌, Option, Some, None, refl, sym, ap, ◌∙◌, subst, append-nil, inl, inr, cases_Bool, arith, nat_tests, common_steps, suc, option_map, append_assoc, append_cancel_left, length, codes}
 use Rattle.toml_span_tree.specs.Node.{Scalar}
 use Rattle.toml_span_tree.specs.Path.{Path, shape_scalar, Step, key, position, Place, place_at}
-use Rattle.toml_span_read.specs.Data.{ParsedValue, parsed, scalar, array, inline, parsed_span, Block, ParsedItems, no_items, item, ParsedPairs, no_pairs, pair, first_block}
+use Rattle.toml_span_read.specs.Data.{ParsedValue, parsed, scalar, array, inline, parsed_span, Block, ParsedItems, no_items, item, ParsedPairs, no_pairs, pair, first_block, SimpleKey}
 use Rattle.toml_span_read.specs.Grammar.{SpellsDocument}
 use Rattle.toml_span.specs.declared.claims.Sort.TheVariants.{Assigned}
 use Rattle.toml_span.specs.Claims.{Claim, Claims, no_claims, claimed, scope, followed, value_claims, inner_claims, item_claims, pair_claims, value_shape, parsed_inner, claims, key_claims, element, assigned, dotted, key_value_claims, header_claims, section_claims, claims_behind}
@@ -20,7 +20,6 @@ use Rattle.toml_span_laws.proofs.ReadAgain.{document-again}
 use Rattle.toml_span_laws.proofs.OneScope.{at-append, path-self, Scene, claim-before, document-scene, outside, scene-after, scene-claimed, scene-inside, scope-before, scoped-under, do-clash}
 use Rattle.toml_span_laws.proofs.Order.{all_claims-followed}
 use Rattle.toml_span_laws.proofs.Scoped.{IsUnder, under-from, longer}
-use Rattle.toml_span_read.specs.Keys.{SimpleKey}
 use Rattle.toml_span_laws.specs.Again.{moved, moved_items, moved_pairs, moved_parts, moved_span, ReadsAgain, key_value_again}
 use Rattle.toml_span.proofs.Grafts.{same_step-self}
 use Rattle.toml_span_laws.specs.Moved.{moved_place, StandsMoved, AssignsBrackets, text_again, at_x}

@@ -2,11 +2,9 @@
 use Rattle.std.specs.Prelude.{◌≡◌, ℕ, ◌+◌, ◌-◌, List, [], ◌∷◌, ◌++◌, map, slice_range, codes}
 use Rattle.toml_span_lex.specs.declared.span.Span.{Span}
 use Rattle.toml_span_tree.specs.Node.{Scalar, text, integer, float, boolean, datetime, Node}
-use Rattle.toml_span_read.specs.Keys.{SimpleKey}
-use Rattle.toml_span_read.specs.Data.{ParsedValue, parsed, ParsedInner, scalar, array, inline, ParsedItems, no_items}
-use Rattle.toml_span_read.specs.Data.{first_block}
-use Rattle.toml_span_read.specs.Data.{item, ParsedPairs, no_pairs}
-use Rattle.toml_span_read.specs.Data.{pair, KeyValue, parsed_span, Block}
+use Rattle.toml_span_read.specs.Data.{SimpleKey, ParsedValue, parsed, ParsedInner, scalar, array, inline, ParsedItems}
+use Rattle.toml_span_read.specs.Data.{no_items, first_block, item, ParsedPairs, no_pairs, pair, KeyValue, parsed_span}
+use Rattle.toml_span_read.specs.Data.{Block}
 use Rattle.toml_span_read.specs.Earlier.{part_names}
 use Rattle.toml_span_read.specs.Grammar.{SpellsDocument}
 use Rattle.toml_span_places.specs.Again.{HasValue}

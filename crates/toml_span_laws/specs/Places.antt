@@ -3,10 +3,8 @@ use Rattle.std.specs.Prelude.{◌≡◌, ℕ, ◌≤◌, Bool, List, [], ◌∷�
 use Rattle.toml_span_lex.specs.declared.span.Span.{Span}
 use Rattle.toml_span_lex.specs.Strings.{ContentFrom, IsContent, content_end}
 use Rattle.toml_span_read.specs.Data.{KeyValue, Block, ParsedValue, parsed, ParsedInner, scalar, array, inline}
-use Rattle.toml_span_read.specs.Data.{ParsedItems, no_items, item}
-use Rattle.toml_span_read.specs.Data.{ParsedPairs, no_pairs, pair}
+use Rattle.toml_span_read.specs.Data.{ParsedItems, no_items, item, ParsedPairs, no_pairs, pair, SimpleKey}
 use Rattle.toml_span_read.specs.Places.{Ascend, Inside}
-use Rattle.toml_span_read.specs.Keys.{SimpleKey}
 
 -- ---- one behind the other
 

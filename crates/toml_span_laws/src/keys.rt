@@ -1,7 +1,8 @@
 //! Laws of keys.
 ghost use Rattle.std.specs.Prelude.{◌≡◌, ◌≤◌, ◌↔◌, ℕ, Bool, List, [], length, Result, Ok};
 ghost use Rattle.toml_span_read.specs.declared.fault.Fault.{Fault};
-ghost use Rattle.toml_span_read.specs.Keys.{SimpleKey, SpellsSimpleKey, SpellsKey};
+ghost use Rattle.toml_span_read.specs.Keys.{SpellsSimpleKey, SpellsKey};
+ghost use Rattle.toml_span_read.specs.Data.{SimpleKey};
 ghost use Rattle.toml_span_read.specs.Read as read;
 
 /// A key is read, as it is, exactly where one of at most so many parts stands.

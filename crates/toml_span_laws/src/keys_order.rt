@@ -1,6 +1,7 @@
 //! Laws of the places of keys.
 ghost use Rattle.std.specs.Prelude.{ℕ, ◌≤◌, List, length};
-ghost use Rattle.toml_span_read.specs.Keys.{SimpleKey, SpellsKey};
+ghost use Rattle.toml_span_read.specs.Keys.{SpellsKey};
+ghost use Rattle.toml_span_read.specs.Data.{SimpleKey};
 ghost use Rattle.toml_span_read.specs.Places.{Ascend};
 
 /// The parts of a dotted key stand one behind the other, within it, and it within the text.

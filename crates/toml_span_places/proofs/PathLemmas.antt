@@ -3,7 +3,7 @@ use Rattle.toml_span_lex.proofs.Common.{◌≡◌, ℕ, ◌-◌, ◌<◌, true, 
 use Rattle.toml_span_lex.specs.declared.key.Key.{Key}
 use Rattle.toml_span_tree.specs.declared.nodes.Step.{Step as Lent}
 use Rattle.toml_span_tree.specs.Path.{Path, position}
-use Rattle.toml_span_read.specs.Keys.{simple_key}
+use Rattle.toml_span_read.specs.Data.{simple_key}
 use Rattle.toml_span.specs.Paths.{enter, target, with_key}
 use Rattle.toml_span_places.specs.Keys.{steps_of, Standing, header_keys, key_at, parts_keys}
 use Rattle.toml_span_places.specs.declared.keys.Role.TheVariants as roles

@@ -5,11 +5,11 @@ use Rattle.toml_span_lex.specs.declared.span.Span.{Span}
 use Rattle.toml_span_tree.specs.Float.{float_text}
 use Rattle.toml_span_tree.specs.Node.{Scalar, text as text_scalar, integer, float, boolean, datetime, FloatValue, finite, infinite, not_a_number, Node, node, Inner, taken, Items, no_items, item, Members, no_members, member, scalar as scalar_node, array as array_node, table as table_node}
 use Rattle.toml_span_tree.specs.Value.{is_whole, holds_whole, all_whole, all_members_whole}
-use Rattle.toml_span_read.specs.Data.{ParsedValue, parsed, ParsedInner, scalar, array, inline, ParsedItems, no_items as none_read, item as item_read, ParsedPairs, no_pairs, pair, KeyValue, from_to}
+use Rattle.toml_span_read.specs.Data.{ParsedValue, parsed, ParsedInner, scalar, array, inline, ParsedItems, no_items as none_read, item as item_read, ParsedPairs, no_pairs, pair, KeyValue, from_to, SimpleKey}
 use Rattle.toml_span_read.specs.Dates.{begins_date, is_date_byte}
 use Rattle.toml_span_read.specs.Gaps.{begins_gap, MaximalGap, Separator, Closes}
 use Rattle.toml_span_read.specs.Grammar.{truth_text, SpellsScalar, Spells, SpellsInner, SpellsItems, SpellsPairs}
-use Rattle.toml_span_read.specs.Keys.{SimpleKey, SpellsSimpleKey, SpellsKey}
+use Rattle.toml_span_read.specs.Keys.{SpellsSimpleKey, SpellsKey}
 use Rattle.toml_span_read.specs.Numbers.{SpecialFloat, FloatLiteral}
 use Rattle.toml_span_read.specs.Numerals.{is_digit_in, behind_sign, is_negative, radix_at, cleaned}
 use Rattle.toml_span_read.proofs.NumberLemmas.{digit_keylike, slice_first, stands_alone}

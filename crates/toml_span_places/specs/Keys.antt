@@ -7,9 +7,8 @@ use Rattle.toml_span_lex.specs.declared.span.Span.{Span}
 use Rattle.toml_span_tree.specs.Nodes.{step_of}
 use Rattle.toml_span_tree.specs.Path.{Path}
 use Rattle.toml_span_tree.specs.declared.nodes.Step.{Step as Lent}
-use Rattle.toml_span_read.specs.Keys.{SimpleKey}
-use Rattle.toml_span_read.specs.Data.{ParsedValue, parsed, ParsedInner, scalar, array, inline, ParsedItems, no_items}
-use Rattle.toml_span_read.specs.Data.{item, ParsedPairs, no_pairs, pair, pairs_onto, Block}
+use Rattle.toml_span_read.specs.Data.{SimpleKey, ParsedValue, parsed, ParsedInner, scalar, array, inline, ParsedItems}
+use Rattle.toml_span_read.specs.Data.{no_items, item, ParsedPairs, no_pairs, pair, pairs_onto, Block}
 use Rattle.toml_span.specs.Paths.{elements_added, enter, section_path, target, with_key, with_position}
 use Rattle.toml_span_places.specs.declared.keys.KeyPlace.{KeyPlace}
 use Rattle.toml_span_places.specs.declared.keys.Role.{Role}

@@ -1,7 +1,6 @@
 //! Keys where they stand.
 ghost use Rattle.std.specs.Prelude.{◌≡◌, ◌++◌, ◌∷◌, [], IfOk, OnOk, map};
-ghost use Rattle.toml_span_read.specs.Data.{block};
-ghost use Rattle.toml_span_read.specs.Keys.{simple_key};
+ghost use Rattle.toml_span_read.specs.Data.{block, simple_key};
 ghost use Rattle.toml_span_tree.specs.Nodes.{step_of};
 ghost use Rattle.toml_span.specs.Paths.{target};
 ghost use Rattle.toml_span.specs.Paths as paths;

@@ -1,7 +1,7 @@
 //! Paths.
 ghost use Rattle.std.specs.Prelude.{◌≡◌, ◌++◌, ◌∷◌, [], IfOk, map};
 ghost use Rattle.toml_span_tree.specs.Nodes.{step_of};
-ghost use Rattle.toml_span_read.specs.Keys.{simple_key};
+ghost use Rattle.toml_span_read.specs.Data.{simple_key};
 ghost use Rattle.toml_span.specs.Paths as spec;
 ghost use Rattle.toml_span_places.specs.Keys.{steps_of};
 ghost use Rattle.toml_span_places.specs.code.Opened.{counts_of};

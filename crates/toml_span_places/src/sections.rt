@@ -1,7 +1,6 @@
 //! Sections, each with the path of the table in which it assigns.
 ghost use Rattle.std.specs.Prelude.{◌≡◌, ◌++◌, ◌∷◌, [], IfOk, OnOk, map};
-ghost use Rattle.toml_span_read.specs.Data.{block};
-ghost use Rattle.toml_span_read.specs.Keys.{simple_key};
+ghost use Rattle.toml_span_read.specs.Data.{block, simple_key};
 ghost use Rattle.toml_span.specs.Paths.{target};
 ghost use Rattle.toml_span.specs.Paths as paths;
 ghost use Rattle.toml_span_places.specs.Keys.{steps_of};

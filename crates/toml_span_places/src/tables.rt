@@ -1,7 +1,6 @@
 //! The tables of a text, wherever it names them.
 ghost use Rattle.std.specs.Prelude.{◌≡◌, ◌++◌, ◌∷◌, [], IfOk, OnOk, map};
-ghost use Rattle.toml_span_read.specs.Data.{block, view, key_value, onto, no_items, pairs_onto, no_pairs};
-ghost use Rattle.toml_span_read.specs.Keys.{simple_key};
+ghost use Rattle.toml_span_read.specs.Data.{block, view, key_value, onto, no_items, pairs_onto, no_pairs, simple_key};
 ghost use Rattle.toml_span_tree.specs.Nodes.{step_of};
 ghost use Rattle.toml_span_places.specs.Keys.{steps_of, below};
 ghost use Rattle.toml_span_places.specs.code.Opened.{counts_of, counts_behind};

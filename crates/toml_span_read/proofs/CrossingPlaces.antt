@@ -4,10 +4,9 @@ use Rattle.toml_span_lex.specs.declared.stop.Stop.{Stop}
 use Rattle.toml_span_lex.specs.Bytes.{is_blank, MaximalRun}
 use Rattle.toml_span_read.specs.declared.fault.Fault.{Fault}
 use Rattle.toml_span_read.specs.declared.value.Assignment.{Assignment}
-use Rattle.toml_span_read.specs.Data.{ParsedValue, parsed, KeyValue, key_value, parsed_span}
+use Rattle.toml_span_read.specs.Data.{ParsedValue, parsed, KeyValue, key_value, parsed_span, SimpleKey}
 use Rattle.toml_span_read.specs.Gaps.{MaximalGap}
 use Rattle.toml_span_read.specs.Grammar.{Spells}
-use Rattle.toml_span_read.specs.Keys.{SimpleKey}
 use Rattle.toml_span_read.specs.Places.{Ascend}
 use Rattle.toml_span_read.specs.Read as read
 use Rattle.toml_span_read.specs.Read.{Reading, ValueEnd}

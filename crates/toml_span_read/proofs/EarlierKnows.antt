@@ -3,10 +3,9 @@ use Rattle.toml_span_lex.proofs.Common.{common_steps, nat_tests, ◌≡◌, ℕ,
 use Rattle.toml_span_lex.specs.declared.span.Span.{Span}
 use Rattle.toml_span_read.specs.declared.earlier.Earlier.{Earlier}
 use Rattle.toml_span_read.specs.declared.fault.FaultKind.TheVariants as kinds
-use Rattle.toml_span_read.specs.Data.{KeyValue, key_value, parsed_span}
+use Rattle.toml_span_read.specs.Data.{KeyValue, key_value, parsed_span, SimpleKey, simple_key}
 use Rattle.toml_span_lex.specs.declared.key.Key.{Key}
 use Rattle.toml_span_read.specs.declared.value.Assignment.{Assignment}
-use Rattle.toml_span_read.specs.Keys.{SimpleKey, simple_key}
 use Rattle.toml_span_read.specs.Earlier.{part_names, NoneAt, EarliestAt, NoneThrough, Clear, Crossing}
 use Rattle.toml_span_read.specs.code.Earlier.{Holds, holds, Puts, HoldsNone, FindsOutermost, TellsEarliest, EachLonger, Knows}
 use Rattle.toml_span_read.proofs.EarlierLemmas.{clear_of}

@@ -1,7 +1,6 @@
 -- Paths of earlier values.
 use Rattle.toml_span_lex.proofs.Common.{arith, common_steps, nat_tests, ◌≡◌, ℕ, List, [], ◌∷◌, ◌++◌}
-use Rattle.toml_span_read.specs.Keys.{SimpleKey}
-use Rattle.toml_span_read.specs.Data.{KeyValue}
+use Rattle.toml_span_read.specs.Data.{SimpleKey, KeyValue}
 use Rattle.toml_span_read.specs.Earlier.{part_names, NoneThrough, Clear}
 
 -- whichever of the parts is taken, the path that ends with it has the property

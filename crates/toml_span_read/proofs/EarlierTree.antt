@@ -1,6 +1,6 @@
 -- The tree of the earlier values, level by level.
 use Rattle.toml_span_lex.proofs.Common.{common_steps, nat_tests, ◌≡◌, ℕ, ◌-◌, ◌≤◌, ◌++◌, length, take, drop, get_or, arith, Bool, true, false, cond, List, [], ◌∷◌, map, Option, Some, None, option_map, is_some, BTreeMap, Ordering, is_eq, nat_cmp, refl, sym, ap, ◌∙◌, rules, unwrap_or, cow_str_bytes, slice_cmp, set_value, insert_entry, cases_Bool, false≢true, nat_list_cmp_total, none-some}
-use Rattle.toml_span_read.specs.Keys.{SimpleKey, simple_key}
+use Rattle.toml_span_read.specs.Data.{SimpleKey, simple_key}
 use Rattle.toml_span_read.proofs.EarlierLemmas.{through_none, through_more}
 use Rattle.std.proofs.lemmas.Map.Made.{lookup-map_values}
 use Rattle.std.specs.Cmp.{tied_itself}

@@ -1,10 +1,10 @@
 -- Keys and headers of a spelled document stand inside the text.
 use Rattle.toml_span_lex.proofs.Common.{common_steps, nat_tests, ◌≡◌, ℕ, ◌+◌, ◌<◌, ◌≤◌, Bool, List, [], ◌∷◌, ◌++◌, length, map, arith, inl, inr}
 use Rattle.toml_span_read.specs.declared.section.Section.{Section}
-use Rattle.toml_span_read.specs.Data.{ParsedValue, parsed, scalar, array, inline, ParsedItems, no_items, item, ParsedPairs, no_pairs, pair, KeyValue, Block, block, first_block}
+use Rattle.toml_span_read.specs.Data.{ParsedValue, parsed, scalar, array, inline, ParsedItems, no_items, item, ParsedPairs, no_pairs, pair, KeyValue, Block, block, first_block, SimpleKey}
 use Rattle.toml_span_read.specs.Gaps.{Tail}
 use Rattle.toml_span_read.specs.Grammar.{Spells, SpellsItems, SpellsPairs, SpellsKeyValues, SpellsLines, OpensHeader, ClosesHeader, SpellsHeader, SpellsSection, SpellsSections, SpellsDocument}
-use Rattle.toml_span_read.specs.Keys.{SimpleKey, SpellsKey}
+use Rattle.toml_span_read.specs.Keys.{SpellsKey}
 use Rattle.toml_span_read.specs.Places.{Ascend, IsInside, PartsInside, KeysInside, ItemKeysInside, PairKeysInside, KeyValuesInside, SectionInside, SectionsInside}
 use Rattle.toml_span_read.proofs.KeyOrder.{dotted_ascend}
 

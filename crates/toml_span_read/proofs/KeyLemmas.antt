@@ -10,7 +10,8 @@ use Rattle.toml_span_read.specs.declared.fault.FaultKind.{FaultKind}
 use Rattle.toml_span_read.specs.Faults.{StartsInside}
 use Rattle.toml_span_read.specs.declared.fault.Fault.{Fault}
 use Rattle.toml_span_read.specs.Gaps.{Dot, NoDot}
-use Rattle.toml_span_read.specs.Keys.{SimpleKey, simple_key, SpellsSimpleKey, SpellsKey, opens_string}
+use Rattle.toml_span_read.specs.Keys.{SpellsSimpleKey, SpellsKey, opens_string}
+use Rattle.toml_span_read.specs.Data.{SimpleKey, simple_key}
 use Rattle.toml_span_read.specs.Read as read
 use Rattle.toml_span_read.specs.Read.{Standing, StandsAt, token, no_token, key_of, one_too_many, Parts}
 use Rattle.toml_span_read.specs.code.Keys.{key_found, PartGives}

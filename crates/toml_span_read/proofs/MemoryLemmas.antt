@@ -3,9 +3,9 @@ use Rattle.toml_span_lex.proofs.Common.{common_steps, nat_tests, ◌≡◌, ℕ,
 use Rattle.toml_span_lex.specs.declared.stop.Stop.{Stop}
 use Rattle.toml_span_lex.specs.Text.{FirstPlace}
 use Rattle.toml_span_read.specs.declared.section.Section.{Section}
-use Rattle.toml_span_read.specs.Data.{KeyValue, first_block}
+use Rattle.toml_span_read.specs.Data.{KeyValue, first_block, SimpleKey}
 use Rattle.toml_span_read.specs.Gaps.{MaximalGap}
-use Rattle.toml_span_read.specs.Keys.{SimpleKey, SpellsKey}
+use Rattle.toml_span_read.specs.Keys.{SpellsKey}
 use Rattle.toml_span_read.specs.Grammar.{SpellsKeyValue, SpellsKeyValues, SpellsLines}
 use Rattle.toml_span_read.specs.code.Sections.{first_blocks}
 use Rattle.toml_span_read.specs.Reading.{HoldsForm, OnlyFormsTakeMemory}

@@ -3,8 +3,7 @@ use Rattle.toml_span_lex.proofs.Common.{◌≡◌, map, Vec, Global, rules}
 use Rattle.toml_span_read.specs.declared.value.Val.{Val}
 use Rattle.toml_span_read.specs.declared.value.ValKind.{Array, Inline, the_lemmas}
 use Rattle.toml_span_read.specs.declared.value.Assignment.{Assignment}
-use Rattle.toml_span_read.specs.Keys.{parts}
-use Rattle.toml_span_read.specs.Data.{parsed, array, inline, no_items, no_pairs, onto, pairs_onto, view, kind_view, key_value}
+use Rattle.toml_span_read.specs.Data.{parts, parsed, array, inline, no_items, no_pairs, onto, pairs_onto, view, kind_view, key_value}
 
 pub key_value_is : (a : Assignment) → key_value a ≡ record { parts = parts a.parts; value = view a.value; extent = a.extent }
 key_value_is a = search (rules, the_lemmas)

@@ -1,16 +1,22 @@
 -- What is read, as plain data: a text is its bytes, and whether it is borrowed is no part of it.
-use Rattle.std.specs.Prelude.{ℕ, Bool, false, List, [], ◌∷◌, map}
+use Rattle.std.specs.Prelude.{ℕ, Bool, false, List, [], ◌∷◌, ◌++◌, map}
 use Rattle.std.specs.Cow.{cow_str_bytes}
+use Rattle.toml_span_lex.specs.declared.key.Key.{Key}
 use Rattle.toml_span_lex.specs.declared.span.Span.{Span}
 use Rattle.toml_span_tree.specs.Node.{Scalar, text, integer, float, boolean, datetime}
 use Rattle.toml_span_tree.specs.Value.{float_value, date_bytes}
-use Rattle.toml_span_read.specs.Keys.{SimpleKey, parts, simple_key}
+use Rattle.toml_span_read.specs.declared.value.DottedKey.{DottedKey}
 use Rattle.toml_span_read.specs.declared.value.ValKind.TheOpen.{ValKind-F, Val-F, Assignment-F}
 use Rattle.toml_span_read.specs.declared.value.Val.{Val}
 use Rattle.toml_span_read.specs.declared.value.ValKind.TheFolds.{fold-Val, fold-ValKind, fold-Assignment}
 use Rattle.toml_span_read.specs.declared.value.ValKind.{ValKind}
 use Rattle.toml_span_read.specs.declared.value.Assignment.{Assignment}
 use Rattle.toml_span_read.specs.declared.section.Section.{Section}
+
+-- a key by its name and its span
+pub record SimpleKey : Type 0 where
+  pub name : List ℕ
+  pub span : Span
 
 mutual
   -- a value, with its span
@@ -88,6 +94,13 @@ onto (n ∷ ns) rest = item n (onto ns rest)
 abbrev pub pairs_onto : List KeyValue → ParsedPairs → ParsedPairs
 pairs_onto [] rest = rest
 pairs_onto (p ∷ ps) rest = pair p.parts p.value p.extent (pairs_onto ps rest)
+
+-- a key that is read, seen so, and the parts of a dotted key
+abbrev pub simple_key : Key → SimpleKey
+simple_key key = record { name = cow_str_bytes key.name; span = key.span }
+
+abbrev pub parts : DottedKey → List SimpleKey
+parts key = map simple_key key.inner.items ++ (simple_key key.last ∷ [])
 
 -- one level of each type, with each value inside already seen as its meaning
 abbrev pub kind_step : ValKind-F ParsedInner KeyValue ParsedValue → ParsedInner

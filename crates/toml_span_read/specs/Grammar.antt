@@ -13,10 +13,9 @@ use Rattle.toml_span_tree.specs.Node.{Scalar, integer, float, boolean, datetime,
 use Rattle.toml_span_read.specs.Dates.{begins_date, IsCandidate}
 use Rattle.toml_span_read.specs.Numbers.{IsNumber}
 use Rattle.toml_span_read.specs.Gaps.{MaximalGap, Separator, Closes, Equals, Tail}
-use Rattle.toml_span_read.specs.Keys.{SpellsKey, SimpleKey}
-use Rattle.toml_span_read.specs.Data.{ParsedValue, parsed, ParsedInner, scalar, ParsedItems, no_items, item}
-use Rattle.toml_span_read.specs.Data.{first_block, from_to, last_end}
-use Rattle.toml_span_read.specs.Data.{ParsedPairs, no_pairs, pair, KeyValue}
+use Rattle.toml_span_read.specs.Keys.{SpellsKey}
+use Rattle.toml_span_read.specs.Data.{SimpleKey, ParsedValue, parsed, ParsedInner, scalar, ParsedItems, no_items, item}
+use Rattle.toml_span_read.specs.Data.{first_block, from_to, last_end, ParsedPairs, no_pairs, pair, KeyValue}
 use Rattle.toml_span_read.specs.Data.{array as array_node, inline as inline_node, Block}
 use Rattle.toml_span_read.specs.Earlier.{Clear}
 

@@ -1,25 +1,10 @@
 -- Simple keys and dotted keys (TOML 1.1, "Keys").
-use Rattle.std.specs.Prelude.{◌≡◌, ℕ, ◌⊎◌, Bool, false, ◌||◌, ◌==◌, List, [], ◌∷◌, ◌++◌, map}
-use Rattle.std.specs.Cow.{cow_str_bytes}
-use Rattle.toml_span_lex.specs.declared.span.Span.{Span}
-use Rattle.toml_span_lex.specs.declared.key.Key.{Key}
+use Rattle.std.specs.Prelude.{◌≡◌, ℕ, ◌⊎◌, Bool, false, ◌||◌, ◌==◌, List, [], ◌∷◌}
 use Rattle.toml_span_lex.specs.Bytes.{is_keylike, apostrophe, quotation_mark}
 use Rattle.toml_span_lex.specs.Strings.{IsString}
 use Rattle.toml_span_lex.specs.Tokens.{RunAt}
-use Rattle.toml_span_read.specs.declared.value.DottedKey.{DottedKey}
+use Rattle.toml_span_read.specs.Data.{SimpleKey}
 use Rattle.toml_span_read.specs.Gaps.{Dot, NoDot}
-
--- a key by its name and its span
-pub record SimpleKey : Type 0 where
-  pub name : List ℕ
-  pub span : Span
-
--- a key that is read, seen so, and the parts of a dotted key
-abbrev pub simple_key : Key → SimpleKey
-simple_key key = record { name = cow_str_bytes key.name; span = key.span }
-
-abbrev pub parts : DottedKey → List SimpleKey
-parts key = map simple_key key.inner.items ++ (simple_key key.last ∷ [])
 
 -- the text from i to j is this key
 --

@@ -1,6 +1,6 @@
 -- How integers and floats are spelled (TOML 1.1, "Integer", "Float").
-use Rattle.std.specs.Prelude.{◌≡◌, ℕ, ℤ, pos, neg_ℤ, ◌+◌, ◌^◌, ◌<◌, ◌≤◌, ◌⊎◌, Bool, true, false, ◌||◌, List, length}
-use Rattle.std.specs.Prelude.{slice_index, slice_range, Some, codes}
+use Rattle.std.specs.Prelude.{◌≡◌, ℕ, ℤ, pos, neg_ℤ, ◌+◌, ◌^◌, ◌<◌, ◌≤◌, ◌⊎◌, Bool, true, false, ◌||◌, ◌==◌, List}
+use Rattle.std.specs.Prelude.{length, slice_index, slice_range, Some, codes}
 use Rattle.toml_span_lex.specs.Bytes.{underscore, MaximalRun, is_keylike, period, digit_zero}
 use Rattle.toml_span_tree.specs.Node.{finite, infinite, not_a_number, Scalar, text as text_scalar, integer, float}
 use Rattle.toml_span_tree.specs.Node.{boolean, datetime}

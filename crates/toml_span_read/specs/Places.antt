@@ -1,10 +1,8 @@
 -- Places in a text: where keys, headers and values stand.
 use Rattle.std.specs.Prelude.{ℕ, ◌<◌, ◌≤◌, List, [], ◌∷◌, map}
 use Rattle.toml_span_lex.specs.declared.span.Span.{Span}
-use Rattle.toml_span_read.specs.Keys.{SimpleKey, simple_key}
-use Rattle.toml_span_read.specs.Data.{ParsedValue, parsed, ParsedInner, scalar, array, inline, ParsedItems, no_items}
-use Rattle.toml_span_read.specs.Data.{item, ParsedPairs, no_pairs}
-use Rattle.toml_span_read.specs.Data.{pair, KeyValue, key_value}
+use Rattle.toml_span_read.specs.Data.{SimpleKey, simple_key, ParsedValue, parsed, ParsedInner, scalar, array, inline}
+use Rattle.toml_span_read.specs.Data.{ParsedItems, no_items, item, ParsedPairs, no_pairs, pair, KeyValue, key_value}
 use Rattle.toml_span_read.specs.declared.section.Section.{Section}
 
 -- ---- keys and headers stand inside the text

@@ -15,8 +15,8 @@ use Rattle.toml_span_lex.specs.Tokens.{Lexeme, keylike, string, Stands, IsNoToke
 use Rattle.toml_span_tree.specs.Date.{IsDateText}
 use Rattle.toml_span_tree.specs.Node.{Scalar, boolean, datetime, text as text_scalar}
 use Rattle.toml_span_read.specs.Data.{ParsedValue, parsed, ParsedInner, scalar, array as array_node, no_items, onto}
-use Rattle.toml_span_read.specs.Data.{first_block, from_to, last_end}
-use Rattle.toml_span_read.specs.Data.{inline as inline_node, no_pairs, pairs_onto, KeyValue, Block}
+use Rattle.toml_span_read.specs.Data.{first_block, from_to, last_end, inline as inline_node, no_pairs, pairs_onto}
+use Rattle.toml_span_read.specs.Data.{KeyValue, Block, SimpleKey}
 use Rattle.toml_span_read.specs.Dates.{begins_date, IsCandidate}
 use Rattle.toml_span_read.specs.declared.fault.Due.{Due}
 use Rattle.toml_span_read.specs.declared.fault.Due.TheVariants as dues
@@ -27,7 +27,6 @@ use Rattle.toml_span_read.specs.Earlier.{Clear, Crossing}
 use Rattle.toml_span_read.specs.Faults.{fault_at, found_of, token_fault, wanted_fault, opens_nested, begins_bare}
 use Rattle.toml_span_read.specs.Faults.{begins_number}
 use Rattle.toml_span_read.specs.Gaps.{MaximalGap, Dot, NoDot, Tail, NoTail}
-use Rattle.toml_span_read.specs.Keys.{SimpleKey}
 use Rattle.toml_span_read.specs.Numerals.{run_end, special, number}
 
 -- ---- reading

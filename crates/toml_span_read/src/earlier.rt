@@ -1,10 +1,9 @@
 //! The earlier values of a section or an inline table, by their paths.
 ghost use Rattle.std.specs.Prelude.{◌≡◌, ◌≤◌, ◌+◌, ◌++◌, ◌∷◌, [], map, length, OnOk, Some, unwrap_or};
 ghost use Rattle.std.specs.Cow.{cow_str_bytes};
-ghost use Rattle.toml_span_read.specs.Data.{parsed_span, key_value};
+ghost use Rattle.toml_span_read.specs.Data.{parsed_span, key_value, simple_key, parts};
 ghost use Rattle.toml_span_read.specs.Earlier as spec;
 ghost use Rattle.toml_span_read.specs.code.Earlier as code;
-ghost use Rattle.toml_span_read.specs.Keys.{simple_key, parts};
 
 use crate::fault::{Fault, FaultKind};
 use crate::keys::add;

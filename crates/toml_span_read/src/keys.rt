@@ -1,6 +1,6 @@
 //! Keys and dotted keys.
 ghost use Rattle.std.specs.Prelude.{◌≡◌, ◌<◌, ◌⊎◌, true, false, length, slice_index, [], ◌∷◌, ◌++◌, IfOk, OnOk};
-ghost use Rattle.toml_span_read.specs.Keys as grammar;
+ghost use Rattle.toml_span_read.specs.Data as read_data;
 ghost use Rattle.std.specs.Str.{IsCharBoundary};
 ghost use Rattle.toml_span_lex.specs.Bytes.{quotation_mark, apostrophe};
 ghost use Rattle.toml_span_lex.specs.Strings.{BorrowsWhereSame};
@@ -93,7 +93,7 @@ pub(crate) fn simple_key<'de>(
 /// The fault of a part that is one too many: of a header all of it is told, else the place where it begins.
 fn one_too_many(key: &Key<'_>, at: usize, in_header: bool) -> Fault
     requires { at < usize.MAX }
-    ensures { result ≡ spec.one_too_many in_header at (grammar.simple_key key.now) }
+    ensures { result ≡ spec.one_too_many in_header at (read_data.simple_key key.now) }
 {
     let kind = FaultKind::ExceededDepthLimit;
     if in_header {

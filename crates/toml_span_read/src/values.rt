@@ -1,5 +1,7 @@
 //! Values.
-ghost use Rattle.toml_span_read.specs.Data.{depth_limit};
+ghost use Rattle.toml_span_read.specs.Data.{depth_limit, view, kind_view, key_value, parsed, scalar as scalar_node};
+ghost use Rattle.toml_span_read.specs.Data.{array as array_node, parts as parts_of, inline as inline_node, onto};
+ghost use Rattle.toml_span_read.specs.Data.{pairs_onto, no_items, no_pairs};
 ghost use Rattle.std.specs.Prelude.{◌≡◌, ◌+◌, ◌-◌, ◌<◌, ◌≤◌, ◌||◌, ◌==◌, ◌⊎◌, ◌++◌, ◌∷◌, [], true, false, length};
 ghost use Rattle.std.specs.Prelude.{slice_index, map, IfOk};
 ghost use Rattle.std.specs.Str.{IsCharBoundary};
@@ -16,11 +18,7 @@ ghost use Rattle.toml_span_read.specs.Gaps.{MaximalGap};
 ghost use Rattle.toml_span_read.specs.Read as spec;
 ghost use Rattle.toml_span_read.specs.code.Values.{IsRunOf, IsTooDeep, ScalarGives, value_found, key_value_found};
 ghost use Rattle.toml_span_read.specs.Dates as date_spec;
-ghost use Rattle.toml_span_read.specs.Keys as keys;
 ghost use Rattle.toml_span_read.specs.Keys.{opens_string};
-ghost use Rattle.toml_span_read.specs.Data.{view, kind_view, key_value, parsed, scalar as scalar_node};
-ghost use Rattle.toml_span_read.specs.Data.{array as array_node};
-ghost use Rattle.toml_span_read.specs.Data.{inline as inline_node, onto, pairs_onto, no_items, no_pairs};
 
 use crate::dates::{begins_date, date};
 use crate::earlier::{Earlier, add_clear};
@@ -374,7 +372,7 @@ pub(crate) fn assigned<'de>(
 ) -> Assignment<'de>
     ensures key_value { key_value result
         ≡ record {
-          parts = keys.parts parts.entry;
+          parts = parts_of parts.entry;
           value = view value.entry;
           extent = record { start = start; end = end };
         } }

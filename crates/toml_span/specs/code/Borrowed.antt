@@ -11,7 +11,7 @@ use Rattle.toml_span_tree.specs.declared.value.ValueInner.{ValueInner}
 use Rattle.toml_span_tree.specs.declared.value.ValueInner.TheFolds.{fold-ValueInner}
 use Rattle.toml_span_tree.specs.declared.value.Value.{Value}
 use Rattle.toml_span_read.specs.Borrowed.{Written, joined, string as string_written, name as name_written}
-use Rattle.toml_span_read.specs.Keys.{SimpleKey}
+use Rattle.toml_span_read.specs.Data.{SimpleKey}
 use Rattle.toml_span.specs.Borrowed.{Held, inner_step, value_step, Standing, elements_standing, held}
 use Rattle.toml_span.specs.Borrowed.{entries_standing, table_name, IsKeyOf, AreBorrowedRight, value_standing}
 use Rattle.toml_span.specs.declared.branch.Branch.TheOpen.{Branch-F}

@@ -1,8 +1,7 @@
 -- What headers and assignments claim, seen from the branch at which they start.
 use Rattle.std.specs.Prelude.{ℕ, zero, suc, if◌then◌else◌, List, [], ◌∷◌}
 use Rattle.toml_span_tree.specs.Path.{Step, key, position, Path}
-use Rattle.toml_span_read.specs.Data.{ParsedValue}
-use Rattle.toml_span_read.specs.Keys.{SimpleKey}
+use Rattle.toml_span_read.specs.Data.{ParsedValue, SimpleKey}
 use Rattle.toml_span.specs.Claims.{Claim, Claims, no_claims, claimed, scope, assigned, dotted, value_claims}
 use Rattle.toml_span.specs.Claims.{header_claim, array_claims}
 use Rattle.toml_span.specs.declared.claims.Sort.{Sort}

@@ -6,7 +6,7 @@ use Rattle.toml_span_lex.specs.declared.stop.Stop.{Stop}
 use Rattle.toml_span_lex.specs.declared.stop.Stop.TheVariants as stops
 use Rattle.toml_span_read.specs.declared.fault.Fault.{Fault}
 use Rattle.toml_span_read.specs.declared.value.DottedKey.{DottedKey}
-use Rattle.toml_span_read.specs.Keys.{SimpleKey, simple_key, parts}
+use Rattle.toml_span_read.specs.Data.{SimpleKey, simple_key, parts}
 use Rattle.toml_span_read.specs.Read as read
 use Rattle.toml_span_read.specs.Read.{Parts}
 use Rattle.toml_span_read.specs.Faults.{StartsInside}

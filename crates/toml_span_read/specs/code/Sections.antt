@@ -7,10 +7,9 @@ use Rattle.toml_span_lex.specs.declared.stop.Stop.{Stop}
 use Rattle.toml_span_lex.specs.Bytes.{left_bracket}
 use Rattle.toml_span_read.specs.declared.fault.Fault.{Fault}
 use Rattle.toml_span_read.specs.declared.value.Assignment.{Assignment}
-use Rattle.toml_span_read.specs.Data.{key_value, Block, block}
+use Rattle.toml_span_read.specs.Data.{key_value, Block, block, simple_key}
 use Rattle.toml_span_read.specs.Read.{Pairs, HeaderEnd, Blocks}
 use Rattle.toml_span_read.specs.declared.sections.Header.{Header}
-use Rattle.toml_span_read.specs.Keys.{simple_key}
 use Rattle.toml_span_read.specs.declared.section.Section.{Section}
 use Rattle.toml_span_read.specs.Borrowed.{AreWrittenRight, section_written}
 use Rattle.toml_span_read.specs.code.Faults.{IsPlacedStop}

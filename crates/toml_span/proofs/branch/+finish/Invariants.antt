@@ -1,5 +1,5 @@
 use Rattle.toml_span_lex.proofs.Common.{◌≡◌, ℕ, List, [], into_iter_items}
-use Rattle.toml_span_read.specs.Keys.{SimpleKey}
+use Rattle.toml_span_read.specs.Data.{SimpleKey}
 use Rattle.toml_span.specs.Borrowed.{AreBorrowedRight}
 use Rattle.toml_span.specs.code.Borrowed.{array_standing, boxes_standing, entries_of, table_standing}
 use Rattle.toml_span.proofs.Finishing.{Filled, EntriesFilled}

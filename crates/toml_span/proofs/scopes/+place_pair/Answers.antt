@@ -1,5 +1,5 @@
 use Rattle.toml_span_lex.proofs.Common.{map, [], ◌≡◌, rules, refl, sym, ap, ◌∙◌, ⊤, map_with_value, Entry}
-use Rattle.toml_span_read.specs.Keys.{simple_key}
+use Rattle.toml_span_read.specs.Data.{simple_key}
 use Rattle.toml_span_read.proofs.EarlierTree.{parts-first}
 use Rattle.toml_span.specs.Claims.{pair_mark}
 use Rattle.toml_span.specs.declared.claims.Sort.TheVariants.{Dotted}

@@ -1,6 +1,6 @@
 use Rattle.toml_span_lex.proofs.Common.{ℕ, List, map, into_iter_items}
 use Rattle.toml_span_read.specs.Borrowed.{assignments_written, joined, written}
-use Rattle.toml_span_read.specs.Keys.{SimpleKey}
+use Rattle.toml_span_read.specs.Data.{SimpleKey}
 use Rattle.toml_span.specs.code.Borrowed.{AreFrom, array_standing, standing}
 use Rattle.toml_span.specs.Borrowed.{AreBorrowedRight}
 use Rattle.toml_span.proofs.Assignments.{Placing}

@@ -2,7 +2,7 @@ use Rattle.toml_span_lex.proofs.Common.{◌≡◌, Some, [], ◌∷◌, is_eq, r
 use Rattle.toml_span_lex.specs.declared.key.Key.{Key}
 use Rattle.toml_span_tree.specs.declared.value.Value.{Value}
 use Rattle.toml_span_read.proofs.EarlierTree.{key_cmp, same_name}
-use Rattle.toml_span_read.specs.Keys.{simple_key}
+use Rattle.toml_span_read.specs.Data.{simple_key}
 use Rattle.toml_span.specs.Claims.{pair_mark}
 use Rattle.toml_span.specs.declared.claims.Sort.TheVariants.{Assigned}
 use Rattle.toml_span.specs.declared.branch.Branch.TheViews.{out-Branch}

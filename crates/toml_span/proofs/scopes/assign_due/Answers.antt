@@ -1,6 +1,6 @@
 use Rattle.toml_span_lex.proofs.Common.{[], subst, sym, ◌∙◌, none-some, same_Some}
 use Rattle.toml_span_read.specs.Borrowed.{key_written}
-use Rattle.toml_span_read.specs.Keys.{simple_key}
+use Rattle.toml_span_read.specs.Data.{simple_key}
 use Rattle.toml_span.specs.code.Borrowed.{IsFrom, Keeps, ValueRight}
 use Rattle.toml_span.specs.code.Placing.{Places, ValueGives}
 use Rattle.toml_span.specs.code.Relative.{pair_at}

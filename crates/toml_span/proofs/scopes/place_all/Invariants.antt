@@ -1,6 +1,6 @@
 use Rattle.toml_span_lex.proofs.Common.{ℕ, List}
 use Rattle.toml_span_read.specs.Borrowed.{assignments_written}
-use Rattle.toml_span_read.specs.Keys.{SimpleKey}
+use Rattle.toml_span_read.specs.Data.{SimpleKey}
 use Rattle.toml_span.specs.code.Borrowed.{AreFrom, standing}
 use Rattle.toml_span.specs.Borrowed.{AreBorrowedRight}
 use Rattle.toml_span.proofs.Assignments.{Placing}

@@ -1,8 +1,7 @@
 use Rattle.toml_span_lex.proofs.Common.{arith, ◌≡◌, ◌-◌, ◌<◌, length, vec_len, ◌∙◌, [], map, refl, rules, sym, ⊤, map_with_value, false≢true, Entry}
 use Rattle.std.proofs.lemmas.Bool.{eqb-true}
 use Rattle.toml_span_read.proofs.EarlierTree.{parts-first}
-use Rattle.toml_span_read.specs.Data.{key_value}
-use Rattle.toml_span_read.specs.Keys.{simple_key}
+use Rattle.toml_span_read.specs.Data.{key_value, simple_key}
 use Rattle.toml_span.specs.declared.claims.Sort.TheVariants.{Passed}
 use Rattle.toml_span.specs.declared.branch.Branch.TheViews.{out-Branch}
 use Rattle.toml_span.specs.Claims.{key_value_claims, header_mark}

@@ -1,6 +1,5 @@
 use Rattle.toml_span_lex.proofs.Common.{map, [], refl}
-use Rattle.toml_span_read.specs.Data.{key_value}
-use Rattle.toml_span_read.specs.Keys.{simple_key}
+use Rattle.toml_span_read.specs.Data.{key_value, simple_key}
 use Rattle.toml_span.specs.declared.claims.Sort.TheVariants.{TableElement}
 use Rattle.toml_span.specs.Claims.{key_value_claims, header_mark}
 use Rattle.toml_span.specs.code.Relative.{opening}

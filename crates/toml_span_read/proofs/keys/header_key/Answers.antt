@@ -1,6 +1,6 @@
 use Rattle.toml_span_lex.proofs.Common.{arith, [], ◌∷◌, true, map-append}
 use Rattle.toml_span_read.specs.Borrowed.{IsWrittenRight}
-use Rattle.toml_span_read.specs.Keys.{simple_key}
+use Rattle.toml_span_read.specs.Data.{simple_key}
 use Rattle.toml_span_read.specs.code.Keys.{header_found}
 use Rattle.toml_span_read.proofs.BorrowLemmas.{keys_more}
 use Rattle.toml_span_read.proofs.KeyLemmas.{handed_on, one_more, more_behind, last_behind, stops_behind}

@@ -1,5 +1,5 @@
 use Rattle.toml_span_lex.proofs.Common.{arith}
-use Rattle.toml_span_read.specs.Keys.{simple_key}
+use Rattle.toml_span_read.specs.Data.{simple_key}
 use Rattle.toml_span_read.proofs.KeyLemmas.{key_past, past_placed, simple_sound}
 use Rattle.toml_span_read.proofs.keys.part.Goals as goal
 

@@ -1,5 +1,5 @@
 use Rattle.toml_span_lex.proofs.Common.{arith, ◌≡◌, ◌+◌, ◌-◌, length, inl, inr, refl, ap, Err}
-use Rattle.toml_span_read.specs.Keys.{parts}
+use Rattle.toml_span_read.specs.Data.{parts}
 use Rattle.toml_span_read.specs.code.Values.{value_found}
 use Rattle.toml_span_read.proofs.BorrowLemmas.{assignment_right}
 use Rattle.toml_span_read.proofs.KeyLemmas.{handed_on, parts_length}

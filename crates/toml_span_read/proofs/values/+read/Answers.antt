@@ -1,11 +1,10 @@
 use Rattle.toml_span_lex.proofs.Common.{arith, inl, inr, or_left, Ok, Err, rules, refl, ap, ◌≡◌, ◌+◌, ◌-◌, length, get_or, true}
-use Rattle.toml_span_read.specs.Keys.{parts}
+use Rattle.toml_span_read.specs.Data.{parts, view, key_value}
 use Rattle.toml_span_read.specs.Read as read
 use Rattle.toml_span_read.specs.Read.{ends, goes_on, stops as stops_there}
 use Rattle.toml_span_read.specs.code.Values.{value_found, key_value_found}
 use Rattle.toml_span_read.specs.Faults.{opens_nested}
 use Rattle.toml_span_read.specs.Borrowed.{IsWrittenRight, written, assignment_written}
-use Rattle.toml_span_read.specs.Data.{view, key_value}
 use Rattle.toml_span_read.proofs.BorrowLemmas.{joined_more, assignment_right}
 use Rattle.toml_span_read.proofs.CrossingPlaces.{crossing_placed, pair_spanned}
 use Rattle.toml_span_read.proofs.KeyLemmas.{handed_on, parts_length}

@@ -1,6 +1,5 @@
 use Rattle.toml_span_lex.proofs.Common.{arith, length-map, map, Some, None, refl, sym}
-use Rattle.toml_span_read.specs.Data.{key_value}
-use Rattle.toml_span_read.specs.Keys.{simple_key}
+use Rattle.toml_span_read.specs.Data.{key_value, simple_key}
 use Rattle.toml_span_read.specs.code.Earlier.{holds}
 use Rattle.toml_span_read.proofs.EarlierKnows.{clear_short, clear_found, crossing_found, knows_more, tells_all, finds_same}
 use Rattle.toml_span_read.proofs.earlier.Earlier.fault.Goals as goal
