@@ -9,7 +9,7 @@ use Rattle.toml_span_lex.proofs.OneFault.{fault_unique, char_unique, char_within
 use Rattle.toml_span_lex.proofs.OneToken.{token_unique}
 use Rattle.toml_span_lex.proofs.Within.{fault_within}
 use Rattle.toml_span_read.specs.declared.fault.Fault.{Fault}
-use Rattle.toml_span_read.specs.Read.{Reading, after, Standing, token, text_end, no_token, StandsAt, choice, Turn, on, done, Loop, ends, stops, goes_on, key_of, Parts, onward, ValueEnd, Items, Pairs, Blocks}
+use Rattle.toml_span_read.specs.Read.{Reading, after, Standing, token, text_end, no_token, StandsAt, choice, Turn, on, done, Loop, ends, stops, goes_on, key_of, Parts, onward, ValueEnd, Elements, Pairs, Blocks}
 use Rattle.toml_span_lex.specs.Bytes.{is_blank, is_printed, MaximalRun}
 use Rattle.toml_span_read.specs.Gaps.{GapPiece, begins_gap, GapBy, MaximalGap, Dot, NoDot, Skipped, Tail, NoTail}
 use Rattle.toml_span_read.specs.Data.{SimpleKey, KeyValue}
@@ -157,7 +157,7 @@ separator_one : {S A : Type 0} (close : ℕ) (due : Due) (text : List ℕ) (m : 
 separator_one close due text m next end =
     one_given (gap_unique text m) (λ k. one_choice (one_given (gap_unique text (k + 1)) (λ p. one_is)) (one_choice one_is (one_standing text k)))
 
-element_one : (text : List ℕ) (value : ℕ → Reading ValueEnd) → ((i : ℕ) → One (value i)) → (s : Items) → One (read.next_element text value s)
+element_one : (text : List ℕ) (value : ℕ → Reading ValueEnd) → ((i : ℕ) → One (value i)) → (s : Elements) → One (read.next_element text value s)
 element_one text value one (vs, i) = one_choice one_is (one_after (one i) (λ (v, m). separator_one _ _ text m _ (read.array_end (vs ++ (v ∷ [])))))
 
 key_value_one : (text : List ℕ) (limit : ℕ) (skipped : ℕ → ℕ → Type 0) (value : ℕ → ℕ → Reading ValueEnd) (i : ℕ) → ((i j k : ℕ) → skipped i j → skipped i k → j ≡ k) → ((n b : ℕ) → One (value n b)) → One (read.keyval text limit skipped value i)

@@ -6,7 +6,7 @@ use Rattle.toml_span_lex.specs.Tokens.{keylike, string}
 pub use Rattle.toml_span_lex.proofs.One.{One, one_is, one_where, one_given, one_either}
 use Rattle.toml_span_lex.proofs.Within.{token_within}
 use Rattle.toml_span_read.specs.declared.fault.Fault.{Fault}
-use Rattle.toml_span_read.specs.Read.{Reading, after, Standing, token, text_end, no_token, StandsAt, choice, Turn, on, done, Loop, ends, stops, goes_on, run_at, number_or_word, next_section, key_of, string_of, Parts, onward, behind, missing, ValueEnd, Items, Pairs, Blocks, HeaderEnd}
+use Rattle.toml_span_read.specs.Read.{Reading, after, Standing, token, text_end, no_token, StandsAt, choice, Turn, on, done, Loop, ends, stops, goes_on, run_at, number_or_word, next_section, key_of, string_of, Parts, onward, behind, missing, ValueEnd, Elements, Pairs, Blocks, HeaderEnd}
 use Rattle.toml_span_lex.specs.Bytes.{is_blank, is_keylike, MaximalRun}
 use Rattle.toml_span_lex.specs.Strings.{IsString}
 use Rattle.toml_span_lex.specs.Text.{FirstPlace}
@@ -188,7 +188,7 @@ separator_sure close due text h i m x y all s l o =
     (λ g. sure_behind text (i + 1 + 1) (k + 1) (gaps text all) g (λ p q. sure_is _ ((omega (arith, l, q.0), q.1), omega (arith, q.0))))
     (sure_sign close text (i + 1) k all s f (λ g. sure_is _ (omega (arith, l, g.0), g.1)) (sure_missing due text k all f.1)))
 
-element_sure : (text : List ℕ) (h : ℕ) (value : ℕ → Reading ValueEnd) → AllJudged text → ((i : ℕ) → IsCharBoundary text i → Sure (Ends text (i + 1)) (value i)) → (s : Items) → Onto text h s.1
+element_sure : (text : List ℕ) (h : ℕ) (value : ℕ → Reading ValueEnd) → AllJudged text → ((i : ℕ) → IsCharBoundary text i → Sure (Ends text (i + 1)) (value i)) → (s : Elements) → Onto text h s.1
     → Sure (Turned (Onto text h) (Ends text h) s.1) (read.next_element text value s)
 element_sure text h value all sure (vs, i) o =
     sure_sign 93 text h i all (omega arith, omega arith) o (λ e. sure_is _ (omega (arith, e.0), e.1))

@@ -17,7 +17,7 @@ use Rattle.toml_span_read.specs.Keys.{SpellsKey}
 use Rattle.toml_span_read.specs.Numbers.{IsNumber}
 use Rattle.toml_span_read.specs.Numerals.{scalar_of, special, numeral, number, run_end}
 use Rattle.toml_span_read.specs.Read as read
-use Rattle.toml_span_read.specs.Read.{Reading, Turn, on, done, Loop, ends, stops, goes_on, ValueEnd, Items, Pairs, Blocks, HeaderEnd, token, text_end, no_token}
+use Rattle.toml_span_read.specs.Read.{Reading, Turn, on, done, Loop, ends, stops, goes_on, ValueEnd, Elements, Pairs, Blocks, HeaderEnd, token, text_end, no_token}
 use Rattle.toml_span_read.proofs.KeyLemmas.{after_gives, key_sound, not_missing, same_read}
 use Rattle.toml_span_read.proofs.NumberLemmas.{byte_is, run_found}
 use Rattle.toml_span_read.proofs.NumberReads.{Starts, Spelled, Reads, after, done as done_reading, numeral_reads}
@@ -84,11 +84,11 @@ bare_sound s text i j b (inr (d, e)) = choose s text i j _ refl d b (sym e)
 -- ---- elements
 
 -- whatever elements follow, they and those that are read are elements from k on
-abbrev ItemsFrom : List ℕ → ℕ → ℕ → ℕ → Items → Type 0
+abbrev ItemsFrom : List ℕ → ℕ → ℕ → ℕ → Elements → Type 0
 ItemsFrom text limit d k (vs, i) = (rest : ParsedItems) (j : ℕ) → SpellsItems rest text limit d i j → SpellsItems (onto vs rest) text limit d k j
 
-abbrev Elements : List ℕ → ℕ → ℕ → ℕ → ParsedInner × ℕ → Type 0
-Elements text limit d k (inner, j) = (vs : ParsedItems) × (inner ≡ array_node vs) × SpellsItems vs text limit d k j
+abbrev IsArrayOf : List ℕ → ℕ → ℕ → ℕ → ParsedInner × ℕ → Type 0
+IsArrayOf text limit d k (inner, j) = (vs : ParsedItems) × (inner ≡ array_node vs) × SpellsItems vs text limit d k j
 
 pub onto_more : (vs : List ParsedValue) (v : ParsedValue) (rest : ParsedItems) → onto (vs ++ (v ∷ [])) rest ≡ onto vs (item v rest)
 onto_more [] v rest = refl
@@ -97,19 +97,19 @@ onto_more (w ∷ ws) v rest = ap (λ z. item w z) (onto_more ws v rest)
 abbrev pub ValueSound : List ℕ → ℕ → ℕ → (ℕ → Reading ValueEnd) → Type 0
 ValueSound text limit d value = (v : ParsedValue) (i j : ℕ) → value i (Ok (v, j)) → Spells v text limit d i j
 
-element_kept : (text : List ℕ) (limit d k : ℕ) (value : ℕ → Reading ValueEnd) → ValueSound text limit d value → (s : Items) (t : Turn Items (ParsedInner × ℕ)) → ItemsFrom text limit d k s → read.next_element text value s (Ok t)
-    → Kept (ItemsFrom text limit d k) (Elements text limit d k) t
+element_kept : (text : List ℕ) (limit d k : ℕ) (value : ℕ → Reading ValueEnd) → ValueSound text limit d value → (s : Elements) (t : Turn Elements (ParsedInner × ℕ)) → ItemsFrom text limit d k s → read.next_element text value s (Ok t)
+    → Kept (ItemsFrom text limit d k) (IsArrayOf text limit d k) t
 element_kept text limit d k value sound (vs, i) t from (inl (shut, e)) =
     let is : t ≡ done (read.array_end vs (i + 1)) = cc in rw is (onto vs no_items, refl, from no_items (i + 1) (byte_is _ _ shut, refl))
 element_kept text limit d k value sound (vs, i) t from (inr (other, h)) =
     let ((v, m), found, sep) = after_gives h in
-    separated 93 dues.RightBracket text m (λ x. (vs ++ (v ∷ []), x)) (read.array_end (vs ++ (v ∷ []))) (ItemsFrom text limit d k) (Elements text limit d k) t sep
+    separated 93 dues.RightBracket text m (λ x. (vs ++ (v ∷ []), x)) (read.array_end (vs ++ (v ∷ []))) (ItemsFrom text limit d k) (IsArrayOf text limit d k) t sep
     (λ p comma rest j g. rw (onto_more vs v rest) (from (item v rest) j (m, sound v i m found, inr (p, comma, g))))
     (λ j closes. (onto (vs ++ (v ∷ [])) no_items, refl, rw (onto_more vs v no_items) (from (item v no_items) j (m, sound v i m found, inl (refl, closes)))))
 
-elements_sound : (text : List ℕ) (limit d k : ℕ) (value : ℕ → Reading ValueEnd) → ValueSound text limit d value → (a : ParsedInner × ℕ) → Loop (read.next_element text value) ([], k) (Ok a) → Elements text limit d k a
+elements_sound : (text : List ℕ) (limit d k : ℕ) (value : ℕ → Reading ValueEnd) → ValueSound text limit d value → (a : ParsedInner × ℕ) → Loop (read.next_element text value) ([], k) (Ok a) → IsArrayOf text limit d k a
 elements_sound text limit d k value sound a h =
-    loop_sound (read.next_element text value) (ItemsFrom text limit d k) (Elements text limit d k) (element_kept text limit d k value sound) ([], k) (Ok a) a (λ rest j g. g) h refl
+    loop_sound (read.next_element text value) (ItemsFrom text limit d k) (IsArrayOf text limit d k) (element_kept text limit d k value sound) ([], k) (Ok a) a (λ rest j g. g) h refl
 
 -- ---- keys and their values
 

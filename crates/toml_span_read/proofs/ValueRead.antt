@@ -16,7 +16,7 @@ use Rattle.toml_span_read.specs.Gaps.{MaximalGap}
 use Rattle.toml_span_read.specs.Grammar.{truth_text}
 use Rattle.toml_span_read.specs.Numerals.{special, number, run_end}
 use Rattle.toml_span_read.specs.Read as read
-use Rattle.toml_span_read.specs.Read.{Reading, Turn, on, done, Loop, ends, stops as stops_there, goes_on, ValueEnd, Items, Pairs, StandsAt, token, no_token}
+use Rattle.toml_span_read.specs.Read.{Reading, Turn, on, done, Loop, ends, stops as stops_there, goes_on, ValueEnd, Elements, Pairs, StandsAt, token, no_token}
 use Rattle.toml_span_read.specs.code.Faults.{Gives}
 use Rattle.toml_span_read.specs.code.Values.{value_found, ScalarGives, IsTooDeep, IsOtherWord}
 use Rattle.toml_span_read.specs.code.Wanted.{StringReads}

@@ -20,11 +20,11 @@ use Rattle.toml_span_read.specs.declared.numbers.Numeral.{Numeral}
 use Rattle.toml_span_read.specs.declared.numbers.Numeral.TheVariants as numerals
 
 -- what is read, or the fault
-abbrev pub Read : Type 0 → Type 0
-Read A = Result A Fault
+abbrev pub NumberRead : Type 0 → Type 0
+NumberRead A = Result A Fault
 
 infixl 10 ◌>>=◌
-abbrev pub ◌>>=◌ : {A B : Type 0} → Read A → (A → Read B) → Read B
+abbrev pub ◌>>=◌ : {A B : Type 0} → NumberRead A → (A → NumberRead B) → NumberRead B
 Ok a >>= f = f a
 Err e >>= f = Err e
 
@@ -74,7 +74,7 @@ are_digits radix text i j =
     (range_with_len i (j - i))
 
 -- `zero-prefixable-int = DIGIT *( DIGIT / underscore DIGIT )`, or the same of another radix
-unfoldable pub digits_end : ℕ → List ℕ → ℕ → ℕ → ℕ → Read ℕ
+unfoldable pub digits_end : ℕ → List ℕ → ℕ → ℕ → ℕ → NumberRead ℕ
 digits_end radix text start from end =
     if slice_index text from == underscore then Err (invalid_number from end)
     else if are_digits radix text from (figures_end radix text from) then Ok (figures_end radix text from)
@@ -98,7 +98,7 @@ radix_at text i =
     else (if slice_index text (i + 1) == small_b then Some 2 else None)))
 
 -- `unsigned-dec-int = DIGIT / digit1-9 1*( DIGIT / underscore DIGIT )`: of a 0 before another digit that one is told
-unfoldable pub integer_part : List ℕ → ℕ → ℕ → ℕ → Read ℕ
+unfoldable pub integer_part : List ℕ → ℕ → ℕ → ℕ → NumberRead ℕ
 integer_part text start from end =
     digits_end 10 text start from end >>= (λ m.
     if slice_index text from == digit_zero && nat_lt (from + 1) m
@@ -111,12 +111,12 @@ signed false m = if nat_lt m (2 ^ 63) then Some (pos m) else None
 signed true m = if nat_le m (2 ^ 63) then Some (neg_ℤ (pos m)) else None
 
 -- the integer that the digits come to
-unfoldable pub integer : ℕ → List ℕ → Bool → ℕ → ℕ → ℕ → Read ℤ
+unfoldable pub integer : ℕ → List ℕ → Bool → ℕ → ℕ → ℕ → NumberRead ℤ
 integer radix text negative start from end =
     ok_or (signed negative (magnitude radix text from end)) (invalid_number start end)
 
 -- `hex-int`, `oct-int` or `bin-int`, behind its prefix
-unfoldable pub radix_integer : ℕ → List ℕ → ℕ → ℕ → Read ℤ
+unfoldable pub radix_integer : ℕ → List ℕ → ℕ → ℕ → NumberRead ℤ
 radix_integer radix text start end =
     digits_end radix text start start end >>= (λ m.
     if nat_lt m end then Err (invalid_number start end) else integer radix text false start start end)
@@ -128,13 +128,13 @@ abbrev pub is_exponent : ℕ → Bool
 is_exponent c = c == small_e || c == capital_e
 
 -- the digits of an exponent are all of their piece
-unfoldable pub exponent_digits : List ℕ → ℕ → ℕ → ℕ → ℕ → ℕ → Read ℕ
+unfoldable pub exponent_digits : List ℕ → ℕ → ℕ → ℕ → ℕ → ℕ → NumberRead ℕ
 exponent_digits text a b start from end =
     digits_end 10 text start from end >>= (λ m. if nat_lt m end then Err (invalid_number a b) else Ok end)
 
 -- `exp = "e" float-exp-part`, whose letter stands in a run that ends at `end`: its digits are in that run, or in
 -- another one behind a plus
-unfoldable pub exponent : List ℕ → ℕ → ℕ → ℕ → ℕ → Read ℕ
+unfoldable pub exponent : List ℕ → ℕ → ℕ → ℕ → ℕ → NumberRead ℕ
 exponent text a b letter end =
     if nat_lt (letter + 1) end then exponent_digits text a b (letter + 1) (behind_sign text (letter + 1)) end
     else if not (slice_index text end == plus) then Err (invalid_number a b)
@@ -142,7 +142,7 @@ exponent text a b letter end =
     else exponent_digits text a b (end + 1) (end + 1) (run_end text (end + 1))
 
 -- `frac [ exp ]`, whose point stands at b
-unfoldable pub fraction : List ℕ → ℕ → ℕ → ℕ → Read ℕ
+unfoldable pub fraction : List ℕ → ℕ → ℕ → ℕ → NumberRead ℕ
 fraction text i a b =
     if run_end text (b + 1) == b + 1 then Err (invalid_number i (b + 1))
     else digits_end 10 text (b + 1) (b + 1) (run_end text (b + 1)) >>= (λ m.
@@ -150,11 +150,11 @@ fraction text i a b =
     else if is_exponent (slice_index text m) then exponent text a b m (run_end text (b + 1))
     else Err (invalid_number a b))
 
-abbrev pub finite : Read ℕ → Read (Numeral × ℕ)
+abbrev pub finite : NumberRead ℕ → NumberRead (Numeral × ℕ)
 finite end = end >>= (λ j. Ok (numerals.Finite, j))
 
 -- `dec-int`, or `float-int-part ( exp / frac [ exp ] )`
-unfoldable pub decimal : List ℕ → ℕ → ℕ → ℕ → Read (Numeral × ℕ)
+unfoldable pub decimal : List ℕ → ℕ → ℕ → ℕ → NumberRead (Numeral × ℕ)
 decimal text i a b =
     integer_part text a (behind_sign text a) b >>= (λ m.
     if nat_lt m b
@@ -170,7 +170,7 @@ special negative word =
     else None
 
 -- inf and nan have no fraction
-unfoldable pub special_end : List ℕ → ℕ → ℕ → ℕ → Numeral → Read (Numeral × ℕ)
+unfoldable pub special_end : List ℕ → ℕ → ℕ → ℕ → Numeral → NumberRead (Numeral × ℕ)
 special_end text i a b n =
     if not (slice_index text b == period) then Ok (n, b)
     else if run_end text (b + 1) == b + 1 then Err (invalid_number i (b + 1))
@@ -179,7 +179,7 @@ special_end text i a b n =
 -- ---- numbers
 
 -- a number whose first run goes from a to b
-unfoldable pub unsigned : List ℕ → ℕ → ℕ → ℕ → Read (Numeral × ℕ)
+unfoldable pub unsigned : List ℕ → ℕ → ℕ → ℕ → NumberRead (Numeral × ℕ)
 unsigned text i a b =
     option_map_or (λ radix. radix_integer radix text (a + 2) b >>= (λ n. Ok (numerals.Integer n, b)))
     (radix_at text a)
@@ -189,7 +189,7 @@ unsigned text i a b =
 
 -- `integer = dec-int / hex-int / oct-int / bin-int`, `float = float-int-part ( exp / frac [ exp ] )`,
 -- `float =/ special-float`: a plus stands before no other sign, and before no prefix
-unfoldable pub numeral : List ℕ → ℕ → Read (Numeral × ℕ)
+unfoldable pub numeral : List ℕ → ℕ → NumberRead (Numeral × ℕ)
 numeral text i =
     if not (slice_index text i == plus) then unsigned text i i (run_end text i)
     else if run_end text (i + 1) == i + 1 then Err (invalid_number (i + 1) (i + 1))
@@ -210,5 +210,5 @@ scalar_of (numerals.Infinite negative) literal = float (infinite negative)
 scalar_of (numerals.NotANumber negative) literal = float (not_a_number negative)
 
 -- the number at i, and where it ends, or the fault
-unfoldable pub number : List ℕ → ℕ → Read (Scalar × ℕ)
+unfoldable pub number : List ℕ → ℕ → NumberRead (Scalar × ℕ)
 number text i = numeral text i >>= (λ p. Ok (scalar_of p.0 (slice_range text i p.1), p.1))

@@ -31,12 +31,16 @@ use Rattle.toml_span_read.specs.Numerals.{run_end, special, number}
 
 -- ---- reading
 
--- What a form's reading may give: what is read, or the fault that is told. `λ r. r ≡ x` gives x. That each of the forms
--- gives one thing, and one alone, is a law.
+-- What reading a form may give: Ok of what is read, or Err of the fault that is told. That a key, a value and a
+-- document give one thing, and one alone, is a law.
 abbrev pub Reading : Type 0 → Type 1
 Reading A = Result A Fault → Type 0
 
--- this is read and then, with what is read, that; what stops the first stops both
+-- this, and nothing else
+abbrev pub gives : {A : Type 0} → Result A Fault → Reading A
+gives x r = r ≡ x
+
+-- m is read, and then f of what it gives; a fault in m ends both
 abbrev pub after : {A B : Type 0} → Reading A → (A → Reading B) → Reading B
 after {A = A} m f r = ((a : A) × m (Ok a) × f a r) ⊎ ((e : Fault) × m (Err e) × (r ≡ Err e))
 
@@ -48,12 +52,12 @@ behind skipped i next r = (k : ℕ) × skipped i k × next k r
 abbrev pub choice : {A : Type 0} → Bool → Reading A → Reading A → Reading A
 choice test this that r = ((test ≡ true) × this r) ⊎ ((test ≡ false) × that r)
 
--- a turn of a loop: one more turn follows, from what it has now, or the loop has read this
+-- what a turn of a loop gives: what the next turn begins with, or what the loop has read
 pub data Turn (S A : Type 0) : Type 0 where
   on : S → Turn S A
   done : A → Turn S A
 
--- turns, each from where the last one left off
+-- turns, each from what the last one gave, up to one that is done or tells a fault
 pub data Loop {S A : Type 0} (turn : S → Result (Turn S A) Fault → Type 0) : S → Result A Fault → Type 0 where
   ends : (s : S) (a : A) → turn s (Ok (done a)) → Loop turn s (Ok a)
   stops : (s : S) (e : Fault) → turn s (Err e) → Loop turn s (Err e)
@@ -61,8 +65,8 @@ pub data Loop {S A : Type 0} (turn : S → Result (Turn S A) Fault → Type 0) :
 
 -- ---- tokens
 
--- What stands at a place: a token, by its span (of a string that of its content), its content and the place behind it;
--- the end of the text; or, where no token stands, the fault of that.
+-- What stands at a place: a token, by its span (of a string `content_span`), what it is, and the place behind it; the
+-- end of the text; or no token, and the fault of that.
 pub data Standing : Type 0 where
   token : Span → Lexeme → ℕ → Standing
   text_end : Standing
@@ -81,7 +85,7 @@ wanted due i (token span l j) = wanted_fault due (found_of l) i
 wanted due i text_end = wanted_fault due founds.EndOfText i
 wanted due i (no_token e) = token_fault e
 
--- Whatever stands at i is told, since this is due. Asked only where it doesn't stand there.
+-- This is due at i, and what stands there is told. Used only where something else stands there.
 abbrev pub missing : {A : Type 0} → Due → List ℕ → ℕ → Reading A
 missing due text i r = (standing : Standing) × StandsAt text i standing × (r ≡ Err (wanted due i standing))
 
@@ -100,7 +104,7 @@ key_of i standing = Err (wanted dues.TableKey i standing)
 abbrev pub simple_key_at : List ℕ → ℕ → Reading (SimpleKey × ℕ)
 simple_key_at text i r = (standing : Standing) × StandsAt text i standing × (r ≡ key_of i standing)
 
--- the fault of a part past the limit: one byte, where it begins; in a header its span
+-- the fault of a part past the limit: in a header the part's span, else one byte, where it begins
 abbrev pub one_too_many : Bool → ℕ → SimpleKey → Fault
 one_too_many in_header i s =
     record { kind = kinds.ExceededDepthLimit; span = if in_header then s.span else from_to i (i + 1) }
@@ -115,9 +119,9 @@ abbrev pub onward : List ℕ → List SimpleKey → ℕ → (ℕ → Reading Par
 onward text ps m next r = (NoDot text m × (r ≡ Ok (ps, m))) ⊎ ((p : ℕ) × Dot text m p × next p r)
 
 -- `key = simple-key / dotted-key`, `dotted-key = simple-key 1*( dot-sep simple-key )`: the parts ps are read already,
--- and at most `left` may follow. One more is read all the same, so that its own fault comes first, and then told.
+-- and at most `left` may follow. One past those is read, so that its own fault comes first, and then told.
 unfoldable pub key : Bool → List ℕ → ℕ → List SimpleKey → ℕ → Reading Parts
-key in_header text zero ps i = after (simple_key_at text i) (λ (s, m) r. r ≡ Err (one_too_many in_header i s))
+key in_header text zero ps i = after (simple_key_at text i) (λ (s, m). gives (Err (one_too_many in_header i s)))
 key in_header text (suc left) ps i =
     after (simple_key_at text i) (λ (s, m). onward text (ps ++ (s ∷ [])) m (key in_header text left (ps ++ (s ∷ []))))
 
@@ -161,7 +165,7 @@ abbrev pub ValueEnd : Type 0
 ValueEnd = ParsedValue × ℕ
 
 -- `string = ml-basic-string / basic-string / ml-literal-string / literal-string`
--- Of another token the fault's span has its bytes, and isn't as long as the words for it.
+-- Another token is told by its own bytes: unlike in `wanted` the span isn't as long as the words for it.
 abbrev pub string_of : ℕ → Standing → Result ValueEnd Fault
 string_of i (token span (string source value multi) j) = Ok (parsed (scalar (text_scalar value)) span, j)
 string_of i (token span l j) =
@@ -177,8 +181,8 @@ string_value text i r = (standing : Standing) × StandsAt text i standing × (r 
 abbrev pub too_deep : List ℕ → ℕ → Reading ValueEnd
 too_deep text i =
     choice (opens_nested (slice_index text i) || begins_bare (slice_index text i))
-    (λ r. r ≡ Err (fault_at kinds.ExceededDepthLimit i))
-    (after (string_value text i) (λ found r. r ≡ Err (fault_at kinds.ExceededDepthLimit i)))
+    (gives (Err (fault_at kinds.ExceededDepthLimit i)))
+    (after (string_value text i) (λ found. gives (Err (fault_at kinds.ExceededDepthLimit i))))
 
 -- ---- arrays, inline tables and values
 
@@ -187,44 +191,45 @@ too_deep text i =
 -- `inline-table-open = %x7B`: behind the bracket or brace at i, and a gap, this is read
 abbrev pub nested : List ℕ → ℕ → (ℕ → Reading (ParsedInner × ℕ)) → Reading ValueEnd
 nested text i inner =
-    behind (MaximalGap text) (i + 1) (λ k. after (inner k) (λ (v, j) r. r ≡ Ok (parsed v (from_to i j), j)))
+    behind (MaximalGap text) (i + 1) (λ k. after (inner k) (λ (v, j). gives (Ok (parsed v (from_to i j), j))))
 
 -- `array-sep = %x2C`, `inline-table-sep = %x2C`, `array-close = %x5D`, `inline-table-close = %x7D`
--- Behind an element or a pair, which ends at m, and a gap: a comma and a gap, and the loop goes on with `next` of the
--- place; the closing bracket or brace, and it ends with `end` of the place behind; or `due` is told as missing.
+-- An element or a pair ends at m. Behind a gap stands a comma, and past one more gap the loop goes on with `next`; or
+-- `close`, and it is done with `end` of the place behind; or neither, and `due` is missing.
 abbrev pub separator : {S A : Type 0} → ℕ → Due → List ℕ → ℕ → (ℕ → S) → (ℕ → A) → Reading (Turn S A)
 separator close due text m next end =
     behind (MaximalGap text) m (λ k.
-    choice (slice_index text k == comma) (behind (MaximalGap text) (k + 1) (λ p r. r ≡ Ok (on (next p))))
-    (choice (slice_index text k == close) (λ r. r ≡ Ok (done (end (k + 1)))) (missing due text k)))
+    choice (slice_index text k == comma) (behind (MaximalGap text) (k + 1) (λ p. gives (Ok (on (next p)))))
+    (choice (slice_index text k == close) (gives (Ok (done (end (k + 1))))) (missing due text k)))
 
 -- the elements that are read so far, and the place where one more or the closing bracket is due
-abbrev pub Items : Type 0
-Items = List ParsedValue × ℕ
+abbrev pub Elements : Type 0
+Elements = List ParsedValue × ℕ
 
+-- the array of these elements, and the place behind it
 abbrev pub array_end : List ParsedValue → ℕ → ParsedInner × ℕ
 array_end vs j = (array_node (onto vs no_items), j)
 
 -- `array-values =  ws-comment-newline val ws-comment-newline array-sep array-values`
 -- `array-values =/ ws-comment-newline val ws-comment-newline [ array-sep ]`
 -- Behind the opening bracket or a comma: the closing bracket, or one more element.
-abbrev pub next_element : List ℕ → (ℕ → Reading ValueEnd) → Items → Reading (Turn Items (ParsedInner × ℕ))
+abbrev pub next_element : List ℕ → (ℕ → Reading ValueEnd) → Elements → Reading (Turn Elements (ParsedInner × ℕ))
 next_element text element (vs, i) =
-    choice (slice_index text i == right_bracket) (λ r. r ≡ Ok (done (array_end vs (i + 1))))
+    choice (slice_index text i == right_bracket) (gives (Ok (done (array_end vs (i + 1)))))
     (after (element i) (λ (v, m).
     separator right_bracket dues.RightBracket text m (λ p. (vs ++ (v ∷ []), p)) (array_end (vs ++ (v ∷ [])))))
 
--- `keyval = key keyval-sep val`, `keyval-sep = ws %x3D ws`, with this skipped round the equals sign; `value n b` reads
--- the value at b, under the n parts of its key
+-- `keyval = key keyval-sep val`, `keyval-sep = ws %x3D ws`: `skipped` says what may stand round the equals sign, and
+-- `value n b` reads the value at b of a key of n parts
 abbrev pub keyval : List ℕ → ℕ → (ℕ → ℕ → Type 0) → (ℕ → ℕ → Reading ValueEnd) → ℕ → Reading (KeyValue × ℕ)
 keyval text limit skipped value i =
     after (key false text limit [] i) (λ (ps, a). behind skipped a (λ n.
     choice (slice_index text n == equals)
-    (behind skipped (n + 1) (λ b. after (value (length ps) b) (λ (v, j) r.
-    r ≡ Ok (record { parts = ps; value = v; extent = from_to i j }, j))))
+    (behind skipped (n + 1) (λ b. after (value (length ps) b) (λ (v, j).
+    gives (Ok (record { parts = ps; value = v; extent = from_to i j }, j)))))
     (missing dues.Equals text n)))
 
--- behind these pairs this one, unless its key goes through the value of one of them
+-- the pairs es and then e; or the fault that the key of e goes through the value of one of them
 abbrev pub added : List KeyValue → KeyValue → Reading (List KeyValue)
 added es e r = (Clear es e × (r ≡ Ok (es ++ (e ∷ [])))) ⊎ ((fault : Fault) × Crossing es e fault × (r ≡ Err fault))
 
@@ -232,6 +237,7 @@ added es e r = (Clear es e × (r ≡ Ok (es ++ (e ∷ [])))) ⊎ ((fault : Fault
 abbrev pub Pairs : Type 0
 Pairs = List KeyValue × ℕ
 
+-- the inline table of these pairs, and the place behind it
 abbrev pub table_end : List KeyValue → ℕ → ParsedInner × ℕ
 table_end es j = (inline_node (pairs_onto es no_pairs), j)
 
@@ -242,13 +248,13 @@ table_end es j = (inline_node (pairs_onto es no_pairs), j)
 -- wrong behind the pair.
 abbrev pub next_pair : List ℕ → ℕ → (ℕ → ℕ → Reading ValueEnd) → Pairs → Reading (Turn Pairs (ParsedInner × ℕ))
 next_pair text limit value (es, i) =
-    choice (slice_index text i == right_brace) (λ r. r ≡ Ok (done (table_end es (i + 1))))
+    choice (slice_index text i == right_brace) (gives (Ok (done (table_end es (i + 1)))))
     (after (keyval text limit (MaximalGap text) value i) (λ (e, m).
     after (added es e) (λ fs. separator right_brace dues.Comma text m (λ p. (fs, p)) (table_end fs))))
 
 -- `val = string / boolean / array / inline-table / date-time / float / integer`
--- The value at i. So many levels are left: limit + 1, less one for each bracket and brace round it and for each part of
--- its key and of those round it. With none left it is past the limit. n parts of its key have still to take theirs.
+-- The value at i. First the n parts of its key take one each of the levels that are left; with none left it is past the
+-- limit. A line begins with limit + 1; each bracket and brace round the value and each part of outer keys took one.
 unfoldable pub value : List ℕ → ℕ → ℕ → ℕ → ℕ → Reading ValueEnd
 value text limit zero n i = too_deep text i
 value text limit (suc left) (suc n) i = value text limit left n i
@@ -258,7 +264,7 @@ value text limit (suc left) zero i =
     (choice (slice_index text i == left_brace)
     (nested text i (λ k. Loop (next_pair text limit (value text limit left)) ([], k)))
     (choice (begins_bare (slice_index text i))
-    (after (bare text i) (λ (s, j) r. r ≡ Ok (parsed (scalar s) (from_to i j), j)))
+    (after (bare text i) (λ (s, j). gives (Ok (parsed (scalar s) (from_to i j), j))))
     (string_value text i)))
 
 -- ---- lines
@@ -272,14 +278,14 @@ tail text i r =
 abbrev pub ends_lines : List ℕ → ℕ → Bool
 ends_lines text i = i == length text || slice_index text i == left_bracket
 
--- `expression =/ ws keyval ws [ comment ]`, behind these assignments and the white space and blank lines before it. A
--- key that goes through an earlier value of its section is told once the rest of its line is read.
+-- `expression =/ ws keyval ws [ comment ]`: one more assignment, its line and the blank lines behind it, or none. A key
+-- that goes through an earlier value of its section is told once the rest of its line is read.
 abbrev pub next_assignment : List ℕ → ℕ → Pairs → Reading (Turn Pairs Pairs)
 next_assignment text limit (es, i) =
-    choice (ends_lines text i) (λ r. r ≡ Ok (done (es, i)))
+    choice (ends_lines text i) (gives (Ok (done (es, i))))
     (after (keyval text limit (MaximalRun is_blank text) (value text limit (limit + 1)) i) (λ (e, m).
     after (tail text m) (λ n. after (added es e) (λ fs.
-    behind (MaximalGap text) n (λ k r. r ≡ Ok (on (fs, k)))))))
+    behind (MaximalGap text) n (λ k. gives (Ok (on (fs, k))))))))
 
 -- the assignments from i on, up to a header or the end of the text, and the blank lines, `expression = ws [ comment ]`
 abbrev pub lines : List ℕ → ℕ → ℕ → Reading Pairs
@@ -290,7 +296,7 @@ lines text limit i = behind (MaximalGap text) i (λ k. Loop (next_assignment tex
 -- `%x5D`, the closing bracket of a header, which else is told as missing
 abbrev pub bracket : List ℕ → ℕ → Reading ℕ
 bracket text i =
-    choice (slice_index text i == right_bracket) (λ r. r ≡ Ok (i + 1)) (missing dues.RightBracket text i)
+    choice (slice_index text i == right_bracket) (gives (Ok (i + 1))) (missing dues.RightBracket text i)
 
 -- `std-table-close = ws %x5D`, `array-table-close = ws %x5D.5D`, behind the white space
 abbrev pub closing : Bool → List ℕ → ℕ → Reading ℕ
@@ -308,11 +314,11 @@ pub record HeaderEnd : Type 0 where
 abbrev pub heading : Bool → List ℕ → ℕ → ℕ → Reading HeaderEnd
 heading array text limit i =
     behind (MaximalRun is_blank text) i (λ k. after (key true text limit [] k) (λ (ps, a).
-    behind (MaximalRun is_blank text) a (λ c. after (closing array text c) (λ m. after (tail text m) (λ j r.
-    r ≡ Ok (record { parts = ps; array = array; end = j }))))))
+    behind (MaximalRun is_blank text) a (λ c. after (closing array text c) (λ m. after (tail text m) (λ j.
+    gives (Ok (record { parts = ps; array = array; end = j })))))))
 
 -- `expression =/ ws table ws [ comment ]`, where `table = std-table / array-table`, `std-table-open = %x5B ws` and
--- `array-table-open = %x5B.5B ws`. A bracket stands at i: lines end there or with the text.
+-- `array-table-open = %x5B.5B ws`. That a bracket stands at i isn't asked: `lines` end only there or with the text.
 abbrev pub header : List ℕ → ℕ → ℕ → Reading HeaderEnd
 header text limit i =
     choice (slice_index text (i + 1) == left_bracket) (heading true text limit (i + 2))
@@ -331,7 +337,7 @@ block_at i h es = record {
 -- a header, and the assignments behind it
 abbrev pub section : List ℕ → ℕ → ℕ → Reading (Block × ℕ)
 section text limit i =
-    after (header text limit i) (λ h. after (lines text limit h.end) (λ (es, j) r. r ≡ Ok (block_at i h es, j)))
+    after (header text limit i) (λ h. after (lines text limit h.end) (λ (es, j). gives (Ok (block_at i h es, j))))
 
 -- the sections that are read so far, and the place behind them
 abbrev pub Blocks : Type 0
@@ -340,13 +346,13 @@ Blocks = List Block × ℕ
 -- behind these sections the text ends, or one more stands
 abbrev pub next_section : List ℕ → ℕ → Blocks → Reading (Turn Blocks (List Block))
 next_section text limit (bs, i) =
-    choice (i == length text) (λ r. r ≡ Ok (done bs))
-    (after (section text limit i) (λ (b, j) r. r ≡ Ok (on (bs ++ (b ∷ []), j))))
+    choice (i == length text) (gives (Ok (done bs)))
+    (after (section text limit i) (λ (b, j). gives (Ok (on (bs ++ (b ∷ []), j)))))
 
 -- the assignments before the first header, behind a byte order mark, if one stands there: no production has it
 abbrev pub before_headers : List ℕ → ℕ → Reading Blocks
 before_headers text limit r =
-    (i : ℕ) × FirstPlace text i × after (lines text limit i) (λ (es, j) r. r ≡ Ok (first_block es, j)) r
+    (i : ℕ) × FirstPlace text i × after (lines text limit i) (λ (es, j). gives (Ok (first_block es, j))) r
 
 -- `toml = expression *( newline expression )`
 unfoldable pub document : List ℕ → ℕ → Reading (List Block)
