@@ -89,8 +89,8 @@ fn in_order(table: &Table<'_>)
     let _ = table.len();
 }
 
-/// The table of what these branches have become, and of these values. Only want of memory is refused, and
-/// none is wanted where there are no branches.
+/// The table of what these branches have become, and of these values. The error is that memory ran out;
+/// without branches none is asked for.
 #[cycle(finish)]
 pub fn into_table<'de>(
     tables: Branches<'de>,

@@ -37,7 +37,8 @@ pub struct Mark {
     pub sort: Sort,
     /// The part of the header or of the dotted key that names the path.
     pub key: Span,
-    /// The header's line. Of an assignment, and of a part of its key, the value.
+    /// The header's line, from its first bracket to behind its line end. Of an assignment, and of a part of
+    /// its key, the value, which no clash tells.
     pub line: Span,
     /// Where the branch stands if this claim decides: the header's section, or the assigned value.
     pub extent: Span,

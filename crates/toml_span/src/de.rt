@@ -81,9 +81,9 @@ pub fn parse<'de>(alloc: Global, s: &'de str) -> Result<Value<'de>, Stop<Error<'
     parse_with_limit(alloc, s, LIMIT)
 }
 
-/// The tree of a document. A value may be so many brackets, braces and key parts deep, and a header and
-/// a dotted key may have so many parts, as `limit` says, which is from 1 to 128. The errors are those of
-/// `parse`, and `ExceededDepthLimit` comes at this limit.
+/// The tree of a TOML 1.1 document, its spans in bytes of `s`. A value may be `limit` brackets, braces and key
+/// parts deep, and a header and a dotted key may have `limit` parts; what is deeper is `ExceededDepthLimit`.
+/// The other errors are those of `parse`. `limit` is from 1 to 128, which nothing tests at run time.
 pub fn parse_with_limit<'de>(
     alloc: Global,
     s: &'de str,

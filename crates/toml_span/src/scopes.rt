@@ -28,8 +28,8 @@ use toml_span_lex::span::Span;
 use toml_span_read::{Assignment, DottedKey, Val, ValKind};
 use toml_span_tree::{Array, Table, Value, ValueInner};
 
-/// Up to so many assignments are taken apart without giving their memory back on the way, which takes
-/// time: the system clears memory that is asked for anew.
+/// A list of at most so many assignments keeps its block until all are placed. Giving it back on the way
+/// takes time, since the system clears memory that is asked for anew.
 const SHORT_LIST: usize = 65_536;
 
 /// The claim of a part of an assignment's key.

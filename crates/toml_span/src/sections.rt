@@ -100,7 +100,8 @@ fn pass_child<'de>(
     pass_header(alloc, child.as_mut(), part, rest, head, pairs)
 }
 
-/// From the branch of a part on: into the latest element where it is an array of tables.
+/// Places a section from the branch of a part on. A part that is not the last one leads into the latest
+/// element of an array of tables (TOML 1.1, Array of Tables).
 #[cycle(place_section)]
 fn pass_header<'de>(
     alloc: Global,

@@ -8,7 +8,8 @@ use std::borrow::CowStr;
 use std::fmt;
 use std::fmt::{Debug, Display, Formatter, Write};
 
-/// A key of a table: its name, and the bytes at which it stands.
+/// A key of a table: its name, and the bytes at which it stands. Of a quoted key these are its content, or
+/// its opening quote where it is empty.
 ///
 /// Two keys compare by their names alone, in the order of the names' bytes.
 #[derive(Drop)]

@@ -36,7 +36,8 @@ fn is_plain(quote: u8, byte: u8) -> bool
     is_printed(byte) && byte != quote && !(quote == b'"' && byte == b'\\')
 }
 
-/// The same, mostly by one look at a table.
+/// As `is_plain`, mostly by one look at a table: faster for one byte. `all_plain` goes without the table, so that
+/// it is compiled to vector instructions.
 #[inline(always)]
 fn is_plain_alone(quote: u8, byte: u8) -> bool
     ensures { result ≡ spec.is_plain quote byte }

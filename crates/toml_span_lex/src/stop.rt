@@ -5,8 +5,8 @@ use std::fmt::{Display, Formatter, Write};
 
 /// Why a call gave no value: memory ran out, or the call has a fault to tell.
 ///
-/// `Memory`: the allocator refused a request during the call. Tests show that, since no contract can say it; only
-/// `toml_span_serde` answers it too where a position or a count is past what an integer holds.
+/// `Memory`: the allocator refused a request during the call. No contract can say so; tests show it.
+/// `toml_span_serde` answers it also where a position or a count is past what an integer holds.
 #[derive(Debug, Drop)]
 pub enum Stop<E> {
     Memory(AllocError),

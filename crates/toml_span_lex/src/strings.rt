@@ -212,7 +212,7 @@ pub fn string_at(
     }
 }
 
-/// The span of a string.
+/// The span of a string's content, or of its opening quote where it is empty and on one line.
 fn content_span(multi: bool, at: usize, from: usize, to: usize) -> Span
     requires { at < usize.MAX }
     ensures { result ≡ spec.content_span multi at from to }

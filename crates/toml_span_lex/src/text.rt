@@ -5,7 +5,8 @@ ghost use Rattle.toml_span_lex.specs.Text as spec;
 ghost use Rattle.toml_span_lex.specs.code.Text as code;
 ghost use Rattle.toml_span_lex.specs.Text.{CharAt};
 
-/// The character at a place, and where the next one begins.
+/// The character at the byte offset `at`, and the offset of the next one. A carriage return with a line
+/// feed is one character, `'\n'`.
 pub fn char_at(text: &str, at: usize) -> (char, usize)
     requires boundary { IsCharBoundary text.now at }
     requires within { at < length text.now }

@@ -24,8 +24,8 @@ use std::marker::Model;
 /// A text, and how far it has been read: an offset between two characters, where a carriage return
 /// with a line feed is one.
 ///
-/// After want of memory a call can be made again. After a fault the tokenizer stands behind the
-/// character that the fault names, so that reading can go on there.
+/// Where memory ran out a call can be made again. After a fault the tokenizer stands further on, as
+/// each call says, so that reading can go on there.
 #[derive(Drop)]
 pub struct Tokenizer<'a> {
     input: &'a str,
@@ -160,8 +160,9 @@ impl<'a> Tokenizer<'a> {
 
     /// The next token with its span, or `None` at the end of the text.
     ///
-    /// Where no token stands it tells the fault that does, and stands behind the character that the
-    /// fault names, or at the end of the text for a string that is not closed.
+    /// Where no token stands it tells the fault that does. It then stands behind the character that the
+    /// fault names, behind the digits or blanks of a refused escape, or at the end of the text for a
+    /// string that is not closed.
     pub fn step(&mut self, alloc: Global) -> Result<Option<(Span, Token<'a>)>, Stop<Error>>
         ensures text { self.new.text ≡ self.old.text }
         ensures step { spec.StepGives self.old.text self.old.at result self.new.at }
@@ -210,7 +211,8 @@ impl<'a> Tokenizer<'a> {
 
     /// Whether the next token is the expected one, contents included: then it is eaten.
     ///
-    /// Where another token stands, none, or a fault, nothing changes.
+    /// Another token and the end of the text are `false`. With these, with a fault and where memory ran
+    /// out nothing changes.
     pub fn eat(&mut self, alloc: Global, expected: Token<'a>) -> Result<bool, Stop<Error>>
         ensures text { self.new.text ≡ self.old.text }
         ensures eats { spec.Eats self.old result (lexeme expected.entry) self.new }
@@ -357,8 +359,8 @@ impl<'a> Tokenizer<'a> {
 
     /// Eats a comment (`comment-start-symbol *non-eol`) and the line end behind it, and says whether one stands here.
     ///
-    /// A control character that ends the comment and no line end begins there is `Unexpected`, and
-    /// the tokenizer stands behind it.
+    /// A control character that ends the comment, and is no line end, is the fault `Unexpected`, and the
+    /// tokenizer stands behind it. At the end of the text no line end is needed.
     pub fn eat_comment(&mut self) -> Result<bool, Error>
         ensures text { self.new.text ≡ self.old.text }
         ensures comment { spec.EatsComment self.old.text self.old.at result self.new.at }

@@ -77,7 +77,7 @@ fn date_end(text: &str, at: usize) -> usize
     }
 }
 
-/// The date or time at a place, and where it ends, or the fault.
+/// The date or time at a place, and where it ends; or `InvalidDatetime`, over all bytes that could belong to it.
 ///
 /// `date-time = offset-date-time / local-date-time / local-date / local-time` (TOML 1.1, Offset Date-Time)
 pub fn date<'de>(text: &'de str, at: usize) -> Result<(DateText<'de>, usize), Fault>

@@ -122,8 +122,8 @@ fn value_end<'de>(next: &Assignment<'de>) -> usize
     next.value.span.end
 }
 
-/// The earlier values of a section or an inline table. Only once a key is met that has more parts than
-/// one of them are they put in by path.
+/// The earlier values of a section or an inline table, by path. They are put into the tree only once a key
+/// has more inner parts than an earlier one: until then no key can go through an earlier value.
 #[derive(Drop)]
 pub(crate) struct Earlier<'de> {
     /// The fewest inner parts that a key has.

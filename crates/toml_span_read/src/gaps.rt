@@ -108,13 +108,13 @@ pub(crate) fn opened(text: &str, at: usize) -> usize
     gap_end(text, behind_byte(text, at))
 }
 
-/// What is behind an element of an array or a pair of an inline table.
+/// What is behind an element of an array or a pair of an inline table, with a byte offset.
 pub enum Behind {
-    /// A comma, with the gap behind it.
+    /// A comma: the offset behind it and the gap that follows.
     Comma(usize),
-    /// The closing bracket.
+    /// The closing bracket: the offset behind it.
     Closed(usize),
-    /// Another token than these two.
+    /// Neither: the offset of the other token, or of the end of the text.
     Neither(usize),
 }
 

@@ -58,8 +58,8 @@ fn digit(byte: u8, radix: u8) -> Option<u8>
     if value < radix { Some(value) } else { None }
 }
 
-/// Where the digits end that begin a piece of a number at `from`, with single underscores between them,
-/// or the span of the fault.
+/// Where the digits end that begin a piece of a number at `from`, with single underscores between them. Else
+/// the fault `InvalidNumber`: from a leading underscore on, or else of the whole piece.
 ///
 /// `zero-prefixable-int = DIGIT *( DIGIT / underscore DIGIT )` (TOML 1.1, Float)
 fn digits_end(text: &str, piece: Span, from: usize, radix: u8) -> Result<usize, Fault>
@@ -371,8 +371,8 @@ fn special_end(
     }
 }
 
-/// The number whose first character is at `start`, with its first run from `first` on, and where it
-/// ends.
+/// The number whose first character is at `start` and whose first run, behind a plus, is `first`; and where
+/// it ends, or the fault.
 #[tactic(auto, unfolding(crate::specs::Numerals::unsigned))]
 fn unsigned(text: &str, start: usize, first: Span) -> Result<(Numeral, usize), Fault>
     requires some { first.start < first.end }

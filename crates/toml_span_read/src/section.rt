@@ -14,8 +14,8 @@ pub struct Section<'de> {
     /// From the header's first bracket to behind its line end, or to the end of the text. `0..0` where
     /// there is no header.
     pub header_span: Span,
-    /// From the header's first bracket to the end of the last assignment, or the header's span where it
-    /// has no assignment.
+    /// From the header's first bracket, or without a header from the first assignment, to the end of the
+    /// last assignment. The header's span where it has no assignment.
     pub extent: Span,
     pub assignments: Vec<Assignment<'de>>,
 }

@@ -9,7 +9,8 @@ use toml_span_tree::{DateText, FloatText};
 #[derive(Debug, Drop)]
 pub struct Val<'de> {
     pub kind: ValKind<'de>,
-    /// Of a string its content, of another value all of it, brackets and a plus included.
+    /// Of a string its content, or its opening quote where it is empty and on one line. Of another value all
+    /// of it, brackets and a plus included.
     pub span: Span,
 }
 

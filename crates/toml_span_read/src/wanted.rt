@@ -192,7 +192,8 @@ fn found_at(alloc: Global, text: &str, at: usize) -> Result<(Found, usize), Stop
     }
 }
 
-/// The fault of a place where another token stands than the one that is due.
+/// The fault of a place where another token stands than the one that is due: `Wanted`, whose span is as long as
+/// the words for what was found, and so may end past the text. Or the fault of what is no token.
 pub(crate) fn wanted(alloc: Global, text: &str, at: usize, expected: Due) -> Stop<Fault>
     requires { IsCharBoundary text.now at }
     ensures fault { WantedGives text.now at expected result }

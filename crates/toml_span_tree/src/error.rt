@@ -7,8 +7,8 @@ use std::borrow::CowStr;
 use toml_span_lex::span::Span;
 use toml_span_lex::stop::Stop;
 
-/// What is wrong. A kind marked `Of a read` comes from typed reads of a tree, any other from `parse`, and
-/// `Wanted` from both.
+/// What is wrong. A kind marked `Of a read` comes from typed reads of a tree, any other from `parse`;
+/// `Wanted` and `DuplicateKey` come from both. Spans are byte offsets, their end exclusive.
 #[derive(Debug, Drop)]
 pub enum ErrorKind<'s> {
     /// The end of the text in the place of a value.
@@ -77,8 +77,8 @@ pub enum ErrorKind<'s> {
         expected: &'s [&'s str],
         value: Option<String>,
     },
-    /// An error with a code and a message of the caller's, and with other places, each with what is said of it.
-    /// Of a read; no call of the library tells it.
+    /// An error with a code and a message of its own, and with other places, each with what is said of it. Of a
+    /// read: of `TableHelper::keep_repeated` (`duplicate-name`), of `toml_span_serde`, and of callers.
     Marked {
         code: &'s str,
         message: CowStr<'s>,

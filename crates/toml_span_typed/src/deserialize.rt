@@ -33,7 +33,9 @@ pub trait Deserialize<'de>: Sized + Drop {
 
     ghost starved: { Node → Node → Type 0 } = { λ _ _. Unit {0} };
 
-    /// Reads the value, of which nothing may be taken, neither here nor below (`is_whole`).
+    /// Reads the value, of which nothing may be taken, neither here nor below (`is_whole`). The fault has all
+    /// errors, in the order in which they were met. What is left of the value the implementation says:
+    /// `reads`, and `starved` where memory ran out.
     fn deserialize(alloc: Global, value: &mut Value<'de>) -> Result<Self, Stop<DeserError<'de>>>
         requires { IsTrue (is_whole (view value.old)) }
         ensures { Answers reads starved (view value.old) result (view value.new) };
