@@ -21,5 +21,5 @@ returns-clause-places c =
     (opening c.args.head TableElement (simple_key c.args.part.now) (key_value_claims (map key_value c.args.pairs.items) [])) refl c.new-entry.ensures.fresh refl refl refl c.in_ok-push.ensures.items c.in_ok-open_table.ensures.places
 
 pub returns-clause-borrows : goal.returns-clause-borrows
-returns-clause-borrows c = λ text ps pairs before.
-    keeps_pushed text ps c.args.node.now _ c.new-entry.result c.open_table.new.node c.new-entry.ensures.bare refl refl c.in_ok-push.ensures.items (c.in_ok-open_table.ensures.borrows text ps pairs) before
+returns-clause-borrows c = λ text pairs before.
+    keeps_pushed text c.args.part.now.span c.args.node.now _ c.new-entry.result c.open_table.new.node c.new-entry.ensures.bare refl refl refl c.in_ok-push.ensures.items (c.in_ok-open_table.ensures.borrows text pairs) before

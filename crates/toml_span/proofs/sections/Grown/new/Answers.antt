@@ -6,7 +6,7 @@ pub returns-clause-grows : goal.returns-clause-grows
 returns-clause-grows c = grows-none c.new.result c.new.ensures.fresh
 
 pub returns-clause-borrows : goal.returns-clause-borrows
-returns-clause-borrows c = λ text ps. rw c.new.ensures.bare tt
+returns-clause-borrows c = λ text. rw c.new.ensures.bare tt
 
 pub returns-clause-bare : goal.returns-clause-bare
 returns-clause-bare c = (refl, c.new.ensures.fresh.no_tables)
