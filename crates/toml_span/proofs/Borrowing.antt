@@ -13,7 +13,7 @@ use Rattle.toml_span.specs.declared.claims.Mark.{Mark}
 use Rattle.toml_span.specs.declared.claims.Halt.{Halt}
 use Rattle.toml_span.specs.Clashes.{or_else}
 use Rattle.toml_span.specs.Borrowed.{Standing, IsBorrowedRight, AreBorrowedRight}
-use Rattle.toml_span.specs.code.Borrowed.{Marked, node_step, marked, named_standing, first_key, own_held, standing, value_standing, values_standing, box_standing, boxes_standing, entries_of, Keeps, KeepsName, IsWrittenAt}
+use Rattle.toml_span.specs.code.Borrowed.{Contents, node_step, contents, named_standing, name_span, own_held, standing, value_standing, values_standing, box_standing, boxes_standing, entries_of, Keeps, KeepsName, IsWrittenAt}
 use Rattle.toml_span.specs.code.Marks.{remember}
 use Rattle.toml_span.specs.code.Tree.{is_named, entries, marks, IsFresh}
 use Rattle.toml_span.proofs.Claimed.{remember-cases}
@@ -26,26 +26,30 @@ use Rattle.toml_span_read.specs.Borrowed.{Written, IsWrittenRight, AreWrittenRig
 
 -- ---- a level at a time
 
-marked_is : (n : Branch) → (marked n).0 ≡ marks n
-marked_is n = ap (λ x. (marked x).0) (sym (roll-out n)) ∙ ap (λ (x : Marked). x.0) (fold-roll-Branch Marked node_step (out-Branch n))
+contents_marks : (n : Branch) → (contents n).0 ≡ marks n
+contents_marks n = ap (λ x. (contents x).0) (sym (roll-out n)) ∙ ap (λ (x : Contents). x.0) (fold-roll-Branch Contents node_step (out-Branch n))
 
-boxes_map : (f : Key × Box Branch → Key × Box Marked) → ((e : Key × Box Branch) → (f e).0 ≡ e.0) → ((e : Key × Box Branch) → box_value (f e).1 ≡ marked (box_value e.1)) → (es : List (Key × Box Branch))
+boxes_map : (f : Key × Box Branch → Key × Box Contents) → ((e : Key × Box Branch) → (f e).0 ≡ e.0) → ((e : Key × Box Branch) → box_value (f e).1 ≡ contents (box_value e.1)) → (es : List (Key × Box Branch))
     → joined (map named_standing (map f es)) ≡ boxes_standing es
 boxes_map f names boxes [] = refl
-boxes_map f names boxes (e ∷ es) = rw (names e, boxes e, marked_is (box_value e.1), boxes_map f names boxes es) refl
+boxes_map f names boxes (e ∷ es) = rw (names e, boxes e, contents_marks (box_value e.1), boxes_map f names boxes es) refl
 
-entries_map : (ns : List Branch) → joined (map (λ x. x.1) (map marked ns)) ≡ entries_of ns
+entries_map : (ns : List Branch) → joined (map (λ x. x.1) (map contents ns)) ≡ entries_of ns
 entries_map [] = refl
 entries_map (n ∷ ns) = ap (λ l. standing n ++ l) (entries_map ns)
 
 pub standing-roll : (b : Branch-F Branch) → standing (roll-Branch b) ≡ values_standing b.values.entries ++ (boxes_standing b.tables.entries ++ entries_of b.entries.items)
 standing-roll b =
-    ap (λ (x : Marked). x.1) (fold-roll-Branch Marked node_step b)
-    ∙ ap (λ z. values_standing b.values.entries ++ (z ++ joined (map (λ x. x.1) (map marked b.entries.items)))) (boxes_map _ (λ e. refl) (λ e. refl) b.tables.entries)
+    ap (λ (x : Contents). x.1) (fold-roll-Branch Contents node_step b)
+    ∙ ap (λ z. values_standing b.values.entries ++ (z ++ joined (map (λ x. x.1) (map contents b.entries.items)))) (boxes_map _ (λ e. refl) (λ e. refl) b.tables.entries)
     ∙ ap (λ z. values_standing b.values.entries ++ (boxes_standing b.tables.entries ++ z)) (entries_map b.entries.items)
 
 pub standing_is : (n : Branch) → standing n ≡ values_standing (out-Branch n).values.entries ++ (boxes_standing (out-Branch n).tables.entries ++ entries_of (out-Branch n).entries.items)
 standing_is n = ap standing (sym (roll-out n)) ∙ standing-roll (out-Branch n)
+
+-- in a fresh branch nothing stands
+pub fresh-bare : (n : Branch) → IsFresh n → standing n ≡ []
+fresh-bare n fresh = standing_is n ∙ rw (fresh.no_values, fresh.no_tables, fresh.no_entries)
 
 marks-roll : (b : Branch-F Branch) → marks (roll-Branch b) ≡ b.marks.items
 marks-roll b = ap (λ (n : Branch-F Branch). n.marks.items) (out-roll b)
@@ -60,14 +64,14 @@ err_ok r Q P h = grind (arith, nat_tests, common_steps)
 
 -- ---- where names are written
 
-first-remember : (ms : List Mark) (m : Mark) → first_key (remember ms m) ≡ or_else (first_key ms) (Some m.key)
+first-remember : (ms : List Mark) (m : Mark) → name_span (remember ms m) ≡ or_else (name_span ms) (Some m.key)
 first-remember [] m = refl
 first-remember (x ∷ ms) m = grind (arith, nat_tests, common_steps, remember-cases)
 
 -- of a branch that is claimed once more
-written-remember : (next at : Span) (n : Branch) (m : Mark) → m.key ≡ next → IsWrittenAt next at n → first_key (remember (marks n) m) ≡ Some at
+written-remember : (next at : Span) (n : Branch) (m : Mark) → m.key ≡ next → IsWrittenAt next at n → name_span (remember (marks n) m) ≡ Some at
 written-remember next at n m key (inl is) = first-remember (marks n) m ∙ ap (λ o. or_else o (Some m.key)) is
-written-remember next at n m key (inr (fresh, same)) = first-remember (marks n) m ∙ ap (λ ms. or_else (first_key ms) (Some m.key)) fresh.no_marks ∙ ap (λ s. Some s) (key ∙ same)
+written-remember next at n m key (inr (fresh, same)) = first-remember (marks n) m ∙ ap (λ ms. or_else (name_span ms) (Some m.key)) fresh.no_marks ∙ ap (λ s. Some s) (key ∙ same)
 
 -- ---- parts and wholes
 
@@ -118,7 +122,7 @@ module _ (text : List ℕ) where
         all_append Borrows (g (e.0, v)) (joined (map g es)) (next e.0 (subst (λ y. AreBorrowedRight text (g (e.0, y))) is (all_front Borrows (g e) (joined (map g es)) h))) (all_behind Borrows (g e) (joined (map g es)) h))
         (λ more same.
         all_append Borrows (g e) (joined (map g (insert_entry key_cmp es k v))) (all_front Borrows (g e) (joined (map g es)) h)
-            (insert_again k x v es (rw more at found) (cc) next (all_behind Borrows (g e) (joined (map g es)) h))) same
+        (insert_again k x v es (rw more at found) (cc) next (all_behind Borrows (g e) (joined (map g es)) h))) same
 
   -- a branch among those by name
   box_found : (test : Key → Bool) (x : Box Branch) (es : List (Key × Box Branch)) → lookup test es ≡ Some x → AreBorrowedRight text (boxes_standing es) → AreBorrowedRight text (standing (box_value x))
@@ -158,7 +162,7 @@ module _ (text : List ℕ) where
   Kept old new = AreBorrowedRight text (standing new) × (marks new ≡ marks old)
 
   abbrev KeptName : Span → Branch → Branch → Type 0
-  KeptName next old new = AreBorrowedRight text (standing new) × ((at : Span) → IsWrittenAt next at old → first_key (marks new) ≡ Some at)
+  KeptName next old new = AreBorrowedRight text (standing new) × ((at : Span) → IsWrittenAt next at old → name_span (marks new) ≡ Some at)
 
   pub keeps_same : (a n new : Branch) (r : Result (Unit {0}) Halt) → a ≡ n → Keeps text a new r → Keeps text n new r
   keeps_same a n new r is keep = subst (λ x. Keeps text x new r) is keep
@@ -170,13 +174,13 @@ module _ (text : List ℕ) where
   pub keeps_marked : (n : Branch) (b : Branch-F Branch) (m : Mark) (next : Span) (new : Branch) (r : Result (Unit {0}) Halt) → m.key ≡ next → b.marks.items ≡ remember (marks n) m
       → b.values ≡ (out-Branch n).values → b.tables ≡ (out-Branch n).tables → b.entries.items ≡ entries n → Keeps text (roll-Branch b) new r → KeepsName text next n new r
   keeps_marked n b m next new r key claims values tables items keep h =
-      ok_map r (Kept (roll-Branch b) new) (KeptName next n new) (λ k. (k.0, λ at is. ap first_key (k.1 ∙ marks-roll b ∙ claims) ∙ written-remember next at n m key is)) (keep (rw (standing-roll b, values, tables, items, ← standing_is n) h))
+      ok_map r (Kept (roll-Branch b) new) (KeptName next n new) (λ k. (k.0, λ at is. ap name_span (k.1 ∙ marks-roll b ∙ claims) ∙ written-remember next at n m key is)) (keep (rw (standing-roll b, values, tables, items, ← standing_is n) h))
 
   -- an array of tables is claimed no more
   pub keeps_array : (next : Span) (n new : Branch) (r : Result (Unit {0}) Halt) → (entries n ≡ [] → ⊥) → Keeps text n new r → KeepsName text next n new r
-  keeps_array next n new r some keep h = ok_map r (Kept n new) (KeptName next n new) (λ k. (k.0, λ at is. ap first_key k.1 ∙ stays at is)) (keep h)
+  keeps_array next n new r some keep h = ok_map r (Kept n new) (KeptName next n new) (λ k. (k.0, λ at is. ap name_span k.1 ∙ stays at is)) (keep h)
     where
-      stays : (at : Span) → IsWrittenAt next at n → first_key (marks n) ≡ Some at
+      stays : (at : Span) → IsWrittenAt next at n → name_span (marks n) ≡ Some at
       stays at (inl is) = is
       stays at (inr fresh) = absurd (some fresh.0.no_entries)
 
@@ -190,13 +194,13 @@ module _ (text : List ℕ) where
       (λ k. (
         node_of text (record { marks = (out-Branch n).marks; values = (out-Branch n).values; tables = tables; entries = (out-Branch n).entries }) inside.0
             (rw (is, inserted) (insert_again text (Box Branch) box_standing c x w (out-Branch n).tables.entries found (ap keys_of (sym inserted) ∙ same)
-            (λ l right. (named l (first_key (marks (box_value x))) refl right.0 k.1, k.0)) inside.1)) inside.2,
+            (λ l right. (named l (name_span (marks (box_value x))) refl right.0 k.1, k.0)) inside.1)) inside.2,
         marks-roll (record { marks = (out-Branch n).marks; values = (out-Branch n).values; tables = tables; entries = (out-Branch n).entries }),
       ))
       (keep (box_found text _ x (out-Branch n).tables.entries found inside.1))
     where
-      named : (l : Key) (o : Option Span) → first_key (marks (box_value x)) ≡ o → IsBorrowedRight text (l.name, o) → ((at : Span) → IsWrittenAt next at (box_value x) → first_key (marks (box_value w)) ≡ Some at)
-          → IsBorrowedRight text (l.name, first_key (marks (box_value w)))
+      named : (l : Key) (o : Option Span) → name_span (marks (box_value x)) ≡ o → IsBorrowedRight text (l.name, o) → ((at : Span) → IsWrittenAt next at (box_value x) → name_span (marks (box_value w)) ≡ Some at)
+          → IsBorrowedRight text (l.name, name_span (marks (box_value w)))
       named l None is right stays = absurd right
       named l (Some at) is right stays = rw (stays at (inl is)) right
 
@@ -204,8 +208,8 @@ module _ (text : List ℕ) where
   pub keeps_new : (n : Branch) (tables made : BTreeMap Key (Box Branch)) (k c : Key) (x : Branch) (w : Box Branch) (r : Result (Unit {0}) Halt)
       → cow_str_bytes c.name ≡ cow_str_bytes k.name → (IsBorrowedStr k.name → IsBorrowedStr c.name) → (IsBorrowedStr c.name → IsBorrowedStr k.name)
       → made.entries ≡ insert_entry key_cmp (out-Branch n).tables.entries c w → tables ≡ made → lookup_entry (is_named (cow_str_bytes c.name)) (out-Branch n).tables.entries ≡ None
-      → IsFresh x → standing x ≡ [] → IsWrittenRight text (key_written k) → KeepsName text k.span x (box_value w) r → Keeps text n (with_tables n tables) r
-  keeps_new n tables made k c x w r same forth back inserted is free fresh bare key keep h =
+      → IsFresh x → IsWrittenRight text (key_written k) → KeepsName text k.span x (box_value w) r → Keeps text n (with_tables n tables) r
+  keeps_new n tables made k c x w r same forth back inserted is free fresh key keep h =
       let inside = of_node text n h in
       ok_map r (KeptName k.span x (box_value w)) (Kept n (with_tables n tables))
       (λ kept.
@@ -214,7 +218,7 @@ module _ (text : List ℕ) where
             (rw (is, inserted) (insert_new text (Box Branch) box_standing c w (out-Branch n).tables.entries free here inside.1)) inside.2,
         marks-roll (record { marks = (out-Branch n).marks; values = (out-Branch n).values; tables = tables; entries = (out-Branch n).entries }),
       ))
-      (keep (rw bare tt))
+      (keep (rw (fresh-bare x fresh) tt))
 
   pub keeps_value : (n : Branch) (b : Branch-F Branch) (k : Key) (v : Value) → lookup_entry (is_named (cow_str_bytes k.name)) (out-Branch n).values.entries ≡ None
       → b.marks.items ≡ marks n → b.tables ≡ (out-Branch n).tables → b.entries.items ≡ entries n → b.values.entries ≡ insert_entry key_cmp (out-Branch n).values.entries k v
@@ -223,7 +227,7 @@ module _ (text : List ℕ) where
   keeps_value n b k v free claims tables items inserted key right h =
       let inside = of_node text n h in (
         rw (standing-roll b, tables, items, inserted)
-        (all_append (Borrows text) _ _ (insert_new text Value value_standing k v (out-Branch n).values.entries free (key, right (Some k.span)) inside.0) (search (rules, all_append))),
+            (all_append (Borrows text) _ _ (insert_new text Value value_standing k v (out-Branch n).values.entries free (key, right (Some k.span)) inside.0) (search (rules, all_append))),
         marks-roll b ∙ claims,
       )
 
@@ -254,9 +258,9 @@ module _ (text : List ℕ) where
       let inside = of_node text n h in
       ok_map r (KeptName next x w) (Kept n (roll-Branch b)) (λ made. let right = made.0 in (rw (standing-roll b, values, tables, items) (search (rules, all_append, entries_set)), marks-roll b ∙ claims)) (keep (entry_at m (entries n) x within is inside.2)))
 
-  pub keeps_pushed : (next : Span) (n : Branch) (b : Branch-F Branch) (x w : Branch) → standing x ≡ [] → b.marks.items ≡ marks n → b.values ≡ (out-Branch n).values → b.tables ≡ (out-Branch n).tables
+  pub keeps_pushed : (next : Span) (n : Branch) (b : Branch-F Branch) (x w : Branch) → IsFresh x → b.marks.items ≡ marks n → b.values ≡ (out-Branch n).values → b.tables ≡ (out-Branch n).tables
       → b.entries.items ≡ entries n ++ (w ∷ []) → KeepsName text next x w (Ok tt) → AreBorrowedRight text (standing n) → AreBorrowedRight text (standing (roll-Branch b)) × (marks (roll-Branch b) ≡ marks n)
-  keeps_pushed next n b x w bare claims values tables items keep h =
+  keeps_pushed next n b x w fresh claims values tables items keep h =
       let inside = of_node text n h in
-      let made : AreBorrowedRight text (standing w) = (keep (rw bare tt)).0 in
+      let made : AreBorrowedRight text (standing w) = (keep (rw (fresh-bare x fresh) tt)).0 in
       (rw (standing-roll b, values, tables, items) (search (rules, all_append, entries_push)), marks-roll b ∙ claims)

@@ -32,7 +32,7 @@ use Rattle.toml_span.proofs.Ordered.{each-named, members-ordered, none-again}
 use Rattle.toml_span_read.proofs.BorrowLemmas.{all_append}
 use Rattle.toml_span.specs.Borrowed.{held, KeySpans, IsBorrowedRight, AreBorrowedRight}
 use Rattle.toml_span.specs.Clashes.{or_else}
-use Rattle.toml_span.specs.code.Borrowed.{array_held, box_standing, first_key, standing, table_held, value_standing, StaysRight}
+use Rattle.toml_span.specs.code.Borrowed.{array_held, box_standing, name_span, standing, table_held, value_standing, StaysRight}
 use Rattle.toml_span.specs.code.Machine.{key_spans, with_span}
 
 -- ---- values and branches by name
@@ -216,9 +216,9 @@ finished-ordered t left n none h ascend good =
 -- ---- what is borrowed
 
 -- the name of a branch is written at its first claim
-name-span : (ms : List Mark) → option_map (λ d. d.key) (own_cell ms).shown ≡ first_key ms
-name-span [] = refl
-name-span (m ∷ ms) = go (first_by_header (m ∷ ms))
+name-written : (ms : List Mark) → option_map (λ d. d.key) (own_cell ms).shown ≡ name_span ms
+name-written [] = refl
+name-written (m ∷ ms) = go (first_by_header (m ∷ ms))
   where
     go : (o : Option Mark) → option_map (λ d. d.key) (option_map (λ x. with_span m.key (by_mark x)) (or_else o (Some m))) ≡ Some m.key
     go None = refl
@@ -239,7 +239,7 @@ name-right text (Some b) old new e h apart is boxes values =
     let a = apart (box_value b.1) refl in
     let made = h a.0 in
     let right : EntryRight text (key_spans (cells (box_value b.1))) made.0 =
-        (rw (name-span (marks (box_value b.1)), made.2) boxes.0, (made.3 a.2).3 text boxes.1) in
+    (rw (name-written (marks (box_value b.1)), made.2) boxes.0, (made.3 a.2).3 text boxes.1) in
     rw (same_Some made.0 e (sym made.1 ∙ is)) at right
 
 -- the entries of a table

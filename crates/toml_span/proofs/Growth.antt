@@ -1,6 +1,6 @@
 -- What sections make, one after another.
 use Rattle.std.specs.Global.{Box}
-use Rattle.toml_span_lex.proofs.Common.{◌≡◌, ℕ, IfOk, List, [], ◌∷◌, ◌++◌, map, length, false, Option, Some, None, Ok, Err, refl, sym, subst, append_assoc, append-nil, ◌<◌, get_or, inr, Result, ap, ◌∙◌, IfSome, IfNone, is_some, BTreeMap, false≢true, arith, nat_tests, common_steps, rules}
+use Rattle.toml_span_lex.proofs.Common.{◌≡◌, ℕ, IfOk, List, [], ◌∷◌, ◌++◌, map, length, false, Option, Some, None, Ok, Err, refl, sym, subst, append_assoc, append-nil, ◌<◌, get_or, inr, Result, ap, ◌∙◌, IfSome, IfNone, is_some, BTreeMap, false≢true, arith, nat_tests, common_steps}
 use Rattle.toml_span_lex.specs.declared.key.Key.{Key}
 use Rattle.toml_span_lex.specs.declared.span.Span.{Span}
 use Rattle.toml_span_tree.specs.Node.{node}

@@ -1,6 +1,6 @@
--- Which of the strings and keys of a tree are borrowed: each exactly where it equals the text at the span at which it is
--- written. A string is written at its value's span, and a key where the first claim on its path has it: a table and an
--- array keep that name, also where another claim decides and gives the key its span.
+-- Which of the strings and keys of a tree are borrowed: each exactly where it equals the text where it is written. That
+-- is a string's span, and the first key that claims a path: a table or an array keeps its name also where a later claim
+-- decides and gives the key its span.
 use Rattle.std.specs.Global.{Global}
 use Rattle.std.specs.declared.borrow.CowStr.{CowStr}
 use Rattle.std.specs.Prelude.{ℕ, suc, List, [], ◌∷◌, ◌++◌, Option, Some, None, option_map, IsSomeAnd}

@@ -2,7 +2,6 @@
 ghost use Rattle.std.specs.Prelude.{◌≡◌, [], IfSome, IsOk};
 ghost use Rattle.toml_span.specs.Flat as kept;
 ghost use Rattle.toml_span.specs.code.Marks as code;
-ghost use Rattle.toml_span.specs.code.Borrowed.{standing};
 ghost use Rattle.toml_span.specs.code.Tree.{IsFresh};
 ghost use Rattle.toml_span.specs.code.Placing.{Becomes, EachBecomes, Finishes, NamesAscend};
 
@@ -38,7 +37,6 @@ impl<'de> Branch<'de> {
     /// A table on which nothing is claimed, and in which nothing stands.
     pub fn new(alloc: Global) -> Self
         ensures fresh { IsFresh result }
-        ensures bare { standing result ≡ [] }
     {
         Self {
             marks: SmallVec::new(alloc),

@@ -8,7 +8,7 @@ ghost use Rattle.toml_span_read.specs.Borrowed.{assignment_written, assignments_
 ghost use Rattle.toml_span_read.specs.Borrowed.{keys_written, written, AreWrittenRight, IsWrittenRight};
 ghost use Rattle.toml_span_read.specs.Data.{key_value, view, onto, no_items, ParsedValue as Read, parsed_span};
 ghost use Rattle.toml_span_read.specs.Keys.{simple_key as part_of};
-ghost use Rattle.toml_span.specs.code.Borrowed.{Keeps, KeepsName, ValueRight, own_elements, own_table, standing};
+ghost use Rattle.toml_span.specs.code.Borrowed.{Keeps, KeepsName, ValueRight, own_elements, own_table};
 ghost use Rattle.toml_span.specs.Borrowed.{AreBorrowedRight};
 ghost use Rattle.toml_span.specs.Claims.{assignment_claims, key_value_claims, item_claims};
 ghost use Rattle.toml_span.specs.code.Machine.{Gives, met};
@@ -74,7 +74,7 @@ pub(crate) fn fresh_child<'de>(
     key: &Key<'de>,
 ) -> Result<Box<Branch<'de>>, Halt>
     ensures { Gives result (met (closed_marks (closed_in (cow_str_bytes key.now.name) values.now)) mark
-        (cow_str_bytes key.now.name)) (λ child. IsFresh child.value × (standing child.value ≡ [])) }
+        (cow_str_bytes key.now.name)) (λ child. IsFresh child.value) }
 {
     admit_beside_value(alloc, values, mark, key)?;
     let child = Box::new(alloc, Branch::new(alloc))?;

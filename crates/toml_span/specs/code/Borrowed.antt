@@ -56,30 +56,32 @@ values_standing es = joined (map value_standing es)
 -- ---- branches
 
 -- a branch has its name from the first claim on it
-abbrev pub first_key : List Mark → Option Span
-first_key ms = option_map (λ m. m.key) (first ms)
+abbrev pub name_span : List Mark → Option Span
+name_span ms = option_map (λ m. m.key) (first ms)
 
 -- the claims on a branch, and what stands in it
-abbrev pub Marked : Type 0
-Marked = List Mark × List Standing
+abbrev pub Contents : Type 0
+Contents = List Mark × List Standing
 
-abbrev pub named_standing : Key × Box Marked → List Standing
-named_standing e = (e.0.name, first_key (box_value e.1).0) ∷ (box_value e.1).1
+abbrev pub named_standing : Key × Box Contents → List Standing
+named_standing e = (e.0.name, name_span (box_value e.1).0) ∷ (box_value e.1).1
 
-abbrev pub node_step : Branch-F Marked → Marked
-node_step n =
-    (n.marks.items, values_standing n.values.entries
-    ++ (joined (map named_standing n.tables.entries) ++ joined (map (λ x. x.1) n.entries.items)))
+abbrev pub node_step : Branch-F Contents → Contents
+node_step n = (
+  n.marks.items,
+  values_standing n.values.entries
+      ++ (joined (map named_standing n.tables.entries) ++ joined (map (λ x. x.1) n.entries.items)),
+)
 
-abbrev pub marked : Branch → Marked
-marked = fold-Branch Marked node_step
+abbrev pub contents : Branch → Contents
+contents = fold-Branch Contents node_step
 
 abbrev pub standing : Branch → List Standing
-standing n = (marked n).1
+standing n = (contents n).1
 
 -- a branch with its name, several, and entries
 abbrev pub box_standing : Key × Box Branch → List Standing
-box_standing e = (e.0.name, first_key (marks (box_value e.1))) ∷ standing (box_value e.1)
+box_standing e = (e.0.name, name_span (marks (box_value e.1))) ∷ standing (box_value e.1)
 
 abbrev pub boxes_standing : List (Key × Box Branch) → List Standing
 boxes_standing es = joined (map box_standing es)
@@ -97,14 +99,14 @@ Keeps text old new r =
 
 -- the branch's name is written here; or nothing is claimed on it, and its name will be written there
 abbrev pub IsWrittenAt : Span → Span → Branch → Type 0
-IsWrittenAt next at n = (first_key (marks n) ≡ Some at) ⊎ (IsFresh n × (next ≡ at))
+IsWrittenAt next at n = (name_span (marks n) ≡ Some at) ⊎ (IsFresh n × (next ≡ at))
 
 -- the same of a branch that is claimed by a key, and its name is written where it was before
 abbrev pub KeepsName : List ℕ → Span → Branch → Branch → Result (Unit {0}) Halt → Type 0
 KeepsName text next old new r =
     AreBorrowedRight text (standing old)
     → OnOk r (AreBorrowedRight text (standing new)
-    × ((at : Span) → IsWrittenAt next at old → first_key (marks new) ≡ Some at))
+    × ((at : Span) → IsWrittenAt next at old → name_span (marks new) ≡ Some at))
 
 -- the value, if there is one, is right by the spans of its own keys
 abbrev pub ValueRight : List ℕ → Result Value Halt → Type 0

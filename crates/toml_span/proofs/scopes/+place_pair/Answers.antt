@@ -1,4 +1,4 @@
-use Rattle.toml_span_lex.proofs.Common.{map, [], ◌≡◌, is_some, rules, refl, sym, ap, ◌∙◌, ⊤, map_with_value, Entry}
+use Rattle.toml_span_lex.proofs.Common.{map, is_some, rules, refl, sym, ap, ◌∙◌, ⊤, map_with_value, Entry}
 use Rattle.toml_span_read.specs.Keys.{simple_key}
 use Rattle.toml_span_read.proofs.EarlierTree.{parts-first}
 use Rattle.toml_span.specs.Claims.{pair_mark}
@@ -70,7 +70,7 @@ place_pair-returns-in_ok-child-in-Vacant-clause-places t c = λ d v due value sp
     let same = rw c.in-Vacant.is at c.in_ok-entry.ensures.same_map in
     let box = c.pass_child-in-Vacant.new.child in
     rw front (pair-placed c.args.node.now _ c.insert.result.now.value box.value (simple_key c.part-item.result) _ (simple_key d.last) v c.pass_child-in-Vacant.result
-    (starts-new _ _ _ missing (unclosed _ c.pair_mark-mark.result _ fresh.0 (ap (λ m. is_entry_sort m.sort) c.pair_mark-mark.ensures)) (rw c.insert.ensures.value fresh.1.0))
+    (starts-new _ _ _ missing (unclosed _ c.pair_mark-mark.result _ fresh.0 (ap (λ m. is_entry_sort m.sort) c.pair_mark-mark.ensures)) (rw c.insert.ensures.value fresh.1))
     (sets-entry c.args.node.now _ (map_with_value (Entry.Vacant c.in-Vacant.entry) box) (simple_key c.part-item.result).name clone.field-0 box clone.ensures.name (update.1 box) (search (rules, same))) (c.pass_child-in-Vacant.ensures.places d v due value span))
 
 pub place_pair-returns-in-Occupied-clause-borrows : goal.place_pair-returns-in-Occupied-clause-borrows
@@ -91,7 +91,6 @@ place_pair-returns-in_ok-child-in-Vacant-clause-borrows t c = λ text d due part
     let update = rw c.in-Vacant.is at c.in_ok-entry.ensures.update in
     let same = rw c.in-Vacant.is at c.in_ok-entry.ensures.same_map in
     let none = rw c.in-Vacant.is at c.in_ok-entry.ensures.found in
-    let fresh = c.in_ok-child-in-Vacant.ensures in
     let box = c.pass_child-in-Vacant.new.child in
     keeps_new text c.args.node.now _ (map_with_value (Entry.Vacant c.in-Vacant.entry) box) c.part-item.result clone.field-0 _ box c.pass_child-in-Vacant.result clone.ensures.name clone.ensures.borrowed clone.ensures.owned (update.1 box)
-    (search (rules, same)) (entry-missing (simple_key clone.field-0).name (out-Branch c.args.node.now).tables.entries none) (rw c.insert.ensures.value fresh.1.0) (rw c.insert.ensures.value fresh.1.1) front.0 (c.pass_child-in-Vacant.ensures.borrows text d due front.1 last value)
+    (search (rules, same)) (entry-missing (simple_key clone.field-0).name (out-Branch c.args.node.now).tables.entries none) (rw c.insert.ensures.value c.in_ok-child-in-Vacant.ensures.1) front.0 (c.pass_child-in-Vacant.ensures.borrows text d due front.1 last value)

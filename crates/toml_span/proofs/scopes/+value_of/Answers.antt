@@ -11,7 +11,7 @@ use Rattle.toml_span_read.specs.Data.{view}
 use Rattle.toml_span_read.specs.declared.value.ValKind.{the_lemmas}
 use Rattle.toml_span_read.specs.Borrowed.{assignment_written, written}
 use Rattle.toml_span.proofs.Placed.{err-of}
-use Rattle.toml_span.proofs.Borrowing.{assignment_right, first_right}
+use Rattle.toml_span.proofs.Borrowing.{assignment_right, first_right, fresh-bare}
 use Rattle.toml_span.proofs.HeldValues.{array_read, element_push, inline_read, made_array, made_table, plain_right, string_right}
 use Rattle.toml_span.proofs.Assignments.{inner-none, places-one, val_span, remains-first, placing-more, placing-err, placing-none, table-gives, table-err, table-own}
 use Rattle.toml_span.proofs.Values.{IsMade, made-more, elements-first, elements-err, elements-none, scalar-gives, array-reads, inline-reads, scope-gives, scope-err}
@@ -164,7 +164,7 @@ place_pairs-returns-clause-borrows t c = λ text h node. let kept = c.loop-pair.
 pub table_of-returns-clause-borrows : goal.table_of-returns-clause-borrows
 table_of-returns-clause-borrows t c = λ text h.
     table-own text c.new-scope.result c.place_pairs.new.node _ c.in_ok-into_table.field-0 c.new-scope.ensures.fresh c.in_ok-place_pairs.ensures.places c.in_ok-into_table.ensures.finishes
-    (c.in_ok-place_pairs.ensures.borrows text h (rw c.new-scope.ensures.bare tt)).0
+    (c.in_ok-place_pairs.ensures.borrows text h (rw (fresh-bare c.new-scope.result c.new-scope.ensures.fresh) tt)).0
 
 pub value_of-returns-clause-borrows : goal.value_of-returns-clause-borrows
 value_of-returns-clause-borrows t c = λ text h.

@@ -10,7 +10,4 @@ returns-in_err-admit_beside_value c =
     gives-err c.from_residual.result e _ _ _ _ (err-of c.from_residual.result e _ c.from_residual.ensures.1 (λ y p. p)) (λ t h. h) c.in_err-admit_beside_value.ensures
 
 pub returns : goal.returns
-returns c = (
-  c.in_ok-admit_beside_value.ensures.0,
-  (subst IsFresh (sym c.in_ok-child.ensures.ok) c.new.ensures.fresh, ap standing c.in_ok-child.ensures.ok ∙ c.new.ensures.bare),
-)
+returns c = (c.in_ok-admit_beside_value.ensures.0, subst IsFresh (sym c.in_ok-child.ensures.ok) c.new.ensures.fresh)

@@ -1,4 +1,4 @@
-use Rattle.toml_span_lex.proofs.Common.{arith, ◌≡◌, ◌-◌, ◌<◌, length, vec_len, ◌∙◌, [], map, refl, rules, sym, ⊤, map_with_value, false≢true, Entry, ap, is_some}
+use Rattle.toml_span_lex.proofs.Common.{arith, ◌-◌, ◌<◌, length, vec_len, ◌∙◌, [], map, refl, rules, sym, ⊤, map_with_value, false≢true, Entry, ap, is_some}
 use Rattle.std.proofs.lemmas.Bool.{eqb-true}
 use Rattle.toml_span_read.proofs.EarlierTree.{parts-first}
 use Rattle.toml_span_read.specs.Data.{key_value}
@@ -81,7 +81,7 @@ place_section-returns-in_ok-child-in-Vacant-clause-places t c =
     rw front (section-placed c.args.head (simple_key c.part-item.result)
     (key_value_claims (map key_value c.args.pairs.items) []) _ c.args.node.now _ c.insert.result.now.value box.value c.pass_child-in-Vacant.result
     (starts-new _ _ _ missing
-    (section-free c.args.head (simple_key c.part-item.result) (key_value_claims (map key_value c.args.pairs.items) []) _ c.args.node.now fresh.0) (rw c.insert.ensures.value fresh.1.0))
+    (section-free c.args.head (simple_key c.part-item.result) (key_value_claims (map key_value c.args.pairs.items) []) _ c.args.node.now fresh.0) (rw c.insert.ensures.value fresh.1))
     (sets-entry c.args.node.now _ (map_with_value (Entry.Vacant c.in-Vacant.entry) box) (simple_key c.part-item.result).name clone.field-0 box clone.ensures.name (update.1 box) (search (rules, same))) c.pass_child-in-Vacant.ensures.places)
 
 pub pass_child-returns-clause-places : goal.pass_child-returns-clause-places
@@ -135,7 +135,6 @@ place_section-returns-in_ok-child-in-Vacant-clause-borrows t c = λ text parts p
     let update = rw c.in-Vacant.is at c.in_ok-entry.ensures.update in
     let same = rw c.in-Vacant.is at c.in_ok-entry.ensures.same_map in
     let none = rw c.in-Vacant.is at c.in_ok-entry.ensures.found in
-    let fresh = c.in_ok-child-in-Vacant.ensures in
     let box = c.pass_child-in-Vacant.new.child in
     keeps_new text c.args.node.now _ (map_with_value (Entry.Vacant c.in-Vacant.entry) box) c.part-item.result clone.field-0 _ box c.pass_child-in-Vacant.result clone.ensures.name clone.ensures.borrowed clone.ensures.owned (update.1 box)
-    (search (rules, same)) (entry-missing (simple_key clone.field-0).name (out-Branch c.args.node.now).tables.entries none) (rw c.insert.ensures.value fresh.1.0) (rw c.insert.ensures.value fresh.1.1) front.0 (c.pass_child-in-Vacant.ensures.borrows text front.1 pairs)
+    (search (rules, same)) (entry-missing (simple_key clone.field-0).name (out-Branch c.args.node.now).tables.entries none) (rw c.insert.ensures.value c.in_ok-child-in-Vacant.ensures.1) front.0 (c.pass_child-in-Vacant.ensures.borrows text front.1 pairs)

@@ -22,4 +22,4 @@ returns-clause-places c =
 
 pub returns-clause-borrows : goal.returns-clause-borrows
 returns-clause-borrows c = λ text pairs before.
-    keeps_pushed text c.args.part.now.span c.args.node.now _ c.new-entry.result c.open_table.new.node c.new-entry.ensures.bare refl refl refl c.in_ok-push.ensures.items (c.in_ok-open_table.ensures.borrows text pairs) before
+    keeps_pushed text c.args.part.now.span c.args.node.now _ c.new-entry.result c.open_table.new.node c.new-entry.ensures.fresh refl refl refl c.in_ok-push.ensures.items (c.in_ok-open_table.ensures.borrows text pairs) before
