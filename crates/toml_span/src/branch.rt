@@ -36,7 +36,7 @@ pub struct Branch<'de> {
 impl<'de> Branch<'de> {
     /// A table on which nothing is claimed, and in which nothing stands.
     pub fn new(alloc: Global) -> Self
-        ensures fresh { IsFresh result }
+        ensures { IsFresh result }
     {
         Self {
             marks: SmallVec::new(alloc),

@@ -99,11 +99,11 @@ pub table_of-returns-in_err-place_pairs-clause-scope : goal.table_of-returns-in_
 table_of-returns-in_err-place_pairs-clause-scope t c =
     let q = c.from_residual.result in
     let e = c.in_err-place_pairs.field-0.0 in
-    table-err c.new-scope.result c.place_pairs.new.node _ (λ t. inner_view (Table t)) q e c.new-scope.ensures.fresh (err-of q e _ c.from_residual.ensures.1 (λ y p. p)) c.in_err-place_pairs.ensures.places
+    table-err c.new-scope.result c.place_pairs.new.node _ (λ t. inner_view (Table t)) q e c.new-scope.ensures (err-of q e _ c.from_residual.ensures.1 (λ y p. p)) c.in_err-place_pairs.ensures.places
 
 pub table_of-returns-clause-scope : goal.table_of-returns-clause-scope
 table_of-returns-clause-scope t c =
-    table-gives c.new-scope.result c.place_pairs.new.node _ c.in_ok-into_table.field-0 c.new-scope.ensures.fresh c.in_ok-place_pairs.ensures.places c.in_ok-into_table.ensures.finishes
+    table-gives c.new-scope.result c.place_pairs.new.node _ c.in_ok-into_table.field-0 c.new-scope.ensures c.in_ok-place_pairs.ensures.places c.in_ok-into_table.ensures.finishes
 
 pub value_of-returns-in_err-array_of-in-Array-clause-value : goal.value_of-returns-in_err-array_of-in-Array-clause-value
 value_of-returns-in_err-array_of-in-Array-clause-value t c =
@@ -163,8 +163,8 @@ place_pairs-returns-clause-borrows t c = λ text h node. let kept = c.loop-pair.
 
 pub table_of-returns-clause-borrows : goal.table_of-returns-clause-borrows
 table_of-returns-clause-borrows t c = λ text h.
-    table-own text c.new-scope.result c.place_pairs.new.node _ c.in_ok-into_table.field-0 c.new-scope.ensures.fresh c.in_ok-place_pairs.ensures.places c.in_ok-into_table.ensures.finishes
-    (c.in_ok-place_pairs.ensures.borrows text h (rw (fresh-bare c.new-scope.result c.new-scope.ensures.fresh) tt)).0
+    table-own text c.new-scope.result c.place_pairs.new.node _ c.in_ok-into_table.field-0 c.new-scope.ensures c.in_ok-place_pairs.ensures.places c.in_ok-into_table.ensures.finishes
+    (c.in_ok-place_pairs.ensures.borrows text h (rw (fresh-bare c.new-scope.result c.new-scope.ensures) tt)).0
 
 pub value_of-returns-clause-borrows : goal.value_of-returns-clause-borrows
 value_of-returns-clause-borrows t c = λ text h.
