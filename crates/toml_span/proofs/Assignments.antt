@@ -1,10 +1,11 @@
 -- Assignments placed one after another, and inline tables.
-use Rattle.toml_span_lex.proofs.Common.{◌≡◌, List, [], ◌∷◌, ◌==◌, true, map, vec_len, Option, None, option_map, Result, Ok, Err, BTreeMap, refl, sym, ap, ◌∙◌, arith, nil_from_length, nat_tests, common_steps}
+use Rattle.toml_span_lex.proofs.Common.{◌≡◌, ℕ, List, [], ◌∷◌, ◌==◌, true, map, vec_len, Option, None, option_map, Result, Ok, Err, BTreeMap, refl, sym, ap, ◌∙◌, subst, arith, nil_from_length, nat_tests, common_steps}
 use Rattle.std.proofs.lemmas.Bool.{eqb-true}
 use Rattle.toml_span_lex.specs.declared.key.Key.{Key}
 use Rattle.toml_span_tree.specs.Node as tree
 use Rattle.toml_span_tree.specs.Path.{Place, reached, place_of as tree_place}
-use Rattle.toml_span_tree.specs.Value.{inner_view}
+use Rattle.toml_span_tree.specs.Value.{inner_view, members_view}
+use Rattle.toml_span_tree.proofs.Values.{inner_view-Table}
 use Rattle.toml_span_tree.specs.declared.value.Value.{Value}
 use Rattle.toml_span_tree.specs.declared.value.ValueInner.TheVariants.{Table}
 use Rattle.toml_span_read.specs.Data.{KeyValue, view, key_value, parsed_span, simple_key}
@@ -16,13 +17,16 @@ use Rattle.toml_span.specs.declared.claims.Halt.TheVariants.{Memory, Clash}
 use Rattle.toml_span.specs.declared.branch.Branch.{Branch}
 use Rattle.toml_span.specs.declared.branch.Branch.TheViews.{out-Branch}
 use Rattle.toml_span.specs.Claims.{Claims, no_claims, followed, assignment_claims, key_value_claims}
-use Rattle.toml_span.specs.code.Machine.{State, nothing, show_all, put_all, clash_met}
+use Rattle.toml_span.specs.code.Machine.{State, key_spans, nothing, show_all, put_all, clash_met}
 use Rattle.toml_span.specs.code.Placing.{Places, ScopeGives, ShowsBelow, ShowsPlain, Finishes, place_shown}
 use Rattle.toml_span.specs.code.Relative.{pair_at}
-use Rattle.toml_span.specs.code.Tree.{marks, counts, plain, IsScope, IsFresh}
+use Rattle.toml_span.specs.Borrowed.{held, AreBorrowedRight}
+use Rattle.toml_span.specs.code.Borrowed.{own_spans, own_table, standing}
+use Rattle.toml_span.specs.code.Tree.{marks, cells, counts, plain, IsScope, IsFresh}
 use Rattle.toml_span.proofs.Absolute.{pair_at-is}
 use Rattle.toml_span.proofs.Grafts.{followed-assoc, followed-none, told-followed}
 use Rattle.toml_span.proofs.Placed.{gives-map, reaches-then}
+use Rattle.toml_span.proofs.HeldValues.{table-spans}
 use Rattle.toml_span.proofs.Nodes.{cells-fresh, scope-fresh}
 use Rattle.toml_span.proofs.Shown.{put_all-shown, shown-plain, key_values-no_header}
 
@@ -105,6 +109,20 @@ shows-plain i es st is h s p =
 pub table-gives : (old new : Branch) (es : List KeyValue) (table : BTreeMap Key Value) → IsFresh old → Places old new (Ok tt) (key_value_claims es []) (counts old)
     → Finishes (out-Branch new).tables (out-Branch new).values (Ok table) → ScopeGives (Ok table) (λ t. inner_view (Table t)) (key_value_claims es [])
 table-gives old new es table fresh placed finished = grind (arith, nat_tests, common_steps, cells-fresh, scope-fresh, shows-plain)
+
+-- what is right in the scope is right in the table, by the spans of its own keys
+pub table-own : (text : List ℕ) (old new : Branch) (es : List KeyValue) (t : BTreeMap Key Value) → IsFresh old → Places old new (Ok tt) (key_value_claims es []) (counts old)
+    → Finishes (out-Branch new).tables (out-Branch new).values (Ok t) → AreBorrowedRight text (standing new) → AreBorrowedRight text (own_table t.entries)
+table-own text old new es t fresh placed finished right =
+    let put = placed (scope-fresh old fresh) in
+    let shows = table-gives old new es t fresh placed finished in
+    let is : cells new ≡ put_all nothing (key_value_claims es []) = put.1.0 ∙ ap (λ st. put_all st (key_value_claims es [])) (cells-fresh old fresh) in
+    subst (AreBorrowedRight text)
+    (table-spans (map (λ e. (e.0, held e.1)) t.entries) (key_spans (cells new)) (own_spans None (tree.node (tree.table (members_view t.entries)) (record { start = 0; end = 0 })))
+    (λ s p.
+    ap (λ st. key_spans st (s ∷ p)) is ∙ ap (option_map (λ d. d.key)) (put_all-shown (key_value_claims es []) (s ∷ p) ∙ sym (shows.1.0 s p))
+    ∙ ap (λ i. own_spans None (tree.node i (record { start = 0; end = 0 })) (s ∷ p)) (inner_view-Table t)))
+    ((finished new refl refl put.1.2.0).2 text right)
 
 pub table-err : {A : Type 0} (old new : Branch) (es : List KeyValue) (seen : A → tree.Inner) (q : Result A Halt) (e : Halt) → IsFresh old → q ≡ Err e
     → Places old new (Err e) (key_value_claims es []) (counts old) → ScopeGives q seen (key_value_claims es [])

@@ -1,5 +1,5 @@
 -- A branch with one more claim.
-use Rattle.toml_span_lex.proofs.Common.{◌≡◌, ℕ, Bool, true, false, not, ◌||◌, List, [], ◌∷◌, ◌++◌, length, Option, Some, None, option_map, Result, Ok, Err, refl, sym, ap, ◌∙◌, subst, inl, inr, ◌⊎◌, list_any, false≢true, nat_tests, common_steps, arith}
+use Rattle.toml_span_lex.proofs.Common.{◌≡◌, ℕ, Bool, true, false, not, ◌||◌, List, [], ◌∷◌, ◌++◌, length, Option, Some, None, Result, Ok, Err, refl, sym, ap, ◌∙◌, subst, inl, inr, ◌⊎◌, list_any, false≢true, nat_tests, common_steps, arith}
 use Rattle.toml_span_tree.specs.Path.{Path, Step}
 use Rattle.toml_span_read.specs.Data.{SimpleKey}
 use Rattle.toml_span.specs.declared.claims.Sort.{Sort}
@@ -11,10 +11,10 @@ use Rattle.toml_span.specs.declared.branch.Branch.TheOpen.{Branch-F}
 use Rattle.toml_span.specs.Paths.{same_path}
 use Rattle.toml_span.specs.Claims.{Claims, no_claims, claimed, followed, table_claim}
 use Rattle.toml_span.specs.Flat.{by_header}
-use Rattle.toml_span.specs.code.Marks.{deciding, first, first_by_header, remember, same_sort}
+use Rattle.toml_span.specs.code.Marks.{first, first_by_header, remember, same_sort}
 use Rattle.toml_span.specs.code.Machine.{Decided, Gives, change, decide, met, put_all, clash_met, with_claim}
 use Rattle.toml_span.specs.code.Placing.{Reaches}
-use Rattle.toml_span.specs.code.Tree.{marks, entries, own_cell, cells, cell_at, counts, count_at, by_mark, is_array_sort, is_entry_sort, NoArray, NoEntry, IsNamed, IsEntry, IsScope}
+use Rattle.toml_span.specs.code.Tree.{marks, entries, own_cell, cells, cell_at, counts, count_at, by_mark, by_marks, is_array_sort, is_entry_sort, NoArray, NoEntry, IsNamed, IsEntry, IsScope}
 use Rattle.toml_span_read.proofs.BorrowLemmas.{all_append}
 use Rattle.toml_span.proofs.Grafts.{path_ext}
 use Rattle.toml_span.proofs.Nodes.{IsGood, Slot, cells-step, counts-step, out-roll, scope-from, scope-marks, slot, slot_cell, slot_count, sound-good}
@@ -59,7 +59,7 @@ entry-remember ms m h = grind (arith, nat_tests, common_steps, remember-each)
 abbrev marks_show : Option Decided → List Mark → Option Decided
 marks_show = shown_by Mark by_mark first_by_header
 
-marks_show-none : (ms : List Mark) → marks_show None ms ≡ option_map by_mark (deciding ms)
+marks_show-none : (ms : List Mark) → marks_show None ms ≡ by_marks ms
 unfolding shown_by
 marks_show-none [] = refl
 marks_show-none (x ∷ ms) = shown_by-none Mark by_mark first_by_header refl (λ x xs. refl) x ms
@@ -91,7 +91,7 @@ known-settled o (x ∷ ms) m known =
     grind (arith, nat_tests, common_steps, same_sort-eq, settled-by o (by_mark x), settled-show (decide o (by_mark x)) ms, known-settled (decide o (by_mark x)) ms m)
 
 -- what decides of the marks is decided claim by claim
-pub deciding-remember : (ms : List Mark) (m : Mark) → option_map by_mark (deciding (remember ms m)) ≡ decide (option_map by_mark (deciding ms)) (by_mark m)
+pub deciding-remember : (ms : List Mark) (m : Mark) → by_marks (remember ms m) ≡ decide (by_marks ms) (by_mark m)
 unfolding shown_by
 deciding-remember ms m =
     sym (marks_show-none (remember ms m)) ∙ elim (remember-cases ms m) [

@@ -1,12 +1,12 @@
 -- What the branches have become.
-use Rattle.toml_span_lex.proofs.Common.{◌≡◌, ℕ, zero, suc, List, [], ◌∷◌, Option, Some, None, option_map, option_and_then, false, cond, Ok, Less, is_eq, nat_cmp, inl, inr, refl, sym, ap, subst, ◌∙◌, IfSome, BTreeMap, insert_entry, box_value, cow_str_bytes, slice_cmp, Box, AllZip, AllByRecursion, keys_of, lookup, lookup_entry, cases_Bool, none-some, same_Some, arith, nat_tests, common_steps}
+use Rattle.toml_span_lex.proofs.Common.{◌≡◌, ℕ, zero, suc, List, [], ◌∷◌, Option, Some, None, option_map, option_and_then, false, cond, Ok, Less, is_eq, nat_cmp, inl, inr, refl, sym, ap, subst, ◌∙◌, IfSome, BTreeMap, insert_entry, box_value, cow_str_bytes, slice_cmp, Box, AllZip, AllByRecursion, keys_of, lookup_entry, cases_Bool, none-some, same_Some, arith, nat_tests, common_steps}
 use Rattle.std.specs.List.Sorted.{IsStrictlySortedBy}
 use Rattle.std.proofs.lemmas.Map.Keys.{sorted_head, sorted_tail}
 use Rattle.toml_span_lex.specs.declared.key.Key.{Key}
 use Rattle.toml_span_lex.specs.declared.span.Span.{Span}
 use Rattle.toml_span_tree.specs.Node as tree
 use Rattle.toml_span_tree.specs.Path.{key, position, Path, shape_table, shape_of as tree_shape, reached, place_of as tree_place}
-use Rattle.toml_span_tree.specs.Value.{view, inner_view, items_view}
+use Rattle.toml_span_tree.specs.Value.{view, inner_view, items_view, inner_of as tree_inner}
 use Rattle.toml_span_tree.specs.declared.value.Value.{Value}
 use Rattle.toml_span_tree.specs.declared.value.ValueInner.{ValueInner}
 use Rattle.toml_span_tree.specs.declared.value.ValueInner.TheVariants.{Table as table_inner, Array as array_inner}
@@ -17,32 +17,40 @@ use Rattle.toml_span.specs.declared.claims.Sort.{Sort}
 use Rattle.toml_span.specs.declared.claims.Sort.TheVariants.{ArrayOfTables}
 use Rattle.toml_span.specs.declared.branch.Branch.{Branch}
 use Rattle.toml_span.specs.declared.branch.Branch.TheViews.{out-Branch}
-use Rattle.toml_span.specs.Claims.{shape_claimed, key_span_of}
+use Rattle.toml_span.specs.Claims.{place_claimed, shape_claimed, key_span_of}
 use Rattle.toml_span.specs.code.Marks.{first_by_header, deciding}
 use Rattle.toml_span.specs.code.Placing.{Becomes, BecomesEntry, EachBecomes, Finishes, NamesAscend, ShowsBelow, Table, Array, place_shown}
 use Rattle.toml_span.specs.Ordered.{IsOrdered, HoldsOrdered, AreOrdered}
-use Rattle.toml_span.specs.code.Tree.{is_named, marks, entries, child, item, closed, cells, cell_at, closed_cell, or_closed, or_nothing, plain, is_array_sort, is_entry_sort, IsNamed, IsEntry, IsArray, IsTableOrArray, Sound}
+use Rattle.toml_span.specs.code.Tree.{is_named, marks, entries, child, item, closed, cells, cell_at, closed_cell, or_closed, or_nothing, own_cell, by_mark, plain, is_array_sort, is_entry_sort, IsNamed, IsEntry, IsArray, IsTableOrArray, Sound}
 use Rattle.toml_span.proofs.Nodes.{good-child, good-entry, good-value, sound-good, sound-shape}
-use Rattle.toml_span.proofs.KeyMaps.{found-insert}
+use Rattle.toml_span.proofs.Borrowing.{entry_right, of_node}
+use Rattle.toml_span.proofs.Grafts.{path_ext}
+use Rattle.toml_span.proofs.HeldValues.{array-held, elements-right, item_right, table-held}
+use Rattle.toml_span.proofs.KeyMaps.{found-insert, value-of}
 use Rattle.toml_span.proofs.Values.{Made}
-use Rattle.toml_span.proofs.Ordered.{members-ordered}
+use Rattle.toml_span.proofs.Ordered.{each-named, members-ordered, none-again}
+use Rattle.toml_span_read.proofs.BorrowLemmas.{all_append}
+use Rattle.toml_span.specs.Borrowed.{held, KeySpans, IsBorrowedRight, AreBorrowedRight}
+use Rattle.toml_span.specs.Clashes.{or_else}
+use Rattle.toml_span.specs.code.Borrowed.{array_held, box_standing, name_span, standing, table_held, value_standing, StaysRight}
+use Rattle.toml_span.specs.code.Machine.{key_spans, with_span}
 
 -- ---- values and branches by name
 
--- what stands at a name: the original value, or what the branch of the name has become
-abbrev pub Stands : Option (Box Branch) → Option (Key × Value) → Option (Key × Value) → Type 0
+-- what stands at a name: the original value, or what the branch of the name has become, under the branch's name
+abbrev pub Stands : Option (Key × Box Branch) → Option (Key × Value) → Option (Key × Value) → Type 0
 Stands None old new = new ≡ old
-Stands (Some b) old new = old ≡ None → (e : Key × Value) × (new ≡ Some e) × Becomes (box_value b) (Ok (e.0.span, e.1))
+Stands (Some b) old new = old ≡ None → (e : Key × Value) × (new ≡ Some e) × (e.0.name ≡ b.0.name) × Becomes (box_value b.1) (Ok (e.0.span, e.1))
 
 -- the same, where the branch of the name may be left to be finished
-abbrev pub StandsSoFar : Option (Box Branch) → Option (Box Branch) → Option (Key × Value) → Option (Key × Value) → Type 0
+abbrev pub StandsSoFar : Option (Key × Box Branch) → Option (Key × Box Branch) → Option (Key × Value) → Option (Key × Value) → Type 0
 StandsSoFar node None old new = Stands node old new
 StandsSoFar node (Some b) old new = (node ≡ Some b) × (new ≡ old)
 
 -- the values, where all branches but those that are left are finished
 pub record Filled (tables left : List (Key × Box Branch)) (old new : List (Key × Value)) : Type 0 where
   pub sorted : IsStrictlySortedBy key_cmp (keys_of left)
-  pub stands : (name : List ℕ) → StandsSoFar (lookup (is_named name) tables) (lookup (is_named name) left) (lookup_entry (is_named name) old) (lookup_entry (is_named name) new)
+  pub stands : (name : List ℕ) → StandsSoFar (lookup_entry (is_named name) tables) (lookup_entry (is_named name) left) (lookup_entry (is_named name) old) (lookup_entry (is_named name) new)
 
 -- the elements, where all entries but those that are left are finished
 abbrev pub EntriesFilled : List Branch → List Branch → List Value → Type 0
@@ -50,25 +58,21 @@ EntriesFilled all left made = Made Branch Value BecomesEntry all left made
 
 -- ---- one more is finished
 
--- behind a key all are greater
-none-behind : {X : Type 0} (k : Key) (es : List (Key × X)) → AllByRecursion (λ q. key_cmp k q ≡ Less) (keys_of es) → lookup (is_named (cow_str_bytes k.name)) es ≡ None
-none-behind k [] h = refl
-none-behind k (e ∷ es) h = rw (h.0) (none-behind k es h.1)
-
 -- at a name, once the next branch is finished
-finished-one : (name : List ℕ) (tables : Option (Box Branch)) (k made : Key) (b : Box Branch) (left : List (Key × Box Branch)) (old : Option (Key × Value)) (new : List (Key × Value)) (v : Value)
-    → cow_str_bytes made.name ≡ cow_str_bytes k.name → Becomes (box_value b) (Ok (made.span, v)) → AllByRecursion (λ q. key_cmp k q ≡ Less) (keys_of left)
-    → StandsSoFar tables (lookup (is_named name) ((k, b) ∷ left)) old (lookup_entry (is_named name) new)
-    → StandsSoFar tables (lookup (is_named name) left) old (lookup_entry (is_named name) (insert_entry key_cmp new made v))
+finished-one : (name : List ℕ) (tables : Option (Key × Box Branch)) (k made : Key) (b : Box Branch) (left : List (Key × Box Branch)) (old : Option (Key × Value)) (new : List (Key × Value)) (v : Value)
+    → made.name ≡ k.name → Becomes (box_value b) (Ok (made.span, v)) → AllByRecursion (λ q. key_cmp k q ≡ Less) (keys_of left)
+    → StandsSoFar tables (lookup_entry (is_named name) ((k, b) ∷ left)) old (lookup_entry (is_named name) new)
+    → StandsSoFar tables (lookup_entry (is_named name) left) old (lookup_entry (is_named name) (insert_entry key_cmp new made v))
 finished-one name tables k made b left old new v named become behind h =
-    let same : is_named name made ≡ is_named name k = ap (λ l. is_eq (slice_cmp nat_cmp name l)) named in
+    let same : is_named name made ≡ is_named name k = ap (λ n. is_eq (slice_cmp nat_cmp name (cow_str_bytes n))) named in
     let found = found-insert made v name new in
     elim (cases_Bool (is_named name k)) [
       | inl here ↦
-          let at : StandsSoFar tables (Some b) old (lookup_entry (is_named name) new) = rw here at h in
-          let none : lookup (is_named name) left ≡ None = ap (λ l. lookup (is_named l) left) (same_name name (cow_str_bytes k.name) here) ∙ none-behind k left behind in
+          let at : StandsSoFar tables (Some (k, b)) old (lookup_entry (is_named name) new) = rw here at h in
+          let none : lookup_entry (is_named name) left ≡ None = ap (λ l. lookup_entry (is_named l) left) (same_name name (cow_str_bytes k.name) here) ∙ none-again k left behind in
           let free = ap (λ l. lookup_entry (is_named l) new) (sym (same_name name (cow_str_bytes made.name) (same ∙ here))) ∙ at.1 in
-          rw (none, at.0) (λ missing. ((made, v), found.1 ∙ ap (λ c. cond c (Some (found.0, v)) (lookup_entry (is_named name) new)) (same ∙ here) ∙ ap (λ k. Some (k, v)) (found.2 (free ∙ missing)), become))
+          rw (none, at.0)
+          (λ missing. ((made, v), found.1 ∙ ap (λ c. cond c (Some (found.0, v)) (lookup_entry (is_named name) new)) (same ∙ here) ∙ ap (λ k. Some (k, v)) (found.2 (free ∙ missing)), named, become))
       | inr off ↦ rw (found.1 ∙ ap (λ c. cond c (Some (found.0, v)) (lookup_entry (is_named name) new)) (same ∙ off)) (rw off at h)
     ]
 
@@ -78,8 +82,7 @@ pub filled-more : (tables : List (Key × Box Branch)) (k made : Key) (b : Box Br
 filled-more tables k made b left old new v named become h = record {
   sorted = sorted_tail key_cmp k (keys_of left) h.sorted;
   stands = λ name.
-      finished-one name (lookup (is_named name) tables) k made b left (lookup_entry (is_named name) old) new v
-      (ap (λ n. cow_str_bytes n) named) become (sorted_head key_cmp k (keys_of left) h.sorted) (h.stands name);
+      finished-one name (lookup_entry (is_named name) tables) k made b left (lookup_entry (is_named name) old) new v named become (sorted_head key_cmp k (keys_of left) h.sorted) (h.stands name);
 }
 
 -- ---- the deciding mark
@@ -120,12 +123,20 @@ array-decides x m array is = grind (arith, nat_tests, common_steps)
 
 -- ---- what is shown
 
+own-place : (ms : List Mark) → place_shown (own_cell ms) ≡ option_map place_claimed (deciding ms)
+own-place [] = refl
+own-place (m ∷ ms) = go (deciding (m ∷ ms))
+  where
+    go : (o : Option Mark) → option_map (λ d. d.place) (option_map (λ x. with_span m.key (by_mark x)) o) ≡ option_map place_claimed o
+    go None = refl
+    go (Some x) = refl
+
 -- what a branch has become shows what the branch keeps, at the key's span that the deciding mark gives
 became-shows : (c : Branch) (at : Span) (v : Value) (o : Option Span) → Becomes c (Ok (at, v)) → Sound c
     → (m : Mark) × (deciding (marks c) ≡ Some m) × (key_span_of m.sort m.key ≡ o) → (p : Path)
     → option_map tree_place (reached p (o, view v)) ≡ place_shown (cell_at p c)
 unfolding cell_at
-became-shows c at v o become good d [] = rw (((become good).0 d.0 o d.1).1, d.1, d.2)
+became-shows c at v o become good d [] = rw (((become good).0 d.0 o d.1).1, own-place (marks c), d.1, d.2)
 became-shows c at v o become good d (s ∷ p) = (become good).1 s p
 
 -- a branch at a name
@@ -143,25 +154,37 @@ plain_place o = grind (arith, nat_tests, common_steps)
 closed-shows : (o : Option (Key × Value)) (p : Path) → option_map tree_place (option_and_then (reached p) (option_map (λ e. (Some e.0.span, view e.1)) o)) ≡ place_shown (closed_cell o p)
 closed-shows o p = grind (arith, nat_tests, common_steps, plain_place)
 
+-- the branch of a name
+abbrev branch_of : Option (Key × Box Branch) → Option Branch
+branch_of b = option_map (λ e. box_value e.1) b
+
+child-entry : (n : Branch) (name : List ℕ) → child name n ≡ branch_of (lookup_entry (is_named name) (out-Branch n).tables.entries)
+child-entry n name = ap (option_map box_value) (value-of (is_named name) (out-Branch n).tables.entries) ∙ twice (lookup_entry (is_named name) (out-Branch n).tables.entries)
+  where
+    twice : (o : Option (Key × Box Branch)) → option_map box_value (option_map (λ e. e.1) o) ≡ branch_of o
+    twice o = grind (arith, nat_tests, common_steps)
+
+-- a branch stands where no value does
+abbrev Apart : Option (Key × Box Branch) → Option (Key × Value) → Type 0
+Apart b old = (c : Branch) → branch_of b ≡ Some c → (old ≡ None) × IsNamed (marks c) × Sound c
+
 -- what stands at a name
-name-shows : (b : Option (Box Branch)) (old new : Option (Key × Value)) (p : Path) → Stands b old new
-    → ((c : Branch) → option_map box_value b ≡ Some c → (old ≡ None) × IsNamed (marks c) × Sound c)
-    → option_map tree_place (option_and_then (reached p) (option_map (λ e. (Some e.0.span, view e.1)) new))
-    ≡ place_shown (or_closed (option_map (cell_at p) (option_map box_value b)) (closed_cell old p))
+name-shows : (b : Option (Key × Box Branch)) (old new : Option (Key × Value)) (p : Path) → Stands b old new → Apart b old
+    → option_map tree_place (option_and_then (reached p) (option_map (λ e. (Some e.0.span, view e.1)) new)) ≡ place_shown (or_closed (option_map (cell_at p) (branch_of b)) (closed_cell old p))
 name-shows None old new p h apart = rw h (closed-shows old p)
 name-shows (Some b) old new p h apart =
-    let a = apart (box_value b) refl in
+    let a = apart (box_value b.1) refl in
     let made = h a.0 in
-    rw (made.1) (named-shows (box_value b) made.0.0.span made.0.1 made.2 a.2 a.1 p)
+    rw (made.1) (named-shows (box_value b.1) made.0.0.span made.0.1 made.3 a.2 a.1 p)
 
 -- where none is left
 finished : (tables left : List (Key × Box Branch)) (old new : List (Key × Value)) (name : List ℕ) → left ≡ [] → Filled tables left old new
-    → Stands (lookup (is_named name) tables) (lookup_entry (is_named name) old) (lookup_entry (is_named name) new)
+    → Stands (lookup_entry (is_named name) tables) (lookup_entry (is_named name) old) (lookup_entry (is_named name) new)
 finished tables left old new name none h = rw none at (h.stands name)
 
 -- a branch at a name, and its name among the values
-node-named : (n : Branch) → Sound n → (name : List ℕ) (c : Branch) → child name n ≡ Some c → (closed name n ≡ None) × IsNamed (marks c) × Sound c
-node-named n good name c is = good-child n name c (sound-good n good (key name)) is
+node-named : (n : Branch) → Sound n → (name : List ℕ) → Apart (lookup_entry (is_named name) (out-Branch n).tables.entries) (closed name n)
+node-named n good name c is = good-child n name c (sound-good n good (key name)) (child-entry n name ∙ is)
 
 -- a finished table shows below it what the branch's cells show
 finished-shows : (t : Table) (left : List (Key × Box Branch)) (n : Branch) → left ≡ [] → Filled (out-Branch n).tables.entries left (out-Branch n).values.entries t.entries → Sound n → entries n ≡ []
@@ -169,25 +192,79 @@ finished-shows : (t : Table) (left : List (Key × Box Branch)) (n : Branch) → 
 unfolding cell_at
 finished-shows t left n none h good table (key name) p =
     let shown = name-shows _ _ _ p (finished _ _ _ _ name none h) (node-named n good name) in
-    rw (inner_view-Table t, ← entry_at-lookup name t.entries) shown
+    rw (inner_view-Table t, ← entry_at-lookup name t.entries, child-entry n name) shown
 finished-shows t left n none h good table (position i) p = rw (inner_view-Table t, table)
 
 -- what stands at a name is ordered
-name-ordered : (b : Option (Box Branch)) (old new : Option (Key × Value)) (e : Key × Value) → Stands b old new
-    → ((c : Branch) → option_map box_value b ≡ Some c → (old ≡ None) × IsNamed (marks c) × Sound c) → ((f : Key × Value) → old ≡ Some f → IsOrdered (view f.1))
+name-ordered : (b : Option (Key × Box Branch)) (old new : Option (Key × Value)) (e : Key × Value) → Stands b old new → Apart b old → ((f : Key × Value) → old ≡ Some f → IsOrdered (view f.1))
     → new ≡ Some e → IsOrdered (view e.1)
 name-ordered None old new e h apart kept is = kept e (sym h ∙ is)
 name-ordered (Some b) old new e h apart kept is =
-    let a = apart (box_value b) refl in
+    let a = apart (box_value b.1) refl in
     let made = h a.0 in
-    let same = same_Some made.0 e (sym made.1 ∙ is) in rw same at ((made.2 a.2).2)
+    let same = same_Some made.0 e (sym made.1 ∙ is) in rw same at ((made.3 a.2).2)
 
 -- a finished table is in order
 finished-ordered : (t : Table) (left : List (Key × Box Branch)) (n : Branch) → left ≡ [] → Filled (out-Branch n).tables.entries left (out-Branch n).values.entries t.entries → NamesAscend t → Sound n
     → HoldsOrdered (inner_view (table_inner t))
 finished-ordered t left n none h ascend good =
     rw (inner_view-Table t) (members-ordered t.entries ascend
-    (λ name e is. name-ordered _ _ _ e (finished _ _ _ _ name none h) (node-named n good name) (λ f is. good-value n name f (sound-good n good (key name)) is) is))
+    (each-named (λ e. IsOrdered (view e.1)) t.entries ascend
+    (λ e is.
+    let name = cow_str_bytes e.0.name in name-ordered _ _ _ e (finished _ _ _ _ name none h) (node-named n good name) (λ f is. good-value n name f (sound-good n good (key name)) is) is)))
+
+-- ---- what is borrowed
+
+-- the name of a branch is written at its first claim
+name-written : (ms : List Mark) → option_map (λ d. d.key) (own_cell ms).shown ≡ name_span ms
+name-written [] = refl
+name-written (m ∷ ms) = go (first_by_header (m ∷ ms))
+  where
+    go : (o : Option Mark) → option_map (λ d. d.key) (option_map (λ x. with_span m.key (by_mark x)) (or_else o (Some m))) ≡ Some m.key
+    go None = refl
+    go (Some x) = refl
+
+abbrev EntryRight : List ℕ → KeySpans → Key × Value → Type 0
+EntryRight text spans e = IsBorrowedRight text (e.0.name, spans []) × AreBorrowedRight text (held e.1 spans)
+
+-- what stands at a name
+name-right : (text : List ℕ) (b : Option (Key × Box Branch)) (old new : Option (Key × Value)) (e : Key × Value) → Stands b old new → Apart b old → new ≡ Some e
+    → IfSome b (λ x. AreBorrowedRight text (box_standing x)) → IfSome old (λ x. AreBorrowedRight text (value_standing x))
+    → EntryRight text (key_spans (λ p. or_closed (option_map (cell_at p) (branch_of b)) (closed_cell old p))) e
+unfolding cell_at
+name-right text None old new e h apart is boxes values =
+    let right : AreBorrowedRight text (value_standing e) = rw (sym h ∙ is) at values in
+    rw (sym h ∙ is) (right.0, subst (λ spans. AreBorrowedRight text (held e.1 spans)) (path_ext refl (λ s p. refl)) right.1)
+name-right text (Some b) old new e h apart is boxes values =
+    let a = apart (box_value b.1) refl in
+    let made = h a.0 in
+    let right : EntryRight text (key_spans (cells (box_value b.1))) made.0 =
+    (rw (name-written (marks (box_value b.1)), made.2) boxes.0, (made.3 a.2).3 text boxes.1) in
+    rw (same_Some made.0 e (sym made.1 ∙ is)) at right
+
+-- the entries of a table
+table-right : (text : List ℕ) (es : List (Key × Value)) (spans : KeySpans) → AllByRecursion (λ e. EntryRight text (λ p. spans (key (cow_str_bytes e.0.name) ∷ p)) e) es → AreBorrowedRight text (table_held es spans)
+table-right text [] spans each = tt
+table-right text (e ∷ es) spans each = (each.0.0, all_append (IsBorrowedRight text) (held e.1 (λ p. spans (key (cow_str_bytes e.0.name) ∷ p))) (table_held es spans) each.0.1 (table-right text es spans each.1))
+
+found-if : {A : Type 0} (o : Option A) (P : A → Type 0) → ((x : A) → o ≡ Some x → P x) → IfSome o P
+found-if None P h = tt
+found-if (Some x) P h = h x refl
+
+-- what is right in a branch is right in the finished table
+finished-right : (t : Table) (left : List (Key × Box Branch)) (n : Branch) → left ≡ [] → Filled (out-Branch n).tables.entries left (out-Branch n).values.entries t.entries → NamesAscend t → Sound n
+    → StaysRight n (table_held t.entries)
+unfolding cell_at
+finished-right t left n none h ascend good text right =
+    let inside = of_node text n right in
+    table-right text t.entries (key_spans (cells n))
+    (each-named (λ e. EntryRight text (λ p. key_spans (cells n) (key (cow_str_bytes e.0.name) ∷ p)) e) t.entries ascend
+    (λ e is.
+    let name = cow_str_bytes e.0.name in
+    rw (child-entry n name)
+    (name-right text _ _ _ e (finished _ _ _ _ name none h) (node-named n good name) is
+    (found-if _ _ (λ x found. entry_right text (Box Branch) box_standing (is_named name) x (out-Branch n).tables.entries found inside.1))
+    (found-if _ _ (λ x found. entry_right text Value value_standing (is_named name) x (out-Branch n).values.entries found inside.0)))))
 
 -- where there are none
 pub filled-none : (tables : List (Key × Box Branch)) (values : List (Key × Value)) → tables ≡ [] → Filled tables [] values values
@@ -197,20 +274,39 @@ filled-none tables values none = record { sorted = tt; stands = λ name. rw none
 -- where all branches are finished
 pub filled-finishes : (tables : BTreeMap Key (Box Branch)) (values t : Table) (left : List (Key × Box Branch)) → left ≡ [] → Filled tables.entries left values.entries t.entries → NamesAscend t
     → Finishes tables values (Ok t)
-filled-finishes tables values t left none h ascend n sameTables sameValues scope = grind (arith, nat_tests, common_steps, finished-ordered, finished-shows)
+filled-finishes tables values t left none h ascend n sameTables sameValues scope =
+    let filled : Filled (out-Branch n).tables.entries left (out-Branch n).values.entries t.entries = rw (sameTables, sameValues) h in
+    (finished-shows t left n none filled scope.0 scope.1, finished-ordered t left n none filled ascend scope.0, finished-right t left n none filled ascend scope.0)
 
 -- ---- tables and arrays of tables
 
 -- what has become of a branch, whose shape and whose places below it are told apart
-pub became : (n : Branch) (i : ValueInner) (spans : Span × Span) (v : Value) → IfSome (deciding (marks n)) (λ m. spans ≡ (m.key, m.extent)) → view v ≡ tree.node (inner_view i) spans.1
-    → (Sound n → ((m : Mark) → deciding (marks n) ≡ Some m → tree_shape (inner_view i) ≡ shape_claimed m.sort) × ShowsBelow (inner_view i) (cells n) × HoldsOrdered (inner_view i))
+became : (n : Branch) (i : ValueInner) (spans : Span × Span) (v : Value) → IfSome (deciding (marks n)) (λ m. spans ≡ (m.key, m.extent)) → view v ≡ tree.node (inner_view i) spans.1
+    → (Sound n → ((m : Mark) → deciding (marks n) ≡ Some m → tree_shape (inner_view i) ≡ shape_claimed m.sort) × ShowsBelow (inner_view i) (cells n) × HoldsOrdered (inner_view i) × StaysRight n (held v))
     → Becomes n (Ok (spans.0, v))
-became n i spans v placed seen h good = grind (arith, nat_tests, common_steps)
+became n i spans v placed seen h good =
+    let g = h good in
+    let shown = told in (shown.0, shown.1, shown.2, g.3)
+  where
+    told : ((m : Mark) (at : Option Span) → deciding (marks n) ≡ Some m → (spans.0 ≡ m.key) × (tree_place (at, view v) ≡ record { shape = shape_claimed m.sort; key_span = at; span = m.extent }))
+        × ShowsBelow (tree_inner (view v)) (cells n) × IsOrdered (view v)
+    told = let g = h good in let shape = g.0 in let below = g.1 in let order = g.2 in grind (arith, nat_tests, common_steps)
+
+-- what was made of a value is kept
+abbrev IsMadeOf : ValueInner → Span → Value → Type 0
+IsMadeOf i span v = (v.value ≡ Some i) × (v.span ≡ span)
 
 -- a branch without entries becomes a table
 pub became-table : (n : Branch) (t : Table) (spans : Span × Span) (v : Value) → IfSome (deciding (marks n)) (λ m. spans ≡ (m.key, m.extent)) → view v ≡ tree.node (inner_view (table_inner t)) spans.1
-    → entries n ≡ [] → Finishes (out-Branch n).tables (out-Branch n).values (Ok t) → Becomes n (Ok (spans.0, v))
-became-table n t spans v placed seen none made = grind (arith, nat_tests, common_steps, became, deciding-all, inner_view-Table, sound-shape, table_shape)
+    → IsMadeOf (table_inner t) spans.1 v → entries n ≡ [] → Finishes (out-Branch n).tables (out-Branch n).values (Ok t) → Becomes n (Ok (spans.0, v))
+became-table n t spans v placed seen kept none made =
+    became n (table_inner t) spans v placed seen
+    (λ good.
+    let whole = made n refl refl (good, none) in
+    (shape good, whole.0, whole.1, subst (StaysRight n) (sym (table-held v t spans.1 kept)) whole.2))
+  where
+    shape : Sound n → (m : Mark) → deciding (marks n) ≡ Some m → tree_shape (inner_view (table_inner t)) ≡ shape_claimed m.sort
+    shape good m is = grind (arith, nat_tests, common_steps, deciding-all, inner_view-Table, sound-shape, table_shape)
 
 -- the entries at their positions
 elements-show : (ns : List Branch) (vs : List Value) → AllZip BecomesEntry ns vs → ((i : ℕ) (c : Branch) → item i ns ≡ Some c → IsEntry (marks c) × Sound c) → (i : ℕ) (p : Path)
@@ -244,10 +340,35 @@ array-shows n a made good arr (position i) p =
 array-ordered : (n : Branch) (a : Array) → EachBecomes (entries n) (Ok a) → Sound n → HoldsOrdered (inner_view (array_inner a))
 array-ordered n a made good = rw (inner_view-Array a) (elements-ordered (entries n) a.items made (λ j c is. (good-entry n j c (sound-good n good (position j)) is).2))
 
+-- an element stands where its entry did
+element-made : (i : ℕ) (ns : List Branch) (vs : List Value) (v : Value) → AllZip BecomesEntry ns vs → item i vs ≡ Some v → (n : Branch) × (item i ns ≡ Some n) × BecomesEntry n v
+element-made i [] [] v made is = absurd (none-some v is)
+element-made zero (n ∷ ns) (x ∷ vs) v made is = (n, refl, subst (BecomesEntry n) (same_Some x v is) made.0)
+element-made (suc i) (n ∷ ns) (x ∷ vs) v made is = element-made i ns vs v made.1 is
+element-made i ns vs v made is = absurd made
+
+-- and what is right in an entry is right in it
+array-right : (n : Branch) (a : Array) → EachBecomes (entries n) (Ok a) → Sound n → StaysRight n (array_held a.items)
+unfolding cell_at
+array-right n a made good text right =
+    elements-right text 0 a.items (key_spans (cells n))
+    (λ j l v at is.
+    let e = element-made j (entries n) a.items v made is in
+    let plain : l ≡ j = omega (arith, at) in
+    let here : item l (entries n) ≡ Some e.0 = ap (λ k. item k (entries n)) plain ∙ e.1 in
+    rw here ((e.2.1 (good-entry n l e.0 (sound-good n good (position l)) here).2).3 text (item_right text standing l e.0 (entries n) here (of_node text n right).2)))
+
 -- a branch with entries becomes an array
 pub became-array : (n : Branch) (a : Array) (spans : Span × Span) (v : Value) → IfSome (deciding (marks n)) (λ m. spans ≡ (m.key, m.extent)) → view v ≡ tree.node (inner_view (array_inner a)) spans.1
-    → (entries n ≡ [] → ⊥) → EachBecomes (entries n) (Ok a) → Becomes n (Ok (spans.0, v))
-became-array n a spans v placed seen some made = grind (arith, nat_tests, common_steps, array-decides, array-of, array-ordered, array-shows, became, inner_view-Array, sound-shape)
+    → IsMadeOf (array_inner a) spans.1 v → (entries n ≡ [] → ⊥) → EachBecomes (entries n) (Ok a) → Becomes n (Ok (spans.0, v))
+became-array n a spans v placed seen kept some made =
+    became n (array_inner a) spans v placed seen
+    (λ good.
+    let array = array-of n (entries n) refl some (sound-shape n good) in
+    (shape array, array-shows n a made good array, array-ordered n a made good, subst (StaysRight n) (sym (array-held v a spans.1 kept)) (array-right n a made good)))
+  where
+    shape : IsArray n → (m : Mark) → deciding (marks n) ≡ Some m → tree_shape (inner_view (array_inner a)) ≡ shape_claimed m.sort
+    shape array m is = grind (arith, nat_tests, common_steps, array-decides, inner_view-Array)
 
 -- a list from which something is taken is not empty
 pub never-empty : {A : Type 0} (x : A) (xs ys : List A) → ys ≡ x ∷ xs → ys ≡ [] → ⊥

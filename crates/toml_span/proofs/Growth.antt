@@ -1,26 +1,26 @@
 -- What sections make, one after another.
 use Rattle.std.specs.Global.{Box}
-use Rattle.toml_span_lex.proofs.Common.{◌≡◌, ℕ, List, [], ◌∷◌, ◌++◌, map, length, false, Option, Some, None, Ok, Err, refl, sym, subst, append_assoc, append-nil, ◌<◌, get_or, inr, Result, ap, ◌∙◌, IfSome, IfNone, is_some, BTreeMap, false≢true, arith, nat_tests, common_steps, rules}
+use Rattle.toml_span_lex.proofs.Common.{◌≡◌, ℕ, IfOk, List, [], ◌∷◌, ◌++◌, map, length, false, Option, Some, None, Ok, Err, refl, sym, subst, append_assoc, append-nil, ◌<◌, get_or, inr, Result, ap, ◌∙◌, IfSome, IfNone, is_some, BTreeMap, false≢true, arith, nat_tests, common_steps}
 use Rattle.toml_span_lex.specs.declared.key.Key.{Key}
+use Rattle.toml_span_lex.specs.declared.span.Span.{Span}
 use Rattle.toml_span_tree.specs.Node.{node}
 use Rattle.toml_span_tree.specs.Value.{view, inner_view}
 use Rattle.toml_span_tree.specs.declared.value.Value.{Value}
 use Rattle.toml_span_tree.specs.declared.value.ValueInner.TheVariants.{Table as table_inner}
 use Rattle.toml_span_lex.specs.Text.{FirstPlace}
 use Rattle.toml_span_lex.specs.declared.stop.Stop.{Stop}
-use Rattle.toml_span_read.specs.Borrowed.{IsWrittenRight as IsRightRead, AreWrittenRight as AreRightRead, section_written, sections_written}
-use Rattle.toml_span_read.specs.Data.{Block, block, key_value, first_block, SimpleKey, simple_key}
+use Rattle.toml_span_read.specs.Borrowed.{AreWrittenRight as AreRightRead, section_written}
+use Rattle.toml_span_read.specs.Data.{Block, block, key_value, first_block, simple_key}
 use Rattle.toml_span_read.specs.code.Faults.{Gives}
 use Rattle.toml_span_read.specs.code.Sections.{first_blocks, first_found, section_found, sections_found}
 use Rattle.toml_span_read.specs.Reading.{HoldsForm}
 use Rattle.toml_span_read.specs.declared.fault.Fault.{Fault}
 use Rattle.toml_span_read.specs.declared.section.Section.{Section}
-use Rattle.toml_span_read.proofs.BorrowLemmas.{all_append, all_behind, all_front, sections_more as sections_right}
 use Rattle.toml_span_read.proofs.StepLemmas.{first_keeps}
 use Rattle.toml_span_read.proofs.LineRead.{DocumentFrom, blocks_end, document_begins, document_read, document_stops, section_on}
 use Rattle.toml_span_read.proofs.ReadSound.{first_sound, section_sound}
-use Rattle.toml_span.specs.code.Borrowed.{AreFrom, IsFrom, standing}
-use Rattle.toml_span.specs.Borrowed.{AreBorrowedRight}
+use Rattle.toml_span.specs.code.Borrowed.{standing, table_held, Keeps, StaysRight}
+use Rattle.toml_span.specs.Borrowed.{first_key, held, AreBorrowedRight}
 use Rattle.toml_span.specs.declared.claims.Clash.{Clash}
 use Rattle.toml_span.specs.declared.claims.Halt.{Halt}
 use Rattle.toml_span.specs.declared.branch.Branch.{Branch}
@@ -36,12 +36,14 @@ use Rattle.toml_span.proofs.Refusals.{first-headed, some_part}
 use Rattle.toml_span_tree.proofs.Values.{inner_view-Table}
 use Rattle.toml_span.specs.Paths.{elements_added, opened_by}
 use Rattle.toml_span.specs.Flat.{flat, Shows}
+use Rattle.toml_span.specs.Parsing.{IsBorrowedTree}
 use Rattle.toml_span.specs.code.Relative.{section_at, grown}
 use Rattle.toml_span.proofs.Absolute.{section_at-is, grown-is}
 use Rattle.toml_span.proofs.Grafts.{told-followed, put_all-followed}
 use Rattle.toml_span.proofs.Judged.{first-met}
 use Rattle.toml_span.proofs.Nodes.{cells-fresh, counts-fresh, scope-fresh}
-use Rattle.toml_span.proofs.Shown.{shown-flat}
+use Rattle.toml_span.proofs.HeldValues.{table-held}
+use Rattle.toml_span.proofs.Shown.{first_key-is, shown-flat}
 use Rattle.toml_span_lex.specs.declared.stop.Stop.TheVariants as stops
 use Rattle.toml_span_read.specs.Read as read
 use Rattle.toml_span.specs.declared.claims.Halt.TheVariants as halts
@@ -104,15 +106,20 @@ unfolding flat
 shows-flat length cs t root is below [] = rw (inner_view-Table t) refl
 shows-flat length cs t root is below (s ∷ p) = below s p ∙ ap (λ st. place_shown (st (s ∷ p))) is ∙ shown-flat length cs s p
 
+root-put : (all : List Block) (root : Branch) → Remaining all [] root → cells root ≡ put_all nothing (claims all)
+unfolding claims_behind put_all
+root-put all root inv = grind (arith, nat_tests, common_steps, inv.putting)
+
 pub assembles-ok : (all rest : List Block) (length : ℕ) (t : BTreeMap Key Value) (root : Branch) (v : Value) → rest ≡ [] → Remaining all rest root
-    → (IsScope root → ShowsBelow (inner_view (table_inner t)) (cells root) × HoldsOrdered (inner_view (table_inner t))) → view v ≡ node (inner_view (table_inner t)) (record { start = 0; end = length })
+    → (IsScope root → ShowsBelow (inner_view (table_inner t)) (cells root) × HoldsOrdered (inner_view (table_inner t)) × StaysRight root (table_held t.entries)) → view v ≡ node (inner_view (table_inner t)) (record { start = 0; end = length })
     → Assembles all length (Ok v)
 unfolding claims_behind clash_met put_all
-assembles-ok all rest length t root v done inv finished is =
+assembles-ok all [] length t root v done inv finished is =
     let below = finished inv.scope in
-    let put : cells root ≡ put_all nothing (claims all) = grind (arith, nat_tests, common_steps, inv.putting) in
+    let put = root-put all root inv in
     let told : first_clash (claims all) ≡ None = grind (arith, nat_tests, common_steps, first-met, inv.telling) in
     (told, rw is (shows-flat length (claims all) t root put below.0), rw is (below.1))
+assembles-ok all (b ∷ rest) length t root v done inv finished is = cc
 
 -- ---- what the sections so far make
 
@@ -130,17 +137,31 @@ grows-clash bs b root new None halt c none is headed grows placed = λ rest are.
     let told = assembles-err (bs ++ (b ∷ rest)) (b ∷ rest) rest 0 b root new (Err (halts.Clash c)) (halts.Clash c) refl (grows (b ∷ rest) (headed.0, are)) refl (rw is at placed) in
     rw append_assoc told
 
-pub right-more : (text : List ℕ) (ps : List SimpleKey) (root new : Branch) (o : Option (Box Clash)) → is_some o ≡ false → IfNone o (AreBorrowedRight text ps (standing root)) → (AreBorrowedRight text ps (standing root) → AreBorrowedRight text ps (standing new))
-    → IfNone o (AreBorrowedRight text ps (standing new))
-right-more text ps root new o none right keeps = grind (arith, nat_tests, common_steps)
+pub right-more : (text : List ℕ) (root new : Branch) (o : Option (Box Clash)) → is_some o ≡ false → IfNone o (AreBorrowedRight text (standing root)) → Keeps text root new (Ok tt)
+    → IfNone o (AreBorrowedRight text (standing new))
+right-more text root new (Some c) none right keeps = absurd (false≢true (sym none))
+right-more text root new None none right keeps = (keeps right).0
 
 pub finish-tree : (bs : List Block) (length : ℕ) (t : BTreeMap Key Value) (root : Branch) (v : Value) → GrowsTo bs root None
-    → (IsScope root → ShowsBelow (inner_view (table_inner t)) (cells root) × HoldsOrdered (inner_view (table_inner t))) → view v ≡ node (inner_view (table_inner t)) (record { start = 0; end = length })
+    → (IsScope root → ShowsBelow (inner_view (table_inner t)) (cells root) × HoldsOrdered (inner_view (table_inner t)) × StaysRight root (table_held t.entries)) → view v ≡ node (inner_view (table_inner t)) (record { start = 0; end = length })
     → Assembles bs length (Ok v)
 finish-tree bs length t root v grows finished shows = assembles-ok bs [] length t root v refl (rw append-nil at (grows [] tt)) finished shows
 
+-- what is right in the root is right in the tree, by the first claims of the document
+pub finish-right : (text : List ℕ) (bs : List Block) (span : Span) (t : BTreeMap Key Value) (root : Branch) (v : Value) → GrowsTo bs root None
+    → (IsScope root → ShowsBelow (inner_view (table_inner t)) (cells root) × HoldsOrdered (inner_view (table_inner t)) × StaysRight root (table_held t.entries)) → (v.value ≡ Some (table_inner t)) × (v.span ≡ span)
+    → AreBorrowedRight text (standing root) → AreBorrowedRight text (held v (first_key (claims bs)))
+finish-right text bs span t root v grows finished kept right =
+    let inv : Remaining bs [] root = rw append-nil at (grows [] tt) in
+    rw (table-held v t span kept, ← first_key-is (claims bs), ← root-put bs root inv) ((finished inv.scope).2 text right)
+
 pub finish-clash : (bs : List Block) (length : ℕ) (root : Branch) (c : Box Clash) → GrowsTo bs root (Some c) → Assembles bs length (Err (halts.Clash c))
 finish-clash bs length root c grows = subst (λ all. first_clash (claims all) ≡ Some (clash_told c)) (append-nil bs) (grows [] tt)
+
+pub tree_borrows : {E : Type 0} (bs : List Block) (text : List ℕ) (limit : ℕ) (r : Result Value E) → read.document text limit (Ok bs) → IfOk r (λ root. AreBorrowedRight text (held root (first_key (claims bs))))
+    → IfOk r (IsBorrowedTree text limit)
+tree_borrows bs text limit (Ok root) given h = (bs, given, h)
+tree_borrows bs text limit (Err e) given h = tt
 
 -- ---- while a text is read
 
@@ -150,8 +171,7 @@ pub record Growing (text : List ℕ) (limit at : ℕ) (g : Grown) : Type 0 where
   pub whole : DocumentFrom text limit (map block sections) at
   pub grows : Grows (map block sections) g
   pub bare : sections ≡ [] → IsBare g
-  pub read : AreRightRead text (sections_written sections)
-  pub borrows : (ps : List SimpleKey) → AreFrom text ps (sections_written sections) → GrownRight text ps g
+  pub borrows : GrownRight text g
 
 first-are : (text : List ℕ) (limit at : ℕ) (o : Option Section) → read.before_headers text limit (Ok (first_blocks o, at)) → AreSections (first_blocks o)
 first-are text limit at o h =
@@ -160,23 +180,17 @@ first-are text limit at o h =
 
 pub growing-first : (text : List ℕ) (limit at : ℕ) (o : Option Section) (g : Grown) → IfSome o (λ s. AreRightRead text (section_written s)) → read.before_headers text limit (Ok (first_blocks o, at))
     → (AreSections (first_blocks o) → Grows (first_blocks o) g)
-    → ((t : List ℕ) (ps : List SimpleKey) → IfSome o (λ s. AreFrom t ps (section_written s)) → GrownRight t ps g) → (o ≡ None → IsBare g)
+    → ((t : List ℕ) → IfSome o (λ s. AreRightRead t (section_written s)) → GrownRight t g) → (o ≡ None → IsBare g)
     → Growing text limit at g
 growing-first text limit at None g right h grows borrows bare =
-    record { sections = []; whole = document_begins text limit at [] h; grows = grows tt; bare = λ none. bare refl; read = tt; borrows = λ ps h. borrows text ps tt }
+    record { sections = []; whole = document_begins text limit at [] h; grows = grows tt; bare = λ none. bare refl; borrows = borrows text tt }
 growing-first text limit at (Some s) g right h grows borrows bare = record {
   sections = s ∷ [];
   whole = document_begins text limit at (block s ∷ []) h;
   grows = grows (first-are text limit at (Some s) h);
   bare = λ none. cc;
-  read = all_append (IsRightRead text) (section_written s) [] right tt;
-  borrows = λ ps h. borrows text ps (all_front (IsFrom text ps) (section_written s) [] h);
+  borrows = borrows text right;
 }
-
-from-end : (text : List ℕ) (ps : List SimpleKey) (ss : List Section) (s : Section) → AreFrom text ps (sections_written (ss ++ (s ∷ [])))
-    → AreFrom text ps (sections_written ss) × AreFrom text ps (section_written s)
-from-end text ps [] s h = search (rules, all_front)
-from-end text ps (x ∷ xs) s h = grind (arith, nat_tests, common_steps, all_append, all_behind, all_front, from-end text ps xs s)
 
 never-empty : (ss : List Section) (s : Section) → ss ++ (s ∷ []) ≡ [] → ⊥
 never-empty ss s none = grind (arith, nat_tests, common_steps)
@@ -188,15 +202,14 @@ headed text limit at next s here h =
 
 pub growing-more : (text : List ℕ) (limit at next : ℕ) (s : Section) (g new : Grown) → at < length text → get_or text at 0 ≡ 91 → AreRightRead text (section_written s) → read.section text limit at (Ok (block s, next)) → Growing text limit at g
     → ((bs : List Block) → AreSections (block s ∷ []) → Grows bs g → Grows (bs ++ (block s ∷ [])) new)
-    → ((t : List ℕ) (ps : List SimpleKey) → AreFrom t ps (section_written s) → GrownRight t ps g → GrownRight t ps new)
+    → ((t : List ℕ) → AreRightRead t (section_written s) → GrownRight t g → GrownRight t new)
     → Growing text limit next new
 growing-more text limit at next s g new under here right h old grows borrows = record {
   sections = old.sections ++ (s ∷ []);
   whole = rw (blocks_end old.sections (old.sections ++ (s ∷ [])) s refl) (section_on text limit at next (map block old.sections) (block s) old.whole under h);
   grows = subst (λ bs. Grows bs new) (sym (blocks_end old.sections (old.sections ++ (s ∷ [])) s refl)) (grows (map block old.sections) (headed text limit at next s here h) old.grows);
   bare = λ none. absurd (never-empty old.sections s none);
-  read = sections_right text old.sections (old.sections ++ (s ∷ [])) s refl old.read right;
-  borrows = λ ps f. let from = from-end text ps old.sections s f in borrows text ps from.1 (old.borrows ps from.0);
+  borrows = borrows text right old.borrows;
 }
 
 pub first-refused : (stop : Stop Fault) (text : List ℕ) (limit : ℕ) → Gives first_found (read.before_headers text limit) (Err stop) → GrownGives text limit (Err stop)
@@ -214,7 +227,6 @@ grown-whole text limit at g h end = record {
   document = document_read text limit at (map block h.sections) h.whole end;
   grows = h.grows;
   bare = h.bare;
-  read = h.read;
   borrows = h.borrows;
 }
 

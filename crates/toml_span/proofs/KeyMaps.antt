@@ -42,7 +42,7 @@ module _ {X : Type 0} where
       later false at k more = refl
 
   -- a value is found where its entry is
-  value-of : (test : Key → Bool) (es : List (Key × X)) → lookup test es ≡ option_map (λ e. e.1) (lookup_entry test es)
+  pub value-of : (test : Key → Bool) (es : List (Key × X)) → lookup test es ≡ option_map (λ e. e.1) (lookup_entry test es)
   value-of test [] = refl
   value-of test (e ∷ es) = grind (arith, nat_tests, common_steps, value-of test es)
 

@@ -18,5 +18,6 @@ pub mod Headers
 pub mod EachClaim
 pub mod ShownWhole
 pub mod Borrowing
+pub mod HeldValues
 pub mod Growth
 pub mod Memory

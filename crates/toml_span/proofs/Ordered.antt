@@ -45,28 +45,30 @@ names-behind k (e ∷ es) h = (name-before (cow_str_bytes k.name) (cow_str_bytes
 named-itself : (k : Key) → is_named (cow_str_bytes k.name) k ≡ true
 named-itself k = is_eq-slice_cmp (cow_str_bytes k.name) (cow_str_bytes k.name) ∙ same_step-self (key (cow_str_bytes k.name))
 
--- behind a key no value has its name
-none-again : (k : Key) (es : List (Key × Value)) → AllByRecursion (λ l. key_cmp k l ≡ Less) (keys_of es) → lookup_entry (is_named (cow_str_bytes k.name)) es ≡ None
+-- behind a key nothing has its name
+pub none-again : {X : Type 0} (k : Key) (es : List (Key × X)) → AllByRecursion (λ l. key_cmp k l ≡ Less) (keys_of es) → lookup_entry (is_named (cow_str_bytes k.name)) es ≡ None
 none-again k [] h = refl
 none-again k (e ∷ es) h = rw (h.0) (none-again k es h.1)
 
--- the table of a map is in order, if each value is that has a name
-pub members-ordered : (es : List (Key × Value)) → IsStrictlySortedBy key_cmp (keys_of es) → ((name : List ℕ) (e : Key × Value) → lookup_entry (is_named name) es ≡ Some e → IsOrdered (view e.1))
-    → MembersOrdered (members_view es)
+-- what holds of each entry that is found by its name holds of all
+pub each-named : (P : Key × Value → Type 0) (es : List (Key × Value)) → IsStrictlySortedBy key_cmp (keys_of es) → ((e : Key × Value) → lookup_entry (is_named (cow_str_bytes e.0.name)) es ≡ Some e → P e)
+    → AllByRecursion P es
+each-named P [] sorted each = tt
+each-named P (e ∷ es) sorted each = (each e (rw (named-itself e.0)), each-named P es (sorted_tail key_cmp e.0 (keys_of es) sorted) later)
+  where
+    later : (f : Key × Value) → lookup_entry (is_named (cow_str_bytes f.0.name)) es ≡ Some f → P f
+    later f found = elim (cases_Bool (is_named (cow_str_bytes f.0.name) e.0)) [
+      | inl here ↦
+          let same : cow_str_bytes f.0.name ≡ cow_str_bytes e.0.name = same_name (cow_str_bytes f.0.name) (cow_str_bytes e.0.name) here in
+          absurd (none-some f (sym (none-again e.0 es (sorted_head key_cmp e.0 (keys_of es) sorted)) ∙ ap (λ l. lookup_entry (is_named l) es) (sym same) ∙ found))
+      | inr off ↦ each f (rw off found)
+    ]
+
+-- the table of a map is in order, if each value is
+pub members-ordered : (es : List (Key × Value)) → IsStrictlySortedBy key_cmp (keys_of es) → AllByRecursion (λ e. IsOrdered (view e.1)) es → MembersOrdered (members_view es)
 members-ordered [] sorted each = tt
 members-ordered (e ∷ es) sorted each =
-    (names-behind e.0 es behind, each (cow_str_bytes e.0.name) e (rw (named-itself e.0)), members-ordered es (sorted_tail key_cmp e.0 (keys_of es) sorted) later)
-  where
-    behind : AllByRecursion (λ l. key_cmp e.0 l ≡ Less) (keys_of es)
-    behind = sorted_head key_cmp e.0 (keys_of es) sorted
-
-    later : (name : List ℕ) (f : Key × Value) → lookup_entry (is_named name) es ≡ Some f → IsOrdered (view f.1)
-    later name f found = elim (cases_Bool (is_named name e.0)) [
-      | inl here ↦
-          let same : name ≡ cow_str_bytes e.0.name = same_name name (cow_str_bytes e.0.name) here in
-          absurd (none-some f (sym (none-again e.0 es behind) ∙ ap (λ l. lookup_entry (is_named l) es) (sym same) ∙ found))
-      | inr off ↦ each name f (rw off found)
-    ]
+    (names-behind e.0 es (sorted_head key_cmp e.0 (keys_of es) sorted), each.0, members-ordered es (sorted_tail key_cmp e.0 (keys_of es) sorted) each.1)
 
 -- ---- no name stands twice
 

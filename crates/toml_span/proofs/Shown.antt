@@ -1,18 +1,22 @@
 -- What a state shows is what the flat document says.
 use Rattle.toml_span_lex.proofs.Common.{◌≡◌, ℕ, Bool, true, false, List, [], ◌∷◌, ◌++◌, Option, Some, None, option_map, refl, sym, ap, ◌∙◌, inl, inr, if◌then◌else◌, ⊤, cases_Bool, arith, nat_tests, common_steps}
+use Rattle.toml_span_lex.specs.declared.span.Span.{Span}
 use Rattle.toml_span_tree.specs.Path.{Path, Step, Place}
 use Rattle.toml_span_read.specs.Data.{KeyValue}
 use Rattle.toml_span.specs.Claims.{Claim, Claims, no_claims, claimed, scope, key_value_claims}
 use Rattle.toml_span.specs.Clashes.{or_else}
-use Rattle.toml_span.specs.Flat.{all_claims, claims_at, first_claim_by_header, deciding_claim, flat, by_header}
-use Rattle.toml_span.specs.code.Machine.{Cell, State, Decided, nothing, decide, decided, with_claim, with_inner, change, show_all, put_all}
+use Rattle.toml_span.specs.Flat.{all_claims, claims_at, first_claim, first_claim_by_header, deciding_claim, flat}
+use Rattle.toml_span.specs.Borrowed.{first_key}
+use Rattle.toml_span.specs.code.Machine.{Cell, State, Decided, nothing, decide, decided, key_spans, with_span, with_claim, with_inner, change, show_all, put_all}
 use Rattle.toml_span.specs.code.Placing.{place_shown}
+use Rattle.toml_span.specs.code.Tree.{plain}
 use Rattle.toml_span.proofs.EachClaim.{Each, key_values-each}
+use Rattle.toml_span.proofs.Grafts.{fun_ext}
 
 -- ---- one after another
 
-abbrev by_some : Bool → Place → Option Decided
-by_some header place = Some (record { header = header; place = place })
+abbrev by_some : Bool → Place → Span → Option Decided
+by_some header place span = Some (record { header = header; place = place; key = span })
 
 -- what some claims, or marks, decide, of which `by` is the first one of a header
 module _ (A : Type 0) (d : A → Decided) (by : List A → Option A) where
@@ -27,27 +31,28 @@ module _ (A : Type 0) (d : A → Decided) (by : List A → Option A) where
 
   module _ (none : by [] ≡ None) (some : (x : A) (xs : List A) → by (x ∷ xs) ≡ (if (d x).header then Some x else by xs)) where
     -- a header that has decided stays
-    shown_by-header : (place : Place) (xs : List A) → shown_by (by_some true place) xs ≡ by_some true place
+    shown_by-header : (place : Place) (span : Span) (xs : List A) → shown_by (by_some true place span) xs ≡ by_some true place span
     unfolding shown_by
-    shown_by-header place [] = refl
-    shown_by-header place (x ∷ xs) = shown_by-header place xs
+    shown_by-header place span [] = refl
+    shown_by-header place span (x ∷ xs) = shown_by-header place span xs
 
     -- behind an assignment the first header still decides
-    shown_by-plain : (place : Place) (xs : List A) → shown_by (by_some false place) xs ≡ or_else (option_map d (by xs)) (by_some false place)
+    shown_by-plain : (place : Place) (span : Span) (xs : List A) → shown_by (by_some false place span) xs ≡ or_else (option_map (λ y. with_span span (d y)) (by xs)) (by_some false place span)
     unfolding shown_by
-    shown_by-plain place [] = rw none refl
-    shown_by-plain place (x ∷ xs) = grind (arith, nat_tests, common_steps, some x xs, shown_by-header (d x).place xs, shown_by-plain place xs)
+    shown_by-plain place span [] = rw none refl
+    shown_by-plain place span (x ∷ xs) = grind (arith, nat_tests, common_steps, some x xs, shown_by-header (d x).place span xs, shown_by-plain place span xs)
 
-    -- the first header decides, or else the first of them
-    pub shown_by-none : (x : A) (xs : List A) → shown_by None (x ∷ xs) ≡ option_map d (or_else (by (x ∷ xs)) (Some x))
+    -- the first header decides, or else the first of them, which has the key
+    pub shown_by-none : (x : A) (xs : List A) → shown_by None (x ∷ xs) ≡ option_map (λ y. with_span (d x).key (d y)) (or_else (by (x ∷ xs)) (Some x))
     unfolding shown_by
     shown_by-none x xs =
         elim (cases_Bool (d x).header) [
-          | inl header ↦ rw (some x xs, header) (shown_by-header (d x).place xs ∙ ap (λ b. by_some b (d x).place) (sym header))
-          | inr other ↦ rw (some x xs, other) (shown_by-plain (d x).place xs ∙ first_or (by xs) other)
+          | inl header ↦ rw (some x xs, header) (shown_by-header (d x).place (d x).key xs ∙ ap (λ b. by_some b (d x).place (d x).key) (sym header))
+          | inr other ↦ rw (some x xs, other) (shown_by-plain (d x).place (d x).key xs ∙ first_or (by xs) other)
         ]
       where
-        first_or : (o : Option A) → (d x).header ≡ false → or_else (option_map d o) (by_some false (d x).place) ≡ option_map d (or_else o (Some x))
+        first_or : (o : Option A) → (d x).header ≡ false
+            → or_else (option_map (λ y. with_span (d x).key (d y)) o) (by_some false (d x).place (d x).key) ≡ option_map (λ y. with_span (d x).key (d y)) (or_else o (Some x))
         first_or None h = rw h
         first_or (Some y) h = refl
 
@@ -102,19 +107,20 @@ show_all-marks st (scope inner cs) p = show_all-marks (show_all st inner) cs p �
 
 -- ---- values and assignments
 
--- no header claims anything here
+-- no header claims anything here, and what stands at a key has that key's span
 abbrev pub NoHeader : Claims → Type 0
-NoHeader cs = Each (λ c. by_header c.mark.sort ≡ false) cs
+NoHeader cs = Each (λ c. decided c ≡ plain c.place) cs
 
 pub key_values-no_header : (es : List KeyValue) (p : Path) → NoHeader (key_value_claims es p)
-key_values-no_header = key_values-each (λ c. by_header c.mark.sort ≡ false) (λ p k v. refl) (λ p k v. refl) (λ p i v. refl)
+key_values-no_header = key_values-each (λ c. decided c ≡ plain c.place) (λ p k v. refl) (λ p k v. refl) (λ p i v. refl)
 
 abbrev IsPlain : Option Decided → Type 0
 IsPlain None = ⊤
-IsPlain (Some d) = d.header ≡ false
+IsPlain (Some d) = d ≡ plain d.place
 
-plain-decide : (o : Option Decided) (c : Claim) → IsPlain o → by_header c.mark.sort ≡ false → IsPlain (decide o (decided c))
-plain-decide o c h k = grind (arith, nat_tests, common_steps)
+plain-decide : (o : Option Decided) (c : Claim) → IsPlain o → decided c ≡ plain c.place → IsPlain (decide o (decided c))
+plain-decide None c h k = k
+plain-decide (Some d) c h k = grind (arith, nat_tests, common_steps)
 
 plain-shown : (st : State) (cs : Claims) (p : Path) → NoHeader cs → IsPlain (st p).shown → IsPlain (show_all st cs p).shown
 unfolding show_all change
@@ -122,24 +128,41 @@ plain-shown st no_claims p h k = k
 plain-shown st (claimed c cs) p h k = grind (arith, nat_tests, common_steps, plain-decide, plain-shown (change st c.path (with_inner c)) cs p)
 plain-shown st (scope inner cs) p h k = plain-shown (show_all st inner) cs p h.1 (plain-shown st inner p h.0 k)
 
-plain-place : (o : Option Decided) → IsPlain o → o ≡ option_map (λ x. record { header = false; place = x }) (option_map (λ d. d.place) o)
-plain-place o h = grind (arith, nat_tests, common_steps)
+plain-place : (o : Option Decided) → IsPlain o → o ≡ option_map plain (option_map (λ d. d.place) o)
+plain-place None h = refl
+plain-place (Some d) h = ap (λ d. Some d) h
 
 -- so no header decides
-pub shown-plain : (cs : Claims) (p : Path) → NoHeader cs → (show_all nothing cs p).shown ≡ option_map (λ x. record { header = false; place = x }) (place_shown (show_all nothing cs p))
+pub shown-plain : (cs : Claims) (p : Path) → NoHeader cs → (show_all nothing cs p).shown ≡ option_map plain (place_shown (show_all nothing cs p))
 shown-plain cs p h = plain-place (show_all nothing cs p).shown (plain-shown nothing cs p h tt)
 
 -- ---- the flat document
 
-claims_show-none : (cs : List Claim) → claims_show None cs ≡ option_map decided (deciding_claim cs)
-unfolding shown_by first_claim_by_header
-claims_show-none [] = refl
-claims_show-none (c ∷ cs) = shown_by-none Claim decided first_claim_by_header refl (λ x xs. refl) c cs
+claims_show-none : (c : Claim) (cs : List Claim) → claims_show None (c ∷ cs) ≡ option_map (λ x. with_span c.mark.key (decided x)) (deciding_claim (c ∷ cs))
+unfolding first_claim_by_header
+claims_show-none c cs = shown_by-none Claim decided first_claim_by_header refl (λ x xs. refl) c cs
 
-place-decided : (o : Option Claim) → option_map (λ d. d.place) (option_map decided o) ≡ option_map (λ c. c.place) o
-place-decided o = grind (arith, nat_tests, common_steps)
+place-decided : (cs : List Claim) → option_map (λ d. d.place) (claims_show None cs) ≡ option_map (λ c. c.place) (deciding_claim cs)
+unfolding shown_by first_claim_by_header
+place-decided [] = refl
+place-decided (c ∷ cs) = rw (claims_show-none c cs) (placed (deciding_claim (c ∷ cs)))
+  where
+    placed : (o : Option Claim) → option_map (λ d. d.place) (option_map (λ x. with_span c.mark.key (decided x)) o) ≡ option_map (λ c. c.place) o
+    placed o = grind (arith, nat_tests, common_steps)
+
+key-decided : (cs : List Claim) → option_map (λ d. d.key) (claims_show None cs) ≡ option_map (λ c. c.mark.key) (first_claim cs)
+unfolding shown_by
+key-decided [] = refl
+key-decided (c ∷ cs) = rw (claims_show-none c cs) (kept (first_claim_by_header (c ∷ cs)))
+  where
+    kept : (o : Option Claim) → option_map (λ d. d.key) (option_map (λ x. with_span c.mark.key (decided x)) (or_else o (Some c))) ≡ Some c.mark.key
+    kept o = grind (arith, nat_tests, common_steps)
 
 -- what decides in the state decides in the flat document
 pub shown-flat : (length : ℕ) (cs : Claims) (s : Step) (p : Path) → place_shown (put_all nothing cs (s ∷ p)) ≡ flat length cs (s ∷ p)
 unfolding flat
-shown-flat length cs s p = grind (arith, nat_tests, common_steps, claims_show-none, place-decided, put_all-is)
+shown-flat length cs s p = ap (option_map (λ d. d.place)) (put_all-is nothing cs (s ∷ p)) ∙ place-decided (on_path (s ∷ p) cs)
+
+-- and what is claimed first has the key
+pub first_key-is : (cs : Claims) → key_spans (put_all nothing cs) ≡ first_key cs
+first_key-is cs = fun_ext (λ p. ap (option_map (λ d. d.key)) (put_all-is nothing cs p) ∙ key-decided (on_path p cs))

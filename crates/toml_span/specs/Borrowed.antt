@@ -1,91 +1,75 @@
--- Which of the strings and keys of a tree are borrowed. A key of a scalar value is so by its own span. That of a table
--- or an array may have the span of one claim, and a name that was written at another one: it is so by the span of some
--- key of its name.
+-- Which of the strings and keys of a tree are borrowed: each exactly where it equals the text where it is written. That
+-- is a string's span, and the first key that claims a path: a table or an array keeps its name also where a later claim
+-- decides and gives the key its span.
 use Rattle.std.specs.Global.{Global}
 use Rattle.std.specs.declared.borrow.CowStr.{CowStr}
-use Rattle.std.specs.Prelude.{◌≡◌, ℕ, ◌⊎◌, Bool, true, false, List, [], ◌∷◌, ◌++◌, Option, Some, None}
+use Rattle.std.specs.Prelude.{ℕ, suc, List, [], ◌∷◌, ◌++◌, Option, Some, None, option_map, IsSomeAnd}
 use Rattle.std.specs.Cow.{cow_str_bytes}
 use Rattle.std.specs.List.{AllByRecursion}
 use Rattle.toml_span_lex.specs.declared.span.Span.{Span}
 use Rattle.toml_span_lex.specs.declared.key.Key.{Key}
 use Rattle.toml_span_lex.specs.Strings.{BorrowsWhereSame}
+use Rattle.toml_span_tree.specs.Path.{key, position, Path}
 use Rattle.toml_span_tree.specs.declared.value.ValueInner.TheOpen.{ValueInner-F, Value-F}
 use Rattle.toml_span_tree.specs.declared.value.Value.{Value}
 use Rattle.toml_span_tree.specs.declared.value.ValueInner.TheFolds.{fold-Value}
-use Rattle.toml_span_read.specs.Data.{SimpleKey}
-use Rattle.toml_span_read.specs.Borrowed.{Written, string as string_written, name as name_written}
+use Rattle.toml_span.specs.Claims.{Claims}
+use Rattle.toml_span.specs.Flat.{all_claims, claims_at, first_claim}
 
 -- ---- what stands in a tree
 
--- a string value and a key of a scalar value, with their spans, and a key of a table or an array
-pub data Standing : Type 0 where
-  string : CowStr Global → Span → Standing
-  key : CowStr Global → Span → Standing
-  table_name : CowStr Global → Standing
+-- a string value or a key, and where it is written, if that is known
+abbrev pub Standing : Type 0
+Standing = CowStr Global × Option Span
 
--- whether a value is a scalar, and what stands in it
+-- where the key of each path is written
+abbrev pub KeySpans : Type 0
+KeySpans = Path → Option Span
+
+-- what stands in a value, where this tells for the paths from it on where their keys are written
 abbrev pub Held : Type 0
-Held = Bool × List Standing
+Held = KeySpans → List Standing
 
-abbrev pub key_standing : Bool → Key → Standing
-key_standing true k = key k.name k.span
-key_standing false k = table_name k.name
+abbrev pub elements_standing : ℕ → List Held → Held
+elements_standing i [] spans = []
+elements_standing i (x ∷ xs) spans = x (λ p. spans (position i ∷ p)) ++ elements_standing (suc i) xs spans
 
-abbrev pub elements_standing : List Held → List Standing
-elements_standing [] = []
-elements_standing (x ∷ xs) = x.1 ++ elements_standing xs
-
-abbrev pub entries_standing : List (Key × Held) → List Standing
-entries_standing [] = []
-entries_standing (e ∷ es) = key_standing e.1.0 e.0 ∷ (e.1.1 ++ entries_standing es)
+abbrev pub entries_standing : List (Key × Held) → Held
+entries_standing [] spans = []
+entries_standing (e ∷ es) spans =
+    let name = cow_str_bytes e.0.name in
+    (e.0.name, spans (key name ∷ [])) ∷ (e.1 (λ p. spans (key name ∷ p)) ++ entries_standing es spans)
 
 -- one level of each type, with each value inside already seen; a string's span is its value's
 abbrev pub inner_step : ValueInner-F (Span → Held) Held → Span → Held
-inner_step (ValueInner-F.String s) span = (true, string s span ∷ [])
-inner_step (ValueInner-F.Integer n) span = (true, [])
-inner_step (ValueInner-F.Float x) span = (true, [])
-inner_step (ValueInner-F.Boolean b) span = (true, [])
-inner_step (ValueInner-F.Datetime d) span = (true, [])
-inner_step (ValueInner-F.Array v) span = (false, elements_standing v.items)
-inner_step (ValueInner-F.Table m) span = (false, entries_standing m.entries)
+inner_step (ValueInner-F.String s) span spans = (s, Some span) ∷ []
+inner_step (ValueInner-F.Integer n) span spans = []
+inner_step (ValueInner-F.Float x) span spans = []
+inner_step (ValueInner-F.Boolean b) span spans = []
+inner_step (ValueInner-F.Datetime d) span spans = []
+inner_step (ValueInner-F.Array v) span spans = elements_standing 0 v.items spans
+inner_step (ValueInner-F.Table m) span spans = entries_standing m.entries spans
 
 abbrev pub held_or_none : Option (Span → Held) → Span → Held
-held_or_none None span = (false, [])
-held_or_none (Some i) span = i span
+held_or_none None span spans = []
+held_or_none (Some i) span spans = i span spans
 
 abbrev pub value_step : Value-F (Span → Held) Held → Held
 value_step v = held_or_none v.value v.span
 
+-- the strings and keys of a value
 abbrev pub held : Value → Held
 held = fold-Value (Span → Held) Held inner_step value_step
 
--- the strings and keys of a value, of elements, and of a table
-abbrev pub value_standing : Value → List Standing
-value_standing v = (held v).1
-
 -- ---- what is borrowed
 
-abbrev pub IsKeyOf : SimpleKey → List SimpleKey → Type 0
-IsKeyOf p [] = ⊥
-IsKeyOf p (q ∷ qs) = (p ≡ q) ⊎ IsKeyOf p qs
+-- where the key stands with which a path is claimed first
+abbrev pub first_key : Claims → KeySpans
+first_key cs p = option_map (λ c. c.mark.key) (first_claim (claims_at p (all_claims cs)))
 
--- where one of these keys stands that has the name: borrowed exactly where the name equals the text there
-abbrev pub IsNamedBy : List ℕ → List SimpleKey → CowStr Global → Type 0
-IsNamedBy text ps s =
-    (at : Span) × IsKeyOf (record { name = cow_str_bytes s; span = at }) ps × BorrowsWhereSame text at s
+-- it is known where it is written, and it is borrowed exactly where it equals the text there
+abbrev pub IsBorrowedRight : List ℕ → Standing → Type 0
+IsBorrowedRight text x = IsSomeAnd x.1 (λ span. BorrowsWhereSame text span x.0)
 
--- in a tree whose keys are of these
-abbrev pub IsBorrowedRight : List ℕ → List SimpleKey → Standing → Type 0
-IsBorrowedRight text ps (string s span) = BorrowsWhereSame text span s
-IsBorrowedRight text ps (key s span) =
-    BorrowsWhereSame text span s × IsKeyOf (record { name = cow_str_bytes s; span = span }) ps
-IsBorrowedRight text ps (table_name s) = IsNamedBy text ps s
-
-abbrev pub AreBorrowedRight : List ℕ → List SimpleKey → List Standing → Type 0
-AreBorrowedRight text ps xs = AllByRecursion (IsBorrowedRight text ps) xs
-
--- the keys of what was read
-abbrev pub keys_of : List Written → List SimpleKey
-keys_of [] = []
-keys_of (string_written s span ∷ ws) = keys_of ws
-keys_of (name_written s span ∷ ws) = record { name = cow_str_bytes s; span = span } ∷ keys_of ws
+abbrev pub AreBorrowedRight : List ℕ → List Standing → Type 0
+AreBorrowedRight text xs = AllByRecursion (IsBorrowedRight text) xs

@@ -1,5 +1,5 @@
 -- What `parse` answers.
-use Rattle.std.specs.Prelude.{◌≡◌, ⊤, ℕ, ◌≤◌, ◌⊎◌, List, Some, Result, Ok, Err, map, length}
+use Rattle.std.specs.Prelude.{◌≡◌, ⊤, ℕ, ◌≤◌, ◌⊎◌, List, Some, Result, Ok, Err, length}
 use Rattle.toml_span_lex.specs.declared.stop.Stop.{Stop}
 use Rattle.toml_span_lex.specs.declared.stop.Stop.TheVariants as stops
 use Rattle.toml_span_tree.specs.declared.value.Value.{Value}
@@ -7,9 +7,7 @@ use Rattle.toml_span_tree.specs.Value.{view}
 use Rattle.toml_span_tree.specs.Node.{Members, node, table}
 use Rattle.toml_span_tree.specs.declared.error.Error.{Error}
 use Rattle.toml_span_tree.specs.Error.{content_of}
-use Rattle.toml_span_read.specs.Data.{Block, block}
-use Rattle.toml_span_read.specs.declared.section.Section.{Section}
-use Rattle.toml_span_read.specs.Borrowed.{sections_written}
+use Rattle.toml_span_read.specs.Data.{Block}
 use Rattle.toml_span_read.specs.declared.fault.Fault.{Fault}
 use Rattle.toml_span_read.specs.Faults.{StartsInside, IsLineInfo}
 use Rattle.toml_span_read.specs.Faults.{Tells}
@@ -18,7 +16,7 @@ use Rattle.toml_span.specs.Claims.{claims}
 use Rattle.toml_span.specs.Clashes.{Resolves, NamedClash, first_clash, content_of_clash}
 use Rattle.toml_span.specs.Flat.{flat, Shows}
 use Rattle.toml_span.specs.Ordered.{IsOrdered}
-use Rattle.toml_span.specs.Borrowed.{AreBorrowedRight, keys_of, value_standing}
+use Rattle.toml_span.specs.Borrowed.{AreBorrowedRight, first_key, held}
 
 -- ---- what becomes of a text
 
@@ -87,10 +85,9 @@ IsRefusal text limit stop = Answers text limit (Err stop)
 abbrev pub IsRoot : ℕ → Value → Type 0
 IsRoot size root = (members : Members) × (view root ≡ node (table members) (record { start = 0; end = size }))
 
--- Each string value is borrowed exactly where it equals the text at its span, and so is the key of each scalar. For the
--- name of a table or of an array there is some key of that name, such that the name is borrowed exactly where it equals
--- the text at that key; which one is not said. An empty string on one line is borrowed.
+-- Each string value of the tree is borrowed exactly where it equals the text at its span, and each key where it equals
+-- the text at the first key that claims its path. An empty string on one line is borrowed.
 abbrev pub IsBorrowedTree : List ℕ → ℕ → Value → Type 0
 IsBorrowedTree text limit root =
-    (sections : List Section) × document text limit (Ok (map block sections))
-    × AreBorrowedRight text (keys_of (sections_written sections)) (value_standing root)
+    (blocks : List Block) × document text limit (Ok blocks)
+    × AreBorrowedRight text (held root (first_key (claims blocks)))

@@ -1,11 +1,7 @@
 //! The tree under construction.
-ghost use Rattle.std.specs.Prelude.{◌≡◌, ℕ, List, [], false, IfOk, IfSome, IsOk};
-ghost use Rattle.toml_span_read.specs.Data.{SimpleKey};
+ghost use Rattle.std.specs.Prelude.{◌≡◌, [], IfSome, IsOk};
 ghost use Rattle.toml_span.specs.Flat as kept;
 ghost use Rattle.toml_span.specs.code.Marks as code;
-ghost use Rattle.toml_span.specs.Borrowed.{AreBorrowedRight, held, value_standing};
-ghost use Rattle.toml_span.specs.code.Borrowed.{array_standing, boxes_standing, entries_of, standing};
-ghost use Rattle.toml_span.specs.code.Borrowed.{table_standing};
 ghost use Rattle.toml_span.specs.code.Tree.{IsFresh};
 ghost use Rattle.toml_span.specs.code.Placing.{Becomes, EachBecomes, Finishes, NamesAscend};
 
@@ -40,8 +36,7 @@ pub struct Branch<'de> {
 impl<'de> Branch<'de> {
     /// A table on which nothing is claimed, and in which nothing stands.
     pub fn new(alloc: Global) -> Self
-        ensures fresh { IsFresh result }
-        ensures bare { standing result ≡ [] }
+        ensures { IsFresh result }
     {
         Self {
             marks: SmallVec::new(alloc),
@@ -97,10 +92,6 @@ pub fn into_table<'de>(
     mut values: Table<'de>,
 ) -> Result<Table<'de>, AllocError>
     ensures finishes { Finishes tables.entry values.entry result }
-    ensures borrows { (text : List ℕ) → (ps : List SimpleKey)
-        → AreBorrowedRight text ps (boxes_standing tables.entry.entries)
-        → AreBorrowedRight text ps (table_standing values.entry.entries)
-        → IfOk result (λ table. AreBorrowedRight text ps (table_standing table.entries)) }
     // Where there are no branches, no memory is wanted.
     ensures bare { tables.entry.entries ≡ [] → IsOk result }
 {
@@ -124,9 +115,7 @@ pub fn into_table<'de>(
 /// The value that a branch has become, and the span of its key. What the branch held is taken out.
 #[cycle(finish)]
 fn into_value<'de>(node: &mut Branch<'de>) -> Result<(Span, Value<'de>), AllocError>
-    ensures becomes { Becomes node.old result }
-    ensures borrows { (text : List ℕ) → (ps : List SimpleKey) → AreBorrowedRight text ps (standing node.old)
-        → IfOk result (λ found. ((held found.1).0 ≡ false) × AreBorrowedRight text ps (value_standing found.1)) }
+    ensures { Becomes node.old result }
 {
     let (key_span, span) = spans(node.marks.as_slice());
     let alloc = *node.entries.allocator();
@@ -144,10 +133,7 @@ fn into_value<'de>(node: &mut Branch<'de>) -> Result<(Span, Value<'de>), AllocEr
 #[cycle(finish)]
 #[inline(never)]
 fn into_array<'de>(entries: Vec<Branch<'de>>) -> Result<Array<'de>, AllocError>
-    ensures becomes { EachBecomes entries.entry.items result }
-    ensures borrows { (text : List ℕ) → (ps : List SimpleKey)
-        → AreBorrowedRight text ps (entries_of entries.entry.items)
-        → IfOk result (λ array. AreBorrowedRight text ps (array_standing array.items)) }
+    ensures { EachBecomes entries.entry.items result }
 {
     let mut array = Vec::with_capacity(*entries.allocator(), entries.len())?;
     for mut entry in entries {

@@ -2,10 +2,11 @@
 ghost use Rattle.std.specs.Prelude.{◌≡◌, ◌≤◌, ℕ, List, true, IfOk, IfErr, IsOk, length};
 ghost use Rattle.toml_span_lex.specs.Text.{FirstPlace};
 ghost use Rattle.toml_span_read.specs.code.Faults.{IsPlacedStop};
-ghost use Rattle.toml_span_read.specs.Data.{SimpleKey, Block, depth_limit};
+ghost use Rattle.toml_span_read.specs.Data.{Block, depth_limit};
 ghost use Rattle.toml_span_read.specs.Reading.{OnlyFormsTakeMemory};
 ghost use Rattle.toml_span_tree.specs.Value.{is_whole, view};
-ghost use Rattle.toml_span.specs.Borrowed.{AreBorrowedRight, value_standing};
+ghost use Rattle.toml_span.specs.Borrowed.{AreBorrowedRight, first_key, held};
+ghost use Rattle.toml_span.specs.Claims.{claims};
 ghost use Rattle.toml_span.specs.code.Growing.{GrownGives, GrownRight, Grows, IsBare, IsGrownInside};
 ghost use Rattle.toml_span_read.specs.Read.{document};
 ghost use Rattle.toml_span.specs.Parsing.{Answers, IsBorrowedTree, IsRoot};
@@ -51,8 +52,8 @@ fn tree_of<'de>(grown: Grown<'de>, text: &'de str) -> Result<Value<'de>, Stop<Er
     ensures answers { (bs : List Block) (limit : ℕ) → document text.now limit (Ok bs) → Grows bs grown.entry
         → Answers text.now limit result }
     ensures root { IfOk result (IsRoot (length text.now)) }
-    ensures borrows { (ps : List SimpleKey) → GrownRight text.now ps grown.entry
-        → IfOk result (λ root. AreBorrowedRight text.now ps (value_standing root)) }
+    ensures borrows { (bs : List Block) → Grows bs grown.entry → GrownRight text.now grown.entry
+        → IfOk result (λ root. AreBorrowedRight text.now (held root (first_key (claims bs)))) }
     ensures bare { IsBare grown.entry → IsOk result }
 {
     match finish(grown, text.len()) {

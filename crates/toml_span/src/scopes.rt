@@ -5,11 +5,10 @@ ghost use Rattle.toml_span_tree.specs.Value.{inner_view};
 ghost use Rattle.toml_span_tree.specs.Node as tree;
 ghost use Rattle.toml_span_tree.specs.declared.value.ValueInner.TheVariants as inners;
 ghost use Rattle.toml_span_read.specs.Borrowed.{assignment_written, assignments_written, joined, key_written};
-ghost use Rattle.toml_span_read.specs.Borrowed.{keys_written, written};
+ghost use Rattle.toml_span_read.specs.Borrowed.{keys_written, written, AreWrittenRight, IsWrittenRight};
 ghost use Rattle.toml_span_read.specs.Data.{key_value, view, onto, no_items, ParsedValue as Read, parsed_span};
-ghost use Rattle.toml_span_read.specs.Data.{SimpleKey, simple_key as part_of};
-ghost use Rattle.toml_span.specs.code.Borrowed.{AreFrom, IsFrom, Keeps, ValueRight, array_standing};
-ghost use Rattle.toml_span.specs.code.Borrowed.{standing, table_standing};
+ghost use Rattle.toml_span_read.specs.Data.{simple_key as part_of};
+ghost use Rattle.toml_span.specs.code.Borrowed.{Keeps, KeepsName, ValueRight, own_elements, own_table};
 ghost use Rattle.toml_span.specs.Borrowed.{AreBorrowedRight};
 ghost use Rattle.toml_span.specs.Claims.{assignment_claims, key_value_claims, item_claims};
 ghost use Rattle.toml_span.specs.code.Machine.{Gives, met};
@@ -75,7 +74,7 @@ pub(crate) fn fresh_child<'de>(
     key: &Key<'de>,
 ) -> Result<Box<Branch<'de>>, Halt>
     ensures { Gives result (met (closed_marks (closed_in (cow_str_bytes key.now.name) values.now)) mark
-        (cow_str_bytes key.now.name)) (λ child. IsFresh child.value × (standing child.value ≡ [])) }
+        (cow_str_bytes key.now.name)) (λ child. IsFresh child.value) }
 {
     admit_beside_value(alloc, values, mark, key)?;
     let child = Box::new(alloc, Branch::new(alloc))?;
@@ -109,8 +108,8 @@ fn assign<'de>(
 ) -> Result<(), Halt>
     ensures places { (v : Read) → ValueGives value.entry v → span ≡ parsed_span v
         → Places node.old node.new result (pair_at [] (part_of key.entry) v) (counts node.old) }
-    ensures borrows { (text : List ℕ) → (ps : List SimpleKey) → IsFrom text ps (key_written key.entry)
-        → ValueRight text ps value.entry → Keeps text ps node.old node.new result }
+    ensures borrows { (text : List ℕ) → IsWrittenRight text (key_written key.entry)
+        → ValueRight text value.entry → Keeps text node.old node.new result }
 {
     let mark = pair_mark(Sort::Assigned, &key, span);
     admit_beside_table(alloc, &node.tables, mark, &key)?;
@@ -151,8 +150,8 @@ fn assign_due<'de>(
 ) -> Result<(), Halt>
     ensures places { (d : Due) (v : Read) → due.old ≡ Some d → ValueGives d.value v → span ≡ parsed_span v
         → Places node.old node.new result (pair_at [] (part_of d.last) v) (counts node.old) }
-    ensures borrows { (text : List ℕ) → (ps : List SimpleKey) → (d : Due) → due.old ≡ Some d
-        → IsFrom text ps (key_written d.last) → ValueRight text ps d.value → Keeps text ps node.old node.new result }
+    ensures borrows { (text : List ℕ) → (d : Due) → due.old ≡ Some d
+        → IsWrittenRight text (key_written d.last) → ValueRight text d.value → Keeps text node.old node.new result }
 {
     match due.take() {
         Some(next) => assign(alloc, node, next.last, next.value, span),
@@ -174,9 +173,9 @@ fn place_pair<'de>(
 ) -> Result<(), Halt>
     ensures places { (d : Due) (v : Read) → due.old ≡ Some d → ValueGives d.value v → span ≡ parsed_span v
         → Places node.old node.new result (pair_at (map part_of inner.now) (part_of d.last) v) (counts node.old) }
-    ensures borrows { (text : List ℕ) → (ps : List SimpleKey) → (d : Due) → due.old ≡ Some d
-        → AreFrom text ps (keys_written inner.now) → IsFrom text ps (key_written d.last)
-        → ValueRight text ps d.value → Keeps text ps node.old node.new result }
+    ensures borrows { (text : List ℕ) → (d : Due) → due.old ≡ Some d
+        → AreWrittenRight text (keys_written inner.now) → IsWrittenRight text (key_written d.last)
+        → ValueRight text d.value → Keeps text node.old node.new result }
 {
     let [part, rest @ ..] = inner else {
         return assign_due(alloc, node, due, span);
@@ -204,10 +203,9 @@ fn pass_child<'de>(
     ensures places { (d : Due) (v : Read) → due.old ≡ Some d → ValueGives d.value v → span ≡ parsed_span v
         → Passes child.old.value child.new.value result (through_pair (part_of part.now) (map part_of rest.now)
         (part_of d.last) v) (counts child.old.value) }
-    ensures borrows { (text : List ℕ) → (ps : List SimpleKey) → (d : Due) → due.old ≡ Some d
-        → IsFrom text ps (key_written part.now) → AreFrom text ps (keys_written rest.now)
-        → IsFrom text ps (key_written d.last) → ValueRight text ps d.value
-        → Keeps text ps child.old.value child.new.value result }
+    ensures borrows { (text : List ℕ) → (d : Due) → due.old ≡ Some d
+        → AreWrittenRight text (keys_written rest.now) → IsWrittenRight text (key_written d.last)
+        → ValueRight text d.value → KeepsName text part.now.span child.old.value child.new.value result }
 {
     pass_pair(alloc, child.as_mut(), part, rest, due, span)
 }
@@ -225,10 +223,9 @@ fn pass_pair<'de>(
     ensures places { (d : Due) (v : Read) → due.old ≡ Some d → ValueGives d.value v → span ≡ parsed_span v
         → Passes node.old node.new result (through_pair (part_of part.now) (map part_of rest.now)
         (part_of d.last) v) (counts node.old) }
-    ensures borrows { (text : List ℕ) → (ps : List SimpleKey) → (d : Due) → due.old ≡ Some d
-        → IsFrom text ps (key_written part.now) → AreFrom text ps (keys_written rest.now)
-        → IsFrom text ps (key_written d.last) → ValueRight text ps d.value
-        → Keeps text ps node.old node.new result }
+    ensures borrows { (text : List ℕ) → (d : Due) → due.old ≡ Some d
+        → AreWrittenRight text (keys_written rest.now) → IsWrittenRight text (key_written d.last)
+        → ValueRight text d.value → KeepsName text part.now.span node.old node.new result }
 {
     claim(
         alloc,
@@ -243,8 +240,8 @@ fn pass_pair<'de>(
 #[cycle(value_of)]
 fn place_one<'de>(alloc: Global, pair: Assignment<'de>, node: &mut Branch<'de>) -> Result<(), Halt>
     ensures places { Places node.old node.new result (assignment_claims (key_value pair.entry) []) (counts node.old) }
-    ensures borrows { (text : List ℕ) → (ps : List SimpleKey) → AreFrom text ps (assignment_written pair.entry)
-        → Keeps text ps node.old node.new result }
+    ensures borrows { (text : List ℕ) → AreWrittenRight text (assignment_written pair.entry)
+        → Keeps text node.old node.new result }
 {
     let Assignment {
         parts: DottedKey { inner, last },
@@ -269,8 +266,8 @@ fn place_pairs<'de>(
 ) -> Result<(), Halt>
     ensures places { Places node.old node.new result (key_value_claims (map key_value pairs.entry.items) [])
         (counts node.old) }
-    ensures borrows { (text : List ℕ) → (ps : List SimpleKey) → AreFrom text ps (assignments_written pairs.entry.items)
-        → Keeps text ps node.old node.new result }
+    ensures borrows { (text : List ℕ) → AreWrittenRight text (assignments_written pairs.entry.items)
+        → Keeps text node.old node.new result }
 {
     for pair in pairs {
         place_one(alloc, pair, node)?;
@@ -286,8 +283,8 @@ pub(crate) fn place_all<'de>(
 ) -> Result<(), Halt>
     ensures places { Places node.old node.new result (key_value_claims (map key_value pairs.entry.items) [])
         (counts node.old) }
-    ensures borrows { (text : List ℕ) → (ps : List SimpleKey) → AreFrom text ps (assignments_written pairs.entry.items)
-        → Keeps text ps node.old node.new result }
+    ensures borrows { (text : List ℕ) → AreWrittenRight text (assignments_written pairs.entry.items)
+        → Keeps text node.old node.new result }
 {
     if pairs.len() <= SHORT_LIST {
         return place_pairs(alloc, pairs, node);
@@ -303,8 +300,8 @@ pub(crate) fn place_all<'de>(
 fn table_of<'de>(alloc: Global, pairs: Vec<Assignment<'de>>) -> Result<Table<'de>, Halt>
     ensures scope { ScopeGives result (λ t. inner_view (inners.Table t))
         (key_value_claims (map key_value pairs.entry.items) []) }
-    ensures borrows { (text : List ℕ) → (ps : List SimpleKey) → AreFrom text ps (assignments_written pairs.entry.items)
-        → IfOk result (λ table. AreBorrowedRight text ps (table_standing table.entries)) }
+    ensures borrows { (text : List ℕ) → AreWrittenRight text (assignments_written pairs.entry.items)
+        → IfOk result (λ table. AreBorrowedRight text (own_table table.entries)) }
 {
     let mut scope = Branch::new(alloc);
     place_pairs(alloc, pairs, &mut scope)?;
@@ -316,9 +313,8 @@ fn table_of<'de>(alloc: Global, pairs: Vec<Assignment<'de>>) -> Result<Table<'de
 fn array_of<'de>(alloc: Global, elements: Vec<Val<'de>>) -> Result<Array<'de>, Halt>
     ensures scope { ScopeGives result (λ xs. inner_view (inners.Array xs))
         (item_claims (onto (map view elements.entry.items) no_items) 0 []) }
-    ensures borrows { (text : List ℕ) → (ps : List SimpleKey)
-        → AreFrom text ps (joined (map written elements.entry.items))
-        → IfOk result (λ array. AreBorrowedRight text ps (array_standing array.items)) }
+    ensures borrows { (text : List ℕ) → AreWrittenRight text (joined (map written elements.entry.items))
+        → IfOk result (λ array. AreBorrowedRight text (own_elements array.items)) }
 {
     let mut array = Vec::with_capacity(alloc, elements.len())?;
     for element in elements {
@@ -331,8 +327,7 @@ fn array_of<'de>(alloc: Global, elements: Vec<Val<'de>>) -> Result<Array<'de>, H
 #[cycle(value_of)]
 fn value_of<'de>(alloc: Global, val: Val<'de>) -> Result<Value<'de>, Halt>
     ensures value { ValueGives result (view val.entry) }
-    ensures borrows { (text : List ℕ) → (ps : List SimpleKey) → AreFrom text ps (written val.entry)
-        → ValueRight text ps result }
+    ensures borrows { (text : List ℕ) → AreWrittenRight text (written val.entry) → ValueRight text result }
 {
     let Val { kind, span } = val;
     let inner = match kind {

@@ -1,10 +1,11 @@
 //! Sections placed one by one into a tree.
 ghost use Rattle.std.specs.Prelude.{◌≡◌, ℕ, List, map, [], ◌∷◌, ◌++◌, IfOk, IfErr, IfSome, IsOk, IsOkAnd, None, OnOk};
-ghost use Rattle.toml_span_read.specs.Borrowed.{assignments_written, key_written, keys_written, section_written};
-ghost use Rattle.toml_span_read.specs.Data.{key_value, Block, block, SimpleKey, simple_key as part_of};
+ghost use Rattle.toml_span_read.specs.Borrowed.{assignments_written, keys_written, section_written, AreWrittenRight};
+ghost use Rattle.toml_span_read.specs.Data.{key_value, Block, block, simple_key as part_of};
 ghost use Rattle.toml_span_read.specs.code.Sections.{first_blocks};
 ghost use Rattle.toml_span.specs.declared.claims.Sort.TheVariants.{Passed};
-ghost use Rattle.toml_span.specs.code.Borrowed.{AreFrom, IsFrom, Keeps, ValueRight};
+ghost use Rattle.toml_span.specs.code.Borrowed.{Keeps, KeepsName};
+ghost use Rattle.toml_span.specs.Borrowed.{first_key, held, AreBorrowedRight};
 ghost use Rattle.toml_span.specs.Claims as claims;
 ghost use Rattle.toml_span.specs.Claims.{key_value_claims};
 ghost use Rattle.toml_span.specs.code.Marks.{IsHaltInside};
@@ -62,9 +63,9 @@ fn place_section<'de>(
     ensures places { Places node.old node.new result (section_at (counts node.old) head (map part_of parts.now)
         (key_value_claims (map key_value pairs.entry.items) []))
         (grown (counts node.old) head (map part_of parts.now)) }
-    ensures borrows { (text : List ℕ) → (ps : List SimpleKey) → AreFrom text ps (keys_written parts.now)
-        → AreFrom text ps (assignments_written pairs.entry.items)
-        → Keeps text ps node.old node.new result }
+    ensures borrows { (text : List ℕ) → AreWrittenRight text (keys_written parts.now)
+        → AreWrittenRight text (assignments_written pairs.entry.items)
+        → Keeps text node.old node.new result }
 {
     let [part, rest @ ..] = parts else {
         return place_all(alloc, pairs, node);
@@ -93,9 +94,9 @@ fn pass_child<'de>(
         (through (counts child.old.value) head (part_of part.now) (map part_of rest.now)
         (key_value_claims (map key_value pairs.entry.items) [])) (grown_through (counts child.old.value) head
         (map part_of rest.now)) }
-    ensures borrows { (text : List ℕ) → (ps : List SimpleKey) → IsFrom text ps (key_written part.now)
-        → AreFrom text ps (keys_written rest.now) → AreFrom text ps (assignments_written pairs.entry.items)
-        → Keeps text ps child.old.value child.new.value result }
+    ensures borrows { (text : List ℕ) → AreWrittenRight text (keys_written rest.now)
+        → AreWrittenRight text (assignments_written pairs.entry.items)
+        → KeepsName text part.now.span child.old.value child.new.value result }
 {
     pass_header(alloc, child.as_mut(), part, rest, head, pairs)
 }
@@ -114,9 +115,9 @@ fn pass_header<'de>(
     ensures places { Passes node.old node.new result (through (counts node.old) head (part_of part.now)
         (map part_of rest.now) (key_value_claims (map key_value pairs.entry.items) []))
         (grown_through (counts node.old) head (map part_of rest.now)) }
-    ensures borrows { (text : List ℕ) → (ps : List SimpleKey) → IsFrom text ps (key_written part.now)
-        → AreFrom text ps (keys_written rest.now) → AreFrom text ps (assignments_written pairs.entry.items)
-        → Keeps text ps node.old node.new result }
+    ensures borrows { (text : List ℕ) → AreWrittenRight text (keys_written rest.now)
+        → AreWrittenRight text (assignments_written pairs.entry.items)
+        → KeepsName text part.now.span node.old node.new result }
 {
     if rest.is_empty() {
         return end_header(alloc, node, part, head, pairs);
@@ -140,9 +141,9 @@ fn descend<'de>(
     ensures places { Opening IsScope (claims.header_mark head Passed part.now.span) node.old node.new result
         (passing head (part_of part.now) (map part_of rest.now) (key_value_claims (map key_value pairs.entry.items) [])
         (counts node.old)) (grown (counts node.old) head (map part_of rest.now)) }
-    ensures borrows { (text : List ℕ) → (ps : List SimpleKey) → IsFrom text ps (key_written part.now)
-        → AreFrom text ps (keys_written rest.now) → AreFrom text ps (assignments_written pairs.entry.items)
-        → Keeps text ps node.old node.new result }
+    ensures borrows { (text : List ℕ) → AreWrittenRight text (keys_written rest.now)
+        → AreWrittenRight text (assignments_written pairs.entry.items)
+        → KeepsName text part.now.span node.old node.new result }
 {
     claim(
         alloc,
@@ -165,8 +166,8 @@ fn open_table<'de>(
     ensures places { Opening (Opens sort) (claims.header_mark head sort part.now.span) node.old node.new result
         (opening head sort (part_of part.now) (key_value_claims (map key_value pairs.entry.items) []))
         (counts node.old) }
-    ensures borrows { (text : List ℕ) → (ps : List SimpleKey) → AreFrom text ps (assignments_written pairs.entry.items)
-        → Keeps text ps node.old node.new result }
+    ensures borrows { (text : List ℕ) → AreWrittenRight text (assignments_written pairs.entry.items)
+        → KeepsName text part.now.span node.old node.new result }
 {
     claim(alloc, &mut node.marks, header_mark(head, sort, part), part)?;
     place_all(alloc, pairs, node)
@@ -183,8 +184,8 @@ fn add_entry<'de>(
     ensures places { Reaches IsOpen IsHeld node.old node.new result
         (adding head (part_of part.now) (key_value_claims (map key_value pairs.entry.items) []) (counts node.old []))
         (one_more (counts node.old)) }
-    ensures borrows { (text : List ℕ) → (ps : List SimpleKey) → AreFrom text ps (assignments_written pairs.entry.items)
-        → Keeps text ps node.old node.new result }
+    ensures borrows { (text : List ℕ) → AreWrittenRight text (assignments_written pairs.entry.items)
+        → Keeps text node.old node.new result }
 {
     let mut entry = Branch::new(alloc);
     open_table(alloc, &mut entry, Sort::TableElement, part, head, pairs)?;
@@ -204,8 +205,8 @@ fn end_header<'de>(
     ensures places { Passes node.old node.new result (ending head (part_of part.now)
         (key_value_claims (map key_value pairs.entry.items) []) (counts node.old []))
         (grown_here (counts node.old) head) }
-    ensures borrows { (text : List ℕ) → (ps : List SimpleKey) → AreFrom text ps (assignments_written pairs.entry.items)
-        → Keeps text ps node.old node.new result }
+    ensures borrows { (text : List ℕ) → AreWrittenRight text (assignments_written pairs.entry.items)
+        → KeepsName text part.now.span node.old node.new result }
 {
     if !head.array {
         return open_table(alloc, node, Sort::StandardTable, part, head, pairs);
@@ -220,8 +221,8 @@ fn end_header<'de>(
 /// Places a section below the root of a tree.
 fn place<'de>(alloc: Global, root: &mut Branch<'de>, section: Section<'de>) -> Result<(), Halt>
     ensures places { Placed (block section.entry) root.old root.new result }
-    ensures borrows { (text : List ℕ) → (ps : List SimpleKey) → AreFrom text ps (section_written section.entry)
-        → Keeps text ps root.old root.new result }
+    ensures borrows { (text : List ℕ) → AreWrittenRight text (section_written section.entry)
+        → Keeps text root.old root.new result }
 {
     let Section {
         header,
@@ -252,7 +253,7 @@ impl<'de> Grown<'de> {
     pub(crate) fn new(alloc: Global) -> Self
         ensures grows { Grows [] result }
         ensures inside { (n : ℕ) → IsGrownInside n result }
-        ensures borrows { (text : List ℕ) → (ps : List SimpleKey) → GrownRight text ps result }
+        ensures borrows { (text : List ℕ) → GrownRight text result }
         ensures bare { IsBare result }
     {
         Self {
@@ -270,8 +271,8 @@ pub(crate) fn grow<'de>(
 ) -> Result<(), AllocError>
     ensures grows { (bs : List Block) → AreSections (block section.entry ∷ []) → Grows bs grown.old
         → OnOk result (Grows (bs ++ (block section.entry ∷ [])) grown.new) }
-    ensures borrows { (text : List ℕ) → (ps : List SimpleKey) → AreFrom text ps (section_written section.entry)
-        → GrownRight text ps grown.old → OnOk result (GrownRight text ps grown.new) }
+    ensures borrows { (text : List ℕ) → AreWrittenRight text (section_written section.entry)
+        → GrownRight text grown.old → OnOk result (GrownRight text grown.new) }
 {
     if grown.clash.is_some() {
         drop(section);
@@ -293,9 +294,8 @@ pub(crate) fn begin<'de>(
     first: Option<Section<'de>>,
 ) -> Result<Grown<'de>, AllocError>
     ensures grows { AreSections (first_blocks first.entry) → IfOk result (Grows (first_blocks first.entry)) }
-    ensures borrows { (text : List ℕ) → (ps : List SimpleKey)
-        → IfSome first.entry (λ section. AreFrom text ps (section_written section))
-        → IfOk result (GrownRight text ps) }
+    ensures borrows { (text : List ℕ) → IfSome first.entry (λ section. AreWrittenRight text (section_written section))
+        → IfOk result (GrownRight text) }
     ensures bare { first.entry ≡ None → IsOkAnd result IsBare }
 {
     let mut grown = Grown::new(alloc);
@@ -313,8 +313,8 @@ pub(crate) fn finish<'de>(grown: Grown<'de>, length: usize) -> Result<Value<'de>
     ensures assembles { (bs : List Block) → Grows bs grown.entry → Assembles bs length result }
     ensures root { IfOk result (IsRoot length) }
     ensures placed { (n : ℕ) → IsGrownInside n grown.entry → IfErr result (IsHaltInside n) }
-    ensures borrows { (text : List ℕ) → (ps : List SimpleKey) → GrownRight text ps grown.entry
-        → ValueRight text ps result }
+    ensures borrows { (text : List ℕ) (bs : List Block) → Grows bs grown.entry → GrownRight text grown.entry
+        → IfOk result (λ root. AreBorrowedRight text (held root (first_key (claims.claims bs)))) }
     ensures bare { IsBare grown.entry → IsOk result }
 {
     let Grown { root, clash } = grown;

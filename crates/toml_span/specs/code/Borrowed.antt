@@ -1,68 +1,118 @@
 -- Which strings and keys are borrowed in the tree under construction, and of those from which it is made.
-use Rattle.std.specs.Prelude.{ℕ, List, [], ◌∷◌, ◌++◌, map, Result, IfOk, OnOk}
+use Rattle.std.specs.Prelude.{◌≡◌, ℕ, ◌⊎◌, List, ◌∷◌, ◌++◌, map, Option, Some, None, Result, IfOk, OnOk, option_map}
 use Rattle.std.specs.Box.{box_value}
 use Rattle.std.specs.Global.{Box}
-use Rattle.std.specs.Cow.{cow_str_bytes}
-use Rattle.std.specs.List.{AllByRecursion}
 use Rattle.toml_span_lex.specs.declared.span.Span.{Span}
 use Rattle.toml_span_lex.specs.declared.key.Key.{Key}
-use Rattle.toml_span_lex.specs.Strings.{BorrowsWhereSame}
+use Rattle.toml_span_tree.specs.Node.{Node, node, table}
+use Rattle.toml_span_tree.specs.Value.{members_view, view}
 use Rattle.toml_span_tree.specs.declared.value.ValueInner.{ValueInner}
 use Rattle.toml_span_tree.specs.declared.value.ValueInner.TheFolds.{fold-ValueInner}
 use Rattle.toml_span_tree.specs.declared.value.Value.{Value}
-use Rattle.toml_span_read.specs.Borrowed.{Written, joined, string as string_written, name as name_written}
-use Rattle.toml_span_read.specs.Data.{SimpleKey}
-use Rattle.toml_span.specs.Borrowed.{Held, inner_step, value_step, Standing, elements_standing, held}
-use Rattle.toml_span.specs.Borrowed.{entries_standing, table_name, IsKeyOf, AreBorrowedRight, value_standing}
+use Rattle.toml_span_read.specs.Borrowed.{joined}
+use Rattle.toml_span.specs.Borrowed.{KeySpans, Held, inner_step, value_step, Standing, elements_standing}
+use Rattle.toml_span.specs.Borrowed.{entries_standing, AreBorrowedRight, held}
 use Rattle.toml_span.specs.declared.branch.Branch.TheOpen.{Branch-F}
 use Rattle.toml_span.specs.declared.branch.Branch.{Branch, fold-Branch}
 use Rattle.toml_span.specs.declared.claims.Halt.{Halt}
+use Rattle.toml_span.specs.declared.claims.Mark.{Mark}
+use Rattle.toml_span.specs.code.Machine.{key_spans}
+use Rattle.toml_span.specs.code.Marks.{first}
+use Rattle.toml_span.specs.code.Tree.{cells, marks, value_shows, IsFresh}
 
 abbrev pub inner_held : ValueInner → Span → Held
 inner_held = fold-ValueInner (Span → Held) Held inner_step value_step
 
-abbrev pub array_standing : List Value → List Standing
-array_standing vs = elements_standing (map held vs)
+abbrev pub array_held : List Value → Held
+array_held vs = elements_standing 0 (map held vs)
 
-abbrev pub table_standing : List (Key × Value) → List Standing
-table_standing es = entries_standing (map (λ e. (e.0, held e.1)) es)
+abbrev pub table_held : List (Key × Value) → Held
+table_held es = entries_standing (map (λ e. (e.0, held e.1)) es)
+
+-- ---- finished values
+
+-- the spans of the keys in a value, which has this key or none
+abbrev pub own_spans : Option Span → Node → KeySpans
+own_spans at n p = option_map (λ d. d.key) (value_shows at n p)
+
+-- what stands in a value that has this key, or none, in elements, and in a table, if keys are written where they have
+-- their spans
+abbrev pub own_held : Option Span → Value → List Standing
+own_held at v = held v (own_spans at (view v))
+
+abbrev pub own_elements : List Value → List Standing
+own_elements vs = joined (map (own_held None) vs)
+
+abbrev pub own_table : List (Key × Value) → List Standing
+own_table es = table_held es (own_spans None (node (table (members_view es)) (record { start = 0; end = 0 })))
+
+-- a value with its key, and several
+abbrev pub value_standing : Key × Value → List Standing
+value_standing e = (e.0.name, Some e.0.span) ∷ own_held (Some e.0.span) e.1
+
+abbrev pub values_standing : List (Key × Value) → List Standing
+values_standing es = joined (map value_standing es)
 
 -- ---- branches
 
-abbrev pub nodes_standing : List (Key × Box (List Standing)) → List Standing
-nodes_standing [] = []
-nodes_standing (e ∷ es) = table_name e.0.name ∷ (box_value e.1 ++ nodes_standing es)
+-- a branch has its name from the first claim on it
+abbrev pub name_span : List Mark → Option Span
+name_span ms = option_map (λ m. m.key) (first ms)
 
-abbrev pub node_step : Branch-F (List Standing) → List Standing
-node_step n = table_standing n.values.entries ++ (nodes_standing n.tables.entries ++ joined n.entries.items)
+-- the claims on a branch, and what stands in it
+abbrev pub Contents : Type 0
+Contents = List Mark × List Standing
+
+abbrev pub named_standing : Key × Box Contents → List Standing
+named_standing e = (e.0.name, name_span (box_value e.1).0) ∷ (box_value e.1).1
+
+abbrev pub node_step : Branch-F Contents → Contents
+node_step n = (
+  n.marks.items,
+  values_standing n.values.entries
+      ++ (joined (map named_standing n.tables.entries) ++ joined (map (λ x. x.1) n.entries.items)),
+)
+
+abbrev pub contents : Branch → Contents
+contents = fold-Branch Contents node_step
 
 abbrev pub standing : Branch → List Standing
-standing = fold-Branch (List Standing) node_step
+standing n = (contents n).1
+
+-- a branch with its name, several, and entries
+abbrev pub box_standing : Key × Box Branch → List Standing
+box_standing e = (e.0.name, name_span (marks (box_value e.1))) ∷ standing (box_value e.1)
 
 abbrev pub boxes_standing : List (Key × Box Branch) → List Standing
-boxes_standing [] = []
-boxes_standing (e ∷ es) = table_name e.0.name ∷ (standing (box_value e.1) ++ boxes_standing es)
+boxes_standing es = joined (map box_standing es)
 
 abbrev pub entries_of : List Branch → List Standing
 entries_of ns = joined (map standing ns)
 
--- ---- what was read
-
--- among what was read, the keys of which are these
-abbrev pub IsFrom : List ℕ → List SimpleKey → Written → Type 0
-IsFrom text ps (string_written s span) = BorrowsWhereSame text span s
-IsFrom text ps (name_written s span) =
-    BorrowsWhereSame text span s × IsKeyOf (record { name = cow_str_bytes s; span = span }) ps
-
-abbrev pub AreFrom : List ℕ → List SimpleKey → List Written → Type 0
-AreFrom text ps ws = AllByRecursion (IsFrom text ps) ws
-
 -- ---- what the functions keep
 
--- where nothing goes wrong, what is right of the branch stays so
-abbrev pub Keeps : List ℕ → List SimpleKey → Branch → Branch → Result (Unit {0}) Halt → Type 0
-Keeps text ps old new r = AreBorrowedRight text ps (standing old) → OnOk r (AreBorrowedRight text ps (standing new))
+-- where nothing goes wrong, what is right of the branch stays so, and its claims stay
+abbrev pub Keeps : List ℕ → Branch → Branch → Result (Unit {0}) Halt → Type 0
+Keeps text old new r =
+    AreBorrowedRight text (standing old)
+    → OnOk r (AreBorrowedRight text (standing new) × (marks new ≡ marks old))
 
--- the value, if there is one, is right
-abbrev pub ValueRight : List ℕ → List SimpleKey → Result Value Halt → Type 0
-ValueRight text ps r = IfOk r (λ v. AreBorrowedRight text ps (value_standing v))
+-- the branch's name is written here; or nothing is claimed on it, and its name will be written there
+abbrev pub IsWrittenAt : Span → Span → Branch → Type 0
+IsWrittenAt next at n = (name_span (marks n) ≡ Some at) ⊎ (IsFresh n × (next ≡ at))
+
+-- the same of a branch that is claimed by a key, and its name is written where it was before
+abbrev pub KeepsName : List ℕ → Span → Branch → Branch → Result (Unit {0}) Halt → Type 0
+KeepsName text next old new r =
+    AreBorrowedRight text (standing old)
+    → OnOk r (AreBorrowedRight text (standing new)
+    × ((at : Span) → IsWrittenAt next at old → name_span (marks new) ≡ Some at))
+
+-- the value, if there is one, is right by the spans of its own keys
+abbrev pub ValueRight : List ℕ → Result Value Halt → Type 0
+ValueRight text r = IfOk r (λ v. (at : Option Span) → AreBorrowedRight text (own_held at v))
+
+-- what is right in a branch is right in what it becomes, by the keys of the first claims
+abbrev pub StaysRight : Branch → Held → Type 0
+StaysRight n h =
+    (text : List ℕ) → AreBorrowedRight text (standing n) → AreBorrowedRight text (h (key_spans (cells n)))

@@ -5,9 +5,8 @@ use Rattle.std.specs.Prelude.{◌≡◌, ℕ, List, [], ◌++◌, map, Result, O
 use Rattle.std.specs.Prelude.{IfSome}
 use Rattle.toml_span_lex.specs.declared.stop.Stop.{Stop}
 use Rattle.toml_span_lex.specs.declared.stop.Stop.TheVariants as stops
-use Rattle.toml_span_read.specs.Data.{Block, block, SimpleKey}
+use Rattle.toml_span_read.specs.Data.{Block, block}
 use Rattle.toml_span_read.specs.Places.{IsInside}
-use Rattle.toml_span_read.specs.Borrowed.{AreWrittenRight as AreRightRead, sections_written}
 use Rattle.toml_span_read.specs.declared.section.Section.{Section}
 use Rattle.toml_span_read.specs.Read.{document}
 use Rattle.toml_span_read.specs.declared.fault.Fault.{Fault}
@@ -22,7 +21,7 @@ use Rattle.toml_span.specs.Paths.{elements_added, opened_by}
 use Rattle.toml_span.specs.declared.claims.Clash.{Clash}
 use Rattle.toml_span.specs.Clashes.{first_clash}
 use Rattle.toml_span.specs.Borrowed.{AreBorrowedRight}
-use Rattle.toml_span.specs.code.Borrowed.{standing, AreFrom}
+use Rattle.toml_span.specs.code.Borrowed.{standing}
 use Rattle.toml_span.specs.declared.branch.Branch.TheViews.{out-Branch}
 use Rattle.toml_span.specs.declared.sections.Grown.{Grown}
 
@@ -55,8 +54,8 @@ abbrev pub IsGrownInside : ℕ → Grown → Type 0
 IsGrownInside n g = IfSome g.clash (λ c. IsInside n (box_value c).meeting.span)
 
 -- what stands in the tree is borrowed as it was read
-abbrev pub GrownRight : List ℕ → List SimpleKey → Grown → Type 0
-GrownRight text ps g = IfNone g.clash (AreBorrowedRight text ps (standing g.root))
+abbrev pub GrownRight : List ℕ → Grown → Type 0
+GrownRight text g = IfNone g.clash (AreBorrowedRight text (standing g.root))
 
 -- no two clash, and no table is to be finished
 abbrev pub IsBare : Grown → Type 0
@@ -68,8 +67,7 @@ pub record IsGrown (text : List ℕ) (limit : ℕ) (g : Grown) : Type 0 where
   pub document : document text limit (Ok (map block sections))
   pub grows : Grows (map block sections) g
   pub bare : sections ≡ [] → IsBare g
-  pub read : AreRightRead text (sections_written sections)
-  pub borrows : (ps : List SimpleKey) → AreFrom text ps (sections_written sections) → GrownRight text ps g
+  pub borrows : GrownRight text g
 
 abbrev pub GrownGives : List ℕ → ℕ → Result Grown (Stop Fault) → Type 0
 GrownGives text limit (Ok g) = IsGrown text limit g

@@ -3,6 +3,7 @@ use Rattle.std.specs.Box.{box_value}
 use Rattle.std.specs.Global.{Box}
 use Rattle.std.specs.Prelude.{◌≡◌, ⊤, ℕ, Bool, not, ◌||◌, if◌then◌else◌, List, [], ◌∷◌, Result, Ok, Err, Option, Some}
 use Rattle.std.specs.Prelude.{None, option_map, string_bytes}
+use Rattle.toml_span_lex.specs.declared.span.Span.{Span}
 use Rattle.toml_span_tree.specs.Path.{Place, Path, Step}
 use Rattle.toml_span.specs.declared.claims.Mark.{Mark}
 use Rattle.toml_span.specs.Claims.{Claim, Claims, no_claims, claimed, scope}
@@ -14,10 +15,11 @@ use Rattle.toml_span.specs.declared.claims.Clash as code
 use Rattle.toml_span.specs.declared.claims.Halt.{Halt}
 use Rattle.toml_span.specs.declared.claims.Halt.TheVariants.{Memory, Clash}
 
--- what a path shows so far: whether a header decides, and what stands there
+-- what a path shows so far: whether a header decides, what stands there, and the key with which it was claimed first
 pub record Decided : Type 0 where
   pub header : Bool
   pub place : Place
+  pub key : Span
 
 -- what is kept at a path: the first claim of each sort in its own scope, and what decides, whatever the scope
 pub record Cell : Type 0 where
@@ -33,13 +35,16 @@ no_cell = record { marks = []; shown = None }
 abbrev pub nothing : State
 nothing p = no_cell
 
+abbrev pub with_span : Span → Decided → Decided
+with_span span d = record { header = d.header; place = d.place; key = span }
+
 -- the first header decides, or else the first claim
 abbrev pub decide : Option Decided → Decided → Option Decided
 decide None next = Some next
-decide (Some first) next = if first.header || not next.header then Some first else Some next
+decide (Some first) next = if first.header || not next.header then Some first else Some (with_span first.key next)
 
 abbrev pub decided : Claim → Decided
-decided c = record { header = by_header c.mark.sort; place = c.place }
+decided c = record { header = by_header c.mark.sort; place = c.place; key = c.mark.key }
 
 -- a claim of the scope, and one of a scope inside
 abbrev pub with_claim : Claim → Cell → Cell
@@ -47,6 +52,10 @@ with_claim c x = record { marks = remember x.marks c.mark; shown = decide x.show
 
 abbrev pub with_inner : Claim → Cell → Cell
 with_inner c x = record { marks = x.marks; shown = decide x.shown (decided c) }
+
+-- where the key of each path is written
+abbrev pub key_spans : State → Path → Option Span
+key_spans st p = option_map (λ d. d.key) (st p).shown
 
 unfoldable pub change : State → Path → (Cell → Cell) → State
 change st p f q = if same_path p q then f (st q) else st q

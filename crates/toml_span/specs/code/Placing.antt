@@ -28,6 +28,8 @@ use Rattle.toml_span.specs.code.Marks.{remember, deciding}
 use Rattle.toml_span.specs.declared.claims.Sort.{Sort}
 use Rattle.toml_span.specs.declared.claims.Sort.TheVariants.{StandardTable, TableElement}
 use Rattle.toml_span.specs.Ordered.{IsOrdered, HoldsOrdered}
+use Rattle.toml_span.specs.Borrowed.{held}
+use Rattle.toml_span.specs.code.Borrowed.{table_held, StaysRight}
 use Rattle.toml_span.specs.declared.branch.Branch.TheViews.{out-Branch}
 use Rattle.toml_span.specs.declared.claims.Halt.TheVariants.{Memory, Clash}
 use Rattle.toml_span.specs.Clashes.{Resolves, first_clash}
@@ -106,11 +108,12 @@ NamesAscend t =
 abbrev pub Array : Type 0
 Array = Vec Value
 
--- the table of a branch's values and of what its branches have become
+-- the table of a branch's values and of what its branches have become, which borrows right where the branch does
 abbrev pub Finishes : BTreeMap Key (Box Branch) → Table → Result Table AllocError → Type 0
 Finishes tables values (Ok t) =
     (n : Branch) → (out-Branch n).tables ≡ tables → (out-Branch n).values ≡ values → IsScope n
     → ShowsBelow (inner_view (table_inner t)) (cells n) × HoldsOrdered (inner_view (table_inner t))
+    × StaysRight n (table_held t.entries)
 Finishes tables values (Err e) = ⊤
 
 -- the key's span and the value that a branch has become
@@ -120,7 +123,7 @@ Becomes n (Ok r) =
     → ((m : Mark) (at : Option Span) → deciding (marks n) ≡ Some m
     → (r.0 ≡ m.key)
     × (tree_place (at, view r.1) ≡ record { shape = shape_claimed m.sort; key_span = at; span = m.extent }))
-    × ShowsBelow (tree_inner (view r.1)) (cells n) × IsOrdered (view r.1)
+    × ShowsBelow (tree_inner (view r.1)) (cells n) × IsOrdered (view r.1) × StaysRight n (held r.1)
 Becomes n (Err e) = ⊤
 
 -- an entry's value, which stands at no key

@@ -20,7 +20,7 @@ use Rattle.toml_span.specs.declared.branch.Branch.{Branch}
 use Rattle.toml_span.specs.declared.branch.Branch.TheViews.{out-Branch}
 use Rattle.toml_span.specs.Claims.{place_claimed, pair_mark}
 use Rattle.toml_span.specs.Flat.{by_header}
-use Rattle.toml_span.specs.code.Machine.{Decided, State, no_cell, Cell}
+use Rattle.toml_span.specs.code.Machine.{Decided, State, no_cell, with_span, Cell}
 use Rattle.toml_span.specs.declared.claims.Sort.TheVariants.{Assigned, ArrayOfTables, TableElement}
 use Rattle.toml_span.specs.code.Marks.{deciding}
 use Rattle.toml_span.specs.declared.claims.Sort.{Sort}
@@ -62,10 +62,20 @@ held_marks (Some n) = marks n
 -- ---- what it keeps and shows
 
 abbrev pub by_mark : Mark → Decided
-by_mark m = record { header = by_header m.sort; place = place_claimed m }
+by_mark m = record { header = by_header m.sort; place = place_claimed m; key = m.key }
+
+-- what these claims show, the first of which has the key
+abbrev pub by_marks : List Mark → Option Decided
+by_marks [] = None
+by_marks (m ∷ ms) = option_map (λ x. with_span m.key (by_mark x)) (deciding (m ∷ ms))
+
+-- the span of an element in brackets, which has no key
+abbrev pub span_or : Span → Option Span → Span
+span_or span None = span
+span_or span (Some at) = at
 
 abbrev pub plain : Place → Decided
-plain p = record { header = false; place = p }
+plain p = record { header = false; place = p; key = span_or p.span p.key_span }
 
 -- what a finished value shows below a step to it, which has a key's span or none
 abbrev pub value_shows : Option Span → tree.Node → Path → Option Decided
@@ -92,7 +102,7 @@ or_nothing (Some x) = x
 or_nothing None = no_cell
 
 abbrev pub own_cell : List Mark → Cell
-own_cell ms = record { marks = ms; shown = option_map by_mark (deciding ms) }
+own_cell ms = record { marks = ms; shown = by_marks ms }
 
 unfoldable pub cell_at : Path → Branch → Cell
 cell_at [] n = own_cell (marks n)

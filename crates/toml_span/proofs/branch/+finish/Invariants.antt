@@ -1,15 +1,10 @@
-use Rattle.toml_span_lex.proofs.Common.{◌≡◌, ℕ, List, [], into_iter_items}
-use Rattle.toml_span_read.specs.Data.{SimpleKey}
-use Rattle.toml_span.specs.Borrowed.{AreBorrowedRight}
-use Rattle.toml_span.specs.code.Borrowed.{array_standing, boxes_standing, entries_of, table_standing}
+use Rattle.toml_span_lex.proofs.Common.{◌≡◌, [], into_iter_items}
 use Rattle.toml_span.proofs.Finishing.{Filled, EntriesFilled}
 use Rattle.toml_span.proofs.branch.+finish.Given as goal
 
 abbrev pub invariant-into_table-loop-key : goal.invariant-into_table-loop-key
 invariant-into_table-loop-key l = record {
   filled : Filled l.fn.tables.entries l.key-iterator l.fn.values.entries l.values.entries;
-  borrows : (text : List ℕ) (ps : List SimpleKey) → AreBorrowedRight text ps (boxes_standing l.fn.tables.entries) → AreBorrowedRight text ps (table_standing l.fn.values.entries)
-      → AreBorrowedRight text ps (boxes_standing l.key-iterator) × AreBorrowedRight text ps (table_standing l.values.entries);
   bare : l.fn.tables.entries ≡ [] → l.key-iterator ≡ [];
 }
 
@@ -18,6 +13,4 @@ invariant-into_array-loop-entry l = record {
   can : goal.iterator-into_array-loop-entry.can_next l.entry-iterator;
   ends : goal.iterator-into_array-loop-entry.is_finite l.entry-iterator;
   filled : EntriesFilled l.fn.entries.items (into_iter_items l.entry-iterator) l.array.items;
-  borrows : (text : List ℕ) (ps : List SimpleKey) → AreBorrowedRight text ps (entries_of l.fn.entries.items)
-      → AreBorrowedRight text ps (entries_of (into_iter_items l.entry-iterator)) × AreBorrowedRight text ps (array_standing l.array.items);
 }

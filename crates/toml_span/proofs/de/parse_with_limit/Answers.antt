@@ -1,8 +1,6 @@
 use Rattle.toml_span_lex.proofs.Common.{map}
-use Rattle.toml_span_read.specs.Borrowed.{sections_written}
 use Rattle.toml_span_read.specs.Data.{block}
-use Rattle.toml_span.specs.Borrowed.{keys_of}
-use Rattle.toml_span.proofs.Borrowing.{all_from, tree_borrows}
+use Rattle.toml_span.proofs.Growth.{tree_borrows}
 use Rattle.toml_span.proofs.Memory.{keeps-on, keeps-placed}
 use Rattle.toml_span.proofs.PlaceLemmas.{grown_inside}
 use Rattle.toml_span.proofs.Refusals.{answers-fault, whole-tree}
@@ -22,9 +20,7 @@ returns-in-Ok-clause-whole c =
 pub returns-in-Ok-clause-borrows : goal.returns-in-Ok-clause-borrows
 returns-in-Ok-clause-borrows c =
     let g = c.in-Ok.ensures.grown in
-    let keys = keys_of (sections_written g.sections) in
-    tree_borrows g.sections c.args.s.now c.args.limit c.tree_of.result g.document
-    (c.tree_of.ensures.borrows keys (g.borrows keys (all_from c.args.s.now (sections_written g.sections) g.read)))
+    tree_borrows (map block g.sections) c.args.s.now c.args.limit c.tree_of.result g.document (c.tree_of.ensures.borrows (map block g.sections) g.grows g.borrows)
 
 pub returns-in-Err-Fault-clause-answers : goal.returns-in-Err-Fault-clause-answers
 returns-in-Err-Fault-clause-answers c = answers-fault c.args.s.now c.args.limit _ c.in-Err-Fault.fault _ c.in-Err-Fault.field-0-is c.in-Err-Fault.ensures.grown c.in-Err-Fault.ensures.placed c.error_of.ensures

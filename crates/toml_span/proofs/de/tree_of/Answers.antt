@@ -32,4 +32,4 @@ returns-in-Err-Clash-clause-answers c = λ bs limit given grows.
     )
 
 pub returns-in-Ok-clause-borrows : goal.returns-in-Ok-clause-borrows
-returns-in-Ok-clause-borrows c = λ ps h. c.in-Ok.ensures.borrows c.args.text.now ps h
+returns-in-Ok-clause-borrows c = c.in-Ok.ensures.borrows c.args.text.now

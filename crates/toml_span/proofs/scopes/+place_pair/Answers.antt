@@ -1,4 +1,4 @@
-use Rattle.toml_span_lex.proofs.Common.{map, [], ◌≡◌, rules, refl, sym, ap, ◌∙◌, ⊤, map_with_value, Entry}
+use Rattle.toml_span_lex.proofs.Common.{map, is_some, rules, refl, sym, ap, ◌∙◌, ⊤, map_with_value, Entry}
 use Rattle.toml_span_read.specs.Data.{simple_key}
 use Rattle.toml_span_read.proofs.EarlierTree.{parts-first}
 use Rattle.toml_span.specs.Claims.{pair_mark}
@@ -7,8 +7,8 @@ use Rattle.toml_span.specs.declared.branch.Branch.TheViews.{out-Branch}
 use Rattle.toml_span.proofs.Claimed.{marked-roll}
 use Rattle.toml_span.proofs.Headers.{passes-dotted, passes-dotted-err, pair-placed, pair-beside}
 use Rattle.toml_span.proofs.Placed.{err-of, looked, sets-entry, starts-found, starts-new, told, unclosed}
-use Rattle.toml_span.proofs.Borrowing.{front_from, keeps_child, keeps_marked, keeps_same, box_found}
-use Rattle.toml_span.specs.code.Borrowed.{standing}
+use Rattle.toml_span.proofs.KeyMaps.{entry-missing}
+use Rattle.toml_span.proofs.Borrowing.{front_right, keeps_found, keeps_marked, keeps_new, names_same}
 use Rattle.toml_span.specs.code.Tree.{is_entry_sort}
 use Rattle.toml_span.proofs.scopes.+place_pair.Goals as goal
 
@@ -24,15 +24,16 @@ pass_pair-returns-clause-places t c = λ d v due value span.
     (marked-roll c.pair_mark.result c.args.node.now _ c.in_ok-claim.ensures.1 refl refl refl) (c.place_pair.ensures.places d v due value span)
 
 pub pass_pair-returns-clause-borrows : goal.pass_pair-returns-clause-borrows
-pass_pair-returns-clause-borrows t c = λ text ps d due part rest last value.
-    keeps_marked text ps c.args.node.now _ _ c.place_pair.result refl refl refl (c.place_pair.ensures.borrows text ps d due rest last value)
+pass_pair-returns-clause-borrows t c = λ text d due rest last value.
+    keeps_marked text c.args.node.now _ c.pair_mark.result c.args.part.now.span _ c.place_pair.result (ap (λ m. m.key) c.pair_mark.ensures) c.in_ok-claim.ensures.1 refl refl refl
+    (c.place_pair.ensures.borrows text d due rest last value)
 
 pub pass_child-returns-clause-borrows : goal.pass_child-returns-clause-borrows
-pass_child-returns-clause-borrows t c = λ text ps d due part rest last value.
-    keeps_same text ps c.as_mut.result.now c.args.child.now.value _ c.pass_pair.result c.as_mut.ensures.value (c.pass_pair.ensures.borrows text ps d due part rest last value)
+pass_child-returns-clause-borrows t c = λ text d due rest last value.
+    names_same text c.args.part.now.span c.as_mut.result.now c.args.child.now.value _ c.pass_pair.result c.as_mut.ensures.value (c.pass_pair.ensures.borrows text d due rest last value)
 
 pub place_pair-returns-in_default-clause-borrows : goal.place_pair-returns-in_default-clause-borrows
-place_pair-returns-in_default-clause-borrows t c = λ text ps d due parts last value. c.assign_due.ensures.borrows text ps d due last value
+place_pair-returns-in_default-clause-borrows t c = λ text d due parts last value. c.assign_due.ensures.borrows text d due last value
 
 pub place_pair-returns-in_err-child-in-Vacant-clause-places : goal.place_pair-returns-in_err-child-in-Vacant-clause-places
 place_pair-returns-in_err-child-in-Vacant-clause-places t c = λ d v due value span.
@@ -69,27 +70,27 @@ place_pair-returns-in_ok-child-in-Vacant-clause-places t c = λ d v due value sp
     let same = rw c.in-Vacant.is at c.in_ok-entry.ensures.same_map in
     let box = c.pass_child-in-Vacant.new.child in
     rw front (pair-placed c.args.node.now _ c.insert.result.now.value box.value (simple_key c.part-item.result) _ (simple_key d.last) v c.pass_child-in-Vacant.result
-    (starts-new _ _ _ missing (unclosed _ c.pair_mark-mark.result _ fresh.0 (ap (λ m. is_entry_sort m.sort) c.pair_mark-mark.ensures)) (rw c.insert.ensures.value fresh.1.0))
+    (starts-new _ _ _ missing (unclosed _ c.pair_mark-mark.result _ fresh.0 (ap (λ m. is_entry_sort m.sort) c.pair_mark-mark.ensures)) (rw c.insert.ensures.value fresh.1))
     (sets-entry c.args.node.now _ (map_with_value (Entry.Vacant c.in-Vacant.entry) box) (simple_key c.part-item.result).name clone.field-0 box clone.ensures.name (update.1 box) (search (rules, same))) (c.pass_child-in-Vacant.ensures.places d v due value span))
 
 pub place_pair-returns-in-Occupied-clause-borrows : goal.place_pair-returns-in-Occupied-clause-borrows
-place_pair-returns-in-Occupied-clause-borrows t c = λ text ps d due parts last value.
-    let front = front_from text ps c.args.inner.now c.part-item.result _ c.in-len1-up.len_at_least c.part-item.is parts in
-    let clone = c.in_ok-clone in
+place_pair-returns-in-Occupied-clause-borrows t c = λ text d due parts last value.
+    let front = front_right text c.args.inner.now c.part-item.result _ c.in-len1-up.len_at_least c.part-item.is parts in
     let stands = rw c.in-Occupied.is at c.in_ok-entry.ensures.value in
     let update = rw c.in-Occupied.is at c.in_ok-entry.ensures.update in
     let same = rw c.in-Occupied.is at c.in_ok-entry.ensures.same_map in
+    let stay = rw c.in-Occupied.is at c.in_ok-entry.ensures.keys_stay in
     let box = c.pass_child.new.child in
-    keeps_child text ps c.args.node.now _ (map_with_value (Entry.Occupied c.in-Occupied.entry) box) c.part-item.result clone.field-0 _ box c.pass_child.result clone.ensures.name clone.ensures.borrowed clone.ensures.owned (update.1 box) (search (rules, same))
-    (λ h. box_found text ps _ c.into_mut.result.now (out-Branch c.args.node.now).tables.entries (sym stands ∙ c.into_mut.ensures.value) h) front.0 (c.pass_child.ensures.borrows text ps d due front.0 front.1 last value)
+    keeps_found text c.args.node.now _ (map_with_value (Entry.Occupied c.in-Occupied.entry) box) c.in_ok-clone.field-0 c.into_mut.result.now box c.part-item.result.span c.pass_child.result (update.1 box)
+    (search (rules, same)) (sym stands ∙ c.into_mut.ensures.value) (stay (ap is_some c.into_mut.ensures.value) box) (c.pass_child.ensures.borrows text d due front.1 last value)
 
 pub place_pair-returns-in_ok-child-in-Vacant-clause-borrows : goal.place_pair-returns-in_ok-child-in-Vacant-clause-borrows
-place_pair-returns-in_ok-child-in-Vacant-clause-borrows t c = λ text ps d due parts last value.
-    let front = front_from text ps c.args.inner.now c.part-item.result _ c.in-len1-up.len_at_least c.part-item.is parts in
+place_pair-returns-in_ok-child-in-Vacant-clause-borrows t c = λ text d due parts last value.
+    let front = front_right text c.args.inner.now c.part-item.result _ c.in-len1-up.len_at_least c.part-item.is parts in
     let clone = c.in_ok-clone in
     let update = rw c.in-Vacant.is at c.in_ok-entry.ensures.update in
     let same = rw c.in-Vacant.is at c.in_ok-entry.ensures.same_map in
+    let none = rw c.in-Vacant.is at c.in_ok-entry.ensures.found in
     let box = c.pass_child-in-Vacant.new.child in
-    let bare : standing c.insert.result.now.value ≡ [] = rw c.insert.ensures.value c.in_ok-child-in-Vacant.ensures.1.1 in
-    keeps_child text ps c.args.node.now _ (map_with_value (Entry.Vacant c.in-Vacant.entry) box) c.part-item.result clone.field-0 _ box c.pass_child-in-Vacant.result clone.ensures.name clone.ensures.borrowed clone.ensures.owned (update.1 box) (search (rules, same))
-    (λ h. rw bare tt) front.0 (c.pass_child-in-Vacant.ensures.borrows text ps d due front.0 front.1 last value)
+    keeps_new text c.args.node.now _ (map_with_value (Entry.Vacant c.in-Vacant.entry) box) c.part-item.result clone.field-0 _ box c.pass_child-in-Vacant.result clone.ensures.name clone.ensures.borrowed clone.ensures.owned (update.1 box)
+    (search (rules, same)) (entry-missing (simple_key clone.field-0).name (out-Branch c.args.node.now).tables.entries none) (rw c.insert.ensures.value c.in_ok-child-in-Vacant.ensures.1) front.0 (c.pass_child-in-Vacant.ensures.borrows text d due front.1 last value)

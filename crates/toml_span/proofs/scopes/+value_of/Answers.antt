@@ -1,6 +1,6 @@
-use Rattle.toml_span_lex.proofs.Common.{◌≡◌, [], Some, rules, refl, sym, ap, ◌∙◌, nil_from_length, w64, SFits, of_z, to_z, cow_str_bytes}
+use Rattle.toml_span_lex.proofs.Common.{◌≡◌, [], Some, None, rules, refl, sym, ap, ◌∙◌, nil_from_length, w64, SFits, of_z, to_z, cow_str_bytes}
 use Rattle.std.proofs.lemmas.Int.{to_z-of_z}
-use Rattle.toml_span_tree.specs.Node.{text, integer, float, boolean, datetime}
+use Rattle.toml_span_tree.specs.Node.{node, text, integer, float, boolean, datetime}
 use Rattle.toml_span_tree.specs.Value.{inner_view, float_value, date_bytes}
 use Rattle.toml_span_tree.specs.declared.value.ValueInner.{the_lemmas as tree_lemmas}
 use Rattle.toml_span_tree.specs.declared.value.ValueInner.TheVariants.{Array, Table}
@@ -11,9 +11,9 @@ use Rattle.toml_span_read.specs.Data.{view}
 use Rattle.toml_span_read.specs.declared.value.ValKind.{the_lemmas}
 use Rattle.toml_span_read.specs.Borrowed.{assignment_written, written}
 use Rattle.toml_span.proofs.Placed.{err-of}
-use Rattle.toml_span.proofs.Borrowing as borrowing
-use Rattle.toml_span.proofs.Borrowing.{assignment_from, first_from, element_push, made_array, made_table, of_node}
-use Rattle.toml_span.proofs.Assignments.{inner-none, places-one, val_span, remains-first, placing-more, placing-err, placing-none, table-gives, table-err}
+use Rattle.toml_span.proofs.Borrowing.{assignment_right, first_right, fresh-bare}
+use Rattle.toml_span.proofs.HeldValues.{array_read, element_push, inline_read, made_array, made_table, plain_right, string_right}
+use Rattle.toml_span.proofs.Assignments.{inner-none, places-one, val_span, remains-first, placing-more, placing-err, placing-none, table-gives, table-err, table-own}
 use Rattle.toml_span.proofs.Values.{IsMade, made-more, elements-first, elements-err, elements-none, scalar-gives, array-reads, inline-reads, scope-gives, scope-err}
 use Rattle.toml_span_read.specs.declared.value.Val.{Val}
 use Rattle.toml_span_tree.specs.declared.value.Value.{Value}
@@ -26,7 +26,7 @@ pub array_of-loop-element-init : goal.array_of-loop-element-init
 array_of-loop-element-init t c = record {
   can = tt;
   ends = tt;
-  borrows = λ text ps h. (rw c.into_iter-element-iterator.ensures.into_iter_gives.0 h, rw c.in_ok-array.ensures.items tt);
+  borrows = λ text h. (rw c.into_iter-element-iterator.ensures.into_iter_gives.0 h, rw c.in_ok-array.ensures.items tt);
   finished = elements-first _ _ _ c.into_iter-element-iterator.ensures.into_iter_gives.0 c.in_ok-array.ensures.items;
 }
 
@@ -34,10 +34,10 @@ pub array_of-loop-element-preserved : goal.array_of-loop-element-preserved
 array_of-loop-element-preserved t c = record {
   can = tt;
   ends = tt;
-  borrows = λ text ps h.
-      let before = c.loop-element.invariant.borrows text ps h in
-      let first = first_from text ps written _ _ c.in-Some.element c.in-Some.ensures.steps.0 before.0 in
-      (first.1, rw c.in_ok-push.ensures.items (element_push text ps c.in_ok-value_of.field-0 c.loop-element.array.items before.1 (c.in_ok-value_of.ensures.borrows text ps first.0)));
+  borrows = λ text h.
+      let before = c.loop-element.invariant.borrows text h in
+      let first = first_right text written _ _ c.in-Some.element c.in-Some.ensures.steps.0 before.0 in
+      (first.1, rw c.in_ok-push.ensures.items (element_push text c.in_ok-value_of.field-0 c.loop-element.array.items before.1 (c.in_ok-value_of.ensures.borrows text first.0 None)));
   finished = made-more Val Value IsMade _ _ _ c.loop-element.array.items c.push.new.self.items c.in-Some.element c.in_ok-value_of.field-0 c.in-Some.ensures.steps.0 c.loop-element.invariant.finished c.in_ok-value_of.ensures.value c.in_ok-push.ensures.items;
 }
 
@@ -67,7 +67,7 @@ pub place_pairs-loop-pair-init : goal.place_pairs-loop-pair-init
 place_pairs-loop-pair-init t c = record {
   can = tt;
   ends = tt;
-  borrows = λ text ps h before. (rw c.into_iter-pair-iterator.ensures.into_iter_gives.0 h, before);
+  borrows = λ text h before. (rw c.into_iter-pair-iterator.ensures.into_iter_gives.0 h, before, refl);
   placing = remains-first _ _ _ c.into_iter-pair-iterator.ensures.into_iter_gives.0;
 }
 
@@ -75,10 +75,11 @@ pub place_pairs-loop-pair-preserved : goal.place_pairs-loop-pair-preserved
 place_pairs-loop-pair-preserved t c = record {
   can = tt;
   ends = tt;
-  borrows = λ text ps h node.
-      let before = c.loop-pair.invariant.borrows text ps h node in
-      let first = first_from text ps assignment_written _ _ c.in-Some.pair c.in-Some.ensures.steps.0 before.0 in
-      (first.1, c.in_ok-place_one.ensures.borrows text ps first.0 before.1);
+  borrows = λ text h node.
+      let before = c.loop-pair.invariant.borrows text h node in
+      let first = first_right text assignment_written _ _ c.in-Some.pair c.in-Some.ensures.steps.0 before.0 in
+      let kept = c.in_ok-place_one.ensures.borrows text first.0 before.1 in
+      (first.1, kept.0, kept.1 ∙ before.2);
   placing = placing-more c.loop-pair.node c.place_one.new.node _ _ _ _ c.in-Some.pair c.in-Some.ensures.steps.0 c.loop-pair.invariant.placing c.in_ok-place_one.ensures.places;
 }
 
@@ -98,11 +99,11 @@ pub table_of-returns-in_err-place_pairs-clause-scope : goal.table_of-returns-in_
 table_of-returns-in_err-place_pairs-clause-scope t c =
     let q = c.from_residual.result in
     let e = c.in_err-place_pairs.field-0.0 in
-    table-err c.new-scope.result c.place_pairs.new.node _ (λ t. inner_view (Table t)) q e c.new-scope.ensures.fresh (err-of q e _ c.from_residual.ensures.1 (λ y p. p)) c.in_err-place_pairs.ensures.places
+    table-err c.new-scope.result c.place_pairs.new.node _ (λ t. inner_view (Table t)) q e c.new-scope.ensures (err-of q e _ c.from_residual.ensures.1 (λ y p. p)) c.in_err-place_pairs.ensures.places
 
 pub table_of-returns-clause-scope : goal.table_of-returns-clause-scope
 table_of-returns-clause-scope t c =
-    table-gives c.new-scope.result c.place_pairs.new.node _ c.in_ok-into_table.field-0 c.new-scope.ensures.fresh c.in_ok-place_pairs.ensures.places c.in_ok-into_table.ensures.finishes
+    table-gives c.new-scope.result c.place_pairs.new.node _ c.in_ok-into_table.field-0 c.new-scope.ensures c.in_ok-place_pairs.ensures.places c.in_ok-into_table.ensures.finishes
 
 pub value_of-returns-in_err-array_of-in-Array-clause-value : goal.value_of-returns-in_err-array_of-in-Array-clause-value
 value_of-returns-in_err-array_of-in-Array-clause-value t c =
@@ -145,43 +146,44 @@ value_of-returns-clause-value t c =
 -- ---- what is borrowed
 
 pub array_of-returns-clause-borrows : goal.array_of-returns-clause-borrows
-array_of-returns-clause-borrows t c = λ text ps h. (c.loop-element.invariant.borrows text ps h).1
+array_of-returns-clause-borrows t c = λ text h. (c.loop-element.invariant.borrows text h).1
 
 pub place_one-returns-clause-borrows : goal.place_one-returns-clause-borrows
-place_one-returns-clause-borrows t c = λ text ps h.
-    let from = assignment_from text ps c.args.pair h in
-    c.place_pair.ensures.borrows text ps _ refl (rw c.as_slice.ensures.value from.0) from.1 (c.value_of-value.ensures.borrows text ps from.2)
+place_one-returns-clause-borrows t c = λ text h.
+    let right = assignment_right text c.args.pair h in
+    c.place_pair.ensures.borrows text _ refl (rw c.as_slice.ensures.value right.0) right.1 (c.value_of-value.ensures.borrows text right.2)
 
 pub place_one-returns-then-is_empty-clause-borrows : goal.place_one-returns-then-is_empty-clause-borrows
-place_one-returns-then-is_empty-clause-borrows t c = λ text ps h.
-    let from = assignment_from text ps c.args.pair h in
-    c.assign.ensures.borrows text ps from.1 (c.value_of-value.ensures.borrows text ps from.2)
+place_one-returns-then-is_empty-clause-borrows t c = λ text h.
+    let right = assignment_right text c.args.pair h in
+    c.assign.ensures.borrows text right.1 (c.value_of-value.ensures.borrows text right.2)
 
 pub place_pairs-returns-clause-borrows : goal.place_pairs-returns-clause-borrows
-place_pairs-returns-clause-borrows t c = λ text ps h node. (c.loop-pair.invariant.borrows text ps h node).1
+place_pairs-returns-clause-borrows t c = λ text h node. let kept = c.loop-pair.invariant.borrows text h node in (kept.1, kept.2)
 
 pub table_of-returns-clause-borrows : goal.table_of-returns-clause-borrows
-table_of-returns-clause-borrows t c = λ text ps h.
-    let placed = c.in_ok-place_pairs.ensures.borrows text ps h (rw c.new-scope.ensures.bare tt) in
-    let inside = of_node text ps c.place_pairs.new.node placed in
-    c.in_ok-into_table.ensures.borrows text ps inside.1 inside.0
+table_of-returns-clause-borrows t c = λ text h.
+    table-own text c.new-scope.result c.place_pairs.new.node _ c.in_ok-into_table.field-0 c.new-scope.ensures c.in_ok-place_pairs.ensures.places c.in_ok-into_table.ensures.finishes
+    (c.in_ok-place_pairs.ensures.borrows text h (rw (fresh-bare c.new-scope.result c.new-scope.ensures) tt)).0
 
 pub value_of-returns-clause-borrows : goal.value_of-returns-clause-borrows
-value_of-returns-clause-borrows t c = λ text ps h.
+value_of-returns-clause-borrows t c = λ text h.
     let v = c.args.val in
     let x = c.with_span.result in
     let inner = c.match-kind.inner in
     let kept = c.with_span.ensures.kept in
     elim c.match-kind.branch [
-      | value_of-in-String w ↦ borrowing.string_from text ps v x inner w.in-String.text w.in-String.is w.inner-is kept h
-      | value_of-in-Integer w ↦ borrowing.plain_right text ps x inner _ v.span kept w.inner-is (search (rules, tree_lemmas))
-      | value_of-in-Float w ↦ borrowing.plain_right text ps x inner _ v.span kept w.inner-is (search (rules, tree_lemmas))
-      | value_of-in-Boolean w ↦ borrowing.plain_right text ps x inner _ v.span kept w.inner-is (search (rules, tree_lemmas))
-      | value_of-in-Datetime w ↦ borrowing.plain_right text ps x inner _ v.span kept w.inner-is (search (rules, tree_lemmas))
+      | value_of-in-String w ↦ string_right text v x inner w.in-String.text w.in-String.is w.inner-is kept h
+      | value_of-in-Integer w ↦ plain_right text x inner _ v.span kept w.inner-is (search (rules, tree_lemmas))
+      | value_of-in-Float w ↦ plain_right text x inner _ v.span kept w.inner-is (search (rules, tree_lemmas))
+      | value_of-in-Boolean w ↦ plain_right text x inner _ v.span kept w.inner-is (search (rules, tree_lemmas))
+      | value_of-in-Datetime w ↦ plain_right text x inner _ v.span kept w.inner-is (search (rules, tree_lemmas))
       | value_of-in-Array+in_ok-array_of-in-Array w ↦
-          (made_array text ps x w.in_ok-array_of-in-Array.field-0 v.span (kept.0 ∙ ap (λ i. Some i) w.inner-is, kept.1)
-          (w.in_ok-array_of-in-Array.ensures.borrows text ps (borrowing.array_from text ps v w.in-Array.elements w.in-Array.is h))).1
+          let a = w.in_ok-array_of-in-Array.field-0 in
+          made_array text x a v.span (kept.0 ∙ ap (λ i. Some i) w.inner-is, kept.1) (c.with_span.ensures.view ∙ ap (λ i. node (inner_view i) v.span) w.inner-is ∙ ap (λ i. node i v.span) (inner_view-Array a))
+          (w.in_ok-array_of-in-Array.ensures.borrows text (array_read text v w.in-Array.elements w.in-Array.is h))
       | value_of-in-Inline+in_ok-table_of-in-Inline w ↦
-          (made_table text ps x w.in_ok-table_of-in-Inline.field-0 v.span (kept.0 ∙ ap (λ i. Some i) w.inner-is, kept.1)
-          (w.in_ok-table_of-in-Inline.ensures.borrows text ps (borrowing.inline_from text ps v w.in-Inline.pairs w.in-Inline.is h))).1
+          let t = w.in_ok-table_of-in-Inline.field-0 in
+          made_table text x t v.span (kept.0 ∙ ap (λ i. Some i) w.inner-is, kept.1) (c.with_span.ensures.view ∙ ap (λ i. node (inner_view i) v.span) w.inner-is ∙ ap (λ i. node i v.span) (inner_view-Table t))
+          (w.in_ok-table_of-in-Inline.ensures.borrows text (inline_read text v w.in-Inline.pairs w.in-Inline.is h))
     ]

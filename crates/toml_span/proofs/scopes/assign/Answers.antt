@@ -51,11 +51,11 @@ returns-in_ok-value-in-Vacant-clause-places c = λ v value span before.
     places _ (search (rules, same))
 
 pub returns-in-Occupied-clause-borrows : goal.returns-in-Occupied-clause-borrows
-returns-in-Occupied-clause-borrows c = λ text ps key value before.
+returns-in-Occupied-clause-borrows c = λ text key value before.
     assigned_twice c.admit.result c.pair_mark.result c.pair_mark-mark.result _ _ _ (ap (λ m. m.sort) c.pair_mark.ensures) (ap (λ m. m.sort) c.pair_mark-mark.ensures) c.admit.ensures
 
 pub returns-in_ok-value-in-Vacant-clause-borrows : goal.returns-in_ok-value-in-Vacant-clause-borrows
-returns-in_ok-value-in-Vacant-clause-borrows c = λ text ps key value before.
+returns-in_ok-value-in-Vacant-clause-borrows c = λ text key value before.
     let n = out-Branch c.args.node.now in
     let none = rw c.in-Vacant.is at c.in_ok-entry.ensures.found in
     let free = entry-missing (simple_key c.args.key).name n.values.entries none in
@@ -64,6 +64,6 @@ returns-in_ok-value-in-Vacant-clause-borrows c = λ text ps key value before.
     let written = update.1 c.insert.result.now ∙ ap (insert_entry key_cmp n.values.entries c.args.key) c.insert.ensures.value in
     let right = rw c.in_ok-value-in-Vacant.was at value in
     let places = λ (values : BTreeMap Key Value) (is : values ≡ map_with_value (Entry.Vacant c.in-Vacant.entry) c.insert.result.now).
-    keeps_value text ps c.args.node.now (record { marks = n.marks; values = values; tables = n.tables; entries = n.entries }) c.args.key c.in_ok-value-in-Vacant.field-0 free refl refl
+    keeps_value text c.args.node.now (record { marks = n.marks; values = values; tables = n.tables; entries = n.entries }) c.args.key c.in_ok-value-in-Vacant.field-0 free refl refl refl
     (ap (λ (m : BTreeMap Key Value). m.entries) is ∙ written) key right before in
     places _ (search (rules, same))

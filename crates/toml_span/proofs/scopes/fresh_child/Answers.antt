@@ -1,5 +1,4 @@
-use Rattle.toml_span_lex.proofs.Common.{sym, ap, ◌∙◌, subst}
-use Rattle.toml_span.specs.code.Borrowed.{standing}
+use Rattle.toml_span_lex.proofs.Common.{sym, subst}
 use Rattle.toml_span.specs.code.Tree.{IsFresh}
 use Rattle.toml_span.proofs.Placed.{err-of, gives-err}
 use Rattle.toml_span.proofs.scopes.fresh_child.Goals as goal
@@ -10,7 +9,4 @@ returns-in_err-admit_beside_value c =
     gives-err c.from_residual.result e _ _ _ _ (err-of c.from_residual.result e _ c.from_residual.ensures.1 (λ y p. p)) (λ t h. h) c.in_err-admit_beside_value.ensures
 
 pub returns : goal.returns
-returns c = (
-  c.in_ok-admit_beside_value.ensures.0,
-  (subst IsFresh (sym c.in_ok-child.ensures.ok) c.new.ensures.fresh, ap standing c.in_ok-child.ensures.ok ∙ c.new.ensures.bare),
-)
+returns c = (c.in_ok-admit_beside_value.ensures.0, subst IsFresh (sym c.in_ok-child.ensures.ok) c.new.ensures)

@@ -1,7 +1,7 @@
-use Rattle.toml_span_lex.proofs.Common.{◌∙◌}
+use Rattle.toml_span_lex.proofs.Common.{◌∙◌, refl}
 use Rattle.toml_span_read.specs.Borrowed.{assignment_written}
 use Rattle.toml_span.proofs.Placed.{err-of}
-use Rattle.toml_span.proofs.Borrowing.{first_from}
+use Rattle.toml_span.proofs.Borrowing.{first_right}
 use Rattle.toml_span.proofs.Assignments.{remains-first, placing-more, placing-err, placing-none}
 use Rattle.toml_span.proofs.scopes.place_all.Goals as goal
 
@@ -9,16 +9,17 @@ pub loop-pair-init : goal.loop-pair-init
 loop-pair-init c =
     let all = c.into_iter-pair-iterator.ensures.into_iter_gives ∙ c.new-pair-items.ensures in
     record {
-      borrows = λ text ps h before. (rw all h, before);
+      borrows = λ text h before. (rw all h, before, refl);
       placing = remains-first _ _ _ all;
     }
 
 pub loop-pair-preserved : goal.loop-pair-preserved
 loop-pair-preserved c = record {
-  borrows = λ text ps h node.
-      let before = c.loop-pair.invariant.borrows text ps h node in
-      let first = first_from text ps assignment_written _ _ c.in-Some.pair c.in-Some.ensures.steps before.0 in
-      (first.1, c.in_ok-place_one.ensures.borrows text ps first.0 before.1);
+  borrows = λ text h node.
+      let before = c.loop-pair.invariant.borrows text h node in
+      let first = first_right text assignment_written _ _ c.in-Some.pair c.in-Some.ensures.steps before.0 in
+      let kept = c.in_ok-place_one.ensures.borrows text first.0 before.1 in
+      (first.1, kept.0, kept.1 ∙ before.2);
   placing = placing-more c.loop-pair.node c.place_one.new.node _ _ _ _ c.in-Some.pair c.in-Some.ensures.steps c.loop-pair.invariant.placing c.in_ok-place_one.ensures.places;
 }
 
@@ -33,4 +34,4 @@ pub returns-clause-places : goal.returns-clause-places
 returns-clause-places c = placing-none c.loop-pair.node _ _ _ c.in-None.ensures.steps.0 c.loop-pair.invariant.placing
 
 pub returns-clause-borrows : goal.returns-clause-borrows
-returns-clause-borrows c = λ text ps h node. (c.loop-pair.invariant.borrows text ps h node).1
+returns-clause-borrows c = λ text h node. let kept = c.loop-pair.invariant.borrows text h node in (kept.1, kept.2)

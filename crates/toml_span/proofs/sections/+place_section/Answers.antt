@@ -1,4 +1,4 @@
-use Rattle.toml_span_lex.proofs.Common.{arith, ◌≡◌, ◌-◌, ◌<◌, length, vec_len, ◌∙◌, [], map, refl, rules, sym, ⊤, map_with_value, false≢true, Entry}
+use Rattle.toml_span_lex.proofs.Common.{arith, ◌-◌, ◌<◌, length, vec_len, ◌∙◌, [], map, refl, rules, sym, ⊤, map_with_value, false≢true, Entry, ap, is_some}
 use Rattle.std.proofs.lemmas.Bool.{eqb-true}
 use Rattle.toml_span_read.proofs.EarlierTree.{parts-first}
 use Rattle.toml_span_read.specs.Data.{key_value, simple_key}
@@ -10,9 +10,9 @@ use Rattle.toml_span.specs.code.Tree.{IsScope, entries}
 use Rattle.toml_span.proofs.Claimed.{marked-roll}
 use Rattle.toml_span.proofs.Nodes.{roll-out}
 use Rattle.toml_span.proofs.Headers.{descended, opening-err, no-latest, parts-below, parts-some, pass-again, pass-vec, section-beside, section-placed, section-free}
-use Rattle.toml_span.proofs.Borrowing.{front_from, keeps_child, keeps_entry, keeps_marked, keeps_same, box_found}
+use Rattle.toml_span.proofs.Borrowing.{front_right, keeps_entry, keeps_found, keeps_marked, keeps_new, names_same}
+use Rattle.toml_span.proofs.KeyMaps.{entry-missing}
 use Rattle.toml_span.proofs.Placed.{err-of, looked, sets-entry, starts-found, starts-new, told}
-use Rattle.toml_span.specs.code.Borrowed.{standing}
 use Rattle.toml_span.proofs.sections.+place_section.Goals as goal
 
 pub descend-returns-in_err-claim-clause-places : goal.descend-returns-in_err-claim-clause-places
@@ -80,7 +80,7 @@ place_section-returns-in_ok-child-in-Vacant-clause-places t c =
     rw front (section-placed c.args.head (simple_key c.part-item.result)
     (key_value_claims (map key_value c.args.pairs.items) []) _ c.args.node.now _ c.insert.result.now.value box.value c.pass_child-in-Vacant.result
     (starts-new _ _ _ missing
-    (section-free c.args.head (simple_key c.part-item.result) (key_value_claims (map key_value c.args.pairs.items) []) _ c.args.node.now fresh.0) (rw c.insert.ensures.value fresh.1.0))
+    (section-free c.args.head (simple_key c.part-item.result) (key_value_claims (map key_value c.args.pairs.items) []) _ c.args.node.now fresh.0) (rw c.insert.ensures.value fresh.1))
     (sets-entry c.args.node.now _ (map_with_value (Entry.Vacant c.in-Vacant.entry) box) (simple_key c.part-item.result).name clone.field-0 box clone.ensures.name (update.1 box) (search (rules, same))) c.pass_child-in-Vacant.ensures.places)
 
 pub pass_child-returns-clause-places : goal.pass_child-returns-clause-places
@@ -90,48 +90,50 @@ pass_child-returns-clause-places t c =
 -- ---- what is borrowed
 
 pub descend-returns-clause-borrows : goal.descend-returns-clause-borrows
-descend-returns-clause-borrows t c = λ text ps simple_key rest pairs.
-    keeps_marked text ps c.args.node.now _ _ c.place_section.result refl refl refl (c.place_section.ensures.borrows text ps rest pairs)
+descend-returns-clause-borrows t c = λ text rest pairs.
+    let claimed = rw c.header_mark.ensures at c.in_ok-claim.ensures in
+    keeps_marked text c.args.node.now _ (header_mark c.args.head Passed c.args.part.now.span) c.args.part.now.span _ c.place_section.result refl claimed.1 refl refl refl (c.place_section.ensures.borrows text rest pairs)
 
 pub pass_header-returns-then-is_empty-clause-borrows : goal.pass_header-returns-then-is_empty-clause-borrows
-pass_header-returns-then-is_empty-clause-borrows t c = λ text ps simple_key rest pairs. c.end_header.ensures.borrows text ps pairs
+pass_header-returns-then-is_empty-clause-borrows t c = λ text rest pairs. c.end_header.ensures.borrows text pairs
 
 pub pass_header-returns-in-Some-clause-borrows : goal.pass_header-returns-in-Some-clause-borrows
-pass_header-returns-in-Some-clause-borrows t c = λ text ps simple_key rest pairs.
+pass_header-returns-in-Some-clause-borrows t c = λ text rest pairs.
     let n = c.args.node.now in
     let some = c.in-Some.ensures.variant.0 refl in
     let within : vec_len (out-Branch n).entries - 1 < length (entries n) = omega (arith, (out-Branch n).entries.ok.0, some) in
-    keeps_entry text ps n _ (vec_len (out-Branch n).entries - 1) c.in-Some.latest.now c.descend.new.node c.descend.result refl refl refl within c.in-Some.ensures.value (c.descend.ensures.borrows text ps simple_key rest pairs)
+    keeps_entry text c.args.part.now.span n _ (vec_len (out-Branch n).entries - 1) c.in-Some.latest.now c.descend.new.node c.descend.result refl refl refl refl within c.in-Some.ensures.value
+    (c.descend.ensures.borrows text rest pairs)
 
 pub pass_header-returns-in-None-clause-borrows : goal.pass_header-returns-in-None-clause-borrows
-pass_header-returns-in-None-clause-borrows t c = λ text ps simple_key rest pairs.
-    keeps_same text ps _ c.args.node.now c.descend-in-None.new.node c.descend-in-None.result (roll-out c.args.node.now) (c.descend-in-None.ensures.borrows text ps simple_key rest pairs)
+pass_header-returns-in-None-clause-borrows t c = λ text rest pairs.
+    names_same text c.args.part.now.span _ c.args.node.now c.descend-in-None.new.node c.descend-in-None.result (roll-out c.args.node.now) (c.descend-in-None.ensures.borrows text rest pairs)
 
 pub pass_child-returns-clause-borrows : goal.pass_child-returns-clause-borrows
-pass_child-returns-clause-borrows t c = λ text ps simple_key rest pairs.
-    keeps_same text ps c.as_mut.result.now c.args.child.now.value _ c.pass_header.result c.as_mut.ensures.value (c.pass_header.ensures.borrows text ps simple_key rest pairs)
+pass_child-returns-clause-borrows t c = λ text rest pairs.
+    names_same text c.args.part.now.span c.as_mut.result.now c.args.child.now.value _ c.pass_header.result c.as_mut.ensures.value (c.pass_header.ensures.borrows text rest pairs)
 
 pub place_section-returns-in_default-clause-borrows : goal.place_section-returns-in_default-clause-borrows
-place_section-returns-in_default-clause-borrows t c = λ text ps parts pairs. c.place_all.ensures.borrows text ps pairs
+place_section-returns-in_default-clause-borrows t c = λ text parts pairs. c.place_all.ensures.borrows text pairs
 
 pub place_section-returns-in-Occupied-clause-borrows : goal.place_section-returns-in-Occupied-clause-borrows
-place_section-returns-in-Occupied-clause-borrows t c = λ text ps parts pairs.
-    let front = front_from text ps c.args.parts.now c.part-item.result _ c.in-len1-up.len_at_least c.part-item.is parts in
-    let clone = c.in_ok-clone in
+place_section-returns-in-Occupied-clause-borrows t c = λ text parts pairs.
+    let front = front_right text c.args.parts.now c.part-item.result _ c.in-len1-up.len_at_least c.part-item.is parts in
     let stands = rw c.in-Occupied.is at c.in_ok-entry.ensures.value in
     let update = rw c.in-Occupied.is at c.in_ok-entry.ensures.update in
     let same = rw c.in-Occupied.is at c.in_ok-entry.ensures.same_map in
+    let stay = rw c.in-Occupied.is at c.in_ok-entry.ensures.keys_stay in
     let box = c.pass_child.new.child in
-    keeps_child text ps c.args.node.now _ (map_with_value (Entry.Occupied c.in-Occupied.entry) box) c.part-item.result clone.field-0 _ box c.pass_child.result clone.ensures.name clone.ensures.borrowed clone.ensures.owned (update.1 box) (search (rules, same))
-    (λ h. box_found text ps _ c.into_mut.result.now (out-Branch c.args.node.now).tables.entries (sym stands ∙ c.into_mut.ensures.value) h) front.0 (c.pass_child.ensures.borrows text ps front.0 front.1 pairs)
+    keeps_found text c.args.node.now _ (map_with_value (Entry.Occupied c.in-Occupied.entry) box) c.in_ok-clone.field-0 c.into_mut.result.now box c.part-item.result.span c.pass_child.result (update.1 box)
+    (search (rules, same)) (sym stands ∙ c.into_mut.ensures.value) (stay (ap is_some c.into_mut.ensures.value) box) (c.pass_child.ensures.borrows text front.1 pairs)
 
 pub place_section-returns-in_ok-child-in-Vacant-clause-borrows : goal.place_section-returns-in_ok-child-in-Vacant-clause-borrows
-place_section-returns-in_ok-child-in-Vacant-clause-borrows t c = λ text ps parts pairs.
-    let front = front_from text ps c.args.parts.now c.part-item.result _ c.in-len1-up.len_at_least c.part-item.is parts in
+place_section-returns-in_ok-child-in-Vacant-clause-borrows t c = λ text parts pairs.
+    let front = front_right text c.args.parts.now c.part-item.result _ c.in-len1-up.len_at_least c.part-item.is parts in
     let clone = c.in_ok-clone in
     let update = rw c.in-Vacant.is at c.in_ok-entry.ensures.update in
     let same = rw c.in-Vacant.is at c.in_ok-entry.ensures.same_map in
+    let none = rw c.in-Vacant.is at c.in_ok-entry.ensures.found in
     let box = c.pass_child-in-Vacant.new.child in
-    let bare : standing c.insert.result.now.value ≡ [] = rw c.insert.ensures.value c.in_ok-child-in-Vacant.ensures.1.1 in
-    keeps_child text ps c.args.node.now _ (map_with_value (Entry.Vacant c.in-Vacant.entry) box) c.part-item.result clone.field-0 _ box c.pass_child-in-Vacant.result clone.ensures.name clone.ensures.borrowed clone.ensures.owned (update.1 box) (search (rules, same))
-    (λ h. rw bare tt) front.0 (c.pass_child-in-Vacant.ensures.borrows text ps front.0 front.1 pairs)
+    keeps_new text c.args.node.now _ (map_with_value (Entry.Vacant c.in-Vacant.entry) box) c.part-item.result clone.field-0 _ box c.pass_child-in-Vacant.result clone.ensures.name clone.ensures.borrowed clone.ensures.owned (update.1 box)
+    (search (rules, same)) (entry-missing (simple_key clone.field-0).name (out-Branch c.args.node.now).tables.entries none) (rw c.insert.ensures.value c.in_ok-child-in-Vacant.ensures.1) front.0 (c.pass_child-in-Vacant.ensures.borrows text front.1 pairs)

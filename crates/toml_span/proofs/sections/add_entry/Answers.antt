@@ -11,14 +11,14 @@ use Rattle.toml_span.proofs.sections.add_entry.Goals as goal
 pub returns-in_err-open_table-clause-places : goal.returns-in_err-open_table-clause-places
 returns-in_err-open_table-clause-places c =
     reaches-added-err (header_mark c.args.head TableElement c.args.part.now.span) c.args.node.now _ c.new-entry.result c.open_table.new.node c.open_table.result c.from_residual.result c.in_err-open_table.field-0.0
-    (opening c.args.head TableElement (simple_key c.args.part.now) (key_value_claims (map key_value c.args.pairs.items) [])) _ _ c.new-entry.ensures.fresh c.in_err-open_table.was
+    (opening c.args.head TableElement (simple_key c.args.part.now) (key_value_claims (map key_value c.args.pairs.items) [])) _ _ c.new-entry.ensures c.in_err-open_table.was
     (err-of c.from_residual.result c.in_err-open_table.field-0.0 _ c.from_residual.ensures.1 (λ y p. p)) c.open_table.ensures.places
 
 pub returns-clause-places : goal.returns-clause-places
 returns-clause-places c =
     reaches-pushed (header_mark c.args.head TableElement c.args.part.now.span) c.args.node.now _ c.new-entry.result c.open_table.new.node
-    (opening c.args.head TableElement (simple_key c.args.part.now) (key_value_claims (map key_value c.args.pairs.items) [])) refl c.new-entry.ensures.fresh refl refl refl c.in_ok-push.ensures.items c.in_ok-open_table.ensures.places
+    (opening c.args.head TableElement (simple_key c.args.part.now) (key_value_claims (map key_value c.args.pairs.items) [])) refl c.new-entry.ensures refl refl refl c.in_ok-push.ensures.items c.in_ok-open_table.ensures.places
 
 pub returns-clause-borrows : goal.returns-clause-borrows
-returns-clause-borrows c = λ text ps pairs before.
-    keeps_pushed text ps c.args.node.now _ c.new-entry.result c.open_table.new.node c.new-entry.ensures.bare refl refl c.in_ok-push.ensures.items (c.in_ok-open_table.ensures.borrows text ps pairs) before
+returns-clause-borrows c = λ text pairs before.
+    keeps_pushed text c.args.part.now.span c.args.node.now _ c.new-entry.result c.open_table.new.node c.new-entry.ensures refl refl refl c.in_ok-push.ensures.items (c.in_ok-open_table.ensures.borrows text pairs) before

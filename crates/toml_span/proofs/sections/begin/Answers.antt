@@ -6,7 +6,7 @@ returns-in_ok-grow-in-Some-clause-grows c = λ headed.
     rw c.in-Some.is (c.in_ok-grow-in-Some.ensures.grows [] (rw c.in-Some.is at headed) c.new-grown.ensures.grows)
 
 pub returns-in_ok-grow-in-Some-clause-borrows : goal.returns-in_ok-grow-in-Some-clause-borrows
-returns-in_ok-grow-in-Some-clause-borrows c = λ text ps from. c.in_ok-grow-in-Some.ensures.borrows text ps (rw c.in-Some.is at from) (c.new-grown.ensures.borrows text ps)
+returns-in_ok-grow-in-Some-clause-borrows c = λ text right. c.in_ok-grow-in-Some.ensures.borrows text (rw c.in-Some.is at right) (c.new-grown.ensures.borrows text)
 
 pub returns-in-None-clause-borrows : goal.returns-in-None-clause-borrows
-returns-in-None-clause-borrows c = λ text ps from. c.new-grown.ensures.borrows text ps
+returns-in-None-clause-borrows c = λ text right. c.new-grown.ensures.borrows text

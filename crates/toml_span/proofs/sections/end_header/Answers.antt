@@ -7,7 +7,7 @@ use Rattle.toml_span.specs.code.Placing.{Reaches}
 use Rattle.toml_span.specs.code.Tree.{IsHeld, IsOpen, counts}
 use Rattle.toml_span.proofs.Claimed.{Marked, marked-roll}
 use Rattle.toml_span.proofs.Placed.{err-of}
-use Rattle.toml_span.proofs.Borrowing.{keeps_marked, keeps_same}
+use Rattle.toml_span.proofs.Borrowing.{keeps_array, keeps_marked, keeps_same}
 use Rattle.toml_span.proofs.Headers.{end-first, end-first-err, end-further, end-table}
 use Rattle.toml_span.proofs.Nodes.{no-entries, some-entries}
 use Rattle.toml_span.proofs.sections.end_header.Goals as goal
@@ -43,9 +43,14 @@ returns-clause-places c =
     ]
 
 pub returns-clause-borrows : goal.returns-clause-borrows
-returns-clause-borrows c = λ text ps pairs.
-    let keep = c.add_entry.ensures.borrows text ps pairs in
+returns-clause-borrows c = λ text pairs.
+    let keep = c.add_entry.ensures.borrows text pairs in
     elim c.if-is_empty.branch [
-      | then-is_empty+in_ok-claim w ↦ keeps_marked text ps c.args.node.now _ c.add_entry.new.node c.add_entry.result refl refl refl (keeps_same text ps _ _ c.add_entry.new.node c.add_entry.result w.node-is keep)
-      | else-is_empty w ↦ keeps_same text ps _ c.args.node.now c.add_entry.new.node c.add_entry.result w.node-is keep
+      | then-is_empty+in_ok-claim w ↦
+          let claimed = rw w.header_mark-mark.ensures at w.in_ok-claim.ensures in
+          keeps_marked text c.args.node.now _ (header_mark c.args.head ArrayOfTables c.args.part.now.span) c.args.part.now.span c.add_entry.new.node c.add_entry.result refl claimed.1 refl refl refl
+          (keeps_same text _ _ c.add_entry.new.node c.add_entry.result w.node-is keep)
+      | else-is_empty w ↦
+          keeps_array text c.args.part.now.span c.args.node.now c.add_entry.new.node c.add_entry.result (some-entries c.args.node.now (sym c.is_empty.ensures ∙ w.if-is_empty.false))
+          (keeps_same text _ c.args.node.now c.add_entry.new.node c.add_entry.result w.node-is keep)
     ]

@@ -9,9 +9,9 @@ returns-in-Ok-clause-grows c = λ bs headed grows.
     grows-more bs (block c.args.section) c.args.grown.now.root c.place.new.root c.args.grown.now.clash none headed grows c.in-Ok.ensures.places
 
 pub returns-in-Ok-clause-borrows : goal.returns-in-Ok-clause-borrows
-returns-in-Ok-clause-borrows c = λ text ps from right.
+returns-in-Ok-clause-borrows c = λ text from right.
     let none : is_some c.args.grown.now.clash ≡ false = sym c.is_some.ensures ∙ c.if-is_some.false in
-    right-more text ps c.args.grown.now.root c.place.new.root c.args.grown.now.clash none right (c.in-Ok.ensures.borrows text ps from)
+    right-more text c.args.grown.now.root c.place.new.root c.args.grown.now.clash none right (c.in-Ok.ensures.borrows text from)
 
 pub returns-in-Err-Clash-clause-grows : goal.returns-in-Err-Clash-clause-grows
 returns-in-Err-Clash-clause-grows c = λ bs headed grows.

@@ -1,12 +1,13 @@
 use Rattle.toml_span_lex.proofs.Common.{refl}
+use Rattle.toml_span.proofs.Borrowing.{fresh-bare}
 use Rattle.toml_span.proofs.Growth.{grows-none}
 use Rattle.toml_span.proofs.sections.Grown.new.Goals as goal
 
 pub returns-clause-grows : goal.returns-clause-grows
-returns-clause-grows c = grows-none c.new.result c.new.ensures.fresh
+returns-clause-grows c = grows-none c.new.result c.new.ensures
 
 pub returns-clause-borrows : goal.returns-clause-borrows
-returns-clause-borrows c = λ text ps. rw c.new.ensures.bare tt
+returns-clause-borrows c = λ text. rw (fresh-bare c.new.result c.new.ensures) tt
 
 pub returns-clause-bare : goal.returns-clause-bare
-returns-clause-bare c = (refl, c.new.ensures.fresh.no_tables)
+returns-clause-bare c = (refl, c.new.ensures.no_tables)
