@@ -1,7 +1,7 @@
 #!/usr/bin/env python3
 """Writes docs/EDITS.md: what each must-fail edit makes the code do, and the clause that refuses it. With --check it
-writes nothing, and fails if the page is not up to date, the first line of an edit names no clause of its crate, or its
-second line does not say what the wrong code does."""
+writes nothing, and fails if the page is not up to date, the first line of an edit names no clause of its crate, its
+second line does not say what the wrong code does, or an `old:` text does not stand in its file exactly once."""
 
 import glob
 import os
@@ -76,10 +76,28 @@ def edits(crate):
         yield os.path.basename(path), [tuple(it.rsplit(" ", 1)) for it in told], words
 
 
+def misplaced(crate):
+    """The edits of a crate that `rt must-fail` can't apply, with the first `old:` text that isn't there once."""
+    for path in sorted(glob.glob(f"{TOP}/crates/{crate}/must-fail/*.edit")):
+        file, texts, old = "", {}, ""
+        for line in text_of(path).split("\n"):
+            if line.startswith("file: "):
+                file = line.removeprefix("file: ").strip()
+                texts.setdefault(file, text_of(f"{TOP}/crates/{crate}/{file}"))
+            elif line.startswith("old: "):
+                old = line.removeprefix("old: ")
+                if texts[file].count(old) != 1:
+                    yield f"{crate}/{os.path.basename(path)}: {file} has {old.strip()!r} {texts[file].count(old)} times"
+                    break
+            elif line.startswith("new:"):
+                texts[file] = texts[file].replace(old, line.removeprefix("new:").removeprefix(" "))
+
+
 def main():
     page, faults, count = HEAD, [], 0
     for crate in crates():
         known, rows = clauses(crate), ""
+        faults += misplaced(crate)
         for name, told, words in edits(crate):
             count += 1
             if not told:

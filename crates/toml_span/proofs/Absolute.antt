@@ -8,7 +8,7 @@ use Rattle.toml_span.specs.declared.claims.Head.{Head}
 use Rattle.toml_span.specs.Paths.{same_path, with_key, with_position, enter, target, elements_added, opened_by}
 use Rattle.toml_span.specs.Claims.{Claims, no_claims, claimed, scope, followed, key_claims, value_claims, inner_claims, item_claims, pair_claims, key_value_claims, section_claims, assignment_claims, element, assigned, dotted, head_of, header_claim, array_claims, end_claims, header_claims}
 use Rattle.toml_span.specs.code.Machine.{graft}
-use Rattle.toml_span.specs.code.Relative.{under, pair_at, passing, opening, adding, ending, entered, through, section_at, one_more, grown_here, grown_below, grown_through, grown}
+use Rattle.toml_span.specs.code.Relative.{under, pair_at, passing, opening, adding, ending, entered, through, section_at, counts_after_adding, counts_after_end, counts_after_entered, counts_after_through, counts_after}
 use Rattle.toml_span.proofs.Grafts.{fun_ext, graft-is, graft-itself, path_ext, same_step-self, under-followed}
 
 -- claims that move with their path
@@ -175,10 +175,10 @@ section_at-is e b header = section_at-from (head_of b) (key_value_claims b.key_v
 -- ---- how many entries there are then
 
 -- how many, below the part k and behind it
-pub grown-through : (e : Path → ℕ) (h : Head) (k : SimpleKey) (rest : List SimpleKey)
-    → grown e h (k ∷ rest) ≡ graft (key k.name) e (grown_through (λ q. e (key k.name ∷ q)) h rest)
-unfolding grown
-grown-through e h k rest = grind (arith, nat_tests, common_steps)
+pub counts_after-through : (e : Path → ℕ) (h : Head) (k : SimpleKey) (rest : List SimpleKey)
+    → counts_after e h (k ∷ rest) ≡ graft (key k.name) e (counts_after_through (λ q. e (key k.name ∷ q)) h rest)
+unfolding counts_after
+counts_after-through e h k rest = grind (arith, nat_tests, common_steps)
 
 -- the counts e, with others below a path
 grafted : Path → (Path → ℕ) → (Path → ℕ) → Path → ℕ
@@ -199,7 +199,7 @@ grafted-itself (s ∷ p) e = ap (graft s e) (grafted-itself p (λ q. e (s ∷ q)
 abbrev bump : Path → (Path → ℕ) → Path → ℕ
 bump t e p = if same_path t p then suc (e p) else e p
 
-grafted-more : (p : Path) (e : Path → ℕ) → grafted p e (one_more (λ q. e (p ++ q))) ≡ bump p e
+grafted-more : (p : Path) (e : Path → ℕ) → grafted p e (counts_after_adding (λ q. e (p ++ q))) ≡ bump p e
 unfolding grafted same_path
 grafted-more [] e = path_ext refl (λ t q. refl)
 grafted-more (s ∷ p) e =
@@ -211,7 +211,7 @@ module _ (h : Head) (e : Path → ℕ) where
   abbrev grows : Path → List SimpleKey → Path → ℕ
   grows p parts = cond h.array (bump (target e p parts) e) e
 
-  grafted-here : (p : Path) → grafted p e (grown_here (λ q. e (p ++ q)) h) ≡ cond h.array (bump p e) e
+  grafted-here : (p : Path) → grafted p e (counts_after_end (λ q. e (p ++ q)) h) ≡ cond h.array (bump p e) e
   grafted-here p =
       elim (cases_Bool h.array) [
         | inl arr ↦ rw arr (grafted-more p e)
@@ -219,34 +219,34 @@ module _ (h : Head) (e : Path → ℕ) where
       ]
 
   -- through the latest of n entries
-  grafted-below : (p : Path) (ps : List SimpleKey) (n : ℕ) → ((q : Path) → grafted q e (grown (λ r. e (q ++ r)) h ps) ≡ grows q ps)
-      → grafted p e (grown_below n (λ r. e (p ++ r)) (λ f. grown f h ps)) ≡ grows (enter n p) ps
+  grafted-below : (p : Path) (ps : List SimpleKey) (n : ℕ) → ((q : Path) → grafted q e (counts_after (λ r. e (q ++ r)) h ps) ≡ grows q ps)
+      → grafted p e (counts_after_entered n (λ r. e (p ++ r)) (λ f. counts_after f h ps)) ≡ grows (enter n p) ps
   unfolding enter
   grafted-below p ps zero ih = ih p
   grafted-below p ps (suc n) ih = grind (arith, nat_tests, common_steps, grafted-graft, onward)
 
-  grown-more : (k : SimpleKey) (rest : List SimpleKey) (p : Path) → grafted p e (grown (λ q. e (p ++ q)) h (k ∷ rest)) ≡ grows p (k ∷ rest)
-  unfolding grown target
-  grown-more k [] p =
-      grafted-graft p (key k.name) e (grown_here (λ r. e (p ++ (key k.name ∷ r))) h)
-      ∙ ap (λ f. grafted (with_key p k) e (grown_here f h)) (onward e p (key k.name)) ∙ grafted-here (with_key p k)
-  grown-more k (l ∷ more) p =
+  counts_after-more : (k : SimpleKey) (rest : List SimpleKey) (p : Path) → grafted p e (counts_after (λ q. e (p ++ q)) h (k ∷ rest)) ≡ grows p (k ∷ rest)
+  unfolding counts_after target
+  counts_after-more k [] p =
+      grafted-graft p (key k.name) e (counts_after_end (λ r. e (p ++ (key k.name ∷ r))) h)
+      ∙ ap (λ f. grafted (with_key p k) e (counts_after_end f h)) (onward e p (key k.name)) ∙ grafted-here (with_key p k)
+  counts_after-more k (l ∷ more) p =
       let q = with_key p k in
-      grafted-graft p (key k.name) e (grown_below (e q) (λ r. e (p ++ (key k.name ∷ r))) (λ f. grown f h (l ∷ more)))
-      ∙ ap (λ f. grafted q e (grown_below (e q) f (λ g. grown g h (l ∷ more)))) (onward e p (key k.name))
-      ∙ grafted-below q (l ∷ more) (e q) (λ r. grown-more l more r)
+      grafted-graft p (key k.name) e (counts_after_entered (e q) (λ r. e (p ++ (key k.name ∷ r))) (λ f. counts_after f h (l ∷ more)))
+      ∙ ap (λ f. grafted q e (counts_after_entered (e q) f (λ g. counts_after g h (l ∷ more)))) (onward e p (key k.name))
+      ∙ grafted-below q (l ∷ more) (e q) (λ r. counts_after-more l more r)
 
-  grown-grows : (parts : List SimpleKey) → (parts ≡ [] → h.array ≡ false) → grown e h parts ≡ grows [] parts
-  unfolding grown grafted
-  grown-grows [] header = rw (header refl)
-  grown-grows (k ∷ rest) header = grown-more k rest []
+  counts_after-grows : (parts : List SimpleKey) → (parts ≡ [] → h.array ≡ false) → counts_after e h parts ≡ grows [] parts
+  unfolding counts_after grafted
+  counts_after-grows [] header = rw (header refl)
+  counts_after-grows (k ∷ rest) header = counts_after-more k rest []
 
 -- one path more among the opened ones
 bump-entries : (t : Path) (before : List Path) → bump t (elements_added before) ≡ elements_added (t ∷ before)
 bump-entries t before = fun_ext (λ p. elim (cases_Bool (same_path t p)) [ inl here ↦ rw here | inr off ↦ rw off ])
 
 -- how many entries there are behind a section
-pub grown-is : (earlier : List Block) (b : Block) → (b.header ≡ [] → b.array ≡ false)
-    → grown (elements_added (opened_by earlier)) (head_of b) b.header ≡ elements_added (opened_by (b ∷ earlier))
+pub counts_after-is : (earlier : List Block) (b : Block) → (b.header ≡ [] → b.array ≡ false)
+    → counts_after (elements_added (opened_by earlier)) (head_of b) b.header ≡ elements_added (opened_by (b ∷ earlier))
 unfolding opened_by
-grown-is earlier b header = grind (arith, nat_tests, common_steps, bump-entries, grown-grows)
+counts_after-is earlier b header = grind (arith, nat_tests, common_steps, bump-entries, counts_after-grows)

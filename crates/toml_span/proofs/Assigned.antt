@@ -16,7 +16,7 @@ use Rattle.toml_span.specs.declared.branch.Branch.TheOpen.{Branch-F}
 use Rattle.toml_span.specs.Paths.{same_path, same_step}
 use Rattle.toml_span.specs.Claims.{claimed, assigned, pair_mark, value_claims}
 use Rattle.toml_span.specs.Clashes.{or_else}
-use Rattle.toml_span.specs.code.Machine.{Cell, State, nothing, change, with_claim, Gives, met, clash_met, show_all, put_all, graft}
+use Rattle.toml_span.specs.code.Machine.{Cell, State, nothing, change, with_claim, Gives, earliest_clash, clash_met, show_all, put_all, graft}
 use Rattle.toml_span.specs.code.Placing.{Places, IsFinished, ValueGives}
 use Rattle.toml_span.specs.code.Relative.{pair_at}
 use Rattle.toml_span.specs.code.Tree.{is_named, child_in, marks, entries, child, closed, closed_in, closed_cell, held_marks, item, cells, cell_at, counts, value_cell, value_shows, IsScope}
@@ -34,38 +34,38 @@ value_mark k v = pair_mark Assigned k.span (parsed_span v)
 
 -- with what stands at its name
 pub refused-child : (n new : Branch) (k : Key) (v : Read) (q : Result (Unit {0}) Halt) (e : Halt) (m : Mark) (P : Unit {0} → Type 0) (d : Path → ℕ)
-    → m ≡ value_mark k v → q ≡ Err e → Gives (Err e) (met (held_marks (child (simple_key k).name n)) m (simple_key k).name) P → Places n new q (pair_at [] (simple_key k) v) d
+    → m ≡ value_mark k v → q ≡ Err e → Gives (Err e) (earliest_clash (held_marks (child (simple_key k).name n)) m (simple_key k).name) P → Places n new q (pair_at [] (simple_key k) v) d
 unfolding pair_at cell_at
 refused-child n new k v q (Memory e) m P d same is h = rw is (λ before. tt)
 refused-child n new k v q (Clash t) m P d same is h =
     rw is (places-refused n new (simple_key k).name (Err (Clash t)) (assigned [] (simple_key k) v) (value_claims v []) P d refl
     (λ before. (tt, go (child (simple_key k).name n) refl (rw same at h))))
   where
-    go : (o : Option Branch) → child (simple_key k).name n ≡ o → Gives (Err (Clash t)) (met (held_marks o) (value_mark k v) (simple_key k).name) P
-        → Gives (Err (Clash t)) (met (cells n (key (simple_key k).name ∷ [])).marks (value_mark k v) (simple_key k).name) P
+    go : (o : Option Branch) → child (simple_key k).name n ≡ o → Gives (Err (Clash t)) (earliest_clash (held_marks o) (value_mark k v) (simple_key k).name) P
+        → Gives (Err (Clash t)) (earliest_clash (cells n (key (simple_key k).name ∷ [])).marks (value_mark k v) (simple_key k).name) P
     go None c h = absurd (none-some _ h)
-    go (Some x) c h = ap (λ f. met (f []).marks (value_mark k v) (simple_key k).name) (cells-at n (key (simple_key k).name) (Some x) c) ∙ h
+    go (Some x) c h = ap (λ f. earliest_clash (f []).marks (value_mark k v) (simple_key k).name) (cells-at n (key (simple_key k).name) (Some x) c) ∙ h
 
 -- where it does not, no branch stands there
-pub missing-free : (n : Branch) (k : List ℕ) (m : Mark) (name : List ℕ) → IsScope n → m.sort ≡ Assigned → met (held_marks (child k n)) m name ≡ None → child k n ≡ None
+pub missing-free : (n : Branch) (k : List ℕ) (m : Mark) (name : List ℕ) → IsScope n → m.sort ≡ Assigned → earliest_clash (held_marks (child k n)) m name ≡ None → child k n ≡ None
 missing-free n k m name before is h = go (child k n) refl
   where
     go : (o : Option Branch) → child k n ≡ o → o ≡ None
     go None c = refl
     go (Some x) c =
         let named = (held-child n x k c before).1 in
-        let none : met (marks x) m name ≡ None = ap (λ o. met (held_marks o) m name) (sym c) ∙ h in
+        let none : earliest_clash (marks x) m name ≡ None = ap (λ o. earliest_clash (held_marks o) m name) (sym c) ∙ h in
         grind (arith, nat_tests, common_steps, met-first, named-clashes)
 
 -- with a value of the same name
 pub refused-value : (n new : Branch) (k earlier : Key) (x : Value) (v : Read) (r : Result (Unit {0}) Halt) (ms : List Mark) (m : Mark) (name : List ℕ) (P : Unit {0} → Type 0) (d : Path → ℕ)
     → (IsScope n → child (simple_key k).name n ≡ None) → closed (simple_key k).name n ≡ Some (earlier, x) → ms ≡ pair_mark Assigned earlier.span x.span ∷ [] → name ≡ (simple_key k).name
-    → m ≡ value_mark k v → Gives r (met ms m name) P → Places n new r (pair_at [] (simple_key k) v) d
+    → m ≡ value_mark k v → Gives r (earliest_clash ms m name) P → Places n new r (pair_at [] (simple_key k) v) d
 unfolding pair_at
 refused-value n new k earlier x v r ms m name P d missing found is same mark h =
     let at = pair_mark Assigned earlier.span x.span in
     places-refused n new (simple_key k).name r (assigned [] (simple_key k) v) (value_claims v []) P d refl (λ before.
-    let given : Gives r (met (at ∷ []) (value_mark k v) (simple_key k).name) P = rw (is, mark, same) at h in
+    let given : Gives r (earliest_clash (at ∷ []) (value_mark k v) (simple_key k).name) P = rw (is, mark, same) at h in
     let there = ap (λ f. (f []).marks) (cells-at n (key (simple_key k).name) None (missing before)) ∙ marks-found _ earlier x _ found refl in
     (assigned_twice r at (value_mark k v) _ _ ⊥ refl refl given, rw there given))
 
@@ -104,16 +104,16 @@ told-free n k v missing free =
     let name = (simple_key k).name in
     let own = λ (f : State). clash_met (change f [] (with_claim (assigned [] (simple_key k) v))) (value_claims v []) in
     told-under (key name) (cells n) (claimed (assigned [] (simple_key k) v) (value_claims v []))
-    ∙ ap (λ f. or_else (met (f []).marks (value_mark k v) name) (own (λ q. cells n (key name ∷ q)))) (cells-at n (key name) None missing ∙ ap closed_cell free)
+    ∙ ap (λ f. or_else (earliest_clash (f []).marks (value_mark k v) name) (own (λ q. cells n (key name ∷ q)))) (cells-at n (key name) None missing ∙ ap closed_cell free)
     ∙ told-value (change (λ q. cells n (key name ∷ q)) [] (with_claim (assigned [] (simple_key k) v))) v []
 
 pub assigned-err : (n new : Branch) (k : Key) (v : Read) (value : Result Value Halt) (q : Result (Unit {0}) Halt) (e : Halt) (m : Mark) (d : Path → ℕ)
-    → m.sort ≡ Assigned → met (held_marks (child (simple_key k).name n)) m (simple_key k).name ≡ None → closed (simple_key k).name n ≡ None → value ≡ Err e → q ≡ Err e
+    → m.sort ≡ Assigned → earliest_clash (held_marks (child (simple_key k).name n)) m (simple_key k).name ≡ None → closed (simple_key k).name n ≡ None → value ≡ Err e → q ≡ Err e
     → ValueGives value v → Places n new q (pair_at [] (simple_key k) v) d
 assigned-err n new k v value q e m d sort admitted free was is h before = grind (arith, nat_tests, common_steps, gives-err, missing-free, told-free)
 
 pub assigned-ok : (n new : Branch) (k : Key) (x : Value) (v : Read) (value : Result Value Halt) (m : Mark)
-    → m.sort ≡ Assigned → met (held_marks (child (simple_key k).name n)) m (simple_key k).name ≡ None → closed (simple_key k).name n ≡ None → value ≡ Ok x
+    → m.sort ≡ Assigned → earliest_clash (held_marks (child (simple_key k).name n)) m (simple_key k).name ≡ None → closed (simple_key k).name n ≡ None → value ≡ Ok x
     → ValueGives value v → Sets (key (simple_key k).name) (child (simple_key k).name n, Some (k, x)) n new → Places n new (Ok tt) (pair_at [] (simple_key k) v) (counts n)
 unfolding pair_at put_all
 assigned-ok n new k x v value m sort admitted free was h sets before =

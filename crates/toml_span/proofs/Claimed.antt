@@ -11,8 +11,8 @@ use Rattle.toml_span.specs.declared.branch.Branch.TheOpen.{Branch-F}
 use Rattle.toml_span.specs.Paths.{same_path}
 use Rattle.toml_span.specs.Claims.{Claims, no_claims, claimed, followed, table_claim}
 use Rattle.toml_span.specs.Flat.{by_header}
-use Rattle.toml_span.specs.code.Marks.{first, first_by_header, remember, same_sort}
-use Rattle.toml_span.specs.code.Machine.{Decided, Gives, change, decide, met, put_all, clash_met, with_claim}
+use Rattle.toml_span.specs.code.Marks.{first, first_by_header, has_sort, remember, same_sort}
+use Rattle.toml_span.specs.code.Machine.{Decided, Gives, change, decide, earliest_clash, put_all, clash_met, with_claim}
 use Rattle.toml_span.specs.code.Placing.{Reaches}
 use Rattle.toml_span.specs.code.Tree.{marks, entries, own_cell, cells, cell_at, counts, count_at, by_mark, by_marks, is_array_sort, is_entry_sort, NoArray, NoEntry, IsNamed, IsEntry, IsScope}
 use Rattle.toml_span_read.proofs.BorrowLemmas.{all_append}
@@ -28,10 +28,7 @@ same_sort-eq a b h = grind (arith, nat_tests, common_steps)
 
 -- ---- what is kept of one more claim
 
-abbrev knows : List Mark → Mark → Bool
-knows ms m = list_any (λ seen. same_sort seen.sort m.sort) ms
-
-pub remember-cases : (ms : List Mark) (m : Mark) → ((knows ms m ≡ true) × (remember ms m ≡ ms)) ⊎ ((knows ms m ≡ false) × (remember ms m ≡ ms ++ m ∷ []))
+pub remember-cases : (ms : List Mark) (m : Mark) → ((has_sort ms m.sort ≡ true) × (remember ms m ≡ ms)) ⊎ ((has_sort ms m.sort ≡ false) × (remember ms m ≡ ms ++ m ∷ []))
 remember-cases ms m = grind (arith, nat_tests, common_steps)
 
 -- a fact of each mark, and of the one that comes
@@ -84,7 +81,7 @@ unfolding shown_by
 settled-show o [] header h = h
 settled-show o (x ∷ ms) header h = settled-show (decide o (by_mark x)) ms header (settled-more o (by_mark x) header h)
 
-known-settled : (o : Option Decided) (ms : List Mark) (m : Mark) → knows ms m ≡ true → IsSettled (marks_show o ms) (by_header m.sort)
+known-settled : (o : Option Decided) (ms : List Mark) (m : Mark) → has_sort ms m.sort ≡ true → IsSettled (marks_show o ms) (by_header m.sort)
 unfolding shown_by
 known-settled o [] m known = absurd (false≢true known)
 known-settled o (x ∷ ms) m known =
@@ -140,20 +137,20 @@ scope-marked m old new other h before =
 
 -- ---- the claim is placed
 
-pub reaches-claim : (A B : Branch → Type 0) (k : SimpleKey) (m : Mark) (old new : Branch) → met (marks old) m k.name ≡ None → Marked m old new → (A old → B new)
+pub reaches-claim : (A B : Branch → Type 0) (k : SimpleKey) (m : Mark) (old new : Branch) → earliest_clash (marks old) m k.name ≡ None → Marked m old new → (A old → B new)
     → Reaches A B old new (Ok tt) (claimed (table_claim [] k m) no_claims) (counts old)
 unfolding clash_met put_all cell_at
 reaches-claim A B k m old new free h after = grind (arith, nat_tests, common_steps, cells-marked, counts-marked)
 
 -- before further claims
 pub reaches-claimed : (A B C : Branch → Type 0) (k : SimpleKey) (m : Mark) (old mid new : Branch) (r : Result (Unit {0}) Halt) (cs : Claims) (d : Path → ℕ)
-    → met (marks old) m k.name ≡ None → Marked m old mid → (A old → B mid) → Reaches B C mid new r cs d → Reaches A C old new r (claimed (table_claim [] k m) cs) d
+    → earliest_clash (marks old) m k.name ≡ None → Marked m old mid → (A old → B mid) → Reaches B C mid new r cs d → Reaches A C old new r (claimed (table_claim [] k m) cs) d
 unfolding followed
 reaches-claimed A B C k m old mid new r cs d free h after more =
     reaches-then A B C old mid new r (claimed (table_claim [] k m) no_claims) cs (counts old) d (reaches-claim A B k m old mid free h after) more
 
 -- the claim clashes
 pub reaches-claim-err : (A C : Branch → Type 0) (k : SimpleKey) (m : Mark) (old new : Branch) (q : Result (Unit {0}) Halt) (e : Halt) (P : Unit {0} → Type 0) (cs : Claims) (d : Path → ℕ)
-    → q ≡ Err e → Gives (Err e) (met (marks old) m k.name) P → Reaches A C old new q (claimed (table_claim [] k m) cs) d
+    → q ≡ Err e → Gives (Err e) (earliest_clash (marks old) m k.name) P → Reaches A C old new q (claimed (table_claim [] k m) cs) d
 unfolding clash_met cell_at
 reaches-claim-err A C k m old new q e P cs d same h = grind (arith, nat_tests, common_steps)

@@ -12,7 +12,7 @@ use Rattle.toml_span.specs.Claims.{Claims}
 use Rattle.toml_span.specs.code.Machine.{graft}
 use Rattle.toml_span.specs.code.Marks.{remember}
 use Rattle.toml_span.specs.code.Placing.{Opening, Opens, Passes, Reaches}
-use Rattle.toml_span.specs.code.Relative.{one_more, under}
+use Rattle.toml_span.specs.code.Relative.{counts_after_adding, under}
 use Rattle.toml_span.specs.code.Tree.{IsArray, IsChild, IsEntry, IsFresh, IsHeld, IsNamed, IsOpen, IsScope, IsTableOrArray, Sound, count_at, cells, counts, entries, is_entry_sort, item, marks, none_open}
 use Rattle.toml_span.proofs.Claimed.{entry-remember}
 use Rattle.toml_span.proofs.Grafts.{graft-itself}
@@ -54,11 +54,11 @@ pub puts-set : (m : ℕ) (w n : Branch) (b : Branch-F Branch) → b.marks.items 
 puts-set m w n b claims values tables within written = puts m w n b claims values tables (λ i. ap (item i) written ∙ item-set (entries n) m w within i)
 
 -- a new entry has no entries below it
-counts-pushed : (m : ℕ) (w n new : Branch) → PutsEntry m w n new → item m (entries n) ≡ None → length (entries new) ≡ suc (length (entries n)) → counts w ≡ none_open → counts new ≡ one_more (counts n)
+counts-pushed : (m : ℕ) (w n new : Branch) → PutsEntry m w n new → item m (entries n) ≡ None → length (entries new) ≡ suc (length (entries n)) → counts w ≡ none_open → counts new ≡ counts_after_adding (counts n)
 unfolding count_at
 counts-pushed m w n new puts past many none =
-    counts-sets (position m) (Some w, None) n new (one_more (counts n)) puts.sets many (λ t p. refl)
-    ∙ ap (graft (position m) (one_more (counts n))) (none ∙ sym (counts-at n (position m) None past)) ∙ graft-itself (position m) (one_more (counts n))
+    counts-sets (position m) (Some w, None) n new (counts_after_adding (counts n)) puts.sets many (λ t p. refl)
+    ∙ ap (graft (position m) (counts_after_adding (counts n))) (none ∙ sym (counts-at n (position m) None past)) ∙ graft-itself (position m) (counts_after_adding (counts n))
 
 -- ---- what always holds of it
 
@@ -114,10 +114,10 @@ reaches-entry k m n new x w r cs c found puts many h =
 -- in a new one, which is pushed to the list of entries where nothing stops
 reaches-added : (k : Mark) (n new x w : Branch) (r : Result (Unit {0}) Halt) (cs : Claims) (c : Path → ℕ) → IsFresh x
     → OnOk r ((c ≡ counts x) × (k.sort ≡ TableElement) × PutsEntry (length (entries n)) w n new × (length (entries new) ≡ suc (length (entries n))))
-    → Opening (Opens TableElement) k x w r cs c → Reaches IsOpen IsHeld n new r (under (position (counts n [])) cs) (one_more (counts n))
+    → Opening (Opens TableElement) k x w r cs c → Reaches IsOpen IsHeld n new r (under (position (counts n [])) cs) (counts_after_adding (counts n))
 reaches-added k n new x w r cs c fresh made h =
-    subst (λ i. Reaches IsOpen IsHeld n new r (under (position i) cs) (one_more (counts n))) (sym (counts-here n))
-    (reaches-below IsOpen IsHeld (Opens TableElement) (λ v. IsScope v × (marks v ≡ remember (marks x) k)) (position m) n new x w r cs c (one_more (counts n))
+    subst (λ i. Reaches IsOpen IsHeld n new r (under (position i) cs) (counts_after_adding (counts n))) (sym (counts-here n))
+    (reaches-below IsOpen IsHeld (Opens TableElement) (λ v. IsScope v × (marks v ≡ remember (marks x) k)) (position m) n new x w r cs c (counts_after_adding (counts n))
     (cells-at n (position m) None past ∙ sym (cells-fresh x fresh)) (λ before. ((scope-fresh x fresh).0, inr (refl, fresh.no_entries))) (set r made) h)
   where
     m : ℕ
@@ -127,7 +127,7 @@ reaches-added k n new x w r cs c fresh made h =
     past = item-past (entries n) m (omega arith)
 
     set : (r : Result (Unit {0}) Halt) → OnOk r ((c ≡ counts x) × (k.sort ≡ TableElement) × PutsEntry (length (entries n)) w n new × (length (entries new) ≡ suc (length (entries n))))
-        → OnOk r (IsOpen n → IsScope w × (marks w ≡ remember (marks x) k) → (cells new ≡ graft (position m) (cells n) (cells w)) × (counts w ≡ c → counts new ≡ one_more (counts n)) × IsHeld new)
+        → OnOk r (IsOpen n → IsScope w × (marks w ≡ remember (marks x) k) → (cells new ≡ graft (position m) (cells n) (cells w)) × (counts w ≡ c → counts new ≡ counts_after_adding (counts n)) × IsHeld new)
     set (Err e) made = tt
     set (Ok u) made = λ before now. (
       cells-sets (position m) (Some w, None) n new made.2.sets,
@@ -137,7 +137,7 @@ reaches-added k n new x w r cs c fresh made h =
 
 pub reaches-pushed : (k : Mark) (n : Branch) (b : Branch-F Branch) (x w : Branch) (cs : Claims) → k.sort ≡ TableElement → IsFresh x → b.marks.items ≡ marks n → b.values ≡ (out-Branch n).values
     → b.tables ≡ (out-Branch n).tables → b.entries.items ≡ entries n ++ w ∷ [] → Opening (Opens TableElement) k x w (Ok tt) cs (counts x)
-    → Reaches IsOpen IsHeld n (roll-Branch b) (Ok tt) (under (position (counts n [])) cs) (one_more (counts n))
+    → Reaches IsOpen IsHeld n (roll-Branch b) (Ok tt) (under (position (counts n [])) cs) (counts_after_adding (counts n))
 reaches-pushed k n b x w cs entry fresh claims values tables pushed h =
     let many : length b.entries.items ≡ suc (length (entries n)) = grind (arith, nat_tests, common_steps) in
     reaches-added k n (roll-Branch b) x w (Ok tt) cs (counts x) fresh (
@@ -149,4 +149,4 @@ reaches-pushed k n b x w cs entry fresh claims values tables pushed h =
 
 pub reaches-added-err : (k : Mark) (n new x w : Branch) (r q : Result (Unit {0}) Halt) (e : Halt) (cs : Claims) (c d : Path → ℕ) → IsFresh x → r ≡ Err e → q ≡ Err e
     → Opening (Opens TableElement) k x w r cs c → Reaches IsOpen IsHeld n new q (under (position (counts n [])) cs) d
-reaches-added-err k n new x w r q e cs c d fresh is same h = rw same (reaches-stops IsOpen IsHeld n new new e (under (position (counts n [])) cs) (one_more (counts n)) d (reaches-added k n new x w (Err e) cs c fresh tt (rw is at h)))
+reaches-added-err k n new x w r q e cs c d fresh is same h = rw same (reaches-stops IsOpen IsHeld n new new e (under (position (counts n [])) cs) (counts_after_adding (counts n)) d (reaches-added k n new x w (Err e) cs c fresh tt (rw is at h)))

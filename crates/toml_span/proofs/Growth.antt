@@ -31,14 +31,14 @@ use Rattle.toml_span.specs.Ordered.{HoldsOrdered}
 use Rattle.toml_span.specs.code.Placing.{AreSections, Assembles, ShowsBelow, Places, place_shown}
 use Rattle.toml_span.specs.code.Tree.{cells, IsFresh, IsScope, counts}
 use Rattle.toml_span.specs.declared.sections.Grown.{Grown}
-use Rattle.toml_span.specs.code.Growing.{GrownGives, GrownRight, Grows, IsBare, IsGrown, GrowsTo, Placed, Remaining}
+use Rattle.toml_span.specs.code.Growing.{GrownGives, GrownRight, Grows, IsBare, IsGrown, GrowsTo, PlacesBlock, Remaining}
 use Rattle.toml_span.proofs.Refusals.{first-headed, some_part}
 use Rattle.toml_span_tree.proofs.Values.{inner_view-Table}
 use Rattle.toml_span.specs.Paths.{elements_added, opened_by}
 use Rattle.toml_span.specs.Flat.{flat, Shows}
 use Rattle.toml_span.specs.Parsing.{IsBorrowedTree}
-use Rattle.toml_span.specs.code.Relative.{section_at, grown}
-use Rattle.toml_span.proofs.Absolute.{section_at-is, grown-is}
+use Rattle.toml_span.specs.code.Relative.{section_at, counts_after}
+use Rattle.toml_span.proofs.Absolute.{section_at-is, counts_after-is}
 use Rattle.toml_span.proofs.Grafts.{told-followed, put_all-followed}
 use Rattle.toml_span.proofs.Judged.{first-met}
 use Rattle.toml_span.proofs.Nodes.{cells-fresh, counts-fresh, scope-fresh}
@@ -62,15 +62,15 @@ remaining-first all rest root same headers fresh = record {
 }
 
 pub placed-block : (s : Section) (parts : List Key) (root new : Branch) (r : Result (Unit {0}) Halt) → parts ≡ s.header.items
-    → Places root new r (section_at (counts root) (head_of (block s)) (map simple_key parts) (key_value_claims (map key_value s.assignments.items) [])) (grown (counts root) (head_of (block s)) (map simple_key parts))
-    → Placed (block s) root new r
+    → Places root new r (section_at (counts root) (head_of (block s)) (map simple_key parts) (key_value_claims (map key_value s.assignments.items) [])) (counts_after (counts root) (head_of (block s)) (map simple_key parts))
+    → PlacesBlock (block s) root new r
 placed-block s parts root new r same h = rw same at h
 
 -- the same, by absolute paths
 placed-is : (b : Block) (earlier : List Block) (root new : Branch) (r : Result (Unit {0}) Halt) → counts root ≡ elements_added (opened_by earlier)
-    → (b.header ≡ [] → b.array ≡ false) → Placed b root new r
+    → (b.header ≡ [] → b.array ≡ false) → PlacesBlock b root new r
     → Places root new r (section_claims (elements_added (opened_by earlier)) b) (elements_added (opened_by (b ∷ earlier)))
-placed-is b earlier root new r counting header placed = grind (arith, nat_tests, common_steps, grown-is, section_at-is)
+placed-is b earlier root new r counting header placed = grind (arith, nat_tests, common_steps, counts_after-is, section_at-is)
 
 -- what the next section claims, and then the others
 next-claims : (earlier : List Block) (b : Block) (bs : List Block)
@@ -78,7 +78,7 @@ next-claims : (earlier : List Block) (b : Block) (bs : List Block)
 unfolding claims_behind
 next-claims earlier b bs = refl
 
-pub remaining-next : (all old new : List Block) (b : Block) (root w : Branch) → old ≡ b ∷ new → Remaining all old root → Placed b root w (Ok tt) → Remaining all new w
+pub remaining-next : (all old new : List Block) (b : Block) (root w : Branch) → old ≡ b ∷ new → Remaining all old root → PlacesBlock b root w (Ok tt) → Remaining all new w
 remaining-next all old new b root w steps inv placed =
     let headers : AreSections (b ∷ new) = subst AreSections steps inv.headers in
     let h = placed-is b inv.earlier root w (Ok tt) inv.counting headers.0 placed inv.scope in
@@ -92,7 +92,7 @@ remaining-next all old new b root w steps inv placed =
     }
 
 pub assembles-err : (all old new : List Block) (length : ℕ) (b : Block) (root w : Branch) (q : Result Value Halt) (e : Halt)
-    → old ≡ b ∷ new → Remaining all old root → q ≡ Err e → Placed b root w (Err e) → Assembles all length q
+    → old ≡ b ∷ new → Remaining all old root → q ≡ Err e → PlacesBlock b root w (Err e) → Assembles all length q
 assembles-err all old new length b root w q (halts.Memory m) steps inv same placed = rw same tt
 assembles-err all old new length b root w q (halts.Clash c) steps inv same placed =
     let headers : AreSections (b ∷ new) = subst AreSections steps inv.headers in
@@ -126,12 +126,12 @@ assembles-ok all (b ∷ rest) length t root v done inv finished is = cc
 pub grows-none : (root : Branch) → IsFresh root → GrowsTo [] root None
 grows-none root fresh rest headed = remaining-first rest rest root refl headed fresh
 
-pub grows-more : (bs : List Block) (b : Block) (root new : Branch) (o : Option (Box Clash)) → is_some o ≡ false → AreSections (b ∷ []) → GrowsTo bs root o → Placed b root new (Ok tt) → GrowsTo (bs ++ (b ∷ [])) new o
+pub grows-more : (bs : List Block) (b : Block) (root new : Branch) (o : Option (Box Clash)) → is_some o ≡ false → AreSections (b ∷ []) → GrowsTo bs root o → PlacesBlock b root new (Ok tt) → GrowsTo (bs ++ (b ∷ [])) new o
 grows-more bs b root new (Some c) none headed grows placed = absurd (false≢true (sym none))
 grows-more bs b root new None none headed grows placed = grind (arith, nat_tests, common_steps, append_assoc, remaining-next)
 
 pub grows-clash : (bs : List Block) (b : Block) (root new : Branch) (o : Option (Box Clash)) (halt : Halt) (c : Box Clash) → is_some o ≡ false → halt ≡ halts.Clash c → AreSections (b ∷ []) → GrowsTo bs root o
-    → Placed b root new (Err halt) → GrowsTo (bs ++ (b ∷ [])) new (Some c)
+    → PlacesBlock b root new (Err halt) → GrowsTo (bs ++ (b ∷ [])) new (Some c)
 grows-clash bs b root new (Some d) halt c none is headed grows placed = absurd (false≢true (sym none))
 grows-clash bs b root new None halt c none is headed grows placed = λ rest are.
     let told = assembles-err (bs ++ (b ∷ rest)) (b ∷ rest) rest 0 b root new (Err (halts.Clash c)) (halts.Clash c) refl (grows (b ∷ rest) (headed.0, are)) refl (rw is at placed) in

@@ -4,9 +4,9 @@ use Rattle.toml_span.specs.declared.claims.Blame.{Blame}
 use Rattle.toml_span.specs.declared.claims.Mark.{Mark}
 use Rattle.toml_span.specs.declared.claims.Meeting.{Meeting}
 use Rattle.toml_span.specs.Claims.{Claim, Claims, no_claims, claimed, scope}
-use Rattle.toml_span.specs.Clashes.{NamedClash, named, meeting, meets, or_else, clash, clash_among, clash_behind, first_clash}
-use Rattle.toml_span.specs.code.Marks.{partner, same_sort, remember}
-use Rattle.toml_span.specs.code.Machine.{State, nothing, change, with_claim, show_all, met, clash_met}
+use Rattle.toml_span.specs.Clashes.{NamedClash, named, meeting, meeting_between, or_else, clash, clash_among, clash_behind, first_clash}
+use Rattle.toml_span.specs.code.Marks.{earliest_meeting, same_sort, remember}
+use Rattle.toml_span.specs.code.Machine.{State, nothing, change, with_claim, show_all, earliest_clash, clash_met}
 use Rattle.toml_span.proofs.Claimed.{remember-cases, same_sort-eq}
 use Rattle.toml_span.proofs.Grafts.{or_else-assoc, or_else-none}
 use Rattle.toml_span.proofs.Shown.{show_all-marks}
@@ -17,16 +17,16 @@ absorbed : (x a b : Mark) (o p : Option Blame) (y : Option Meeting) → o ≡ p
     → or_else (option_map (meeting x b) o) y ≡ or_else (or_else (option_map (meeting x b) o) y) (option_map (meeting a b) p)
 absorbed x a b o p y e = grind (arith, nat_tests, common_steps, or_else-none)
 
-partner-known : (l : List Mark) (a b : Mark) → list_any (λ x. same_sort x.sort a.sort) l ≡ true → partner l b ≡ or_else (partner l b) (meets a b)
-partner-known [] a b h = absurd (false≢true h)
-partner-known (x ∷ l) a b h = grind (arith, nat_tests, common_steps, absorbed, or_else-assoc, same_sort-eq, partner-known l a b)
+earliest_meeting-known : (l : List Mark) (a b : Mark) → list_any (λ x. same_sort x.sort a.sort) l ≡ true → earliest_meeting l b ≡ or_else (earliest_meeting l b) (meeting_between a b)
+earliest_meeting-known [] a b h = absurd (false≢true h)
+earliest_meeting-known (x ∷ l) a b h = grind (arith, nat_tests, common_steps, absorbed, or_else-assoc, same_sort-eq, earliest_meeting-known l a b)
 
-partner-push : (l : List Mark) (a b : Mark) → partner (l ++ a ∷ []) b ≡ or_else (partner l b) (meets a b)
-partner-push [] a b = or_else-none (meets a b)
-partner-push (x ∷ l) a b = ap (or_else (meets x b)) (partner-push l a b) ∙ sym (or_else-assoc (meets x b) (partner l b) (meets a b))
+earliest_meeting-push : (l : List Mark) (a b : Mark) → earliest_meeting (l ++ a ∷ []) b ≡ or_else (earliest_meeting l b) (meeting_between a b)
+earliest_meeting-push [] a b = or_else-none (meeting_between a b)
+earliest_meeting-push (x ∷ l) a b = ap (or_else (meeting_between x b)) (earliest_meeting-push l a b) ∙ sym (or_else-assoc (meeting_between x b) (earliest_meeting l b) (meeting_between a b))
 
-partner-remember : (l : List Mark) (a b : Mark) → partner (remember l a) b ≡ or_else (partner l b) (meets a b)
-partner-remember l a b = grind (arith, nat_tests, common_steps, partner-known, partner-push, remember-cases)
+earliest_meeting-remember : (l : List Mark) (a b : Mark) → earliest_meeting (remember l a) b ≡ or_else (earliest_meeting l b) (meeting_between a b)
+earliest_meeting-remember l a b = grind (arith, nat_tests, common_steps, earliest_meeting-known, earliest_meeting-push, remember-cases)
 
 -- ---- what the state keeps of the earlier claims of the scope
 
@@ -36,7 +36,7 @@ among-push [] c later = or_else-none (clash c later)
 among-push (x ∷ earlier) c later = grind (arith, nat_tests, common_steps, or_else-assoc, among-push earlier c later)
 
 abbrev met_in : State → Claim → Option NamedClash
-met_in st c = met (st c.path).marks c.mark c.name
+met_in st c = earliest_clash (st c.path).marks c.mark c.name
 
 -- the state knows what the earlier claims say to each later one
 abbrev Keeps : State → List Claim → Type 0
@@ -51,13 +51,13 @@ map-or_else name x y = grind (arith, nat_tests, common_steps)
 
 met-claim : (st : State) (c later : Claim) → met_in (change st c.path (with_claim c)) later ≡ or_else (met_in st later) (clash c later)
 unfolding change clash
-met-claim st c later = grind (arith, nat_tests, common_steps, map-or_else, or_else-none, partner-remember)
+met-claim st c later = grind (arith, nat_tests, common_steps, map-or_else, or_else-none, earliest_meeting-remember)
 
 keeps-claim : (st : State) (earlier : List Claim) (c : Claim) → Keeps st earlier → Keeps (change st c.path (with_claim c)) (earlier ++ (c ∷ []))
 keeps-claim st earlier c keeps later = grind (arith, nat_tests, common_steps, among-push, met-claim)
 
 keeps-inner : (st : State) (earlier : List Claim) (inner : Claims) → Keeps st earlier → Keeps (show_all st inner) earlier
-keeps-inner st earlier inner keeps later = ap (λ l. met l later.mark later.name) (show_all-marks st inner later.path) ∙ keeps later
+keeps-inner st earlier inner keeps later = ap (λ l. earliest_clash l later.mark later.name) (show_all-marks st inner later.path) ∙ keeps later
 
 -- ---- what is met is the first clash
 

@@ -25,7 +25,7 @@ use Rattle.toml_span.specs.Clashes.{NamedClash, blame, meeting, named}
 use Rattle.toml_span.specs.Flat.{by_header}
 use Rattle.toml_span.specs.code.Growing.{Grows, GrowsTo, IsGrownInside}
 use Rattle.toml_span.specs.code.Machine.{State, change, clash_met, nothing, show_all, with_claim}
-use Rattle.toml_span.specs.code.Marks.{IsHaltInside, partner}
+use Rattle.toml_span.specs.code.Marks.{IsHaltInside, earliest_meeting}
 use Rattle.toml_span.proofs.EachClaim.{either-one}
 use Rattle.toml_span.proofs.Judged.{first-met}
 use Rattle.toml_span.proofs.Values.{first_in, told-array}
@@ -46,9 +46,9 @@ blame_told later earlier = grind (arith, common_steps)
 meeting_inside : (n : ℕ) (earlier later : Mark) (o : Option Blame) → IfSome o (IsTold later.sort) → IsMarkInside n later → IfSome (option_map (meeting earlier later) o) (λ m. IsInside n m.span)
 meeting_inside n earlier later o told inside = grind (arith, common_steps)
 
-partner_inside : (n : ℕ) (marks : List Mark) (later : Mark) → IsMarkInside n later → IfSome (partner marks later) (λ m. IsInside n m.span)
-partner_inside n [] later inside = tt
-partner_inside n (earlier ∷ marks) later inside = grind (arith, nat_tests, common_steps, blame_told, either-one, meeting_inside, partner_inside n marks later inside)
+earliest_meeting_inside : (n : ℕ) (marks : List Mark) (later : Mark) → IsMarkInside n later → IfSome (earliest_meeting marks later) (λ m. IsInside n m.span)
+earliest_meeting_inside n [] later inside = tt
+earliest_meeting_inside n (earlier ∷ marks) later inside = grind (arith, nat_tests, common_steps, blame_told, either-one, meeting_inside, earliest_meeting_inside n marks later inside)
 
 -- a clash is told there
 abbrev In : ℕ → NamedClash → Type 0
@@ -69,7 +69,7 @@ Told n (scope inner cs) = IfSome (clash_met nothing inner) (In n) × Told n cs
 told_inside : (n : ℕ) (st : State) (cs : Claims) → Told n cs → IfSome (clash_met st cs) (In n)
 unfolding clash_met
 told_inside n st no_claims h = tt
-told_inside n st (claimed c cs) h = grind (arith, nat_tests, common_steps, either-one, named_inside, partner_inside, told_inside n (change st c.path (with_claim c)) cs)
+told_inside n st (claimed c cs) h = grind (arith, nat_tests, common_steps, either-one, named_inside, earliest_meeting_inside, told_inside n (change st c.path (with_claim c)) cs)
 told_inside n st (scope inner cs) h = either-one (In n) (clash_met nothing inner) (clash_met (show_all st inner) cs) h.0 (told_inside n (show_all st inner) cs h.1)
 
 followed_told : (n : ℕ) (xs ys : Claims) → Told n xs → Told n ys → Told n (followed xs ys)

@@ -15,7 +15,7 @@ use Rattle.toml_span.specs.declared.branch.Branch.TheViews.{roll-Branch, out-Bra
 use Rattle.toml_span_read.proofs.EarlierTree.{key_cmp}
 use Rattle.toml_span.specs.Claims.{Claim, Claims, claimed, followed, pair_mark}
 use Rattle.toml_span.specs.Clashes.{NamedClash, blame, named}
-use Rattle.toml_span.specs.code.Machine.{Gives, met, clash_met, put_all, graft}
+use Rattle.toml_span.specs.code.Machine.{Gives, earliest_clash, clash_met, put_all, graft}
 use Rattle.toml_span.specs.code.Placing.{Reaches, Places, Passes}
 use Rattle.toml_span.specs.code.Relative.{under}
 use Rattle.toml_span.specs.Paths.{same_step}
@@ -129,7 +129,7 @@ places-below n new x w k r cs c start sets h =
 -- ---- a claim that clashes at a name
 
 pub places-refused : (n new : Branch) (k : List ℕ) (r : Result (Unit {0}) Halt) (c : Claim) (cs : Claims) (P : Unit {0} → Type 0) (d : Path → ℕ)
-    → c.path ≡ [] → (IsScope n → OnOk r ⊥ × Gives r (met (cells n (key k ∷ [])).marks c.mark c.name) P) → Places n new r (under (key k) (claimed c cs)) d
+    → c.path ≡ [] → (IsScope n → OnOk r ⊥ × Gives r (earliest_clash (cells n (key k ∷ [])).marks c.mark c.name) P) → Places n new r (under (key k) (claimed c cs)) d
 unfolding clash_met
 places-refused n new k (Ok u) c cs P d here h before = absurd (h before).0
 places-refused n new k (Err (Clash t)) c cs P d here h before = grind (arith, nat_tests, common_steps, told-under)
@@ -137,7 +137,7 @@ places-refused n new k (Err (Memory e)) c cs P d here h before = tt
 
 -- with a value of the name
 pub places-beside : (n new : Branch) (k : List ℕ) (q : Result (Unit {0}) Halt) (e : Halt) (c : Claim) (cs : Claims) (P : Unit {0} → Type 0) (d : Path → ℕ)
-    → child k n ≡ None → c.path ≡ [] → q ≡ Err e → Gives (Err e) (met (closed_marks (closed k n)) c.mark c.name) P
+    → child k n ≡ None → c.path ≡ [] → q ≡ Err e → Gives (Err e) (earliest_clash (closed_marks (closed k n)) c.mark c.name) P
     → Places n new q (under (key k) (claimed c cs)) d
 places-beside n new k q e c cs P d missing here same h =
     rw same (places-refused n new k (Err e) c cs P d here (λ before. (tt, rw (ap (λ f. (f []).marks) (cells-at n (key k) None missing)) h)))
@@ -149,19 +149,19 @@ pub named-clashes : (s : Sort) → is_entry_sort s ≡ false → (blame s Assign
 named-clashes s e = grind (arith, nat_tests, common_steps)
 
 -- what clashes with none does not clash with the first one
-pub met-first : (x m : Mark) (ms : List Mark) (name : List ℕ) → met (x ∷ ms) m name ≡ None → blame x.sort m.sort ≡ None
+pub met-first : (x m : Mark) (ms : List Mark) (name : List ℕ) → earliest_clash (x ∷ ms) m name ≡ None → blame x.sort m.sort ≡ None
 met-first x m ms name h = grind (arith, nat_tests, common_steps)
 
 -- what clashes with each array of tables is claimed of a table
-pub not-array : (n : Branch) (m : Mark) (name : List ℕ) → (blame ArrayOfTables m.sort ≡ None → ⊥) → met (marks n) m name ≡ None → Sound n → entries n ≡ []
+pub not-array : (n : Branch) (m : Mark) (name : List ℕ) → (blame ArrayOfTables m.sort ≡ None → ⊥) → earliest_clash (marks n) m name ≡ None → Sound n → entries n ≡ []
 not-array n m name clashes free h = grind (arith, nat_tests, common_steps, met-first, sound-shape)
 
 -- where nothing clashes with it there is none
-pub unclosed : (o : Option (Key × Value)) (m : Mark) (name : List ℕ) → met (closed_marks o) m name ≡ None → is_entry_sort m.sort ≡ false → o ≡ None
+pub unclosed : (o : Option (Key × Value)) (m : Mark) (name : List ℕ) → earliest_clash (closed_marks o) m name ≡ None → is_entry_sort m.sort ≡ false → o ≡ None
 unclosed o m name h named = grind (arith, nat_tests, common_steps, met-first, named-clashes)
 
 -- two values that are assigned to one name clash
-pub assigned_twice : (r : Result (Unit {0}) Halt) (a b : Mark) (name : List ℕ) (Q : Unit {0} → Type 0) (P : Type 0) → a.sort ≡ Assigned → b.sort ≡ Assigned → Gives r (met (a ∷ []) b name) Q → OnOk r P
+pub assigned_twice : (r : Result (Unit {0}) Halt) (a b : Mark) (name : List ℕ) (Q : Unit {0} → Type 0) (P : Type 0) → a.sort ≡ Assigned → b.sort ≡ Assigned → Gives r (earliest_clash (a ∷ []) b name) Q → OnOk r P
 assigned_twice r a b name Q P d e h = grind (arith, nat_tests, common_steps)
 
 -- ---- maps by name

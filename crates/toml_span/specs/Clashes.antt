@@ -42,8 +42,8 @@ meeting earlier later DuplicateKey = record { blame = DuplicateKey; first = earl
 meeting earlier later RedefineAsArray = record { blame = RedefineAsArray; first = earlier.line; span = later.line }
 
 -- the clash of two claims on one path
-abbrev pub meets : Mark → Mark → Option Meeting
-meets earlier later = option_map (meeting earlier later) (blame earlier.sort later.sort)
+abbrev pub meeting_between : Mark → Mark → Option Meeting
+meeting_between earlier later = option_map (meeting earlier later) (blame earlier.sort later.sort)
 
 abbrev pub or_else : {A : Type 0} → Option A → Option A → Option A
 or_else (Some x) o = Some x
@@ -60,7 +60,8 @@ named name m = record { meeting = m; name = name }
 -- the clash of an earlier claim and a later one, if there is one
 unfoldable pub clash : Claim → Claim → Option NamedClash
 clash earlier later =
-    if same_path earlier.path later.path then option_map (named later.name) (meets earlier.mark later.mark) else None
+    if same_path earlier.path later.path
+    then option_map (named later.name) (meeting_between earlier.mark later.mark) else None
 
 -- the clash of a claim with the earliest of these that it clashes with
 unfoldable pub clash_among : List Claim → Claim → Option NamedClash

@@ -1,10 +1,9 @@
 //! What headers and assignments claim of a path, and which claims clash.
-ghost use Rattle.std.specs.Prelude.{◌≡◌, ⊤, None, Some, string_bytes, IfOk, IfErr};
-ghost use Rattle.std.specs.List.{list_any};
+ghost use Rattle.std.specs.Prelude.{◌≡◌, ⊤, string_bytes, IfOk};
 ghost use Rattle.std.specs.Cow.{cow_str_bytes};
 ghost use Rattle.toml_span_tree.specs.Error.{content_of};
 ghost use Rattle.toml_span.specs.Clashes as clashes;
-ghost use Rattle.toml_span.specs.code.Machine.{Gives, met};
+ghost use Rattle.toml_span.specs.code.Machine.{Gives, earliest_clash};
 ghost use Rattle.toml_span.specs.code.Marks as kept;
 
 use smallvec::SmallVec;
@@ -111,8 +110,8 @@ fn meeting_of(earlier: Mark, later: Mark, blame: Blame) -> Meeting
     }
 }
 
-fn meets(earlier: Mark, later: Mark) -> Option<Meeting>
-    ensures { result ≡ clashes.meets earlier later }
+fn meeting_between(earlier: Mark, later: Mark) -> Option<Meeting>
+    ensures { result ≡ clashes.meeting_between earlier later }
 {
     match blame_of(earlier.sort, later.sort) {
         Some(blame) => Some(meeting_of(earlier, later, blame)),
@@ -187,25 +186,33 @@ fn same_sort(a: Sort, b: Sort) -> bool
     a as u8 == b as u8
 }
 
-/// Whether a claim of its sort is among these, unless it clashes with one of them: then its clash with the earliest.
-fn knows(marks: &[Mark], mark: Mark) -> Result<bool, Meeting>
-    ensures known { IfOk result (λ known. (kept.partner marks.now mark ≡ None)
-        × (known ≡ list_any (λ seen. kept.same_sort seen.sort mark.sort) marks.now)) }
-    ensures clash { IfErr result (λ meeting. kept.partner marks.now mark ≡ Some meeting) }
+/// The clash of a claim with the earliest of these that it clashes with.
+fn earliest_meeting(marks: &[Mark], later: Mark) -> Option<Meeting>
+    ensures { result ≡ kept.earliest_meeting marks.now later }
 {
-    let mut known = false;
-    for seen in marks {
-        if let Some(meeting) = meets(*seen, mark) {
-            return Err(meeting);
+    for earlier in marks {
+        if let Some(meeting) = meeting_between(*earlier, later) {
+            return Some(meeting);
         }
-        known = known || same_sort(seen.sort, mark.sort);
     }
-    Ok(known)
+    None
+}
+
+/// Whether one of these claims is of this sort.
+fn has_sort(marks: &[Mark], sort: Sort) -> bool
+    ensures { result ≡ kept.has_sort marks.now sort }
+{
+    for mark in marks {
+        if same_sort(mark.sort, sort) {
+            return true;
+        }
+    }
+    false
 }
 
 /// The clash over a key.
 fn clash_of(alloc: Global, meeting: Meeting, key: &Key<'_>) -> Result<Box<Clash>, AllocError>
-    ensures { IfOk result (λ clash. kept.Tells clash.value meeting (cow_str_bytes key.now.name)) }
+    ensures { IfOk result (λ clash. kept.IsClashOver clash.value meeting (cow_str_bytes key.now.name)) }
 {
     let name = String::from_str(alloc, key.name.as_ref())?;
     Ok(Box::new(alloc, Clash { meeting, name })?)
@@ -221,29 +228,26 @@ fn halted(alloc: Global, meeting: Meeting, key: &Key<'_>) -> Halt
     }
 }
 
-/// Halts where a claim clashes with one of the earlier ones: with the first of these, or for want of memory for
-/// the key's name.
-pub fn admit(alloc: Global, marks: &[Mark], mark: Mark, key: &Key<'_>) -> Result<(), Halt>
-    ensures { Gives result (met marks.now mark (cow_str_bytes key.now.name)) (λ _. ⊤) }
+/// Halts where a claim clashes with one of the earlier ones: with the first of these, or where there is no memory
+/// for the key's name.
+pub fn check_clash(alloc: Global, marks: &[Mark], mark: Mark, key: &Key<'_>) -> Result<(), Halt>
+    ensures { Gives result (earliest_clash marks.now mark (cow_str_bytes key.now.name)) (λ _. ⊤) }
 {
-    match knows(marks, mark) {
-        Ok(_) => Ok(()),
-        Err(meeting) => Err(halted(alloc, meeting, key)),
+    match earliest_meeting(marks, mark) {
+        None => Ok(()),
+        Some(meeting) => Err(halted(alloc, meeting, key)),
     }
 }
 
 /// Keeps a claim on a branch, unless it clashes with an earlier one. Of each sort the first one is kept. Halts as
-/// `admit` does, or where there is no memory to keep the claim.
-pub fn claim(alloc: Global, marks: &mut Marks, mark: Mark, key: &Key<'_>) -> Result<(), Halt>
-    ensures { Gives result (met marks.old.items mark (cow_str_bytes key.now.name))
+/// `check_clash` does, or where there is no memory to keep the claim.
+pub fn record_claim(alloc: Global, marks: &mut Marks, mark: Mark, key: &Key<'_>) -> Result<(), Halt>
+    ensures { Gives result (earliest_clash marks.old.items mark (cow_str_bytes key.now.name))
         (λ _. marks.new.items ≡ kept.remember marks.old.items mark) }
 {
-    match knows(marks.as_slice(), mark) {
-        Ok(true) => Ok(()),
-        Ok(false) => {
-            marks.push(mark)?;
-            Ok(())
-        }
-        Err(meeting) => Err(halted(alloc, meeting, key)),
+    check_clash(alloc, marks.as_slice(), mark, key)?;
+    if !has_sort(marks.as_slice(), mark.sort) {
+        marks.push(mark)?;
     }
+    Ok(())
 }

@@ -11,14 +11,14 @@ ghost use Rattle.toml_span_read.specs.Data.{simple_key as part_of};
 ghost use Rattle.toml_span.specs.code.Borrowed.{Keeps, KeepsName, ValueRight, own_elements, own_table};
 ghost use Rattle.toml_span.specs.Borrowed.{AreBorrowedRight};
 ghost use Rattle.toml_span.specs.Claims.{assignment_claims, key_value_claims, item_claims};
-ghost use Rattle.toml_span.specs.code.Machine.{Gives, met};
+ghost use Rattle.toml_span.specs.code.Machine.{Gives, earliest_clash};
 ghost use Rattle.toml_span.specs.code.Placing.{Places, Passes, ValueGives, ScopeGives};
 ghost use Rattle.toml_span.specs.code.Relative.{pair_at, through_pair};
 ghost use Rattle.toml_span.specs.code.Tree.{child_in, closed_in, closed_marks, counts, held_marks, IsFresh};
-ghost use Rattle.toml_span.specs.declared.scopes.Due.{Due};
+ghost use Rattle.toml_span.specs.declared.scopes.Pending.{Pending};
 
 use crate::branch::{Branch, Branches, into_table};
-use crate::claims::{Halt, Mark, Sort, admit, claim};
+use crate::claims::{Halt, Mark, Sort, check_clash, record_claim};
 use crate::rest::Rest;
 use std::alloc::Global;
 use std::collections::btree_map::Entry;
@@ -44,17 +44,17 @@ fn pair_mark(sort: Sort, key: &Key<'_>, span: Span) -> Mark
 }
 
 /// Halts where a claim on a name clashes with a value that is assigned there.
-fn admit_beside_value<'de>(
+fn check_beside_value<'de>(
     alloc: Global,
     values: &Table<'de>,
     mark: Mark,
     key: &Key<'de>,
 ) -> Result<(), Halt>
-    ensures { Gives result (met (closed_marks (closed_in (cow_str_bytes key.now.name) values.now)) mark
+    ensures { Gives result (earliest_clash (closed_marks (closed_in (cow_str_bytes key.now.name) values.now)) mark
         (cow_str_bytes key.now.name)) (λ _. ⊤) }
 {
     match values.get_key_value(key) {
-        Some((earlier, value)) => admit(
+        Some((earlier, value)) => check_clash(
             alloc,
             &[pair_mark(Sort::Assigned, earlier, value.span)],
             mark,
@@ -73,26 +73,26 @@ pub(crate) fn fresh_child<'de>(
     mark: Mark,
     key: &Key<'de>,
 ) -> Result<Box<Branch<'de>>, Halt>
-    ensures { Gives result (met (closed_marks (closed_in (cow_str_bytes key.now.name) values.now)) mark
+    ensures { Gives result (earliest_clash (closed_marks (closed_in (cow_str_bytes key.now.name) values.now)) mark
         (cow_str_bytes key.now.name)) (λ child. IsFresh child.value) }
 {
-    admit_beside_value(alloc, values, mark, key)?;
+    check_beside_value(alloc, values, mark, key)?;
     let child = Box::new(alloc, Branch::new(alloc))?;
     Ok(child)
 }
 
 /// Halts where a claim on a name clashes with what headers and dotted keys made there.
-fn admit_beside_table<'de>(
+fn check_beside_table<'de>(
     alloc: Global,
     tables: &Branches<'de>,
     mark: Mark,
     key: &Key<'de>,
 ) -> Result<(), Halt>
-    ensures { Gives result (met (held_marks (child_in (cow_str_bytes key.now.name) tables.now)) mark
+    ensures { Gives result (earliest_clash (held_marks (child_in (cow_str_bytes key.now.name) tables.now)) mark
         (cow_str_bytes key.now.name)) (λ _. ⊤) }
 {
     match tables.get(key) {
-        Some(child) => admit(alloc, child.marks.as_slice(), mark, key),
+        Some(child) => check_clash(alloc, child.marks.as_slice(), mark, key),
         None => Ok(()),
     }
 }
@@ -112,12 +112,12 @@ fn assign<'de>(
         → ValueRight text value.entry → Keeps text node.old node.new result }
 {
     let mark = pair_mark(Sort::Assigned, &key, span);
-    admit_beside_table(alloc, &node.tables, mark, &key)?;
+    check_beside_table(alloc, &node.tables, mark, &key)?;
     match node.values.entry(key)? {
         Entry::Occupied(entry) => {
             drop(value);
             let earlier = entry.key();
-            admit(
+            check_clash(
                 alloc,
                 &[pair_mark(Sort::Assigned, earlier, entry.get().span)],
                 mark,
@@ -134,32 +134,32 @@ fn assign<'de>(
 /// What is to be assigned. Functions that call each other along a path take it by reference, so that none of them
 /// needs room on the stack for it.
 #[derive(Drop)]
-struct Due<'de> {
+struct Pending<'de> {
     /// The last part of the key.
     last: Key<'de>,
     value: Result<Value<'de>, Halt>,
 }
 
-/// Assigns what is due to a name of a branch.
+/// Assigns what is pending to a name of a branch.
 #[inline(never)]
-fn assign_due<'de>(
+fn assign_pending<'de>(
     alloc: Global,
     node: &mut Branch<'de>,
-    due: &mut Option<Due<'de>>,
+    pending: &mut Option<Pending<'de>>,
     span: Span,
 ) -> Result<(), Halt>
-    ensures places { (d : Due) (v : Read) → due.old ≡ Some d → ValueGives d.value v → span ≡ parsed_span v
+    ensures places { (d : Pending) (v : Read) → pending.old ≡ Some d → ValueGives d.value v → span ≡ parsed_span v
         → Places node.old node.new result (pair_at [] (part_of d.last) v) (counts node.old) }
-    ensures borrows { (text : List ℕ) → (d : Due) → due.old ≡ Some d
+    ensures borrows { (text : List ℕ) → (d : Pending) → pending.old ≡ Some d
         → IsWrittenRight text (key_written d.last) → ValueRight text d.value → Keeps text node.old node.new result }
 {
-    match due.take() {
+    match pending.take() {
         Some(next) => assign(alloc, node, next.last, next.value, span),
         None => Ok(()),
     }
 }
 
-/// Places what is due below a branch, inner part by inner part. `span` is the value's.
+/// Places what is pending below a branch, inner part by inner part. `span` is the value's.
 ///
 /// An inline table is a scope of its own. What clashes in it is told behind the clashes of the key to
 /// which it is assigned, since it stands behind that key.
@@ -168,24 +168,24 @@ fn place_pair<'de>(
     alloc: Global,
     node: &mut Branch<'de>,
     inner: &[Key<'de>],
-    due: &mut Option<Due<'de>>,
+    pending: &mut Option<Pending<'de>>,
     span: Span,
 ) -> Result<(), Halt>
-    ensures places { (d : Due) (v : Read) → due.old ≡ Some d → ValueGives d.value v → span ≡ parsed_span v
+    ensures places { (d : Pending) (v : Read) → pending.old ≡ Some d → ValueGives d.value v → span ≡ parsed_span v
         → Places node.old node.new result (pair_at (map part_of inner.now) (part_of d.last) v) (counts node.old) }
-    ensures borrows { (text : List ℕ) → (d : Due) → due.old ≡ Some d
+    ensures borrows { (text : List ℕ) → (d : Pending) → pending.old ≡ Some d
         → AreWrittenRight text (keys_written inner.now) → IsWrittenRight text (key_written d.last)
         → ValueRight text d.value → Keeps text node.old node.new result }
 {
     let [part, rest @ ..] = inner else {
-        return assign_due(alloc, node, due, span);
+        return assign_pending(alloc, node, pending, span);
     };
     match node.tables.entry(part.clone(alloc)?)? {
-        Entry::Occupied(entry) => pass_child(alloc, entry.into_mut(), part, rest, due, span),
+        Entry::Occupied(entry) => pass_child(alloc, entry.into_mut(), part, rest, pending, span),
         Entry::Vacant(entry) => {
             let mark = pair_mark(Sort::Dotted, part, span);
             let child = fresh_child(alloc, &node.values, mark, part)?;
-            pass_child(alloc, entry.insert(child), part, rest, due, span)
+            pass_child(alloc, entry.insert(child), part, rest, pending, span)
         }
     }
 }
@@ -197,43 +197,43 @@ fn pass_child<'de>(
     child: &mut Box<Branch<'de>>,
     part: &Key<'de>,
     rest: &[Key<'de>],
-    due: &mut Option<Due<'de>>,
+    pending: &mut Option<Pending<'de>>,
     span: Span,
 ) -> Result<(), Halt>
-    ensures places { (d : Due) (v : Read) → due.old ≡ Some d → ValueGives d.value v → span ≡ parsed_span v
+    ensures places { (d : Pending) (v : Read) → pending.old ≡ Some d → ValueGives d.value v → span ≡ parsed_span v
         → Passes child.old.value child.new.value result (through_pair (part_of part.now) (map part_of rest.now)
         (part_of d.last) v) (counts child.old.value) }
-    ensures borrows { (text : List ℕ) → (d : Due) → due.old ≡ Some d
+    ensures borrows { (text : List ℕ) → (d : Pending) → pending.old ≡ Some d
         → AreWrittenRight text (keys_written rest.now) → IsWrittenRight text (key_written d.last)
         → ValueRight text d.value → KeepsName text part.now.span child.old.value child.new.value result }
 {
-    pass_pair(alloc, child.as_mut(), part, rest, due, span)
+    pass_pair(alloc, child.as_mut(), part, rest, pending, span)
 }
 
-/// Claims the branch of an inner part, and places what is due below it.
+/// Claims the branch of an inner part, and places what is pending below it.
 #[cycle(place_pair)]
 fn pass_pair<'de>(
     alloc: Global,
     node: &mut Branch<'de>,
     part: &Key<'de>,
     rest: &[Key<'de>],
-    due: &mut Option<Due<'de>>,
+    pending: &mut Option<Pending<'de>>,
     span: Span,
 ) -> Result<(), Halt>
-    ensures places { (d : Due) (v : Read) → due.old ≡ Some d → ValueGives d.value v → span ≡ parsed_span v
+    ensures places { (d : Pending) (v : Read) → pending.old ≡ Some d → ValueGives d.value v → span ≡ parsed_span v
         → Passes node.old node.new result (through_pair (part_of part.now) (map part_of rest.now)
         (part_of d.last) v) (counts node.old) }
-    ensures borrows { (text : List ℕ) → (d : Due) → due.old ≡ Some d
+    ensures borrows { (text : List ℕ) → (d : Pending) → pending.old ≡ Some d
         → AreWrittenRight text (keys_written rest.now) → IsWrittenRight text (key_written d.last)
         → ValueRight text d.value → KeepsName text part.now.span node.old node.new result }
 {
-    claim(
+    record_claim(
         alloc,
         &mut node.marks,
         pair_mark(Sort::Dotted, part, span),
         part,
     )?;
-    place_pair(alloc, node, rest, due, span)
+    place_pair(alloc, node, rest, pending, span)
 }
 
 /// Places an assignment below a branch.
@@ -253,8 +253,8 @@ fn place_one<'de>(alloc: Global, pair: Assignment<'de>, node: &mut Branch<'de>) 
     if inner.is_empty() {
         return assign(alloc, node, last, value, span);
     }
-    let mut due = Some(Due { last, value });
-    place_pair(alloc, node, inner.as_slice(), &mut due, span)
+    let mut pending = Some(Pending { last, value });
+    place_pair(alloc, node, inner.as_slice(), &mut pending, span)
 }
 
 /// Places assignments below a branch.

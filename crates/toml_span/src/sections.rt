@@ -10,14 +10,15 @@ ghost use Rattle.toml_span.specs.Claims as claims;
 ghost use Rattle.toml_span.specs.Claims.{key_value_claims};
 ghost use Rattle.toml_span.specs.code.Marks.{IsHaltInside};
 ghost use Rattle.toml_span.specs.code.Placing.{AreSections, Assembles, Opening, Opens, Passes, Places, Reaches};
-ghost use Rattle.toml_span.specs.code.Relative.{adding, ending, grown, grown_here, grown_through, one_more};
+ghost use Rattle.toml_span.specs.code.Relative.{adding, ending, counts_after, counts_after_end, counts_after_through};
+ghost use Rattle.toml_span.specs.code.Relative.{counts_after_adding};
 ghost use Rattle.toml_span.specs.code.Relative.{opening, part_sort, passing, section_at, through};
 ghost use Rattle.toml_span.specs.code.Tree.{counts, IsHeld, IsOpen, IsScope};
-ghost use Rattle.toml_span.specs.code.Growing.{GrownRight, Grows, IsBare, IsGrownInside, Placed};
+ghost use Rattle.toml_span.specs.code.Growing.{GrownRight, Grows, IsBare, IsGrownInside, PlacesBlock};
 ghost use Rattle.toml_span.specs.Parsing.{IsRoot};
 
 use crate::branch::{Branch, into_table};
-use crate::claims::{Clash, Halt, Head, Mark, Sort, claim};
+use crate::claims::{Clash, Halt, Head, Mark, Sort, record_claim};
 use crate::scopes::{fresh_child, place_all};
 use std::alloc::{AllocError, Global};
 use std::collections::btree_map::Entry;
@@ -62,7 +63,7 @@ fn place_section<'de>(
 ) -> Result<(), Halt>
     ensures places { Places node.old node.new result (section_at (counts node.old) head (map part_of parts.now)
         (key_value_claims (map key_value pairs.entry.items) []))
-        (grown (counts node.old) head (map part_of parts.now)) }
+        (counts_after (counts node.old) head (map part_of parts.now)) }
     ensures borrows { (text : List ℕ) → AreWrittenRight text (keys_written parts.now)
         → AreWrittenRight text (assignments_written pairs.entry.items)
         → Keeps text node.old node.new result }
@@ -92,7 +93,7 @@ fn pass_child<'de>(
 ) -> Result<(), Halt>
     ensures places { Passes child.old.value child.new.value result
         (through (counts child.old.value) head (part_of part.now) (map part_of rest.now)
-        (key_value_claims (map key_value pairs.entry.items) [])) (grown_through (counts child.old.value) head
+        (key_value_claims (map key_value pairs.entry.items) [])) (counts_after_through (counts child.old.value) head
         (map part_of rest.now)) }
     ensures borrows { (text : List ℕ) → AreWrittenRight text (keys_written rest.now)
         → AreWrittenRight text (assignments_written pairs.entry.items)
@@ -114,7 +115,7 @@ fn pass_header<'de>(
 ) -> Result<(), Halt>
     ensures places { Passes node.old node.new result (through (counts node.old) head (part_of part.now)
         (map part_of rest.now) (key_value_claims (map key_value pairs.entry.items) []))
-        (grown_through (counts node.old) head (map part_of rest.now)) }
+        (counts_after_through (counts node.old) head (map part_of rest.now)) }
     ensures borrows { (text : List ℕ) → AreWrittenRight text (keys_written rest.now)
         → AreWrittenRight text (assignments_written pairs.entry.items)
         → KeepsName text part.now.span node.old node.new result }
@@ -140,12 +141,12 @@ fn descend<'de>(
 ) -> Result<(), Halt>
     ensures places { Opening IsScope (claims.header_mark head Passed part.now.span) node.old node.new result
         (passing head (part_of part.now) (map part_of rest.now) (key_value_claims (map key_value pairs.entry.items) [])
-        (counts node.old)) (grown (counts node.old) head (map part_of rest.now)) }
+        (counts node.old)) (counts_after (counts node.old) head (map part_of rest.now)) }
     ensures borrows { (text : List ℕ) → AreWrittenRight text (keys_written rest.now)
         → AreWrittenRight text (assignments_written pairs.entry.items)
         → KeepsName text part.now.span node.old node.new result }
 {
-    claim(
+    record_claim(
         alloc,
         &mut node.marks,
         header_mark(head, Sort::Passed, part),
@@ -169,7 +170,7 @@ fn open_table<'de>(
     ensures borrows { (text : List ℕ) → AreWrittenRight text (assignments_written pairs.entry.items)
         → KeepsName text part.now.span node.old node.new result }
 {
-    claim(alloc, &mut node.marks, header_mark(head, sort, part), part)?;
+    record_claim(alloc, &mut node.marks, header_mark(head, sort, part), part)?;
     place_all(alloc, pairs, node)
 }
 
@@ -183,7 +184,7 @@ fn add_entry<'de>(
 ) -> Result<(), Halt>
     ensures places { Reaches IsOpen IsHeld node.old node.new result
         (adding head (part_of part.now) (key_value_claims (map key_value pairs.entry.items) []) (counts node.old []))
-        (one_more (counts node.old)) }
+        (counts_after_adding (counts node.old)) }
     ensures borrows { (text : List ℕ) → AreWrittenRight text (assignments_written pairs.entry.items)
         → Keeps text node.old node.new result }
 {
@@ -204,7 +205,7 @@ fn end_header<'de>(
 ) -> Result<(), Halt>
     ensures places { Passes node.old node.new result (ending head (part_of part.now)
         (key_value_claims (map key_value pairs.entry.items) []) (counts node.old []))
-        (grown_here (counts node.old) head) }
+        (counts_after_end (counts node.old) head) }
     ensures borrows { (text : List ℕ) → AreWrittenRight text (assignments_written pairs.entry.items)
         → KeepsName text part.now.span node.old node.new result }
 {
@@ -213,14 +214,14 @@ fn end_header<'de>(
     }
     if node.entries.is_empty() {
         let mark = header_mark(head, Sort::ArrayOfTables, part);
-        claim(alloc, &mut node.marks, mark, part)?;
+        record_claim(alloc, &mut node.marks, mark, part)?;
     }
     add_entry(alloc, node, part, head, pairs)
 }
 
 /// Places a section below the root of a tree.
 fn place<'de>(alloc: Global, root: &mut Branch<'de>, section: Section<'de>) -> Result<(), Halt>
-    ensures places { Placed (block section.entry) root.old root.new result }
+    ensures places { PlacesBlock (block section.entry) root.old root.new result }
     ensures borrows { (text : List ℕ) → AreWrittenRight text (section_written section.entry)
         → Keeps text root.old root.new result }
 {

@@ -14,7 +14,7 @@ use Rattle.toml_span.specs.declared.claims.Halt.{Halt}
 use Rattle.toml_span.specs.declared.branch.Branch.{Branch}
 use Rattle.toml_span.specs.Claims.{key_value_claims, head_of, claims_behind, claims}
 use Rattle.toml_span.specs.code.Placing.{Places, AreSections}
-use Rattle.toml_span.specs.code.Relative.{section_at, grown}
+use Rattle.toml_span.specs.code.Relative.{section_at, counts_after}
 use Rattle.toml_span.specs.code.Tree.{counts, cells, IsScope}
 use Rattle.toml_span.specs.code.Machine.{nothing, clash_met, put_all, clash_told}
 use Rattle.toml_span.specs.Paths.{elements_added, opened_by}
@@ -26,10 +26,10 @@ use Rattle.toml_span.specs.declared.branch.Branch.TheViews.{out-Branch}
 use Rattle.toml_span.specs.declared.sections.Grown.{Grown}
 
 -- a section placed from the root on
-abbrev pub Placed : Block → Branch → Branch → Result (Unit {0}) Halt → Type 0
-Placed b root new r =
+abbrev pub PlacesBlock : Block → Branch → Branch → Result (Unit {0}) Halt → Type 0
+PlacesBlock b root new r =
     Places root new r (section_at (counts root) (head_of b) b.header (key_value_claims b.key_values []))
-    (grown (counts root) (head_of b) b.header)
+    (counts_after (counts root) (head_of b) b.header)
 
 -- what is left to place behind some sections, into a tree of what they claim
 pub record Remaining (all rest : List Block) (root : Branch) : Type 0 where

@@ -8,7 +8,7 @@ use Rattle.toml_span_tree.specs.Path.{Place, Path, Step}
 use Rattle.toml_span.specs.declared.claims.Mark.{Mark}
 use Rattle.toml_span.specs.Claims.{Claim, Claims, no_claims, claimed, scope}
 use Rattle.toml_span.specs.Flat.{by_header}
-use Rattle.toml_span.specs.code.Marks.{partner, remember}
+use Rattle.toml_span.specs.code.Marks.{earliest_meeting, remember}
 use Rattle.toml_span.specs.Paths.{same_path, same_step}
 use Rattle.toml_span.specs.Clashes.{NamedClash, named, or_else}
 use Rattle.toml_span.specs.declared.claims.Clash as code
@@ -73,14 +73,14 @@ put_all st (claimed c cs) = put_all (change st c.path (with_claim c)) cs
 put_all st (scope inner cs) = put_all (show_all st inner) cs
 
 -- the clash of a claim with the earliest of those on its path
-abbrev pub met : List Mark → Mark → List ℕ → Option NamedClash
-met marks mark name = option_map (named name) (partner marks mark)
+abbrev pub earliest_clash : List Mark → Mark → List ℕ → Option NamedClash
+earliest_clash marks mark name = option_map (named name) (earliest_meeting marks mark)
 
 -- the first clash that is met, where a scope inside starts with nothing
 unfoldable pub clash_met : State → Claims → Option NamedClash
 clash_met st no_claims = None
 clash_met st (claimed c cs) =
-    or_else (met (st c.path).marks c.mark c.name) (clash_met (change st c.path (with_claim c)) cs)
+    or_else (earliest_clash (st c.path).marks c.mark c.name) (clash_met (change st c.path (with_claim c)) cs)
 clash_met st (scope inner cs) = or_else (clash_met nothing inner) (clash_met (show_all st inner) cs)
 
 -- what a halt tells

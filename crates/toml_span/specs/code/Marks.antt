@@ -14,7 +14,7 @@ use Rattle.toml_span.specs.declared.claims.Meeting.{Meeting}
 use Rattle.toml_span.specs.declared.claims.Halt.{Halt}
 use Rattle.toml_span.specs.declared.claims.Halt.TheVariants.{Memory, Clash}
 use Rattle.toml_span.specs.Flat.{by_header}
-use Rattle.toml_span.specs.Clashes.{meets, or_else}
+use Rattle.toml_span.specs.Clashes.{meeting_between, or_else}
 
 abbrev pub sort_number : Sort → ℕ
 sort_number Passed = 0
@@ -27,22 +27,26 @@ sort_number Assigned = 5
 abbrev pub same_sort : Sort → Sort → Bool
 same_sort a b = nat_eq (sort_number a) (sort_number b)
 
+-- whether one of these claims is of this sort
+abbrev pub has_sort : List Mark → Sort → Bool
+has_sort marks sort = list_any (λ mark. same_sort mark.sort sort) marks
+
 -- the first claim of each sort is kept, in the order of the text
 abbrev pub remember : List Mark → Mark → List Mark
-remember marks mark = if list_any (λ seen. same_sort seen.sort mark.sort) marks then marks else marks ++ mark ∷ []
+remember marks mark = if has_sort marks mark.sort then marks else marks ++ mark ∷ []
 
 -- the clash of a claim with the earliest of these that it clashes with
-abbrev pub partner : List Mark → Mark → Option Meeting
-partner [] later = None
-partner (earlier ∷ marks) later = or_else (meets earlier later) (partner marks later)
+abbrev pub earliest_meeting : List Mark → Mark → Option Meeting
+earliest_meeting [] later = None
+earliest_meeting (earlier ∷ marks) later = or_else (meeting_between earlier later) (earliest_meeting marks later)
 
 -- a clash over a name
-abbrev pub Tells : code.Clash → Meeting → List ℕ → Type 0
-Tells c m name = (c.meeting ≡ m) × (string_bytes c.name ≡ name)
+abbrev pub IsClashOver : code.Clash → Meeting → List ℕ → Type 0
+IsClashOver c m name = (c.meeting ≡ m) × (string_bytes c.name ≡ name)
 
 -- the halt at a clash over a name; or want of memory
 abbrev pub Halts : Halt → Meeting → List ℕ → Type 0
-Halts (Clash c) m name = Tells (box_value c) m name
+Halts (Clash c) m name = IsClashOver (box_value c) m name
 Halts (Memory e) m name = ⊤
 
 abbrev pub IsMemory : Halt → Type 0

@@ -72,23 +72,24 @@ through e h k (l ∷ more) tail = entered (e []) e (passing h k (l ∷ more) tai
 
 -- ---- how many entries there are then
 
-abbrev pub one_more : (Path → ℕ) → Path → ℕ
-one_more e [] = suc (e [])
-one_more e (s ∷ p) = e (s ∷ p)
+abbrev pub counts_after_adding : (Path → ℕ) → Path → ℕ
+counts_after_adding e [] = suc (e [])
+counts_after_adding e (s ∷ p) = e (s ∷ p)
 
-abbrev pub grown_here : (Path → ℕ) → Head → Path → ℕ
-grown_here e h p = if h.array then one_more e p else e p
+abbrev pub counts_after_end : (Path → ℕ) → Head → Path → ℕ
+counts_after_end e h p = if h.array then counts_after_adding e p else e p
 
-abbrev pub grown_below : ℕ → (Path → ℕ) → ((Path → ℕ) → Path → ℕ) → Path → ℕ
-grown_below zero e f = f e
-grown_below (suc latest) e f = graft (position latest) e (f (λ q. e (position latest ∷ q)))
+abbrev pub counts_after_entered : ℕ → (Path → ℕ) → ((Path → ℕ) → Path → ℕ) → Path → ℕ
+counts_after_entered zero e f = f e
+counts_after_entered (suc latest) e f = graft (position latest) e (f (λ q. e (position latest ∷ q)))
 
-unfoldable pub grown : (Path → ℕ) → Head → List SimpleKey → Path → ℕ
-grown e h [] = e
-grown e h (k ∷ []) = graft (key k.name) e (grown_here (λ q. e (key k.name ∷ q)) h)
-grown e h (k ∷ l ∷ more) =
-    graft (key k.name) e (grown_below (e (key k.name ∷ [])) (λ q. e (key k.name ∷ q)) (λ f. grown f h (l ∷ more)))
+unfoldable pub counts_after : (Path → ℕ) → Head → List SimpleKey → Path → ℕ
+counts_after e h [] = e
+counts_after e h (k ∷ []) = graft (key k.name) e (counts_after_end (λ q. e (key k.name ∷ q)) h)
+counts_after e h (k ∷ l ∷ more) =
+    graft (key k.name) e
+    (counts_after_entered (e (key k.name ∷ [])) (λ q. e (key k.name ∷ q)) (λ f. counts_after f h (l ∷ more)))
 
-abbrev pub grown_through : (Path → ℕ) → Head → List SimpleKey → Path → ℕ
-grown_through e h [] = grown_here e h
-grown_through e h (l ∷ more) = grown_below (e []) e (λ f. grown f h (l ∷ more))
+abbrev pub counts_after_through : (Path → ℕ) → Head → List SimpleKey → Path → ℕ
+counts_after_through e h [] = counts_after_end e h
+counts_after_through e h (l ∷ more) = counts_after_entered (e []) e (λ f. counts_after f h (l ∷ more))

@@ -12,20 +12,20 @@ use Rattle.toml_span.proofs.Borrowing.{front_right, keeps_found, keeps_marked, k
 use Rattle.toml_span.specs.code.Tree.{is_entry_sort}
 use Rattle.toml_span.proofs.scopes.+place_pair.Goals as goal
 
-pub pass_pair-returns-in_err-claim-clause-places : goal.pass_pair-returns-in_err-claim-clause-places
-pass_pair-returns-in_err-claim-clause-places t c = λ d v due value span.
-    passes-dotted-err c.args.node.now _ (simple_key c.args.part.now) (map simple_key c.args.rest.now) (simple_key d.last) v c.pair_mark.result c.from_residual.result c.in_err-claim.field-0.0 _ _
-    (c.pair_mark.ensures ∙ ap (pair_mark Dotted c.args.part.now.span) span) (err-of c.from_residual.result c.in_err-claim.field-0.0 _ c.from_residual.ensures.1 (λ y p. p)) c.in_err-claim.ensures
+pub pass_pair-returns-in_err-record_claim-clause-places : goal.pass_pair-returns-in_err-record_claim-clause-places
+pass_pair-returns-in_err-record_claim-clause-places t c = λ d v due value span.
+    passes-dotted-err c.args.node.now _ (simple_key c.args.part.now) (map simple_key c.args.rest.now) (simple_key d.last) v c.pair_mark.result c.from_residual.result c.in_err-record_claim.field-0.0 _ _
+    (c.pair_mark.ensures ∙ ap (pair_mark Dotted c.args.part.now.span) span) (err-of c.from_residual.result c.in_err-record_claim.field-0.0 _ c.from_residual.ensures.1 (λ y p. p)) c.in_err-record_claim.ensures
 
 pub pass_pair-returns-clause-places : goal.pass_pair-returns-clause-places
 pass_pair-returns-clause-places t c = λ d v due value span.
     passes-dotted c.args.node.now _ _ (simple_key c.args.part.now) (map simple_key c.args.rest.now) (simple_key d.last) v c.pair_mark.result c.place_pair.result
-    (c.pair_mark.ensures ∙ ap (pair_mark Dotted c.args.part.now.span) span) c.in_ok-claim.ensures.0
-    (marked-roll c.pair_mark.result c.args.node.now _ c.in_ok-claim.ensures.1 refl refl refl) (c.place_pair.ensures.places d v due value span)
+    (c.pair_mark.ensures ∙ ap (pair_mark Dotted c.args.part.now.span) span) c.in_ok-record_claim.ensures.0
+    (marked-roll c.pair_mark.result c.args.node.now _ c.in_ok-record_claim.ensures.1 refl refl refl) (c.place_pair.ensures.places d v due value span)
 
 pub pass_pair-returns-clause-borrows : goal.pass_pair-returns-clause-borrows
 pass_pair-returns-clause-borrows t c = λ text d due rest last value.
-    keeps_marked text c.args.node.now _ c.pair_mark.result c.args.part.now.span _ c.place_pair.result (ap (λ m. m.key) c.pair_mark.ensures) c.in_ok-claim.ensures.1 refl refl refl
+    keeps_marked text c.args.node.now _ c.pair_mark.result c.args.part.now.span _ c.place_pair.result (ap (λ m. m.key) c.pair_mark.ensures) c.in_ok-record_claim.ensures.1 refl refl refl
     (c.place_pair.ensures.borrows text d due rest last value)
 
 pub pass_child-returns-clause-borrows : goal.pass_child-returns-clause-borrows
@@ -33,7 +33,7 @@ pass_child-returns-clause-borrows t c = λ text d due rest last value.
     names_same text c.args.part.now.span c.as_mut.result.now c.args.child.now.value _ c.pass_pair.result c.as_mut.ensures.value (c.pass_pair.ensures.borrows text d due rest last value)
 
 pub place_pair-returns-in_default-clause-borrows : goal.place_pair-returns-in_default-clause-borrows
-place_pair-returns-in_default-clause-borrows t c = λ text d due parts last value. c.assign_due.ensures.borrows text d due last value
+place_pair-returns-in_default-clause-borrows t c = λ text d due parts last value. c.assign_pending.ensures.borrows text d due last value
 
 pub place_pair-returns-in_err-child-in-Vacant-clause-places : goal.place_pair-returns-in_err-child-in-Vacant-clause-places
 place_pair-returns-in_err-child-in-Vacant-clause-places t c = λ d v due value span.

@@ -5,7 +5,7 @@ use Rattle.toml_span_read.specs.Data.{key_value, simple_key}
 use Rattle.toml_span.specs.declared.claims.Sort.TheVariants.{Passed}
 use Rattle.toml_span.specs.declared.branch.Branch.TheViews.{out-Branch}
 use Rattle.toml_span.specs.Claims.{key_value_claims, header_mark}
-use Rattle.toml_span.specs.code.Relative.{grown, section_at}
+use Rattle.toml_span.specs.code.Relative.{counts_after, section_at}
 use Rattle.toml_span.specs.code.Tree.{IsScope, entries}
 use Rattle.toml_span.proofs.Claimed.{marked-roll}
 use Rattle.toml_span.proofs.Nodes.{roll-out}
@@ -15,14 +15,14 @@ use Rattle.toml_span.proofs.KeyMaps.{entry-missing}
 use Rattle.toml_span.proofs.Placed.{err-of, looked, sets-entry, starts-found, starts-new, told}
 use Rattle.toml_span.proofs.sections.+place_section.Goals as goal
 
-pub descend-returns-in_err-claim-clause-places : goal.descend-returns-in_err-claim-clause-places
-descend-returns-in_err-claim-clause-places t c =
-    opening-err c.args.head (simple_key c.args.part.now) IsScope Passed _ c.args.node.now _ c.from_residual.result c.in_err-claim.field-0.0 _ _
-    (err-of c.from_residual.result c.in_err-claim.field-0.0 _ c.from_residual.ensures.1 (λ y p. p)) (rw c.header_mark.ensures at c.in_err-claim.ensures)
+pub descend-returns-in_err-record_claim-clause-places : goal.descend-returns-in_err-record_claim-clause-places
+descend-returns-in_err-record_claim-clause-places t c =
+    opening-err c.args.head (simple_key c.args.part.now) IsScope Passed _ c.args.node.now _ c.from_residual.result c.in_err-record_claim.field-0.0 _ _
+    (err-of c.from_residual.result c.in_err-record_claim.field-0.0 _ c.from_residual.ensures.1 (λ y p. p)) (rw c.header_mark.ensures at c.in_err-record_claim.ensures)
 
 pub descend-returns-clause-places : goal.descend-returns-clause-places
 descend-returns-clause-places t c =
-    let claimed = rw c.header_mark.ensures at c.in_ok-claim.ensures in
+    let claimed = rw c.header_mark.ensures at c.in_ok-record_claim.ensures in
     descended c.args.head (simple_key c.args.part.now) (key_value_claims (map key_value c.args.pairs.items) []) (map simple_key c.args.rest.now) c.args.node.now _ c.place_section.new.node c.place_section.result claimed.0
     (marked-roll (header_mark c.args.head Passed c.args.part.now.span) c.args.node.now _ claimed.1 refl refl refl) c.place_section.ensures.places
 
@@ -40,7 +40,7 @@ pass_header-returns-in-None-clause-places t c =
     (parts-some c.args.rest.now (sym c.if-is_empty.ensures)) (no-latest c.args.node.now (λ some. false≢true (c.in-None.ensures.variant.1 some))) c.descend-in-None.ensures.places
 
 pub place_section-returns-in_default-clause-places : goal.place_section-returns-in_default-clause-places
-unfolding section_at grown
+unfolding section_at counts_after
 place_section-returns-in_default-clause-places t c = rw (parts-below c.args.parts.now c.in_default.len_below) c.place_all.ensures.places
 
 pub place_section-returns-in-Occupied-clause-places : goal.place_section-returns-in-Occupied-clause-places
@@ -91,7 +91,7 @@ pass_child-returns-clause-places t c =
 
 pub descend-returns-clause-borrows : goal.descend-returns-clause-borrows
 descend-returns-clause-borrows t c = λ text rest pairs.
-    let claimed = rw c.header_mark.ensures at c.in_ok-claim.ensures in
+    let claimed = rw c.header_mark.ensures at c.in_ok-record_claim.ensures in
     keeps_marked text c.args.node.now _ (header_mark c.args.head Passed c.args.part.now.span) c.args.part.now.span _ c.place_section.result refl claimed.1 refl refl refl (c.place_section.ensures.borrows text rest pairs)
 
 pub pass_header-returns-then-is_empty-clause-borrows : goal.pass_header-returns-then-is_empty-clause-borrows

@@ -5,7 +5,7 @@ use Rattle.toml_span.specs.code.Borrowed.{Keeps, ValueRight}
 use Rattle.toml_span.specs.code.Placing.{Places, ValueGives}
 use Rattle.toml_span.specs.code.Relative.{pair_at}
 use Rattle.toml_span.specs.code.Tree.{counts}
-use Rattle.toml_span.proofs.scopes.assign_due.Goals as goal
+use Rattle.toml_span.proofs.scopes.assign_pending.Goals as goal
 
 pub returns-in-Some-clause-places : goal.returns-in-Some-clause-places
 returns-in-Some-clause-places c = λ d v due value span.
