@@ -5,7 +5,7 @@ use Rattle.toml_span_lex.specs.declared.span.Span.{Span}
 use Rattle.toml_span_tree.specs.declared.value.Value.{Value}
 use Rattle.toml_span_read.proofs.EarlierTree.{key_cmp}
 use Rattle.toml_span_read.proofs.BorrowLemmas.{all_append, all_front, all_behind, assignment_written_is}
-use Rattle.toml_span.specs.declared.branch.Branch.{Branch}
+use Rattle.toml_span.specs.declared.branch.Branch.{Branch, fold-Branch}
 use Rattle.toml_span.specs.declared.branch.Branch.TheOpen.{Branch-F}
 use Rattle.toml_span.specs.declared.branch.Branch.TheViews.{roll-Branch, out-Branch}
 use Rattle.toml_span.specs.declared.branch.Branch.TheFolds.{fold-roll-Branch}
@@ -13,7 +13,7 @@ use Rattle.toml_span.specs.declared.claims.Mark.{Mark}
 use Rattle.toml_span.specs.declared.claims.Halt.{Halt}
 use Rattle.toml_span.specs.Clashes.{or_else}
 use Rattle.toml_span.specs.Borrowed.{Standing, IsBorrowedRight, AreBorrowedRight}
-use Rattle.toml_span.specs.code.Borrowed.{Contents, node_step, contents, named_standing, name_span, own_held, standing, value_standing, values_standing, box_standing, boxes_standing, entries_of, Keeps, KeepsName, IsWrittenAt}
+use Rattle.toml_span.specs.code.Borrowed.{Contents, node_step, named_standing, name_span, own_held, standing, value_standing, Keeps, KeepsName, IsWrittenAt}
 use Rattle.toml_span.specs.code.Marks.{remember}
 use Rattle.toml_span.specs.code.Tree.{is_named, entries, marks, IsFresh}
 use Rattle.toml_span.proofs.Claimed.{remember-cases}
@@ -26,13 +26,29 @@ use Rattle.toml_span_read.specs.Borrowed.{Written, IsWrittenRight, AreWrittenRig
 
 -- ---- a level at a time
 
-contents_marks : (n : Branch) → (contents n).0 ≡ marks n
-contents_marks n = ap (λ x. (contents x).0) (sym (roll-out n)) ∙ ap (λ (x : Contents). x.0) (fold-roll-Branch Contents node_step (out-Branch n))
+abbrev contents : Branch → Contents
+contents = fold-Branch Contents node_step
+
+-- a branch with its name, several, values with their keys, and entries
+abbrev pub box_standing : Key × Box Branch → List Standing
+box_standing e = (e.0.name, name_span (marks (box_value e.1))) ∷ standing (box_value e.1)
+
+abbrev pub boxes_standing : List (Key × Box Branch) → List Standing
+boxes_standing es = joined (map box_standing es)
+
+abbrev pub values_standing : List (Key × Value) → List Standing
+values_standing es = joined (map value_standing es)
+
+abbrev pub entries_of : List Branch → List Standing
+entries_of ns = joined (map standing ns)
+
+name_is : (n : Branch) → (contents n).0 ≡ name_span (marks n)
+name_is n = ap (λ x. (contents x).0) (sym (roll-out n)) ∙ ap (λ (x : Contents). x.0) (fold-roll-Branch Contents node_step (out-Branch n))
 
 boxes_map : (f : Key × Box Branch → Key × Box Contents) → ((e : Key × Box Branch) → (f e).0 ≡ e.0) → ((e : Key × Box Branch) → box_value (f e).1 ≡ contents (box_value e.1)) → (es : List (Key × Box Branch))
     → joined (map named_standing (map f es)) ≡ boxes_standing es
 boxes_map f names boxes [] = refl
-boxes_map f names boxes (e ∷ es) = rw (names e, boxes e, contents_marks (box_value e.1), boxes_map f names boxes es) refl
+boxes_map f names boxes (e ∷ es) = rw (names e, boxes e, name_is (box_value e.1), boxes_map f names boxes es) refl
 
 entries_map : (ns : List Branch) → joined (map (λ x. x.1) (map contents ns)) ≡ entries_of ns
 entries_map [] = refl

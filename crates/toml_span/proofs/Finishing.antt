@@ -21,19 +21,18 @@ use Rattle.toml_span.specs.Claims.{place_claimed, shape_claimed, key_span_of}
 use Rattle.toml_span.specs.code.Marks.{first_by_header, deciding}
 use Rattle.toml_span.specs.code.Placing.{Becomes, BecomesEntry, EachBecomes, Finishes, NamesAscend, ShowsBelow, Table, Array, place_shown}
 use Rattle.toml_span.specs.Ordered.{IsOrdered, HoldsOrdered, AreOrdered}
-use Rattle.toml_span.specs.code.Tree.{is_named, marks, entries, child, item, closed, cells, cell_at, closed_cell, or_closed, or_nothing, own_cell, by_mark, plain, is_array_sort, is_entry_sort, IsNamed, IsEntry, IsArray, IsTableOrArray, Sound}
+use Rattle.toml_span.specs.code.Tree.{is_named, marks, entries, child, item, closed, cells, cell_at, closed_cell, or_closed, or_nothing, own_cell, plain, is_array_sort, is_entry_sort, IsNamed, IsEntry, IsArray, IsTableOrArray, Sound}
 use Rattle.toml_span.proofs.Nodes.{good-child, good-entry, good-value, sound-good, sound-shape}
-use Rattle.toml_span.proofs.Borrowing.{entry_right, of_node}
+use Rattle.toml_span.proofs.Borrowing.{box_standing, entry_right, of_node}
 use Rattle.toml_span.proofs.Grafts.{path_ext}
-use Rattle.toml_span.proofs.HeldValues.{array-held, elements-right, item_right, table-held}
+use Rattle.toml_span.proofs.HeldValues.{array_held, array-held, elements-right, item_right, table-held}
 use Rattle.toml_span.proofs.KeyMaps.{found-insert, value-of}
 use Rattle.toml_span.proofs.Values.{Made}
 use Rattle.toml_span.proofs.Ordered.{each-named, members-ordered, none-again}
 use Rattle.toml_span_read.proofs.BorrowLemmas.{all_append}
 use Rattle.toml_span.specs.Borrowed.{held, KeySpans, IsBorrowedRight, AreBorrowedRight}
-use Rattle.toml_span.specs.Clashes.{or_else}
-use Rattle.toml_span.specs.code.Borrowed.{array_held, box_standing, name_span, standing, table_held, value_standing, StaysRight}
-use Rattle.toml_span.specs.code.Machine.{key_spans, with_span}
+use Rattle.toml_span.specs.code.Borrowed.{name_span, standing, table_held, value_standing, StaysRight}
+use Rattle.toml_span.specs.code.Machine.{key_spans}
 
 -- ---- values and branches by name
 
@@ -124,12 +123,7 @@ array-decides x m array is = grind (arith, nat_tests, common_steps)
 -- ---- what is shown
 
 own-place : (ms : List Mark) → place_shown (own_cell ms) ≡ option_map place_claimed (deciding ms)
-own-place [] = refl
-own-place (m ∷ ms) = go (deciding (m ∷ ms))
-  where
-    go : (o : Option Mark) → option_map (λ d. d.place) (option_map (λ x. with_span m.key (by_mark x)) o) ≡ option_map place_claimed o
-    go None = refl
-    go (Some x) = refl
+own-place ms = grind (arith, nat_tests, common_steps)
 
 -- what a branch has become shows what the branch keeps, at the key's span that the deciding mark gives
 became-shows : (c : Branch) (at : Span) (v : Value) (o : Option Span) → Becomes c (Ok (at, v)) → Sound c
@@ -159,10 +153,7 @@ abbrev branch_of : Option (Key × Box Branch) → Option Branch
 branch_of b = option_map (λ e. box_value e.1) b
 
 child-entry : (n : Branch) (name : List ℕ) → child name n ≡ branch_of (lookup_entry (is_named name) (out-Branch n).tables.entries)
-child-entry n name = ap (option_map box_value) (value-of (is_named name) (out-Branch n).tables.entries) ∙ twice (lookup_entry (is_named name) (out-Branch n).tables.entries)
-  where
-    twice : (o : Option (Key × Box Branch)) → option_map box_value (option_map (λ e. e.1) o) ≡ branch_of o
-    twice o = grind (arith, nat_tests, common_steps)
+child-entry n name = grind (arith, nat_tests, common_steps, value-of)
 
 -- a branch stands where no value does
 abbrev Apart : Option (Key × Box Branch) → Option (Key × Value) → Type 0
@@ -217,12 +208,7 @@ finished-ordered t left n none h ascend good =
 
 -- the name of a branch is written at its first claim
 name-written : (ms : List Mark) → option_map (λ d. d.key) (own_cell ms).shown ≡ name_span ms
-name-written [] = refl
-name-written (m ∷ ms) = go (first_by_header (m ∷ ms))
-  where
-    go : (o : Option Mark) → option_map (λ d. d.key) (option_map (λ x. with_span m.key (by_mark x)) (or_else o (Some m))) ≡ Some m.key
-    go None = refl
-    go (Some x) = refl
+name-written ms = grind (arith, nat_tests, common_steps)
 
 abbrev EntryRight : List ℕ → KeySpans → Key × Value → Type 0
 EntryRight text spans e = IsBorrowedRight text (e.0.name, spans []) × AreBorrowedRight text (held e.1 spans)
@@ -303,10 +289,7 @@ became-table n t spans v placed seen kept none made =
     became n (table_inner t) spans v placed seen
     (λ good.
     let whole = made n refl refl (good, none) in
-    (shape good, whole.0, whole.1, subst (StaysRight n) (sym (table-held v t spans.1 kept)) whole.2))
-  where
-    shape : Sound n → (m : Mark) → deciding (marks n) ≡ Some m → tree_shape (inner_view (table_inner t)) ≡ shape_claimed m.sort
-    shape good m is = grind (arith, nat_tests, common_steps, deciding-all, inner_view-Table, sound-shape, table_shape)
+    (λ m is. grind (arith, nat_tests, common_steps, deciding-all, inner_view-Table, sound-shape, table_shape), whole.0, whole.1, subst (StaysRight n) (sym (table-held v t spans.1 kept)) whole.2))
 
 -- the entries at their positions
 elements-show : (ns : List Branch) (vs : List Value) → AllZip BecomesEntry ns vs → ((i : ℕ) (c : Branch) → item i ns ≡ Some c → IsEntry (marks c) × Sound c) → (i : ℕ) (p : Path)
@@ -364,11 +347,12 @@ pub became-array : (n : Branch) (a : Array) (spans : Span × Span) (v : Value) �
 became-array n a spans v placed seen kept some made =
     became n (array_inner a) spans v placed seen
     (λ good.
-    let array = array-of n (entries n) refl some (sound-shape n good) in
-    (shape array, array-shows n a made good array, array-ordered n a made good, subst (StaysRight n) (sym (array-held v a spans.1 kept)) (array-right n a made good)))
-  where
-    shape : IsArray n → (m : Mark) → deciding (marks n) ≡ Some m → tree_shape (inner_view (array_inner a)) ≡ shape_claimed m.sort
-    shape array m is = grind (arith, nat_tests, common_steps, array-decides, inner_view-Array)
+    let array = array-of n (entries n) refl some (sound-shape n good) in (
+      λ m is. grind (arith, nat_tests, common_steps, array-decides, inner_view-Array),
+      array-shows n a made good array,
+      array-ordered n a made good,
+      subst (StaysRight n) (sym (array-held v a spans.1 kept)) (array-right n a made good),
+    ))
 
 -- a list from which something is taken is not empty
 pub never-empty : {A : Type 0} (x : A) (xs ys : List A) → ys ≡ x ∷ xs → ys ≡ [] → ⊥

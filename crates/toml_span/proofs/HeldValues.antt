@@ -7,10 +7,11 @@ use Rattle.toml_span_tree.specs.Path.{Path, Step, key, position}
 use Rattle.toml_span_tree.specs.Value.{items_view, members_view, view}
 use Rattle.toml_span_tree.specs.declared.value.Value.{Value}
 use Rattle.toml_span_tree.specs.declared.value.ValueInner.{ValueInner, the_lemmas as tree_lemmas}
+use Rattle.toml_span_tree.specs.declared.value.ValueInner.TheFolds.{fold-ValueInner}
 use Rattle.toml_span_tree.specs.declared.value.ValueInner.TheVariants as inners
 use Rattle.toml_span_read.proofs.BorrowLemmas.{all_append, all_front, all_behind}
-use Rattle.toml_span.specs.Borrowed.{Standing, KeySpans, Held, held, held_or_none, elements_standing, entries_standing, IsBorrowedRight, AreBorrowedRight}
-use Rattle.toml_span.specs.code.Borrowed.{array_held, inner_held, own_elements, own_held, own_spans, own_table, table_held}
+use Rattle.toml_span.specs.Borrowed.{Standing, KeySpans, Held, inner_step, value_step, held, held_or_none, elements_standing, entries_standing, IsBorrowedRight, AreBorrowedRight}
+use Rattle.toml_span.specs.code.Borrowed.{own_elements, own_held, own_spans, own_table, table_held}
 use Rattle.toml_span.specs.code.Tree.{item}
 use Rattle.toml_span_read.specs.Borrowed.{joined, string as string_written, written, kind_written, assignments_written, AreWrittenRight}
 use Rattle.toml_span_read.proofs.BorrowLemmas.{written_is}
@@ -21,6 +22,12 @@ use Rattle.toml_span_read.specs.declared.value.ValKind.TheVariants as kinds
 use Rattle.toml_span.proofs.Grafts.{fun_ext}
 
 -- ---- a level at a time
+
+abbrev pub inner_held : ValueInner → Span → Held
+inner_held = fold-ValueInner (Span → Held) Held inner_step value_step
+
+abbrev pub array_held : List Value → Held
+array_held vs = elements_standing 0 (map held vs)
 
 held_is : (v : Value) → held v ≡ held_or_none (option_map inner_held v.value) v.span
 held_is v = search (rules, tree_lemmas)

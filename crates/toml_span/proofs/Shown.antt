@@ -145,18 +145,12 @@ claims_show-none c cs = shown_by-none Claim decided first_claim_by_header refl (
 place-decided : (cs : List Claim) → option_map (λ d. d.place) (claims_show None cs) ≡ option_map (λ c. c.place) (deciding_claim cs)
 unfolding shown_by first_claim_by_header
 place-decided [] = refl
-place-decided (c ∷ cs) = rw (claims_show-none c cs) (placed (deciding_claim (c ∷ cs)))
-  where
-    placed : (o : Option Claim) → option_map (λ d. d.place) (option_map (λ x. with_span c.mark.key (decided x)) o) ≡ option_map (λ c. c.place) o
-    placed o = grind (arith, nat_tests, common_steps)
+place-decided (c ∷ cs) = grind (arith, nat_tests, common_steps, claims_show-none c cs)
 
 key-decided : (cs : List Claim) → option_map (λ d. d.key) (claims_show None cs) ≡ option_map (λ c. c.mark.key) (first_claim cs)
 unfolding shown_by
 key-decided [] = refl
-key-decided (c ∷ cs) = rw (claims_show-none c cs) (kept (first_claim_by_header (c ∷ cs)))
-  where
-    kept : (o : Option Claim) → option_map (λ d. d.key) (option_map (λ x. with_span c.mark.key (decided x)) (or_else o (Some c))) ≡ Some c.mark.key
-    kept o = grind (arith, nat_tests, common_steps)
+key-decided (c ∷ cs) = grind (arith, nat_tests, common_steps, claims_show-none c cs)
 
 -- what decides in the state decides in the flat document
 pub shown-flat : (length : ℕ) (cs : Claims) (s : Step) (p : Path) → place_shown (put_all nothing cs (s ∷ p)) ≡ flat length cs (s ∷ p)

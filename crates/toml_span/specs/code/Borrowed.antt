@@ -6,12 +6,9 @@ use Rattle.toml_span_lex.specs.declared.span.Span.{Span}
 use Rattle.toml_span_lex.specs.declared.key.Key.{Key}
 use Rattle.toml_span_tree.specs.Node.{Node, node, table}
 use Rattle.toml_span_tree.specs.Value.{members_view, view}
-use Rattle.toml_span_tree.specs.declared.value.ValueInner.{ValueInner}
-use Rattle.toml_span_tree.specs.declared.value.ValueInner.TheFolds.{fold-ValueInner}
 use Rattle.toml_span_tree.specs.declared.value.Value.{Value}
 use Rattle.toml_span_read.specs.Borrowed.{joined}
-use Rattle.toml_span.specs.Borrowed.{KeySpans, Held, inner_step, value_step, Standing, elements_standing}
-use Rattle.toml_span.specs.Borrowed.{entries_standing, AreBorrowedRight, held}
+use Rattle.toml_span.specs.Borrowed.{KeySpans, Held, Standing, entries_standing, AreBorrowedRight, held}
 use Rattle.toml_span.specs.declared.branch.Branch.TheOpen.{Branch-F}
 use Rattle.toml_span.specs.declared.branch.Branch.{Branch, fold-Branch}
 use Rattle.toml_span.specs.declared.claims.Halt.{Halt}
@@ -20,12 +17,7 @@ use Rattle.toml_span.specs.code.Machine.{key_spans}
 use Rattle.toml_span.specs.code.Marks.{first}
 use Rattle.toml_span.specs.code.Tree.{cells, marks, value_shows, IsFresh}
 
-abbrev pub inner_held : ValueInner → Span → Held
-inner_held = fold-ValueInner (Span → Held) Held inner_step value_step
-
-abbrev pub array_held : List Value → Held
-array_held vs = elements_standing 0 (map held vs)
-
+-- what stands in a table
 abbrev pub table_held : List (Key × Value) → Held
 table_held es = entries_standing (map (λ e. (e.0, held e.1)) es)
 
@@ -46,12 +38,9 @@ own_elements vs = joined (map (own_held None) vs)
 abbrev pub own_table : List (Key × Value) → List Standing
 own_table es = table_held es (own_spans None (node (table (members_view es)) (record { start = 0; end = 0 })))
 
--- a value with its key, and several
+-- a value with its key
 abbrev pub value_standing : Key × Value → List Standing
 value_standing e = (e.0.name, Some e.0.span) ∷ own_held (Some e.0.span) e.1
-
-abbrev pub values_standing : List (Key × Value) → List Standing
-values_standing es = joined (map value_standing es)
 
 -- ---- branches
 
@@ -59,35 +48,24 @@ values_standing es = joined (map value_standing es)
 abbrev pub name_span : List Mark → Option Span
 name_span ms = option_map (λ m. m.key) (first ms)
 
--- the claims on a branch, and what stands in it
+-- where the name of a branch is written, and what stands in the branch
 abbrev pub Contents : Type 0
-Contents = List Mark × List Standing
+Contents = Option Span × List Standing
 
 abbrev pub named_standing : Key × Box Contents → List Standing
-named_standing e = (e.0.name, name_span (box_value e.1).0) ∷ (box_value e.1).1
+named_standing e = (e.0.name, (box_value e.1).0) ∷ (box_value e.1).1
 
+-- the assigned values, what headers and dotted keys made, and the elements
 abbrev pub node_step : Branch-F Contents → Contents
 node_step n = (
-  n.marks.items,
-  values_standing n.values.entries
+  name_span n.marks.items,
+  joined (map value_standing n.values.entries)
       ++ (joined (map named_standing n.tables.entries) ++ joined (map (λ x. x.1) n.entries.items)),
 )
 
-abbrev pub contents : Branch → Contents
-contents = fold-Branch Contents node_step
-
+-- the strings and keys in a branch
 abbrev pub standing : Branch → List Standing
-standing n = (contents n).1
-
--- a branch with its name, several, and entries
-abbrev pub box_standing : Key × Box Branch → List Standing
-box_standing e = (e.0.name, name_span (marks (box_value e.1))) ∷ standing (box_value e.1)
-
-abbrev pub boxes_standing : List (Key × Box Branch) → List Standing
-boxes_standing es = joined (map box_standing es)
-
-abbrev pub entries_of : List Branch → List Standing
-entries_of ns = joined (map standing ns)
+standing n = (fold-Branch Contents node_step n).1
 
 -- ---- what the functions keep
 
