@@ -1,5 +1,5 @@
 -- The tree under construction borrows as what is put into it, and that as it was read.
-use Rattle.toml_span_lex.proofs.Common.{◌≡◌, ℕ, zero, suc, Bool, List, [], ◌∷◌, ◌++◌, map, Option, Some, None, is_eq, rules, inl, inr, refl, sym, ap, ◌∙◌, subst, BTreeMap, ◌-◌, ◌<◌, ◌≤◌, length, take, drop, set, get_or, take_all, Result, Ok, arith, OnOk, insert_entry, keys_of, box_value, cow_str_bytes, IsBorrowedStr, Box, lookup, lookup_entry, cases_Bool, false≢true, none-some, same_Some, IsErrAnd, nat_tests, common_steps}
+use Rattle.toml_span_lex.proofs.Common.{◌≡◌, ℕ, zero, suc, Bool, List, [], ◌∷◌, ◌++◌, map, Option, Some, None, is_eq, rules, inl, inr, refl, sym, ap, ◌∙◌, subst, BTreeMap, ◌-◌, ◌<◌, ◌≤◌, length, take, drop, set, get_or, take_all, Result, Ok, arith, OnOk, insert_entry, keys_of, box_value, cow_str_bytes, IsBorrowedStr, Box, lookup, lookup_entry, cases_Bool, false≢true, none-some, same_Some, IfSome, IsErrAnd, nat_tests, common_steps}
 use Rattle.toml_span_lex.specs.declared.key.Key.{Key}
 use Rattle.toml_span_lex.specs.declared.span.Span.{Span}
 use Rattle.toml_span_tree.specs.declared.value.Value.{Value}
@@ -109,11 +109,11 @@ module _ (text : List ℕ) where
     abbrev Right : List (Key × X) → Type 0
     Right es = AreBorrowedRight text (joined (map g es))
 
-    pub entry_right : (test : Key → Bool) (e : Key × X) (es : List (Key × X)) → lookup_entry test es ≡ Some e → Right es → AreBorrowedRight text (g e)
-    entry_right test e [] found h = absurd (none-some e found)
-    entry_right test e (f ∷ es) found h = elim (cases_Bool (test f.0)) [
-      | inl here ↦ subst (λ x. AreBorrowedRight text (g x)) (same_Some f e (rw here at found)) (all_front Borrows (g f) (joined (map g es)) h)
-      | inr off ↦ entry_right test e es (rw off at found) (all_behind Borrows (g f) (joined (map g es)) h)
+    pub entry_right : (test : Key → Bool) (es : List (Key × X)) → Right es → IfSome (lookup_entry test es) (λ e. AreBorrowedRight text (g e))
+    entry_right test [] h = tt
+    entry_right test (e ∷ es) h = elim (cases_Bool (test e.0)) [
+      | inl here ↦ rw here (all_front Borrows (g e) (joined (map g es)) h)
+      | inr off ↦ rw off (entry_right test es (all_behind Borrows (g e) (joined (map g es)) h))
     ]
 
     -- put at a name where none is

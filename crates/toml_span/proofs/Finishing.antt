@@ -233,10 +233,6 @@ table-right : (text : List ℕ) (es : List (Key × Value)) (spans : KeySpans) �
 table-right text [] spans each = tt
 table-right text (e ∷ es) spans each = (each.0.0, all_append (IsBorrowedRight text) (held e.1 (λ p. spans (key (cow_str_bytes e.0.name) ∷ p))) (table_held es spans) each.0.1 (table-right text es spans each.1))
 
-found-if : {A : Type 0} (o : Option A) (P : A → Type 0) → ((x : A) → o ≡ Some x → P x) → IfSome o P
-found-if None P h = tt
-found-if (Some x) P h = h x refl
-
 -- what is right in a branch is right in the finished table
 finished-right : (t : Table) (left : List (Key × Box Branch)) (n : Branch) → left ≡ [] → Filled (out-Branch n).tables.entries left (out-Branch n).values.entries t.entries → NamesAscend t → Sound n
     → StaysRight n (table_held t.entries)
@@ -249,8 +245,7 @@ finished-right t left n none h ascend good text right =
     let name = cow_str_bytes e.0.name in
     rw (child-entry n name)
     (name-right text _ _ _ e (finished _ _ _ _ name none h) (node-named n good name) is
-    (found-if _ _ (λ x found. entry_right text (Box Branch) box_standing (is_named name) x (out-Branch n).tables.entries found inside.1))
-    (found-if _ _ (λ x found. entry_right text Value value_standing (is_named name) x (out-Branch n).values.entries found inside.0)))))
+    (entry_right text (Box Branch) box_standing (is_named name) (out-Branch n).tables.entries inside.1) (entry_right text Value value_standing (is_named name) (out-Branch n).values.entries inside.0))))
 
 -- where there are none
 pub filled-none : (tables : List (Key × Box Branch)) (values : List (Key × Value)) → tables ≡ [] → Filled tables [] values values
