@@ -12,7 +12,7 @@ use Rattle.toml_span.specs.declared.branch.Branch.TheFolds.{fold-roll-Branch}
 use Rattle.toml_span.specs.declared.claims.Mark.{Mark}
 use Rattle.toml_span.specs.declared.claims.Halt.{Halt}
 use Rattle.toml_span.specs.Clashes.{or_else}
-use Rattle.toml_span.specs.Borrowed.{Standing, IsBorrowedRight, AreBorrowedRight}
+use Rattle.toml_span.specs.Borrowed.{StringOrKey, IsBorrowedRight, AreBorrowedRight}
 use Rattle.toml_span.specs.code.Borrowed.{Contents, node_step, named_standing, name_span, own_held, standing, value_standing, Keeps, KeepsName, IsWrittenAt}
 use Rattle.toml_span.specs.code.Marks.{remember}
 use Rattle.toml_span.specs.code.Tree.{is_named, entries, marks, IsFresh}
@@ -30,16 +30,16 @@ abbrev contents : Branch → Contents
 contents = fold-Branch Contents node_step
 
 -- a branch with its name, several, values with their keys, and entries
-abbrev pub box_standing : Key × Box Branch → List Standing
+abbrev pub box_standing : Key × Box Branch → List StringOrKey
 box_standing e = (e.0.name, name_span (marks (box_value e.1))) ∷ standing (box_value e.1)
 
-abbrev pub boxes_standing : List (Key × Box Branch) → List Standing
+abbrev pub boxes_standing : List (Key × Box Branch) → List StringOrKey
 boxes_standing es = joined (map box_standing es)
 
-abbrev pub values_standing : List (Key × Value) → List Standing
+abbrev pub values_standing : List (Key × Value) → List StringOrKey
 values_standing es = joined (map value_standing es)
 
-abbrev pub entries_of : List Branch → List Standing
+abbrev pub entries_of : List Branch → List StringOrKey
 entries_of ns = joined (map standing ns)
 
 name_is : (n : Branch) → (contents n).0 ≡ name_span (marks n)
@@ -92,7 +92,7 @@ written-remember next at n m key (inr (fresh, same)) = first-remember (marks n) 
 -- ---- parts and wholes
 
 module _ (text : List ℕ) where
-  abbrev pub Borrows : Standing → Type 0
+  abbrev pub Borrows : StringOrKey → Type 0
   Borrows = IsBorrowedRight text
 
   pub of_node : (n : Branch) → AreBorrowedRight text (standing n)
@@ -105,7 +105,7 @@ module _ (text : List ℕ) where
 
   -- ---- entries by name, of which each one has these standing
 
-  module _ (X : Type 0) (g : Key × X → List Standing) where
+  module _ (X : Type 0) (g : Key × X → List StringOrKey) where
     abbrev Right : List (Key × X) → Type 0
     Right es = AreBorrowedRight text (joined (map g es))
 

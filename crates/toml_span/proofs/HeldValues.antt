@@ -10,7 +10,7 @@ use Rattle.toml_span_tree.specs.declared.value.ValueInner.{ValueInner, the_lemma
 use Rattle.toml_span_tree.specs.declared.value.ValueInner.TheFolds.{fold-ValueInner}
 use Rattle.toml_span_tree.specs.declared.value.ValueInner.TheVariants as inners
 use Rattle.toml_span_read.proofs.BorrowLemmas.{all_append, all_front, all_behind}
-use Rattle.toml_span.specs.Borrowed.{Standing, KeySpans, Held, inner_step, value_step, held, held_or_none, elements_standing, entries_standing, IsBorrowedRight, AreBorrowedRight}
+use Rattle.toml_span.specs.Borrowed.{StringOrKey, KeySpans, Held, inner_step, value_step, held, held_or_none, elements_standing, entries_standing, IsBorrowedRight, AreBorrowedRight}
 use Rattle.toml_span.specs.code.Borrowed.{own_elements, own_held, own_spans, own_table, table_held}
 use Rattle.toml_span.specs.code.Tree.{item}
 use Rattle.toml_span_read.specs.Borrowed.{joined, string as string_written, written, kind_written, assignments_written, AreWrittenRight}
@@ -57,7 +57,7 @@ elements-right text i (v ∷ vs) spans each =
     (elements-right text (suc i) vs spans (λ j l x at is. each (suc j) l x (omega arith) is))
 
 -- one of several
-pub item_right : {A : Type 0} (text : List ℕ) (f : A → List Standing) (i : ℕ) (x : A) (xs : List A) → item i xs ≡ Some x → AreBorrowedRight text (joined (map f xs)) → AreBorrowedRight text (f x)
+pub item_right : {A : Type 0} (text : List ℕ) (f : A → List StringOrKey) (i : ℕ) (x : A) (xs : List A) → item i xs ≡ Some x → AreBorrowedRight text (joined (map f xs)) → AreBorrowedRight text (f x)
 item_right text f i x [] is h = absurd (none-some x is)
 item_right text f zero x (y ∷ xs) is h = subst (λ z. AreBorrowedRight text (f z)) (same_Some y x is) (all_front (IsBorrowedRight text) (f y) (joined (map f xs)) h)
 item_right text f (suc i) x (y ∷ xs) is h = item_right text f i x xs is (all_behind (IsBorrowedRight text) (f y) (joined (map f xs)) h)

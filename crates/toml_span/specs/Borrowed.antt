@@ -19,8 +19,8 @@ use Rattle.toml_span.specs.Flat.{all_claims, claims_at, first_claim}
 -- ---- what stands in a tree
 
 -- a string value or a key, and where it is written, if that is known
-abbrev pub Standing : Type 0
-Standing = CowStr Global × Option Span
+abbrev pub StringOrKey : Type 0
+StringOrKey = CowStr Global × Option Span
 
 -- where the key of each path is written
 abbrev pub KeySpans : Type 0
@@ -28,7 +28,7 @@ KeySpans = Path → Option Span
 
 -- what stands in a value, where this tells for the paths from it on where their keys are written
 abbrev pub Held : Type 0
-Held = KeySpans → List Standing
+Held = KeySpans → List StringOrKey
 
 abbrev pub elements_standing : ℕ → List Held → Held
 elements_standing i [] spans = []
@@ -68,8 +68,8 @@ abbrev pub first_key : Claims → KeySpans
 first_key cs p = option_map (λ c. c.mark.key) (first_claim (claims_at p (all_claims cs)))
 
 -- it is known where it is written, and it is borrowed exactly where it equals the text there
-abbrev pub IsBorrowedRight : List ℕ → Standing → Type 0
+abbrev pub IsBorrowedRight : List ℕ → StringOrKey → Type 0
 IsBorrowedRight text x = IsSomeAnd x.1 (λ span. BorrowsWhereSame text span x.0)
 
-abbrev pub AreBorrowedRight : List ℕ → List Standing → Type 0
+abbrev pub AreBorrowedRight : List ℕ → List StringOrKey → Type 0
 AreBorrowedRight text xs = AllByRecursion (IsBorrowedRight text) xs

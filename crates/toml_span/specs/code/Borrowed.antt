@@ -8,7 +8,7 @@ use Rattle.toml_span_tree.specs.Node.{Node, node, table}
 use Rattle.toml_span_tree.specs.Value.{members_view, view}
 use Rattle.toml_span_tree.specs.declared.value.Value.{Value}
 use Rattle.toml_span_read.specs.Borrowed.{joined}
-use Rattle.toml_span.specs.Borrowed.{KeySpans, Held, Standing, entries_standing, AreBorrowedRight, held}
+use Rattle.toml_span.specs.Borrowed.{KeySpans, Held, StringOrKey, entries_standing, AreBorrowedRight, held}
 use Rattle.toml_span.specs.declared.branch.Branch.TheOpen.{Branch-F}
 use Rattle.toml_span.specs.declared.branch.Branch.{Branch, fold-Branch}
 use Rattle.toml_span.specs.declared.claims.Halt.{Halt}
@@ -29,17 +29,17 @@ own_spans at n p = option_map (λ d. d.key) (value_shows at n p)
 
 -- what stands in a value that has this key, or none, in elements, and in a table, if keys are written where they have
 -- their spans
-abbrev pub own_held : Option Span → Value → List Standing
+abbrev pub own_held : Option Span → Value → List StringOrKey
 own_held at v = held v (own_spans at (view v))
 
-abbrev pub own_elements : List Value → List Standing
+abbrev pub own_elements : List Value → List StringOrKey
 own_elements vs = joined (map (own_held None) vs)
 
-abbrev pub own_table : List (Key × Value) → List Standing
+abbrev pub own_table : List (Key × Value) → List StringOrKey
 own_table es = table_held es (own_spans None (node (table (members_view es)) (record { start = 0; end = 0 })))
 
 -- a value with its key
-abbrev pub value_standing : Key × Value → List Standing
+abbrev pub value_standing : Key × Value → List StringOrKey
 value_standing e = (e.0.name, Some e.0.span) ∷ own_held (Some e.0.span) e.1
 
 -- ---- branches
@@ -50,9 +50,9 @@ name_span ms = option_map (λ m. m.key) (first ms)
 
 -- where the name of a branch is written, and what stands in the branch
 abbrev pub Contents : Type 0
-Contents = Option Span × List Standing
+Contents = Option Span × List StringOrKey
 
-abbrev pub named_standing : Key × Box Contents → List Standing
+abbrev pub named_standing : Key × Box Contents → List StringOrKey
 named_standing e = (e.0.name, (box_value e.1).0) ∷ (box_value e.1).1
 
 -- the assigned values, what headers and dotted keys made, and the elements
@@ -64,7 +64,7 @@ node_step n = (
 )
 
 -- the strings and keys in a branch
-abbrev pub standing : Branch → List Standing
+abbrev pub standing : Branch → List StringOrKey
 standing n = (fold-Branch Contents node_step n).1
 
 -- ---- what the functions keep
