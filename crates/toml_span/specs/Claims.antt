@@ -7,8 +7,7 @@ use Rattle.toml_span_read.specs.Data.{ParsedItems, no_items, item, ParsedPairs, 
 use Rattle.toml_span.specs.declared.claims.Mark.{Mark}
 use Rattle.toml_span.specs.declared.claims.Sort.{Sort}
 use Rattle.toml_span.specs.declared.claims.Sort.TheVariants.{ArrayOfTables, TableElement, Dotted, Assigned}
-use Rattle.toml_span.specs.declared.claims.Sort.TheVariants.{StandardTable}
-use Rattle.toml_span.specs.declared.claims.Sort.TheVariants.{Passed}
+use Rattle.toml_span.specs.declared.claims.Sort.TheVariants.{StandardTable, Passed}
 use Rattle.toml_span.specs.Paths.{with_key, with_position, enter, section_path, elements_added, opened_by}
 use Rattle.toml_span.specs.declared.claims.Head.{Head}
 

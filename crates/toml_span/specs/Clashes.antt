@@ -2,8 +2,7 @@
 use Rattle.std.specs.Prelude.{◌≡◌, ℕ, if◌then◌else◌, List, [], ◌∷◌, ◌++◌, Option, Some, None, option_map}
 use Rattle.toml_span_tree.specs.Error.{Kind, duplicate_table, duplicate_key, redefine_as_array, ErrorContent}
 use Rattle.toml_span.specs.declared.claims.Sort.{Sort}
-use Rattle.toml_span.specs.declared.claims.Sort.TheVariants.{Passed, StandardTable, ArrayOfTables, Dotted}
-use Rattle.toml_span.specs.declared.claims.Sort.TheVariants.{Assigned}
+use Rattle.toml_span.specs.declared.claims.Sort.TheVariants.{Passed, StandardTable, ArrayOfTables, Dotted, Assigned}
 use Rattle.toml_span.specs.declared.claims.Blame.{Blame}
 use Rattle.toml_span.specs.declared.claims.Blame.TheVariants.{DuplicateTable, DuplicateKey, RedefineAsArray}
 use Rattle.toml_span.specs.declared.claims.Mark.{Mark}

@@ -3,9 +3,8 @@ use Rattle.std.specs.Prelude.{◌≡◌, ℕ, List, [], ◌∷◌, ◌++◌, len
 use Rattle.toml_span_tree.specs.Path.{Path, Place}
 use Rattle.toml_span_tree.specs.Pointer.{pointer_segments, NamesPath}
 use Rattle.toml_span_tree.specs.Node.{Node}
-use Rattle.toml_span_read.specs.Data.{Block}
+use Rattle.toml_span_read.specs.Data.{Block, depth_limit}
 use Rattle.toml_span_read.specs.Read.{document}
-use Rattle.toml_span_read.specs.Data.{depth_limit}
 use Rattle.toml_span.specs.Claims.{claims}
 use Rattle.toml_span.specs.Clashes.{Resolves}
 use Rattle.toml_span.specs.Flat.{flat, Shows}

@@ -8,9 +8,7 @@ use Rattle.toml_span_read.specs.Data as read
 use Rattle.toml_span_laws.specs.Places.{CutsContent}
 use Rattle.toml_span_laws.specs.Again.{ReadsAgain, ScalarReadsAgain}
 use Rattle.toml_span.specs.declared.claims.Sort.TheVariants.{Assigned}
-use Rattle.toml_span.specs.Claims.{Claims, no_claims, claimed, scope, followed, parsed_inner}
-use Rattle.toml_span.specs.Claims.{value_claims}
-use Rattle.toml_span.specs.Claims.{value_shape}
+use Rattle.toml_span.specs.Claims.{Claims, no_claims, claimed, scope, followed, parsed_inner, value_claims, value_shape}
 
 -- how many keys a path has
 abbrev pub keys_in : Path → ℕ

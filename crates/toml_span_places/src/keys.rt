@@ -5,8 +5,7 @@ ghost use Rattle.toml_span_tree.specs.Nodes.{step_of};
 ghost use Rattle.toml_span.specs.Paths.{target};
 ghost use Rattle.toml_span.specs.Paths as paths;
 ghost use Rattle.toml_span_places.specs.Keys as spec;
-ghost use Rattle.toml_span_places.specs.Keys.{key_at, header_keys, section_keys, document_keys};
-ghost use Rattle.toml_span_places.specs.Keys.{standing, steps_of};
+ghost use Rattle.toml_span_places.specs.Keys.{key_at, header_keys, section_keys, document_keys, standing, steps_of};
 ghost use Rattle.toml_span_places.specs.code.Opened.{counts_of, counts_behind, with_counted};
 
 use crate::opened::{Opened, add, elements_of};

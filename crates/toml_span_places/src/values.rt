@@ -2,8 +2,7 @@
 ghost use Rattle.std.specs.Prelude.{◌≡◌, ◌++◌, ◌∷◌, [], IfOk, OnOk, map};
 ghost use Rattle.toml_span_read.specs.Data.{view, key_value, onto, no_items, pairs_onto, no_pairs, simple_key};
 ghost use Rattle.toml_span_tree.specs.Nodes.{step_of};
-ghost use Rattle.toml_span_places.specs.Keys.{standing, steps_of, below, parts_keys, value_keys, item_keys};
-ghost use Rattle.toml_span_places.specs.Keys.{pair_keys};
+ghost use Rattle.toml_span_places.specs.Keys.{standing, steps_of, below, parts_keys, value_keys, item_keys, pair_keys};
 
 use crate::keys::{KeyPlace, Role, push_key};
 use crate::paths::{copied, element_path};

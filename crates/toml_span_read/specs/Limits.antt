@@ -1,8 +1,7 @@
 -- What is read is within the limit.
 use Rattle.std.specs.Prelude.{ℕ, ◌+◌, ◌≤◌, List, [], ◌∷◌, map, length}
 use Rattle.toml_span_read.specs.Data.{ParsedValue, parsed, ParsedInner, scalar, array, inline, ParsedItems, no_items}
-use Rattle.toml_span_read.specs.Data.{item, ParsedPairs, no_pairs}
-use Rattle.toml_span_read.specs.Data.{pair, KeyValue, key_value}
+use Rattle.toml_span_read.specs.Data.{item, ParsedPairs, no_pairs, pair, KeyValue, key_value}
 use Rattle.toml_span_read.specs.declared.section.Section.{Section}
 
 -- The depth of a value is the number of brackets and braces open round it plus the number of all key parts of its own

@@ -7,9 +7,8 @@ use Rattle.toml_span_tree.specs.Error.{content_of}
 use Rattle.toml_span_tree.specs.declared.error.Error.{Error}
 use Rattle.toml_span_read.specs.Data.{Block, block}
 use Rattle.toml_span_read.specs.Read.{document}
-use Rattle.toml_span_read.specs.Faults.{Tells}
+use Rattle.toml_span_read.specs.Faults.{Tells, StartsInside}
 use Rattle.toml_span_read.specs.Gaps.{MaximalGap}
-use Rattle.toml_span_read.specs.Faults.{StartsInside}
 use Rattle.toml_span_read.specs.declared.fault.Fault.{Fault}
 use Rattle.toml_span_read.specs.declared.section.Section.{Section}
 

@@ -3,8 +3,7 @@ ghost use Rattle.std.specs.Prelude.{◌≡◌, ◌<◌, ◌≤◌, length};
 ghost use Rattle.toml_span_tree.specs.Error.{kind_of, content_of};
 ghost use Rattle.toml_span_read.specs.Faults as spec;
 ghost use Rattle.toml_span_read.specs.Numerals as numerals;
-ghost use Rattle.toml_span_read.specs.Faults.{IsLineInfo};
-ghost use Rattle.toml_span_read.specs.Faults.{Tells};
+ghost use Rattle.toml_span_read.specs.Faults.{IsLineInfo, Tells};
 
 use toml_span_lex::span::Span;
 use toml_span_tree::{Error, ErrorKind};

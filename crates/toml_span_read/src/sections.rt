@@ -4,7 +4,7 @@ ghost use Rattle.std.specs.Str.{IsCharBoundary};
 ghost use Rattle.toml_span_read.specs.Borrowed.{AreWrittenRight, keys_written, assignment_written, assignments_written};
 ghost use Rattle.toml_span_read.specs.Borrowed.{section_written, sections_written};
 ghost use Rattle.toml_span_read.specs.Data as blocks;
-ghost use Rattle.toml_span_read.specs.Data.{key_value, block, first_block};
+ghost use Rattle.toml_span_read.specs.Data.{key_value, block, first_block, depth_limit};
 ghost use Rattle.toml_span_read.specs.Grammar.{OpensHeader};
 ghost use Rattle.toml_span_read.specs.Read as spec;
 ghost use Rattle.toml_span_read.specs.code.Sections.{EndsAtHeader, HeaderReads, FirstReads, SectionReads, first_blocks};
@@ -16,7 +16,6 @@ ghost use Rattle.toml_span_read.specs.code.Faults.{Advances, Gives, IsPlacedEnd}
 ghost use Rattle.toml_span_read.specs.code.Gaps.{Further};
 ghost use Rattle.toml_span_lex.specs.Bytes.{is_blank, left_bracket, MaximalRun};
 ghost use Rattle.toml_span_lex.specs.Text.{FirstPlace};
-ghost use Rattle.toml_span_read.specs.Data.{depth_limit};
 
 use crate::earlier::{Earlier, add_clear};
 use crate::fault::{Due, Fault, error_of};

@@ -1,6 +1,5 @@
 //! Texts without the characters that terminals act on, and texts in quotes, as JSON has them.
-ghost use Rattle.std.specs.Prelude.{◌≡◌, ◌<◌, ◌++◌, IfOk, OnOk, string_bytes};
-ghost use Rattle.std.specs.Prelude.{encode_utf8};
+ghost use Rattle.std.specs.Prelude.{◌≡◌, ◌<◌, ◌++◌, IfOk, OnOk, string_bytes, encode_utf8};
 ghost use Rattle.std.specs.Char.{digit_char};
 ghost use Rattle.toml_span_report.specs.Visible as spec;
 

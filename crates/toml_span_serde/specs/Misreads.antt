@@ -1,7 +1,6 @@
 -- What a reader tells of a step that read nothing: why, and at which piece of its row.
-use Rattle.std.specs.Prelude.{◌≡◌, ◌⊎◌, ⊤, ℕ, ℤ, pos, negsuc, Bool, false, nat_lt, not, if◌then◌else◌}
-use Rattle.std.specs.Prelude.{List, [], ◌∷◌, ◌==◌, String, Vec, string_bytes, Option, None, Some, length, map}
-use Rattle.std.specs.Prelude.{reverse, take}
+use Rattle.std.specs.Prelude.{◌≡◌, ◌⊎◌, ⊤, ℕ, ℤ, pos, negsuc, Bool, false, nat_lt, not, if◌then◌else◌, List, [], ◌∷◌}
+use Rattle.std.specs.Prelude.{◌==◌, String, Vec, string_bytes, Option, None, Some, length, map, reverse, take}
 use Rattle.std.specs.Global.{Global}
 use Rattle.serde.specs.declared.format.Kind.{Kind}
 use Rattle.serde.specs.declared.format.Kind.TheVariants as kind

@@ -1,6 +1,5 @@
 //! A tree as a row of pieces, in the order in which a reader goes through it.
-ghost use Rattle.std.specs.Prelude.{◌≡◌, ◌<◌, ◌≤◌, ◌-◌, ◌^◌, ◌++◌, ◌∷◌, IfOk, IfSome, List, OnOk, Some};
-ghost use Rattle.std.specs.Prelude.{length, map};
+ghost use Rattle.std.specs.Prelude.{◌≡◌, ◌<◌, ◌≤◌, ◌-◌, ◌^◌, ◌++◌, ◌∷◌, IfOk, IfSome, List, OnOk, Some, length, map};
 ghost use Rattle.toml_span_tree.specs.Node.{Node};
 ghost use Rattle.toml_span_tree.specs.Value.{items_view, members_view, view};
 ghost use Rattle.toml_span_serde.specs.Misreads.{IsOpening, found_of, kind_ahead, refusal, told_text};

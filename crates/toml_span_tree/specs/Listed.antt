@@ -1,9 +1,8 @@
 -- How names and keys are printed in lists.
-use Rattle.std.specs.Prelude.{ℕ, List, ◌++◌, ◌==◌, ◌||◌, if◌then◌else◌, codes, encode_utf8}
+use Rattle.std.specs.Prelude.{ℕ, List, ◌++◌, ◌==◌, ◌||◌, if◌then◌else◌, codes, encode_utf8, false}
 use Rattle.std.specs.Char.{is_control, is_whitespace}
 use Rattle.std.specs.Fmt.{decimal, digits}
 use Rattle.std.specs.List.{flat_map, join_by}
-use Rattle.std.specs.Prelude.{false}
 use Rattle.std.specs.Str.{chars}
 use Rattle.toml_span_lex.specs.declared.span.Span.{Span}
 use Rattle.toml_span_lex.specs.Bytes.{tab, line_feed, carriage_return, space, quotation_mark, backslash}

@@ -21,8 +21,7 @@ use Rattle.toml_span.specs.declared.claims.Halt.{Halt}
 use Rattle.toml_span.specs.declared.branch.Branch.{Branch}
 use Rattle.toml_span.specs.Claims.{Claims, value_claims, value_shape, parsed_inner, shape_claimed, claims}
 use Rattle.toml_span.specs.code.Machine.{Gives, clash_met, put_all, nothing, show_all, Cell, State, clash_told}
-use Rattle.toml_span.specs.code.Tree.{entries, cells, counts, marks, IsScope, IsChild, IsHeld, Sound}
-use Rattle.toml_span.specs.code.Tree.{value_shows}
+use Rattle.toml_span.specs.code.Tree.{entries, cells, counts, marks, IsScope, IsChild, IsHeld, Sound, value_shows}
 use Rattle.toml_span.specs.declared.claims.Mark.{Mark}
 use Rattle.toml_span.specs.code.Marks.{remember, deciding}
 use Rattle.toml_span.specs.declared.claims.Sort.{Sort}

@@ -3,8 +3,7 @@ use Rattle.std.specs.Prelude.{◌≡◌, ℕ, ◌<◌, ◌≤◌, false, ◌==�
 use Rattle.std.specs.Str.{IsCharBoundary}
 use Rattle.toml_span_lex.specs.Bytes.{is_blank, MaximalRun, comma, equals}
 use Rattle.toml_span_read.specs.Gaps.{GapPiece, begins_gap, Tail, NoTail, Dot, NoDot, Separator, Closes, Neither}
-use Rattle.toml_span_read.specs.Gaps.{MaximalGap}
-use Rattle.toml_span_read.specs.Gaps.{Equals}
+use Rattle.toml_span_read.specs.Gaps.{MaximalGap, Equals}
 use Rattle.toml_span_read.specs.declared.gaps.Behind.{Behind}
 use Rattle.toml_span_read.specs.declared.gaps.Behind.TheVariants as behind
 

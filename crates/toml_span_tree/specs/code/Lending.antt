@@ -1,10 +1,9 @@
 -- What each step of a pointer lends.
-use Rattle.std.specs.Prelude.{◌≡◌, ℕ, List, [], Some, Vec}
+use Rattle.std.specs.Prelude.{◌≡◌, ℕ, List, [], Some, Vec, ⊤}
 use Rattle.std.specs.Global.{Global}
 use Rattle.std.specs.BTreeMap.{BTreeMap}
 use Rattle.std.specs.Vec.{with_item}
 use Rattle.std.specs.Borrow.{Fml, MutBor, RattleType, Lends, follows_so}
-use Rattle.std.specs.Prelude.{⊤}
 use mathlib.Core.Option.{some}
 use mir.Syntax.{named}
 use Rattle.std.specs.contracts.alloc.Global as global
