@@ -219,6 +219,7 @@ fn clash_of(alloc: Global, meeting: Meeting, key: &Key<'_>) -> Result<Box<Clash>
 }
 
 /// The halt at a clash over a key, or want of memory to tell it.
+#[cold]
 fn halted(alloc: Global, meeting: Meeting, key: &Key<'_>) -> Halt
     ensures { kept.Halts result meeting (cow_str_bytes key.now.name) }
 {
@@ -230,6 +231,7 @@ fn halted(alloc: Global, meeting: Meeting, key: &Key<'_>) -> Halt
 
 /// Halts where a claim clashes with one of the earlier ones: with the first of these, or where there is no memory
 /// for the key's name.
+#[inline(always)]
 pub fn check_clash(alloc: Global, marks: &[Mark], mark: Mark, key: &Key<'_>) -> Result<(), Halt>
     ensures { Gives result (earliest_clash marks.now mark (cow_str_bytes key.now.name)) (λ _. ⊤) }
 {
@@ -241,6 +243,7 @@ pub fn check_clash(alloc: Global, marks: &[Mark], mark: Mark, key: &Key<'_>) -> 
 
 /// Keeps a claim on a branch, unless it clashes with an earlier one. Of each sort the first one is kept. Halts as
 /// `check_clash` does, or where there is no memory to keep the claim.
+#[inline(always)]
 pub fn record_claim(alloc: Global, marks: &mut Marks, mark: Mark, key: &Key<'_>) -> Result<(), Halt>
     ensures { Gives result (earliest_clash marks.old.items mark (cow_str_bytes key.now.name))
         (λ _. marks.new.items ≡ kept.remember marks.old.items mark) }

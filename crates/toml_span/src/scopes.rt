@@ -82,6 +82,7 @@ pub(crate) fn fresh_child<'de>(
 }
 
 /// Halts where a claim on a name clashes with what headers and dotted keys made there.
+#[inline(always)]
 fn check_beside_table<'de>(
     alloc: Global,
     tables: &Branches<'de>,
@@ -164,6 +165,7 @@ fn assign_pending<'de>(
 /// An inline table is a scope of its own. What clashes in it is told behind the clashes of the key to
 /// which it is assigned, since it stands behind that key.
 #[cycle(place_pair)]
+#[inline(always)]
 fn place_pair<'de>(
     alloc: Global,
     node: &mut Branch<'de>,
@@ -192,6 +194,7 @@ fn place_pair<'de>(
 
 /// From the branch of an inner part on, in its block.
 #[cycle(place_pair)]
+#[inline(always)]
 fn pass_child<'de>(
     alloc: Global,
     child: &mut Box<Branch<'de>>,
@@ -212,6 +215,7 @@ fn pass_child<'de>(
 
 /// Claims the branch of an inner part, and places what is pending below it.
 #[cycle(place_pair)]
+#[inline(always)]
 fn pass_pair<'de>(
     alloc: Global,
     node: &mut Branch<'de>,
@@ -238,6 +242,7 @@ fn pass_pair<'de>(
 
 /// Places an assignment below a branch.
 #[cycle(value_of)]
+#[inline(always)]
 fn place_one<'de>(alloc: Global, pair: Assignment<'de>, node: &mut Branch<'de>) -> Result<(), Halt>
     ensures places { Places node.old node.new result (assignment_claims (key_value pair.entry) []) (counts node.old) }
     ensures borrows { (text : List ℕ) → AreWrittenRight text (assignment_written pair.entry)
@@ -325,6 +330,7 @@ fn array_of<'de>(alloc: Global, elements: Vec<Val<'de>>) -> Result<Array<'de>, H
 
 /// The value that was read.
 #[cycle(value_of)]
+#[inline(always)]
 fn value_of<'de>(alloc: Global, val: Val<'de>) -> Result<Value<'de>, Halt>
     ensures value { ValueGives result (view val.entry) }
     ensures borrows { (text : List ℕ) → AreWrittenRight text (written val.entry) → ValueRight text result }

@@ -53,6 +53,7 @@ fn sort_of(head: Head, rest: &[Key<'_>]) -> Sort
 
 /// Places a section below a branch, part by part of its header.
 #[cycle(place_section)]
+#[inline(always)]
 fn place_section<'de>(
     alloc: Global,
     node: &mut Branch<'de>,
@@ -82,6 +83,7 @@ fn place_section<'de>(
 
 /// From the branch of a part on, in its block.
 #[cycle(place_section)]
+#[inline(always)]
 fn pass_child<'de>(
     alloc: Global,
     child: &mut Box<Branch<'de>>,
@@ -104,6 +106,7 @@ fn pass_child<'de>(
 /// Places a section from the branch of a part on. A part that is not the last one leads into the latest
 /// element of an array of tables (TOML 1.1, Array of Tables).
 #[cycle(place_section)]
+#[inline(always)]
 fn pass_header<'de>(
     alloc: Global,
     node: &mut Branch<'de>,
@@ -155,6 +158,7 @@ fn descend<'de>(
 }
 
 /// Claims a branch for a section or an element, and places the assignments below it.
+#[inline(always)]
 fn open_table<'de>(
     alloc: Global,
     node: &mut Branch<'de>,

@@ -54,6 +54,7 @@ pub fn is_printed(byte: u8) -> bool
 }
 
 /// Where the run of spaces and tabs from a place on ends: `ws = *wschar`.
+#[inline(always)]
 pub fn blanks_end(text: &str, from: usize) -> usize
     requires { IsCharBoundary text.now from }
     ensures run { MaximalRun spec.is_blank text.now from result }

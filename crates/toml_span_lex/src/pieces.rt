@@ -59,6 +59,7 @@ fn all_plain(quote: u8, bytes: &[u8]) -> bool
 
 /// Where the run of bytes ends that stand for themselves between these quotes, found sixteen at a
 /// time.
+#[inline(always)]
 pub fn plain_end(text: &str, quote: u8, from: usize) -> usize
     requires boundary { IsCharBoundary text.now from }
     requires ascii { quote < 128 }

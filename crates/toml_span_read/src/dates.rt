@@ -80,6 +80,7 @@ fn date_end(text: &str, at: usize) -> usize
 /// The date or time at a place, and where it ends; or `InvalidDatetime`, over all bytes that could belong to it.
 ///
 /// `date-time = offset-date-time / local-date-time / local-date / local-time` (TOML 1.1, Offset Date-Time)
+#[inline(never)]
 pub fn date<'de>(text: &'de str, at: usize) -> Result<(DateText<'de>, usize), Fault>
     requires boundary { IsCharBoundary text.now at }
     requires begins { spec.begins_date text.now at ≡ true }

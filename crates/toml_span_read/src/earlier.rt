@@ -146,6 +146,7 @@ impl<'de> Earlier<'de> {
     }
 
     /// Puts in those of the values that are not in yet.
+    #[inline(never)]
     fn catch_up(&mut self, alloc: Global, values: &[Assignment<'de>]) -> Result<(), AllocError>
         requires { code.Knows self.now (map key_value values.now) }
         ensures knows { OnOk result (code.Knows self.new (map key_value values.now)) }
@@ -191,6 +192,7 @@ impl<'de> Earlier<'de> {
 }
 
 /// Puts an assignment behind the earlier ones, unless its key goes through one of their values.
+#[inline(always)]
 pub(crate) fn add_clear<'de>(
     alloc: Global,
     earlier: &mut Earlier<'de>,

@@ -72,6 +72,7 @@ pub fn line_rest(text: &str, from: usize) -> Result<usize, usize>
 /// What is behind a dot with spaces and tabs round it, if one is next.
 ///
 /// `dot-sep = ws %x2E ws` (TOML 1.1, Keys)
+#[inline(always)]
 pub fn dot(text: &str, at: usize) -> Option<usize>
     requires { IsCharBoundary text.now at }
     ensures { DotGives text.now at result }
@@ -122,6 +123,7 @@ pub enum Behind {
 ///
 /// `array-sep = %x2C`, `inline-table-sep = %x2C`, `array-close = %x5D`, `inline-table-close = %x7D` (TOML 1.1,
 /// Array, Inline Table)
+#[inline(always)]
 pub fn after_element(text: &str, at: usize, close: u8) -> Behind
     requires boundary { IsCharBoundary text.now at }
     requires some { 0 < close }

@@ -33,6 +33,7 @@ pub(crate) fn add<T: Drop>(items: &mut Vec<T>, item: T) -> Result<(), AllocError
 ///
 /// `quoted-key = basic-string / literal-string` (TOML 1.1, Keys)
 #[tactic(auto, using(crate::proofs::KeyLemmas::string_stops))]
+#[inline(never)]
 fn quoted_key<'de>(
     alloc: Global,
     text: &'de str,
@@ -67,6 +68,7 @@ fn quoted_key<'de>(
 ///
 /// `simple-key = quoted-key / unquoted-key` (TOML 1.1, Keys)
 #[tactic(auto, using(crate::proofs::KeyLemmas::wanted_stops))]
+#[inline(always)]
 pub(crate) fn simple_key<'de>(
     alloc: Global,
     text: &'de str,
@@ -108,6 +110,7 @@ fn one_too_many(key: &Key<'_>, at: usize, in_header: bool) -> Fault
 ///
 /// `dot-sep simple-key` (TOML 1.1, Keys)
 #[tactic(auto, using(crate::proofs::KeyLemmas::part_stops))]
+#[inline(always)]
 fn part<'de>(
     alloc: Global,
     text: &'de str,
@@ -132,6 +135,7 @@ fn part<'de>(
 ///
 /// `key = simple-key / dotted-key`, `dotted-key = simple-key 1*( dot-sep simple-key )` (TOML 1.1, Keys)
 #[tactic(auto, using(crate::proofs::KeyLemmas::part_placed, crate::proofs::KeyLemmas::none_behind))]
+#[inline(always)]
 pub(crate) fn dotted_key<'de>(
     alloc: Global,
     text: &'de str,

@@ -65,6 +65,7 @@ fn assignment<'de>(
 /// What is behind the line whose forms end at a place.
 ///
 /// `expression =/ ws keyval ws [ comment ]`, of which `ws [ comment ]` and the line end (TOML 1.1, Overall Structure)
+#[inline(always)]
 fn next_line(alloc: Global, text: &str, at: usize) -> Result<usize, Stop<Fault>>
     requires { IsCharBoundary text.now at }
     ensures reads { LineReads text.now at result }

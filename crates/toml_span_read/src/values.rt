@@ -39,6 +39,7 @@ use toml_span_tree::DateText;
 ///
 /// `val = string / boolean / array / inline-table / date-time / float / integer` (TOML 1.1, Key/Value Pair)
 #[cycle(read)]
+#[inline(always)]
 pub(crate) fn value<'de>(
     alloc: Global,
     text: &'de str,
@@ -74,6 +75,7 @@ fn too_deep(text: &str, at: usize) -> Stop<Fault>
 /// The string at a place, and where it ends.
 ///
 /// `string = ml-basic-string / basic-string / ml-literal-string / literal-string` (TOML 1.1, String)
+#[inline(always)]
 fn string_value<'de>(
     alloc: Global,
     text: &'de str,
@@ -277,6 +279,7 @@ fn inline_table<'de>(
 ///
 /// `keyval = key keyval-sep val` (TOML 1.1, Inline Table)
 #[cycle(read)]
+#[inline(always)]
 fn pair<'de>(
     alloc: Global,
     text: &'de str,

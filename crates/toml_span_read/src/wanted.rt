@@ -80,6 +80,7 @@ pub(crate) fn short_string<'de>(text: &'de str, at: usize) -> Option<StringToken
 }
 
 /// The string that begins at a place, in pieces.
+#[inline(never)]
 fn pieced_string<'de>(
     alloc: Global,
     text: &'de str,
@@ -112,7 +113,7 @@ fn pieced_string<'de>(
 
 /// The string that begins at a place: its content, its span, whether it is of several lines, and where it ends.
 /// The fault is that of the string as a token.
-#[inline]
+#[inline(always)]
 pub(crate) fn string<'de>(
     alloc: Global,
     text: &'de str,
@@ -194,6 +195,7 @@ fn found_at(alloc: Global, text: &str, at: usize) -> Result<(Found, usize), Stop
 
 /// The fault of a place where another token stands than the one that is due: `Wanted`, whose span is as long as
 /// the words for what was found, and so may end past the text. Or the fault of what is no token.
+#[cold]
 pub(crate) fn wanted(alloc: Global, text: &str, at: usize, expected: Due) -> Stop<Fault>
     requires { IsCharBoundary text.now at }
     ensures fault { WantedGives text.now at expected result }
@@ -216,6 +218,7 @@ pub(crate) fn wanted(alloc: Global, text: &str, at: usize, expected: Due) -> Sto
 
 /// The fault of a place where a value is due and none begins: the text ends, or another token stands
 /// there.
+#[cold]
 pub(crate) fn no_value(alloc: Global, text: &str, at: usize) -> Stop<Fault>
     requires boundary { IsCharBoundary text.now at }
     requires none { spec.opens_string (slice_index text.now at) ≡ false }
