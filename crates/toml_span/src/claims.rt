@@ -243,7 +243,7 @@ pub fn check_clash(alloc: Global, marks: &[Mark], mark: Mark, key: &Key<'_>) -> 
 
 /// Keeps a claim on a branch, unless it clashes with an earlier one. Of each sort the first one is kept. Halts as
 /// `check_clash` does, or where there is no memory to keep the claim.
-#[inline(always)]
+#[inline(never)]
 pub fn record_claim(alloc: Global, marks: &mut Marks, mark: Mark, key: &Key<'_>) -> Result<(), Halt>
     ensures { Gives result (earliest_clash marks.old.items mark (cow_str_bytes key.now.name))
         (λ _. marks.new.items ≡ kept.remember marks.old.items mark) }

@@ -194,7 +194,6 @@ fn place_pair<'de>(
 
 /// From the branch of an inner part on, in its block.
 #[cycle(place_pair)]
-#[inline(always)]
 fn pass_child<'de>(
     alloc: Global,
     child: &mut Box<Branch<'de>>,

@@ -83,7 +83,6 @@ fn place_section<'de>(
 
 /// From the branch of a part on, in its block.
 #[cycle(place_section)]
-#[inline(always)]
 fn pass_child<'de>(
     alloc: Global,
     child: &mut Box<Branch<'de>>,

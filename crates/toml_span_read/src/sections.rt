@@ -265,6 +265,7 @@ pub fn read_first<'de>(
 /// the end of the text.
 ///
 /// The error is the first fault there.
+#[inline(never)]
 pub fn read_section<'de>(
     alloc: Global,
     text: &'de str,
