@@ -54,6 +54,7 @@ fn put_bytes(strings: &mut [u8], count: &mut usize, bytes: &[u8])
 }
 
 /// Where a text is. One that the document doesn't have at the span is put into the strings.
+#[inline(always)]
 fn put_text(
     document: &str,
     span: Span,

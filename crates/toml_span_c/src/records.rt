@@ -69,6 +69,7 @@ pub struct Counts {
 }
 
 /// The number of a kind.
+#[inline(always)]
 pub(crate) fn kind_of(inner: &ValueInner<'_>) -> u32
     ensures { result ≡ spec.kind_number (inner_view inner.now) }
 {
