@@ -6,8 +6,8 @@ use Rattle.toml_span_tree.specs.Path.{Path, Step, key, position}
 use Rattle.toml_span_tree.specs.Value.{view}
 use Rattle.toml_span_tree.specs.declared.value.Value.{Value}
 use Rattle.toml_span_read.specs.Data.{ParsedValue as Read, parsed_span, simple_key}
-use Rattle.toml_span.specs.declared.claims.Halt.{Halt}
-use Rattle.toml_span.specs.declared.claims.Halt.TheVariants.{Memory, Clash}
+use Rattle.toml_span.specs.code.Marks.{Halt}
+use Rattle.toml_span_lex.specs.declared.stop.Stop.TheVariants.{Memory, Fault}
 use Rattle.toml_span.specs.declared.claims.Mark.{Mark}
 use Rattle.toml_span.specs.declared.claims.Sort.TheVariants.{Assigned}
 use Rattle.toml_span.specs.declared.branch.Branch.{Branch}
@@ -37,12 +37,12 @@ pub refused-child : (n new : Branch) (k : Key) (v : Read) (q : Result (Unit {0})
     → m ≡ value_mark k v → q ≡ Err e → Gives (Err e) (earliest_clash (held_marks (child (simple_key k).name n)) m (simple_key k).name) P → Places n new q (pair_at [] (simple_key k) v) d
 unfolding pair_at cell_at
 refused-child n new k v q (Memory e) m P d same is h = rw is (λ before. tt)
-refused-child n new k v q (Clash t) m P d same is h =
-    rw is (places-refused n new (simple_key k).name (Err (Clash t)) (assigned [] (simple_key k) v) (value_claims v []) P d refl
+refused-child n new k v q (Fault t) m P d same is h =
+    rw is (places-refused n new (simple_key k).name (Err (Fault t)) (assigned [] (simple_key k) v) (value_claims v []) P d refl
     (λ before. (tt, go (child (simple_key k).name n) refl (rw same at h))))
   where
-    go : (o : Option Branch) → child (simple_key k).name n ≡ o → Gives (Err (Clash t)) (earliest_clash (held_marks o) (value_mark k v) (simple_key k).name) P
-        → Gives (Err (Clash t)) (earliest_clash (cells n (key (simple_key k).name ∷ [])).marks (value_mark k v) (simple_key k).name) P
+    go : (o : Option Branch) → child (simple_key k).name n ≡ o → Gives (Err (Fault t)) (earliest_clash (held_marks o) (value_mark k v) (simple_key k).name) P
+        → Gives (Err (Fault t)) (earliest_clash (cells n (key (simple_key k).name ∷ [])).marks (value_mark k v) (simple_key k).name) P
     go None c h = absurd (none-some _ h)
     go (Some x) c h = ap (λ f. earliest_clash (f []).marks (value_mark k v) (simple_key k).name) (cells-at n (key (simple_key k).name) (Some x) c) ∙ h
 

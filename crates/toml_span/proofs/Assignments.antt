@@ -12,8 +12,8 @@ use Rattle.toml_span_read.specs.Data.{KeyValue, view, key_value, parsed_span, si
 use Rattle.toml_span_read.specs.declared.value.Assignment.{Assignment}
 use Rattle.toml_span_read.specs.declared.value.Val.{Val}
 use Rattle.toml_span_read.proofs.Views.{key_value_is, view_is}
-use Rattle.toml_span.specs.declared.claims.Halt.{Halt}
-use Rattle.toml_span.specs.declared.claims.Halt.TheVariants.{Memory, Clash}
+use Rattle.toml_span.specs.code.Marks.{Halt}
+use Rattle.toml_span_lex.specs.declared.stop.Stop.TheVariants.{Memory, Fault}
 use Rattle.toml_span.specs.declared.branch.Branch.{Branch}
 use Rattle.toml_span.specs.declared.branch.Branch.TheViews.{out-Branch}
 use Rattle.toml_span.specs.Claims.{Claims, no_claims, followed, assignment_claims, key_value_claims}
@@ -85,8 +85,8 @@ placing-more n w first old new all a is inv placed = record {
 pub placing-err : (n w first new : Branch) (old later all : List Assignment) (a : Assignment) (q : Result (Unit {0}) Halt) (e : Halt) → old ≡ a ∷ later → Placing n old first all → q ≡ Err e
     → Places n w (Err e) (assignment_claims (key_value a) []) (counts n) → Places first new q (key_value_claims (map key_value all) []) (counts first)
 placing-err n w first new old later all a q (Memory m) is inv same placed before = rw same tt
-placing-err n w first new old later all a q (Clash c) is inv same placed before =
-    let now = placed-then first n w (Err (Clash c)) inv.done (assignment_claims (key_value a) []) inv.placed placed before in
+placing-err n w first new old later all a q (Fault c) is inv same placed before =
+    let now = placed-then first n w (Err (Fault c)) inv.done (assignment_claims (key_value a) []) inv.placed placed before in
     let split = next-split n first old later all a is inv in
     rw same (grind (arith, nat_tests, common_steps, told-followed))
 
@@ -126,5 +126,5 @@ table-own text old new es t fresh placed finished right =
 
 pub table-err : {A : Type 0} (old new : Branch) (es : List KeyValue) (seen : A → tree.Inner) (q : Result A Halt) (e : Halt) → IsFresh old → q ≡ Err e
     → Places old new (Err e) (key_value_claims es []) (counts old) → ScopeGives q seen (key_value_claims es [])
-table-err old new es seen q (Clash c) fresh same placed = grind (arith, nat_tests, common_steps, cells-fresh, scope-fresh)
+table-err old new es seen q (Fault c) fresh same placed = grind (arith, nat_tests, common_steps, cells-fresh, scope-fresh)
 table-err old new es seen q (Memory e) fresh same placed = rw same tt

@@ -10,11 +10,10 @@ use Rattle.toml_span.specs.declared.branch.Branch.TheOpen.{Branch-F}
 use Rattle.toml_span.specs.declared.branch.Branch.TheViews.{roll-Branch, out-Branch}
 use Rattle.toml_span.specs.declared.branch.Branch.TheFolds.{fold-roll-Branch}
 use Rattle.toml_span.specs.declared.claims.Mark.{Mark}
-use Rattle.toml_span.specs.declared.claims.Halt.{Halt}
 use Rattle.toml_span.specs.Clashes.{or_else}
 use Rattle.toml_span.specs.Borrowed.{StringOrKey, IsBorrowedRight, AreBorrowedRight}
 use Rattle.toml_span.specs.code.Borrowed.{Contents, node_step, named_standing, name_span, own_held, standing, value_standing, Keeps, KeepsName, IsWrittenAt}
-use Rattle.toml_span.specs.code.Marks.{remember}
+use Rattle.toml_span.specs.code.Marks.{Halt, remember}
 use Rattle.toml_span.specs.code.Tree.{is_named, entries, marks, IsFresh}
 use Rattle.toml_span.proofs.Claimed.{remember-cases}
 use Rattle.toml_span.proofs.KeyMaps.{insert_by}

@@ -1,17 +1,16 @@
 -- A branch with one more claim.
-use Rattle.toml_span_lex.proofs.Common.{◌≡◌, ℕ, Bool, true, false, not, ◌||◌, List, [], ◌∷◌, ◌++◌, length, Option, Some, None, Result, Ok, Err, refl, sym, ap, ◌∙◌, subst, inl, inr, ◌⊎◌, list_any, false≢true, nat_tests, common_steps, arith}
+use Rattle.toml_span_lex.proofs.Common.{◌≡◌, ℕ, Bool, true, false, not, ◌||◌, List, [], ◌∷◌, ◌++◌, length, Option, Some, None, Result, Ok, Err, refl, sym, ap, ◌∙◌, subst, inl, inr, ◌⊎◌, false≢true, nat_tests, common_steps, arith}
 use Rattle.toml_span_tree.specs.Path.{Path, Step}
 use Rattle.toml_span_read.specs.Data.{SimpleKey}
 use Rattle.toml_span.specs.declared.claims.Sort.{Sort}
 use Rattle.toml_span.specs.declared.claims.Mark.{Mark}
-use Rattle.toml_span.specs.declared.claims.Halt.{Halt}
 use Rattle.toml_span.specs.declared.branch.Branch.{Branch}
 use Rattle.toml_span.specs.declared.branch.Branch.TheViews.{out-Branch, roll-Branch}
 use Rattle.toml_span.specs.declared.branch.Branch.TheOpen.{Branch-F}
 use Rattle.toml_span.specs.Paths.{same_path}
 use Rattle.toml_span.specs.Claims.{Claims, no_claims, claimed, followed, table_claim}
 use Rattle.toml_span.specs.Flat.{by_header}
-use Rattle.toml_span.specs.code.Marks.{first, first_by_header, has_sort, remember, same_sort}
+use Rattle.toml_span.specs.code.Marks.{Halt, first, first_by_header, has_sort, remember, same_sort}
 use Rattle.toml_span.specs.code.Machine.{Decided, Gives, change, decide, earliest_clash, put_all, clash_met, with_claim}
 use Rattle.toml_span.specs.code.Placing.{Reaches}
 use Rattle.toml_span.specs.code.Tree.{marks, entries, own_cell, cells, cell_at, counts, count_at, by_mark, by_marks, is_array_sort, is_entry_sort, NoArray, NoEntry, IsNamed, IsEntry, IsScope}

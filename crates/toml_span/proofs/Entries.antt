@@ -4,13 +4,12 @@ use Rattle.std.proofs.lemmas.Bool.{eq-eqb}
 use Rattle.toml_span_tree.specs.Path.{Path, position}
 use Rattle.toml_span.specs.declared.claims.Mark.{Mark}
 use Rattle.toml_span.specs.declared.claims.Sort.TheVariants.{TableElement}
-use Rattle.toml_span.specs.declared.claims.Halt.{Halt}
 use Rattle.toml_span.specs.declared.branch.Branch.{Branch}
 use Rattle.toml_span.specs.declared.branch.Branch.TheViews.{out-Branch, roll-Branch}
 use Rattle.toml_span.specs.declared.branch.Branch.TheOpen.{Branch-F}
 use Rattle.toml_span.specs.Claims.{Claims}
 use Rattle.toml_span.specs.code.Machine.{graft}
-use Rattle.toml_span.specs.code.Marks.{remember}
+use Rattle.toml_span.specs.code.Marks.{Halt, remember}
 use Rattle.toml_span.specs.code.Placing.{Opening, Opens, Passes, Reaches}
 use Rattle.toml_span.specs.code.Relative.{counts_after_adding, under}
 use Rattle.toml_span.specs.code.Tree.{IsArray, IsChild, IsEntry, IsFresh, IsHeld, IsNamed, IsOpen, IsScope, IsTableOrArray, Sound, count_at, cells, counts, entries, is_entry_sort, item, marks, none_open}

@@ -22,7 +22,7 @@ use Rattle.toml_span_read.proofs.ReadSound.{first_sound, section_sound}
 use Rattle.toml_span.specs.code.Borrowed.{standing, table_held, Keeps, StaysRight}
 use Rattle.toml_span.specs.Borrowed.{first_key, held, AreBorrowedRight}
 use Rattle.toml_span.specs.declared.claims.Clash.{Clash}
-use Rattle.toml_span.specs.declared.claims.Halt.{Halt}
+use Rattle.toml_span.specs.code.Marks.{Halt}
 use Rattle.toml_span.specs.declared.branch.Branch.{Branch}
 use Rattle.toml_span.specs.Claims.{claims, Claims, followed, key_value_claims, section_claims, claims_behind, head_of}
 use Rattle.toml_span.specs.Clashes.{first_clash}
@@ -46,7 +46,6 @@ use Rattle.toml_span.proofs.HeldValues.{table-held}
 use Rattle.toml_span.proofs.Shown.{first_key-is, shown-flat}
 use Rattle.toml_span_lex.specs.declared.stop.Stop.TheVariants as stops
 use Rattle.toml_span_read.specs.Read as read
-use Rattle.toml_span.specs.declared.claims.Halt.TheVariants as halts
 
 -- ---- a tree and the sections that are left to place
 
@@ -93,10 +92,10 @@ remaining-next all old new b root w steps inv placed =
 
 pub assembles-err : (all old new : List Block) (length : ℕ) (b : Block) (root w : Branch) (q : Result Value Halt) (e : Halt)
     → old ≡ b ∷ new → Remaining all old root → q ≡ Err e → PlacesBlock b root w (Err e) → Assembles all length q
-assembles-err all old new length b root w q (halts.Memory m) steps inv same placed = rw same tt
-assembles-err all old new length b root w q (halts.Clash c) steps inv same placed =
+assembles-err all old new length b root w q (stops.Memory m) steps inv same placed = rw same tt
+assembles-err all old new length b root w q (stops.Fault c) steps inv same placed =
     let headers : AreSections (b ∷ new) = subst AreSections steps inv.headers in
-    let h = placed-is b inv.earlier root w (Err (halts.Clash c)) inv.counting headers.0 placed inv.scope in
+    let h = placed-is b inv.earlier root w (Err (stops.Fault c)) inv.counting headers.0 placed inv.scope in
     grind (arith, nat_tests, common_steps, first-met, next-claims, told-followed, inv.telling)
 
 -- the tree shows what the root's node keeps, and that is the flat document
@@ -130,11 +129,11 @@ pub grows-more : (bs : List Block) (b : Block) (root new : Branch) (o : Option (
 grows-more bs b root new (Some c) none headed grows placed = absurd (false≢true (sym none))
 grows-more bs b root new None none headed grows placed = grind (arith, nat_tests, common_steps, append_assoc, remaining-next)
 
-pub grows-clash : (bs : List Block) (b : Block) (root new : Branch) (o : Option (Box Clash)) (halt : Halt) (c : Box Clash) → is_some o ≡ false → halt ≡ halts.Clash c → AreSections (b ∷ []) → GrowsTo bs root o
+pub grows-clash : (bs : List Block) (b : Block) (root new : Branch) (o : Option (Box Clash)) (halt : Halt) (c : Box Clash) → is_some o ≡ false → halt ≡ stops.Fault c → AreSections (b ∷ []) → GrowsTo bs root o
     → PlacesBlock b root new (Err halt) → GrowsTo (bs ++ (b ∷ [])) new (Some c)
 grows-clash bs b root new (Some d) halt c none is headed grows placed = absurd (false≢true (sym none))
 grows-clash bs b root new None halt c none is headed grows placed = λ rest are.
-    let told = assembles-err (bs ++ (b ∷ rest)) (b ∷ rest) rest 0 b root new (Err (halts.Clash c)) (halts.Clash c) refl (grows (b ∷ rest) (headed.0, are)) refl (rw is at placed) in
+    let told = assembles-err (bs ++ (b ∷ rest)) (b ∷ rest) rest 0 b root new (Err (stops.Fault c)) (stops.Fault c) refl (grows (b ∷ rest) (headed.0, are)) refl (rw is at placed) in
     rw append_assoc told
 
 pub right-more : (text : List ℕ) (root new : Branch) (o : Option (Box Clash)) → is_some o ≡ false → IfNone o (AreBorrowedRight text (standing root)) → Keeps text root new (Ok tt)
@@ -155,7 +154,7 @@ finish-right text bs span t root v grows finished kept right =
     let inv : Remaining bs [] root = rw append-nil at (grows [] tt) in
     rw (table-held v t span kept, ← first_key-is (claims bs), ← root-put bs root inv) ((finished inv.scope).2 text right)
 
-pub finish-clash : (bs : List Block) (length : ℕ) (root : Branch) (c : Box Clash) → GrowsTo bs root (Some c) → Assembles bs length (Err (halts.Clash c))
+pub finish-clash : (bs : List Block) (length : ℕ) (root : Branch) (c : Box Clash) → GrowsTo bs root (Some c) → Assembles bs length (Err (stops.Fault c))
 finish-clash bs length root c grows = subst (λ all. first_clash (claims all) ≡ Some (clash_told c)) (append-nil bs) (grows [] tt)
 
 pub tree_borrows : {E : Type 0} (bs : List Block) (text : List ℕ) (limit : ℕ) (r : Result Value E) → read.document text limit (Ok bs) → IfOk r (λ root. AreBorrowedRight text (held root (first_key (claims bs))))

@@ -4,7 +4,6 @@ use Rattle.std.proofs.Math.ListN.{length-set}
 use Rattle.toml_span_tree.specs.Path.{Path, key}
 use Rattle.toml_span_lex.specs.declared.key.Key.{Key}
 use Rattle.toml_span_read.specs.Data.{ParsedValue as Read, parsed_span, SimpleKey, simple_key}
-use Rattle.toml_span.specs.declared.claims.Halt.{Halt}
 use Rattle.toml_span.specs.declared.claims.Mark.{Mark}
 use Rattle.toml_span.specs.declared.claims.Sort.{Sort}
 use Rattle.toml_span.specs.declared.claims.Sort.TheVariants.{ArrayOfTables, Dotted, Passed, StandardTable}
@@ -14,7 +13,7 @@ use Rattle.toml_span.specs.declared.branch.Branch.TheOpen.{Branch-F}
 use Rattle.toml_span.specs.declared.claims.Head.{Head}
 use Rattle.toml_span.specs.Claims.{Claims, array_claims, claimed, header_mark, pair_mark, table_claim}
 use Rattle.toml_span.specs.code.Machine.{Gives, earliest_clash}
-use Rattle.toml_span.specs.code.Marks.{remember}
+use Rattle.toml_span.specs.code.Marks.{Halt, remember}
 use Rattle.toml_span.specs.code.Placing.{Opening, Opens, Passes, Places, Reaches}
 use Rattle.toml_span.specs.code.Relative.{adding, ending, counts_after, counts_after_end, counts_after_through, counts_after_adding, opening, pair_at, part_sort, passing, section_at, through, through_pair}
 use Rattle.toml_span.specs.code.Tree.{IsChild, IsFresh, IsHeld, IsNamed, IsOpen, IsScope, Sound, child, closed, closed_marks, counts, entries, is_array_sort, is_entry_sort, item, marks}

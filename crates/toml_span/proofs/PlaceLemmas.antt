@@ -13,8 +13,7 @@ use Rattle.toml_span.specs.declared.claims.Sort.{Sort}
 use Rattle.toml_span.specs.declared.claims.Blame.{Blame}
 use Rattle.toml_span.specs.declared.claims.Blame.TheVariants as blames
 use Rattle.toml_span.specs.declared.claims.Clash.{Clash as ClashFound}
-use Rattle.toml_span.specs.declared.claims.Halt.{Halt}
-use Rattle.toml_span.specs.declared.claims.Halt.TheVariants.{Clash}
+use Rattle.toml_span_lex.specs.declared.stop.Stop.TheVariants.{Fault}
 use Rattle.toml_span.specs.declared.claims.Head.{Head}
 use Rattle.toml_span.specs.declared.claims.Mark.{Mark}
 use Rattle.toml_span.specs.declared.claims.Meeting.{Meeting}
@@ -25,7 +24,7 @@ use Rattle.toml_span.specs.Clashes.{NamedClash, blame, meeting, named}
 use Rattle.toml_span.specs.Flat.{by_header}
 use Rattle.toml_span.specs.code.Growing.{Grows, GrowsTo, IsGrownInside}
 use Rattle.toml_span.specs.code.Machine.{State, change, clash_met, nothing, show_all, with_claim}
-use Rattle.toml_span.specs.code.Marks.{IsHaltInside, earliest_meeting}
+use Rattle.toml_span.specs.code.Marks.{Halt, IsHaltInside, earliest_meeting}
 use Rattle.toml_span.proofs.EachClaim.{either-one}
 use Rattle.toml_span.proofs.Judged.{first-met}
 use Rattle.toml_span.proofs.Values.{first_in, told-array}
@@ -151,5 +150,5 @@ grown_inside text limit ss g given = go g.clash
 
 -- ---- halts
 
-pub clash_inside : (n : ℕ) (halt : Halt) (c : Box ClashFound) → halt ≡ Clash c → IsHaltInside n halt → IsInside n (box_value c).meeting.span
+pub clash_inside : (n : ℕ) (halt : Halt) (c : Box ClashFound) → halt ≡ Fault c → IsHaltInside n halt → IsInside n (box_value c).meeting.span
 clash_inside n halt c is h = rw is at h

@@ -8,8 +8,8 @@ use Rattle.toml_span_lex.specs.declared.key.Key.{Key}
 use Rattle.toml_span.specs.declared.claims.Mark.{Mark}
 use Rattle.toml_span.specs.declared.claims.Sort.{Sort}
 use Rattle.toml_span.specs.declared.claims.Sort.TheVariants.{ArrayOfTables, Assigned}
-use Rattle.toml_span.specs.declared.claims.Halt.{Halt}
-use Rattle.toml_span.specs.declared.claims.Halt.TheVariants.{Memory, Clash}
+use Rattle.toml_span.specs.code.Marks.{Halt}
+use Rattle.toml_span_lex.specs.declared.stop.Stop.TheVariants.{Memory, Fault}
 use Rattle.toml_span.specs.declared.branch.Branch.{Branch}
 use Rattle.toml_span.specs.declared.branch.Branch.TheViews.{roll-Branch, out-Branch}
 use Rattle.toml_span_read.proofs.EarlierTree.{key_cmp}
@@ -56,7 +56,7 @@ reaches-below A B C D s n new x w (Ok u) cs c d at start set h before =
       told-under s (cells n) cs ∙ ap (λ f. clash_met f cs) at ∙ g.0,
       (now.0 ∙ ap (graft s (cells n)) (g.1.0 ∙ ap (λ f. put_all f cs) (sym at)) ∙ sym (put_all-under s (cells n) cs), now.1 g.1.1, now.2),
     )
-reaches-below A B C D s n new x w (Err (Clash t)) cs c d at start set h before = told-under s (cells n) cs ∙ ap (λ f. clash_met f cs) at ∙ h (start before)
+reaches-below A B C D s n new x w (Err (Fault t)) cs c d at start set h before = told-under s (cells n) cs ∙ ap (λ f. clash_met f cs) at ∙ h (start before)
 reaches-below A B C D s n new x w (Err (Memory e)) cs c d at start set h before = tt
 
 -- where it stops, nothing is said of the branch and of its entries
@@ -132,7 +132,7 @@ pub places-refused : (n new : Branch) (k : List ℕ) (r : Result (Unit {0}) Halt
     → c.path ≡ [] → (IsScope n → OnOk r ⊥ × Gives r (earliest_clash (cells n (key k ∷ [])).marks c.mark c.name) P) → Places n new r (under (key k) (claimed c cs)) d
 unfolding clash_met
 places-refused n new k (Ok u) c cs P d here h before = absurd (h before).0
-places-refused n new k (Err (Clash t)) c cs P d here h before = grind (arith, nat_tests, common_steps, told-under)
+places-refused n new k (Err (Fault t)) c cs P d here h before = grind (arith, nat_tests, common_steps, told-under)
 places-refused n new k (Err (Memory e)) c cs P d here h before = tt
 
 -- with a value of the name

@@ -15,8 +15,7 @@ use Rattle.toml_span_read.specs.Keys.{SpellsKey}
 use Rattle.toml_span_read.specs.Read as read
 use Rattle.toml_span_read.specs.Grammar.{SpellsDocument, SpellsSections}
 use Rattle.toml_span.specs.declared.claims.Clash.{Clash}
-use Rattle.toml_span.specs.declared.claims.Halt.{Halt}
-use Rattle.toml_span.specs.declared.claims.Halt.TheVariants as halts
+use Rattle.toml_span.specs.code.Marks.{Halt}
 use Rattle.toml_span.specs.Claims.{claims}
 use Rattle.toml_span.specs.Clashes.{first_clash}
 use Rattle.toml_span.specs.code.Machine.{clash_told}
@@ -58,5 +57,5 @@ whole-tree text limit (Err stop) h = tt
 whole-tree text limit (Ok root) (bs, has, tree) = shown-whole (view root) (length text) bs (one-each (view root) tree.ordered) tree.shows
 
 -- where the assembly ends at a clash it is the first one
-pub first-of-halt : (bs : List Block) (n : ℕ) (halt : Halt) (c : Box Clash) → halt ≡ halts.Clash c → Assembles bs n (Err halt) → first_clash (claims bs) ≡ Some (clash_told c)
+pub first-of-halt : (bs : List Block) (n : ℕ) (halt : Halt) (c : Box Clash) → halt ≡ stops.Fault c → Assembles bs n (Err halt) → first_clash (claims bs) ≡ Some (clash_told c)
 first-of-halt bs n halt c is h = rw is at h

@@ -15,8 +15,8 @@ use Rattle.toml_span_read.specs.declared.value.Val.{Val}
 use Rattle.toml_span_read.specs.declared.value.ValKind.{ValKind}
 use Rattle.toml_span_read.specs.declared.value.ValKind.TheVariants as kinds
 use Rattle.toml_span_read.proofs.Views.{view_is, kind_view-Array, kind_view-Inline}
-use Rattle.toml_span.specs.declared.claims.Halt.{Halt}
-use Rattle.toml_span.specs.declared.claims.Halt.TheVariants.{Memory, Clash}
+use Rattle.toml_span.specs.code.Marks.{Halt}
+use Rattle.toml_span_lex.specs.declared.stop.Stop.TheVariants.{Memory, Fault}
 use Rattle.toml_span.specs.Paths.{same_step, same_path}
 use Rattle.toml_span_lex.specs.declared.span.Span.{Span}
 use Rattle.toml_span.specs.Claims.{Claim, Claims, no_claims, claimed, scope, followed, parsed_inner, value_claims, inner_claims, item_claims, key_value_claims, element, value_shape}
@@ -197,7 +197,7 @@ items-ordered (v ∷ vs) xs h = grind (arith, nat_tests, common_steps, items-ord
 
 pub elements-err : {A : Type 0} (old later all : List Val) (v : Val) (xs : List Value) (seen : A → tree.Inner) (q : Result A Halt) (e : Halt) → old ≡ v ∷ later → Elements old all xs → q ≡ Err e
     → ValueGives (Err e) (view_read v) → ScopeGives q seen (item_claims (onto (map view_read all) no_items) 0 [])
-elements-err old later all v xs seen q (Clash c) is inv same gives = grind (arith, nat_tests, common_steps, told-array, told-element)
+elements-err old later all v xs seen q (Fault c) is inv same gives = grind (arith, nat_tests, common_steps, told-array, told-element)
 elements-err old later all v xs seen q (Memory e) is inv same gives = rw same tt
 
 pub elements-none : (rest all : List Val) (xs : Vec Value Global) → rest ≡ [] → Elements rest all xs.items
@@ -247,5 +247,5 @@ scope-gives v k cs inner i x reads is seen shape whole =
 pub scope-err : {A : Type 0} (v : Val) (k : ParsedInner) (cs : Claims) (seen : A → tree.Inner) (q : Result Value Halt) (e : Halt) → ReadsScope v k cs → q ≡ Err e
     → ScopeGives (Err e) seen cs → ValueGives q (view_read v)
 unfolding value_claims clash_met
-scope-err v k cs seen q (Clash c) reads same gives = grind (arith, nat_tests, common_steps, or_else-none, view_is)
+scope-err v k cs seen q (Fault c) reads same gives = grind (arith, nat_tests, common_steps, or_else-none, view_is)
 scope-err v k cs seen q (Memory e) reads same gives = rw same tt

@@ -7,9 +7,10 @@ ghost use Rattle.toml_span.specs.code.Machine.{Gives, earliest_clash};
 ghost use Rattle.toml_span.specs.code.Marks as kept;
 
 use smallvec::SmallVec;
-use std::alloc::{AllocError, AllocFailed, Global};
+use std::alloc::{AllocError, Global};
 use toml_span_lex::key::Key;
 use toml_span_lex::span::Span;
+use toml_span_lex::stop::Stop;
 use toml_span_tree::{Error, ErrorKind};
 
 /// How a path is claimed.
@@ -152,29 +153,9 @@ impl Clash {
     }
 }
 
-/// Why the assembly gives no tree.
-#[derive(Drop)]
-pub enum Halt {
-    Memory(AllocError),
-    /// In a block of its own, so that a result that may be a halt is small.
-    Clash(Box<Clash>),
-}
-
-impl From<AllocError> for Halt {
-    ghost from_gives = { λ _ halt. kept.IsMemory halt };
-
-    fn from(error: AllocError) -> Halt {
-        Halt::Memory(error)
-    }
-}
-
-impl<T: Drop> From<AllocFailed<T>> for Halt {
-    ghost from_gives = { λ _ halt. kept.IsMemory halt };
-
-    fn from(failed: AllocFailed<T>) -> Halt {
-        Halt::Memory(AllocError::from(failed))
-    }
-}
+/// Why the assembly gives no tree: memory ran out, or two claims clash. The clash stands in a block of its own, so that
+/// a result that may be a halt is small.
+pub type Halt = Stop<Box<Clash>>;
 
 /// The first claim of each sort on a branch, in the order of the text: whether two claims clash depends
 /// on their sorts alone.
@@ -224,8 +205,8 @@ fn halted(alloc: Global, meeting: Meeting, key: &Key<'_>) -> Halt
     ensures { kept.Halts result meeting (cow_str_bytes key.now.name) }
 {
     match clash_of(alloc, meeting, key) {
-        Ok(clash) => Halt::Clash(clash),
-        Err(error) => Halt::Memory(error),
+        Ok(clash) => Stop::Fault(clash),
+        Err(error) => Stop::Memory(error),
     }
 }
 

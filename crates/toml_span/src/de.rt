@@ -11,7 +11,6 @@ ghost use Rattle.toml_span.specs.code.Growing.{GrownGives, GrownRight, Grows, Is
 ghost use Rattle.toml_span_read.specs.Read.{document};
 ghost use Rattle.toml_span.specs.Parsing.{Answers, IsBorrowedTree, IsRoot};
 
-use crate::claims::Halt;
 use crate::sections::{Grown, begin, finish, grow};
 use std::alloc::Global;
 use toml_span_lex::stop::Stop;
@@ -58,8 +57,8 @@ fn tree_of<'de>(grown: Grown<'de>, text: &'de str) -> Result<Value<'de>, Stop<Er
 {
     match finish(grown, text.len()) {
         Ok(root) => Ok(root),
-        Err(Halt::Memory(error)) => Err(Stop::Memory(error)),
-        Err(Halt::Clash(clash)) => {
+        Err(Stop::Memory(error)) => Err(Stop::Memory(error)),
+        Err(Stop::Fault(clash)) => {
             let clash = Box::into_inner(clash);
             let place = line_info(text, clash.meeting.span.start);
             Err(Stop::Fault(clash.into_error(place)))

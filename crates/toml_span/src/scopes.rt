@@ -5,15 +5,15 @@ ghost use Rattle.toml_span_tree.specs.Value.{inner_view};
 ghost use Rattle.toml_span_tree.specs.Node as tree;
 ghost use Rattle.toml_span_tree.specs.declared.value.ValueInner.TheVariants as inners;
 ghost use Rattle.toml_span_read.specs.Borrowed.{assignment_written, assignments_written, joined, key_written};
-ghost use Rattle.toml_span_read.specs.Borrowed.{keys_written, written, AreWrittenRight, IsWrittenRight};
+ghost use Rattle.toml_span_read.specs.Borrowed.{written, AreWrittenRight, IsWrittenRight};
 ghost use Rattle.toml_span_read.specs.Data.{key_value, view, onto, no_items, ParsedValue as Read, parsed_span};
 ghost use Rattle.toml_span_read.specs.Data.{simple_key as part_of};
-ghost use Rattle.toml_span.specs.code.Borrowed.{Keeps, KeepsName, ValueRight, own_elements, own_table};
+ghost use Rattle.toml_span.specs.code.Borrowed.{IfPairRight, Keeps, KeepsName, ValueRight, own_elements, own_table};
 ghost use Rattle.toml_span.specs.Borrowed.{AreBorrowedRight};
-ghost use Rattle.toml_span.specs.Claims.{assignment_claims, key_value_claims, item_claims};
+ghost use Rattle.toml_span.specs.Claims.{assignment_claims, item_claims};
 ghost use Rattle.toml_span.specs.code.Machine.{Gives, earliest_clash};
-ghost use Rattle.toml_span.specs.code.Placing.{Places, Passes, ValueGives, ScopeGives};
-ghost use Rattle.toml_span.specs.code.Relative.{pair_at, through_pair};
+ghost use Rattle.toml_span.specs.code.Placing.{claims_of, PassesPair, Places, ValueGives, ScopeGives};
+ghost use Rattle.toml_span.specs.code.Relative.{pair_at};
 ghost use Rattle.toml_span.specs.code.Tree.{child_in, closed_in, closed_marks, counts, held_marks, IsFresh};
 ghost use Rattle.toml_span.specs.declared.scopes.Pending.{Pending};
 
@@ -175,9 +175,8 @@ fn place_pair<'de>(
 ) -> Result<(), Halt>
     ensures places { (d : Pending) (v : Read) → pending.old ≡ Some d → ValueGives d.value v → span ≡ parsed_span v
         → Places node.old node.new result (pair_at (map part_of inner.now) (part_of d.last) v) (counts node.old) }
-    ensures borrows { (text : List ℕ) → (d : Pending) → pending.old ≡ Some d
-        → AreWrittenRight text (keys_written inner.now) → IsWrittenRight text (key_written d.last)
-        → ValueRight text d.value → Keeps text node.old node.new result }
+    ensures borrows { (text : List ℕ) → (d : Pending) → pending.old ≡ Some d → IfPairRight text inner.now d
+        (Keeps text node.old node.new result) }
 {
     let [part, rest @ ..] = inner else {
         return assign_pending(alloc, node, pending, span);
@@ -203,11 +202,9 @@ fn pass_child<'de>(
     span: Span,
 ) -> Result<(), Halt>
     ensures places { (d : Pending) (v : Read) → pending.old ≡ Some d → ValueGives d.value v → span ≡ parsed_span v
-        → Passes child.old.value child.new.value result (through_pair (part_of part.now) (map part_of rest.now)
-        (part_of d.last) v) (counts child.old.value) }
-    ensures borrows { (text : List ℕ) → (d : Pending) → pending.old ≡ Some d
-        → AreWrittenRight text (keys_written rest.now) → IsWrittenRight text (key_written d.last)
-        → ValueRight text d.value → KeepsName text part.now.span child.old.value child.new.value result }
+        → PassesPair child.old.value child.new.value result part.now rest.now d v }
+    ensures borrows { (text : List ℕ) → (d : Pending) → pending.old ≡ Some d → IfPairRight text rest.now d
+        (KeepsName text part.now.span child.old.value child.new.value result) }
 {
     pass_pair(alloc, child.as_mut(), part, rest, pending, span)
 }
@@ -224,11 +221,9 @@ fn pass_pair<'de>(
     span: Span,
 ) -> Result<(), Halt>
     ensures places { (d : Pending) (v : Read) → pending.old ≡ Some d → ValueGives d.value v → span ≡ parsed_span v
-        → Passes node.old node.new result (through_pair (part_of part.now) (map part_of rest.now)
-        (part_of d.last) v) (counts node.old) }
-    ensures borrows { (text : List ℕ) → (d : Pending) → pending.old ≡ Some d
-        → AreWrittenRight text (keys_written rest.now) → IsWrittenRight text (key_written d.last)
-        → ValueRight text d.value → KeepsName text part.now.span node.old node.new result }
+        → PassesPair node.old node.new result part.now rest.now d v }
+    ensures borrows { (text : List ℕ) → (d : Pending) → pending.old ≡ Some d → IfPairRight text rest.now d
+        (KeepsName text part.now.span node.old node.new result) }
 {
     record_claim(
         alloc,
@@ -268,8 +263,7 @@ fn place_pairs<'de>(
     pairs: Vec<Assignment<'de>>,
     node: &mut Branch<'de>,
 ) -> Result<(), Halt>
-    ensures places { Places node.old node.new result (key_value_claims (map key_value pairs.entry.items) [])
-        (counts node.old) }
+    ensures places { Places node.old node.new result (claims_of pairs.entry.items) (counts node.old) }
     ensures borrows { (text : List ℕ) → AreWrittenRight text (assignments_written pairs.entry.items)
         → Keeps text node.old node.new result }
 {
@@ -285,8 +279,7 @@ pub(crate) fn place_all<'de>(
     pairs: Vec<Assignment<'de>>,
     node: &mut Branch<'de>,
 ) -> Result<(), Halt>
-    ensures places { Places node.old node.new result (key_value_claims (map key_value pairs.entry.items) [])
-        (counts node.old) }
+    ensures places { Places node.old node.new result (claims_of pairs.entry.items) (counts node.old) }
     ensures borrows { (text : List ℕ) → AreWrittenRight text (assignments_written pairs.entry.items)
         → Keeps text node.old node.new result }
 {
@@ -302,8 +295,7 @@ pub(crate) fn place_all<'de>(
 /// The table of an inline table.
 #[cycle(value_of)]
 fn table_of<'de>(alloc: Global, pairs: Vec<Assignment<'de>>) -> Result<Table<'de>, Halt>
-    ensures scope { ScopeGives result (λ t. inner_view (inners.Table t))
-        (key_value_claims (map key_value pairs.entry.items) []) }
+    ensures scope { ScopeGives result (λ t. inner_view (inners.Table t)) (claims_of pairs.entry.items) }
     ensures borrows { (text : List ℕ) → AreWrittenRight text (assignments_written pairs.entry.items)
         → IfOk result (λ table. AreBorrowedRight text (own_table table.entries)) }
 {

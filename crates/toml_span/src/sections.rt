@@ -1,18 +1,17 @@
 //! Sections placed one by one into a tree.
 ghost use Rattle.std.specs.Prelude.{◌≡◌, ℕ, List, map, [], ◌∷◌, ◌++◌, IfOk, IfErr, IfSome, IsOk, IsOkAnd, None, OnOk};
-ghost use Rattle.toml_span_read.specs.Borrowed.{assignments_written, keys_written, section_written, AreWrittenRight};
-ghost use Rattle.toml_span_read.specs.Data.{key_value, Block, block, simple_key as part_of};
+ghost use Rattle.toml_span_read.specs.Borrowed.{assignments_written, section_written, AreWrittenRight};
+ghost use Rattle.toml_span_read.specs.Data.{Block, block, simple_key as part_of};
 ghost use Rattle.toml_span_read.specs.code.Sections.{first_blocks};
-ghost use Rattle.toml_span.specs.declared.claims.Sort.TheVariants.{Passed};
-ghost use Rattle.toml_span.specs.code.Borrowed.{Keeps, KeepsName};
+ghost use Rattle.toml_span.specs.code.Borrowed.{IfSectionRight, Keeps, KeepsName};
 ghost use Rattle.toml_span.specs.Borrowed.{first_key, held, AreBorrowedRight};
 ghost use Rattle.toml_span.specs.Claims as claims;
-ghost use Rattle.toml_span.specs.Claims.{key_value_claims};
 ghost use Rattle.toml_span.specs.code.Marks.{IsHaltInside};
-ghost use Rattle.toml_span.specs.code.Placing.{AreSections, Assembles, Opening, Opens, Passes, Places, Reaches};
-ghost use Rattle.toml_span.specs.code.Relative.{adding, ending, counts_after, counts_after_end, counts_after_through};
-ghost use Rattle.toml_span.specs.code.Relative.{counts_after_adding, opening, part_sort, passing, section_at, through};
-ghost use Rattle.toml_span.specs.code.Tree.{counts, IsHeld, IsOpen, IsScope};
+ghost use Rattle.toml_span.specs.code.Placing.{claims_of, AreSections, Assembles, Opening, Opens, Passes, PassesHeader};
+ghost use Rattle.toml_span.specs.code.Placing.{PassesTable, PlacesSection, Reaches};
+ghost use Rattle.toml_span.specs.code.Relative.{adding, ending, counts_after_adding, counts_after_end, opening};
+ghost use Rattle.toml_span.specs.code.Relative.{part_sort};
+ghost use Rattle.toml_span.specs.code.Tree.{counts, IsHeld, IsOpen};
 ghost use Rattle.toml_span.specs.code.Growing.{GrownRight, Grows, IsBare, IsGrownInside, PlacesBlock};
 ghost use Rattle.toml_span.specs.Parsing.{IsRoot};
 
@@ -23,6 +22,7 @@ use std::alloc::{AllocError, Global};
 use std::collections::btree_map::Entry;
 use toml_span_lex::key::Key;
 use toml_span_lex::span::Span;
+use toml_span_lex::stop::Stop;
 use toml_span_read::{Assignment, Section};
 use toml_span_tree::{Value, ValueInner};
 
@@ -61,12 +61,9 @@ fn place_section<'de>(
     head: Head,
     pairs: Vec<Assignment<'de>>,
 ) -> Result<(), Halt>
-    ensures places { Places node.old node.new result (section_at (counts node.old) head (map part_of parts.now)
-        (key_value_claims (map key_value pairs.entry.items) []))
-        (counts_after (counts node.old) head (map part_of parts.now)) }
-    ensures borrows { (text : List ℕ) → AreWrittenRight text (keys_written parts.now)
-        → AreWrittenRight text (assignments_written pairs.entry.items)
-        → Keeps text node.old node.new result }
+    ensures places { PlacesSection node.old node.new result head parts.now pairs.entry.items }
+    ensures borrows { (text : List ℕ) → IfSectionRight text parts.now pairs.entry.items
+        (Keeps text node.old node.new result) }
 {
     let [part, rest @ ..] = parts else {
         return place_all(alloc, pairs, node);
@@ -91,13 +88,9 @@ fn pass_child<'de>(
     head: Head,
     pairs: Vec<Assignment<'de>>,
 ) -> Result<(), Halt>
-    ensures places { Passes child.old.value child.new.value result
-        (through (counts child.old.value) head (part_of part.now) (map part_of rest.now)
-        (key_value_claims (map key_value pairs.entry.items) [])) (counts_after_through (counts child.old.value) head
-        (map part_of rest.now)) }
-    ensures borrows { (text : List ℕ) → AreWrittenRight text (keys_written rest.now)
-        → AreWrittenRight text (assignments_written pairs.entry.items)
-        → KeepsName text part.now.span child.old.value child.new.value result }
+    ensures places { PassesHeader child.old.value child.new.value result head part.now rest.now pairs.entry.items }
+    ensures borrows { (text : List ℕ) → IfSectionRight text rest.now pairs.entry.items
+        (KeepsName text part.now.span child.old.value child.new.value result) }
 {
     pass_header(alloc, child.as_mut(), part, rest, head, pairs)
 }
@@ -114,12 +107,9 @@ fn pass_header<'de>(
     head: Head,
     pairs: Vec<Assignment<'de>>,
 ) -> Result<(), Halt>
-    ensures places { Passes node.old node.new result (through (counts node.old) head (part_of part.now)
-        (map part_of rest.now) (key_value_claims (map key_value pairs.entry.items) []))
-        (counts_after_through (counts node.old) head (map part_of rest.now)) }
-    ensures borrows { (text : List ℕ) → AreWrittenRight text (keys_written rest.now)
-        → AreWrittenRight text (assignments_written pairs.entry.items)
-        → KeepsName text part.now.span node.old node.new result }
+    ensures places { PassesHeader node.old node.new result head part.now rest.now pairs.entry.items }
+    ensures borrows { (text : List ℕ) → IfSectionRight text rest.now pairs.entry.items
+        (KeepsName text part.now.span node.old node.new result) }
 {
     if rest.is_empty() {
         return end_header(alloc, node, part, head, pairs);
@@ -140,12 +130,9 @@ fn descend<'de>(
     head: Head,
     pairs: Vec<Assignment<'de>>,
 ) -> Result<(), Halt>
-    ensures places { Opening IsScope (claims.header_mark head Passed part.now.span) node.old node.new result
-        (passing head (part_of part.now) (map part_of rest.now) (key_value_claims (map key_value pairs.entry.items) [])
-        (counts node.old)) (counts_after (counts node.old) head (map part_of rest.now)) }
-    ensures borrows { (text : List ℕ) → AreWrittenRight text (keys_written rest.now)
-        → AreWrittenRight text (assignments_written pairs.entry.items)
-        → KeepsName text part.now.span node.old node.new result }
+    ensures places { PassesTable node.old node.new result head part.now rest.now pairs.entry.items }
+    ensures borrows { (text : List ℕ) → IfSectionRight text rest.now pairs.entry.items
+        (KeepsName text part.now.span node.old node.new result) }
 {
     record_claim(
         alloc,
@@ -167,8 +154,7 @@ fn open_table<'de>(
     pairs: Vec<Assignment<'de>>,
 ) -> Result<(), Halt>
     ensures places { Opening (Opens sort) (claims.header_mark head sort part.now.span) node.old node.new result
-        (opening head sort (part_of part.now) (key_value_claims (map key_value pairs.entry.items) []))
-        (counts node.old) }
+        (opening head sort (part_of part.now) (claims_of pairs.entry.items)) (counts node.old) }
     ensures borrows { (text : List ℕ) → AreWrittenRight text (assignments_written pairs.entry.items)
         → KeepsName text part.now.span node.old node.new result }
 {
@@ -184,9 +170,8 @@ fn add_entry<'de>(
     head: Head,
     pairs: Vec<Assignment<'de>>,
 ) -> Result<(), Halt>
-    ensures places { Reaches IsOpen IsHeld node.old node.new result
-        (adding head (part_of part.now) (key_value_claims (map key_value pairs.entry.items) []) (counts node.old []))
-        (counts_after_adding (counts node.old)) }
+    ensures places { Reaches IsOpen IsHeld node.old node.new result (adding head (part_of part.now)
+        (claims_of pairs.entry.items) (counts node.old [])) (counts_after_adding (counts node.old)) }
     ensures borrows { (text : List ℕ) → AreWrittenRight text (assignments_written pairs.entry.items)
         → Keeps text node.old node.new result }
 {
@@ -205,9 +190,8 @@ fn end_header<'de>(
     head: Head,
     pairs: Vec<Assignment<'de>>,
 ) -> Result<(), Halt>
-    ensures places { Passes node.old node.new result (ending head (part_of part.now)
-        (key_value_claims (map key_value pairs.entry.items) []) (counts node.old []))
-        (counts_after_end (counts node.old) head) }
+    ensures places { Passes node.old node.new result (ending head (part_of part.now) (claims_of pairs.entry.items)
+        (counts node.old [])) (counts_after_end (counts node.old) head) }
     ensures borrows { (text : List ℕ) → AreWrittenRight text (assignments_written pairs.entry.items)
         → KeepsName text part.now.span node.old node.new result }
 {
@@ -283,11 +267,11 @@ pub(crate) fn grow<'de>(
     }
     match place(alloc, &mut grown.root, section) {
         Ok(()) => Ok(()),
-        Err(Halt::Clash(clash)) => {
+        Err(Stop::Fault(clash)) => {
             grown.clash = Some(clash);
             Ok(())
         }
-        Err(Halt::Memory(error)) => Err(error),
+        Err(Stop::Memory(error)) => Err(error),
     }
 }
 
@@ -324,7 +308,7 @@ pub(crate) fn finish<'de>(grown: Grown<'de>, length: usize) -> Result<Value<'de>
     match clash {
         Some(clash) => {
             drop(root);
-            return Err(Halt::Clash(clash));
+            return Err(Stop::Fault(clash));
         }
         None => {}
     }

@@ -135,7 +135,7 @@ pub(crate) struct Earlier<'de> {
 
 impl<'de> Earlier<'de> {
     /// No earlier values.
-    pub fn new(alloc: Global) -> Self
+    pub(crate) fn new(alloc: Global) -> Self
         ensures { code.Knows result [] }
     {
         Earlier {

@@ -9,7 +9,7 @@ use toml_span_lex::span::Span;
 use toml_span_tree::{Error, ErrorKind};
 
 /// What is due at a place, where another token stands.
-#[derive(Clone, Copy)]
+#[derive(Clone, Copy, Debug)]
 pub enum Due {
     Value,
     TableKey,
@@ -40,7 +40,7 @@ impl Due {
 }
 
 /// What stands at a place: a token, or the end of the text.
-#[derive(Clone, Copy)]
+#[derive(Clone, Copy, Debug)]
 pub enum Found {
     EndOfText,
     Whitespace,
@@ -90,7 +90,7 @@ impl Found {
 }
 
 /// What is wrong.
-#[derive(Clone, Copy)]
+#[derive(Clone, Copy, Debug)]
 pub enum FaultKind {
     UnexpectedEof,
     ExceededDepthLimit,
@@ -109,7 +109,7 @@ pub enum FaultKind {
 }
 
 /// What is wrong, and where.
-#[derive(Clone, Copy)]
+#[derive(Clone, Copy, Debug)]
 pub struct Fault {
     pub kind: FaultKind,
     pub span: Span,
@@ -128,7 +128,7 @@ pub(crate) fn fault_at(kind: FaultKind, at: usize) -> Fault
 }
 
 /// The fault that these bytes are no number.
-pub fn invalid_number(start: usize, end: usize) -> Fault
+pub(crate) fn invalid_number(start: usize, end: usize) -> Fault
     ensures { result ≡ numerals.invalid_number start end }
 {
     let span = Span { start, end };

@@ -110,7 +110,7 @@ pub(crate) fn opened(text: &str, at: usize) -> usize
 }
 
 /// What is behind an element of an array or a pair of an inline table, with a byte offset.
-pub enum Behind {
+pub(crate) enum Behind {
     /// A comma: the offset behind it and the gap that follows.
     Comma(usize),
     /// The closing bracket: the offset behind it.
@@ -124,7 +124,7 @@ pub enum Behind {
 /// `array-sep = %x2C`, `inline-table-sep = %x2C`, `array-close = %x5D`, `inline-table-close = %x7D` (TOML 1.1,
 /// Array, Inline Table)
 #[inline(always)]
-pub fn after_element(text: &str, at: usize, close: u8) -> Behind
+pub(crate) fn after_element(text: &str, at: usize, close: u8) -> Behind
     requires boundary { IsCharBoundary text.now at }
     requires some { 0 < close }
     requires ascii { close < 128 }
@@ -145,7 +145,7 @@ pub fn after_element(text: &str, at: usize, close: u8) -> Behind
 /// What is behind an equals sign with gaps round it, or where it is due.
 ///
 /// `keyval-sep = ws %x3D ws` of a pair (TOML 1.1, Inline Table), with line ends and comments too, unlike the standard
-pub fn pair_equals(text: &str, at: usize) -> Result<usize, usize>
+pub(crate) fn pair_equals(text: &str, at: usize) -> Result<usize, usize>
     requires { IsCharBoundary text.now at }
     ensures { SeparatorGives equals text.now at result }
 {
@@ -160,7 +160,7 @@ pub fn pair_equals(text: &str, at: usize) -> Result<usize, usize>
 /// What is behind an equals sign with spaces and tabs round it, or where it is due.
 ///
 /// `keyval-sep = ws %x3D ws` (TOML 1.1, Key/Value Pair)
-pub fn line_equals(text: &str, at: usize) -> Result<usize, usize>
+pub(crate) fn line_equals(text: &str, at: usize) -> Result<usize, usize>
     requires { IsCharBoundary text.now at }
     ensures { EqualsGives text.now at result }
 {

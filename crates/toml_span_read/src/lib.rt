@@ -2,15 +2,15 @@
 #![tactic(auto)]
 
 pub mod dates;
-pub mod earlier;
+mod earlier;
 pub mod fault;
 pub mod gaps;
-pub mod keys;
+mod keys;
 pub mod numbers;
 pub mod section;
 pub mod sections;
 pub mod value;
-pub mod values;
+mod values;
 pub mod wanted;
 
 pub use section::Section;

@@ -6,7 +6,7 @@ use toml_span_lex::span::Span;
 
 /// A header with the assignments behind it. The assignments before the first header are a section of
 /// their own, whose header has no parts.
-#[derive(Drop)]
+#[derive(Debug, Drop)]
 pub struct Section<'de> {
     pub header: SmallVec<Key<'de>, 5>,
     /// Whether the header stands in double brackets.

@@ -148,7 +148,7 @@ fn bare<'de>(alloc: Global, text: &'de str, at: usize) -> Result<(ValKind<'de>, 
 }
 
 /// A run of letters.
-pub enum Run {
+pub(crate) enum Run {
     True,
     False,
     /// A number of letters, as `inf`.

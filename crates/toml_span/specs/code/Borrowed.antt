@@ -7,14 +7,16 @@ use Rattle.toml_span_lex.specs.declared.key.Key.{Key}
 use Rattle.toml_span_tree.specs.Node.{Node, node, table}
 use Rattle.toml_span_tree.specs.Value.{members_view, view}
 use Rattle.toml_span_tree.specs.declared.value.Value.{Value}
-use Rattle.toml_span_read.specs.Borrowed.{joined}
+use Rattle.toml_span_read.specs.Borrowed.{assignments_written, joined, key_written, keys_written, AreWrittenRight}
+use Rattle.toml_span_read.specs.Borrowed.{IsWrittenRight}
+use Rattle.toml_span_read.specs.declared.value.Assignment.{Assignment}
 use Rattle.toml_span.specs.Borrowed.{KeySpans, Held, StringOrKey, entries_standing, AreBorrowedRight, held}
 use Rattle.toml_span.specs.declared.branch.Branch.TheOpen.{Branch-F}
 use Rattle.toml_span.specs.declared.branch.Branch.{Branch, fold-Branch}
-use Rattle.toml_span.specs.declared.claims.Halt.{Halt}
 use Rattle.toml_span.specs.declared.claims.Mark.{Mark}
+use Rattle.toml_span.specs.declared.scopes.Pending.{Pending}
 use Rattle.toml_span.specs.code.Machine.{key_spans}
-use Rattle.toml_span.specs.code.Marks.{first}
+use Rattle.toml_span.specs.code.Marks.{Halt, first}
 use Rattle.toml_span.specs.code.Tree.{cells, marks, value_shows, IsFresh}
 
 -- what stands in a table
@@ -89,6 +91,16 @@ KeepsName text next old new r =
 -- the value, if there is one, is right by the spans of its own keys
 abbrev pub ValueRight : List ℕ → Result Value Halt → Type 0
 ValueRight text r = IfOk r (λ v. (at : Option Span) → AreBorrowedRight text (own_held at v))
+
+-- this holds where these parts of a key, and what is pending behind them, are right
+abbrev pub IfPairRight : List ℕ → List Key → Pending → Type 0 → Type 0
+IfPairRight text inner d P =
+    AreWrittenRight text (keys_written inner) → IsWrittenRight text (key_written d.last) → ValueRight text d.value → P
+
+-- this holds where these parts of a header, and the assignments behind it, are right
+abbrev pub IfSectionRight : List ℕ → List Key → List Assignment → Type 0 → Type 0
+IfSectionRight text parts pairs P =
+    AreWrittenRight text (keys_written parts) → AreWrittenRight text (assignments_written pairs) → P
 
 -- what is right in a branch is right in what it becomes, by the keys of the first claims
 abbrev pub StaysRight : Branch → Held → Type 0

@@ -9,7 +9,7 @@ use Rattle.toml_span_read.specs.Places.{IsInside}
 use Rattle.toml_span_read.specs.declared.section.Section.{Section}
 use Rattle.toml_span_read.specs.Read.{document}
 use Rattle.toml_span_read.specs.declared.fault.Fault.{Fault}
-use Rattle.toml_span.specs.declared.claims.Halt.{Halt}
+use Rattle.toml_span.specs.code.Marks.{Halt}
 use Rattle.toml_span.specs.declared.branch.Branch.{Branch}
 use Rattle.toml_span.specs.Claims.{key_value_claims, head_of, claims_behind, claims}
 use Rattle.toml_span.specs.code.Placing.{Places, AreSections}

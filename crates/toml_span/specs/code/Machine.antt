@@ -8,12 +8,11 @@ use Rattle.toml_span_tree.specs.Path.{Place, Path, Step}
 use Rattle.toml_span.specs.declared.claims.Mark.{Mark}
 use Rattle.toml_span.specs.Claims.{Claim, Claims, no_claims, claimed, scope}
 use Rattle.toml_span.specs.Flat.{by_header}
-use Rattle.toml_span.specs.code.Marks.{earliest_meeting, remember}
+use Rattle.toml_span.specs.code.Marks.{Halt, earliest_meeting, remember}
 use Rattle.toml_span.specs.Paths.{same_path, same_step}
 use Rattle.toml_span.specs.Clashes.{NamedClash, named, or_else}
 use Rattle.toml_span.specs.declared.claims.Clash as code
-use Rattle.toml_span.specs.declared.claims.Halt.{Halt}
-use Rattle.toml_span.specs.declared.claims.Halt.TheVariants.{Memory, Clash}
+use Rattle.toml_span_lex.specs.declared.stop.Stop.TheVariants.{Memory, Fault}
 
 -- what a path shows so far: whether a header decides, what stands there, and the key with which it was claimed first
 pub record Decided : Type 0 where
@@ -90,7 +89,7 @@ clash_told c = record { meeting = (box_value c).meeting; name = string_bytes (bo
 -- Ok, where P holds, if there is no clash, and else that clash. It may be want of memory.
 abbrev pub Gives : {A : Type 0} → Result A Halt → Option NamedClash → (A → Type 0) → Type 0
 Gives (Ok x) o P = (o ≡ None) × P x
-Gives (Err (Clash c)) o P = o ≡ Some (clash_told c)
+Gives (Err (Fault c)) o P = o ≡ Some (clash_told c)
 Gives (Err (Memory e)) o P = ⊤
 
 -- the state with another one below a step

@@ -1,5 +1,6 @@
 -- What a branch of the tree under construction keeps of the claims on it.
 use Rattle.std.specs.Box.{box_value}
+use Rattle.std.specs.Global.{Box}
 use Rattle.toml_span.specs.declared.claims.Clash as code
 use Rattle.std.specs.Prelude.{◌≡◌, ⊤, ℕ, Bool, nat_eq, if◌then◌else◌, List, [], ◌∷◌, ◌++◌, Option, Some, None}
 use Rattle.std.specs.Prelude.{string_bytes}
@@ -10,8 +11,8 @@ use Rattle.toml_span.specs.declared.claims.Sort.TheVariants.{Passed, StandardTab
 use Rattle.toml_span.specs.declared.claims.Sort.TheVariants.{Assigned}
 use Rattle.toml_span.specs.declared.claims.Mark.{Mark}
 use Rattle.toml_span.specs.declared.claims.Meeting.{Meeting}
-use Rattle.toml_span.specs.declared.claims.Halt.{Halt}
-use Rattle.toml_span.specs.declared.claims.Halt.TheVariants.{Memory, Clash}
+use Rattle.toml_span_lex.specs.declared.stop.Stop.{Stop}
+use Rattle.toml_span_lex.specs.declared.stop.Stop.TheVariants.{Memory, Fault}
 use Rattle.toml_span.specs.Flat.{by_header}
 use Rattle.toml_span.specs.Clashes.{meeting_between, or_else}
 
@@ -39,18 +40,18 @@ abbrev pub earliest_meeting : List Mark → Mark → Option Meeting
 earliest_meeting [] later = None
 earliest_meeting (earlier ∷ marks) later = or_else (meeting_between earlier later) (earliest_meeting marks later)
 
+-- why no tree is given: memory ran out, or a clash
+abbrev pub Halt : Type 0
+Halt = Stop (Box code.Clash)
+
 -- a clash over a name
 abbrev pub IsClashOver : code.Clash → Meeting → List ℕ → Type 0
 IsClashOver c m name = (c.meeting ≡ m) × (string_bytes c.name ≡ name)
 
 -- the halt at a clash over a name; or want of memory
 abbrev pub Halts : Halt → Meeting → List ℕ → Type 0
-Halts (Clash c) m name = IsClashOver (box_value c) m name
+Halts (Fault c) m name = IsClashOver (box_value c) m name
 Halts (Memory e) m name = ⊤
-
-abbrev pub IsMemory : Halt → Type 0
-IsMemory (Memory e) = ⊤
-IsMemory (Clash c) = ⊥
 
 abbrev pub first_by_header : List Mark → Option Mark
 first_by_header [] = None
@@ -67,4 +68,4 @@ deciding marks = or_else (first_by_header marks) (first marks)
 -- a clash is told inside the first n bytes
 abbrev pub IsHaltInside : ℕ → Halt → Type 0
 IsHaltInside n (Memory e) = ⊤
-IsHaltInside n (Clash c) = IsInside n (box_value c).meeting.span
+IsHaltInside n (Fault c) = IsInside n (box_value c).meeting.span

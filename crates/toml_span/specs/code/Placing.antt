@@ -1,5 +1,6 @@
 -- What the functions that place claims give.
-use Rattle.std.specs.Prelude.{◌≡◌, ⊤, ℕ, ◌⊎◌, false, List, [], ◌∷◌, Result, Ok, Err, Option, Some, None, option_map}
+use Rattle.std.specs.Prelude.{◌≡◌, ⊤, ℕ, ◌⊎◌, false, List, [], ◌∷◌, map, Result, Ok, Err, Option, Some, None}
+use Rattle.std.specs.Prelude.{option_map}
 use Rattle.std.specs.BTreeMap.{BTreeMap}
 use Rattle.std.specs.Cmp.Lexicographic.{slice_cmp}
 use Rattle.std.specs.Cow.{cow_str_bytes}
@@ -16,21 +17,25 @@ use Rattle.toml_span_tree.specs.Value.{view, inner_view, inner_of as tree_inner}
 use Rattle.toml_span_tree.specs.declared.value.Value.{Value}
 use Rattle.toml_span_tree.specs.Node as tree
 use Rattle.toml_span_tree.specs.declared.value.ValueInner.TheVariants.{Table as table_inner}
-use Rattle.toml_span_read.specs.Data.{ParsedValue as Read, parsed_span, Block}
-use Rattle.toml_span.specs.declared.claims.Halt.{Halt}
+use Rattle.toml_span_read.specs.Data.{ParsedValue as Read, parsed_span, Block, key_value, simple_key}
+use Rattle.toml_span_read.specs.declared.value.Assignment.{Assignment}
 use Rattle.toml_span.specs.declared.branch.Branch.{Branch}
-use Rattle.toml_span.specs.Claims.{Claims, value_claims, value_shape, parsed_inner, shape_claimed, claims}
+use Rattle.toml_span.specs.Claims.{Claims, value_claims, value_shape, parsed_inner, shape_claimed, claims, header_mark}
+use Rattle.toml_span.specs.Claims.{key_value_claims}
 use Rattle.toml_span.specs.code.Machine.{Gives, clash_met, put_all, nothing, show_all, Cell, State, clash_told}
+use Rattle.toml_span.specs.code.Relative.{counts_after, counts_after_through, passing, section_at, through, through_pair}
 use Rattle.toml_span.specs.code.Tree.{entries, cells, counts, marks, IsScope, IsChild, IsHeld, Sound, value_shows}
+use Rattle.toml_span.specs.declared.claims.Head.{Head}
 use Rattle.toml_span.specs.declared.claims.Mark.{Mark}
-use Rattle.toml_span.specs.code.Marks.{remember, deciding}
+use Rattle.toml_span.specs.code.Marks.{Halt, remember, deciding}
 use Rattle.toml_span.specs.declared.claims.Sort.{Sort}
-use Rattle.toml_span.specs.declared.claims.Sort.TheVariants.{StandardTable, TableElement}
+use Rattle.toml_span.specs.declared.claims.Sort.TheVariants.{Passed, StandardTable, TableElement}
+use Rattle.toml_span.specs.declared.scopes.Pending.{Pending}
 use Rattle.toml_span.specs.Ordered.{IsOrdered, HoldsOrdered}
 use Rattle.toml_span.specs.Borrowed.{held}
 use Rattle.toml_span.specs.code.Borrowed.{table_held, StaysRight}
 use Rattle.toml_span.specs.declared.branch.Branch.TheViews.{out-Branch}
-use Rattle.toml_span.specs.declared.claims.Halt.TheVariants.{Memory, Clash}
+use Rattle.toml_span_lex.specs.declared.stop.Stop.TheVariants.{Memory, Fault}
 use Rattle.toml_span.specs.Clashes.{Resolves, first_clash}
 use Rattle.toml_span.specs.Flat.{Shows, flat}
 
@@ -58,6 +63,36 @@ Opening Before m old new r cs entries =
 -- a branch that is claimed for a section, or a table that is claimed for an entry
 abbrev pub Opens : Sort → Branch → Type 0
 Opens sort n = Sound n × ((sort ≡ StandardTable) ⊎ ((sort ≡ TableElement) × (entries n ≡ [])))
+
+-- ---- keys and headers
+
+-- what these assignments claim, seen from their table
+abbrev pub claims_of : List Assignment → Claims
+claims_of pairs = key_value_claims (map key_value pairs) []
+
+-- what is pending is placed from the branch of a part on, behind which these parts follow
+abbrev pub PassesPair : Branch → Branch → Result (Unit {0}) Halt → Key → List Key → Pending → Read → Type 0
+PassesPair old new r part rest d v =
+    Passes old new r (through_pair (simple_key part) (map simple_key rest) (simple_key d.last) v) (counts old)
+
+-- a section, of whose header these parts are left, is placed below a branch
+abbrev pub PlacesSection : Branch → Branch → Result (Unit {0}) Halt → Head → List Key → List Assignment → Type 0
+PlacesSection old new r h parts pairs =
+    Places old new r (section_at (counts old) h (map simple_key parts) (claims_of pairs))
+    (counts_after (counts old) h (map simple_key parts))
+
+-- from the branch of a part on
+abbrev pub PassesHeader : Branch → Branch → Result (Unit {0}) Halt → Head → Key → List Key → List Assignment → Type 0
+PassesHeader old new r h part rest pairs =
+    Passes old new r (through (counts old) h (simple_key part) (map simple_key rest) (claims_of pairs))
+    (counts_after_through (counts old) h (map simple_key rest))
+
+-- from a table on that the header passes through
+abbrev pub PassesTable : Branch → Branch → Result (Unit {0}) Halt → Head → Key → List Key → List Assignment → Type 0
+PassesTable old new r h part rest pairs =
+    Opening IsScope (header_mark h Passed part.span) old new r
+    (passing h (simple_key part) (map simple_key rest) (claims_of pairs) (counts old))
+    (counts_after (counts old) h (map simple_key rest))
 
 -- ---- values
 
@@ -146,5 +181,5 @@ AreSections (b ∷ bs) = (b.header ≡ [] → b.array ≡ false) × AreSections 
 abbrev pub Assembles : List Block → ℕ → Result Value Halt → Type 0
 Assembles bs length (Ok root) =
     Resolves (claims bs) × Shows (view root) (flat length (claims bs)) × IsOrdered (view root)
-Assembles bs length (Err (Clash c)) = first_clash (claims bs) ≡ Some (clash_told c)
+Assembles bs length (Err (Fault c)) = first_clash (claims bs) ≡ Some (clash_told c)
 Assembles bs length (Err (Memory e)) = ⊤

@@ -7,20 +7,20 @@ use Rattle.toml_span.proofs.de.tree_of.Goals as goal
 pub line_info-place-requires : goal.line_info-place-requires
 line_info-place-requires c =
     let n = length c.args.text.now in
-    let inside = clash_inside n _ _ c.in-Err-Clash.field-0-is (c.in-Err-Clash.ensures.placed n c.requires.inside) in
+    let inside = clash_inside n _ _ c.in-Err-Fault.field-0-is (c.in-Err-Fault.ensures.placed n c.requires.inside) in
     rw c.into_inner-clash.ensures (omega (arith, inside.0, inside.1))
 
 pub returns-in-Ok-clause-answers : goal.returns-in-Ok-clause-answers
 returns-in-Ok-clause-answers c = λ bs limit given grows. answers-tree c.args.text.now limit bs _ given (c.in-Ok.ensures.assembles bs grows)
 
-pub returns-in-Err-Clash-clause-answers : goal.returns-in-Err-Clash-clause-answers
-returns-in-Err-Clash-clause-answers c = λ bs limit given grows.
+pub returns-in-Err-Fault-clause-answers : goal.returns-in-Err-Fault-clause-answers
+returns-in-Err-Fault-clause-answers c = λ bs limit given grows.
     let n = length c.args.text.now in
     let place = c.line_info-place.result in
-    let inside = clash_inside n _ _ c.in-Err-Clash.field-0-is (c.in-Err-Clash.ensures.placed n c.requires.inside) in inr (
+    let inside = clash_inside n _ _ c.in-Err-Fault.field-0-is (c.in-Err-Fault.ensures.placed n c.requires.inside) in inr (
       bs,
-      clash_told c.in-Err-Clash.clash,
-      (given, first-of-halt _ n _ _ c.in-Err-Clash.field-0-is (c.in-Err-Clash.ensures.assembles bs grows)),
+      clash_told c.in-Err-Fault.clash,
+      (given, first-of-halt _ n _ _ c.in-Err-Fault.field-0-is (c.in-Err-Fault.ensures.assembles bs grows)),
       record {
         line = place.0;
         column = place.1;

@@ -13,7 +13,7 @@ returns-in-Ok-clause-borrows c = λ text from right.
     let none : is_some c.args.grown.now.clash ≡ false = sym c.is_some.ensures ∙ c.if-is_some.false in
     right-more text c.args.grown.now.root c.place.new.root c.args.grown.now.clash none right (c.in-Ok.ensures.borrows text from)
 
-pub returns-in-Err-Clash-clause-grows : goal.returns-in-Err-Clash-clause-grows
-returns-in-Err-Clash-clause-grows c = λ bs headed grows.
+pub returns-in-Err-Fault-clause-grows : goal.returns-in-Err-Fault-clause-grows
+returns-in-Err-Fault-clause-grows c = λ bs headed grows.
     let none : is_some c.args.grown.now.clash ≡ false = sym c.is_some.ensures ∙ c.if-is_some.false in
-    grows-clash bs (block c.args.section) c.args.grown.now.root c.place.new.root c.args.grown.now.clash _ c.in-Err-Clash.clash none c.in-Err-Clash.field-0-is headed grows c.in-Err-Clash.ensures.places
+    grows-clash bs (block c.args.section) c.args.grown.now.root c.place.new.root c.args.grown.now.clash _ c.in-Err-Fault.clash none c.in-Err-Fault.field-0-is headed grows c.in-Err-Fault.ensures.places
