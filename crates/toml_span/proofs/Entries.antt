@@ -12,10 +12,10 @@ use Rattle.toml_span.specs.code.Machine.{graft}
 use Rattle.toml_span.specs.code.Marks.{Halt, remember}
 use Rattle.toml_span.specs.code.Placing.{Opening, Opens, Passes, Reaches}
 use Rattle.toml_span.specs.code.Relative.{counts_after_adding, under}
-use Rattle.toml_span.specs.code.Tree.{IsArray, IsChild, IsEntry, IsFresh, IsHeld, IsNamed, IsOpen, IsScope, IsTableOrArray, Sound, count_at, cells, counts, entries, is_entry_sort, item, marks, none_open}
+use Rattle.toml_span.specs.code.Tree.{IsArray, IsChild, IsEntry, IsFresh, IsHeld, IsNamed, IsOpen, IsScope, IsTableOrArray, Sound, count_at, cells, counts, entries, is_entry_sort, item, marks}
 use Rattle.toml_span.proofs.Claimed.{entry-remember}
 use Rattle.toml_span.proofs.Grafts.{graft-itself}
-use Rattle.toml_span.proofs.Nodes.{Sets, Slot, cells-at, cells-fresh, cells-sets, counts-at, counts-fresh, counts-here, counts-sets, good-entry, good-sets, open-good, out-roll, scope-fresh, sets-roll, slot, slot_in, sound-from, sound-good, sound-shape}
+use Rattle.toml_span.proofs.Nodes.{Sets, Slot, cells-at, cells-fresh, cells-sets, counts-at, counts-fresh, counts-here, counts-sets, good-entry, good-sets, open-good, out-roll, scope-fresh, sets-roll, slot, slot_in, sound-from, sound-good, sound-shape, none_open}
 use Rattle.toml_span.proofs.Placed.{cond-slot, on_ok, reaches-below, reaches-stops}
 
 -- ---- lists

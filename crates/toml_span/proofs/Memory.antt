@@ -11,7 +11,8 @@ use Rattle.toml_span_read.specs.declared.section.Section.{Section}
 use Rattle.toml_span_read.specs.Data.{KeyValue, Block, block, first_block, SimpleKey}
 use Rattle.toml_span_read.specs.Gaps.{MaximalGap}
 use Rattle.toml_span_read.specs.Keys.{SpellsKey}
-use Rattle.toml_span_read.specs.Grammar.{OpensHeader, SpellsKeyValues, SpellsSection, SpellsSections}
+use Rattle.toml_span_read.specs.Grammar.{OpensHeader, SpellsSection}
+use Rattle.toml_span_read.proofs.Spelled.{SpellsKeyValues, SpellsSections}
 use Rattle.toml_span_read.specs.Read as read
 use Rattle.toml_span_read.proofs.ReadSound.{document_sound}
 use Rattle.toml_span_read.specs.Reading.{HoldsForm, OnlyFormsTakeMemory}

@@ -11,7 +11,7 @@ use Rattle.toml_span.specs.declared.branch.Branch.TheViews.{roll-Branch, out-Bra
 use Rattle.toml_span.specs.Ordered.{IsOrdered}
 use Rattle.toml_span.specs.Paths.{same_step}
 use Rattle.toml_span.specs.code.Machine.{Cell, State, no_cell, nothing, graft}
-use Rattle.toml_span.specs.code.Tree.{IsEntry, IsFresh, IsNamed, IsOpen, IsScope, IsTableOrArray, NoArray, Sound, sound, cell_at, cells, child, child_in, closed, closed_in, closed_cell, count_at, counts, entries, is_named, item, marks, none_open, or_closed, or_nothing, or_zero, own_cell}
+use Rattle.toml_span.specs.code.Tree.{IsEntry, IsFresh, IsNamed, IsOpen, IsScope, IsTableOrArray, NoArray, Sound, sound, cell_at, cells, child, child_in, closed, closed_in, closed_cell, count_at, counts, entries, is_named, item, marks, or_closed, or_nothing, or_zero, own_cell}
 use Rattle.toml_span.proofs.Grafts.{fun_ext, graft-is, path_ext, same_step-eq, same_step-self}
 
 pub roll-out : (n : Branch) → roll-Branch (out-Branch n) ≡ n
@@ -123,6 +123,9 @@ fresh-slot n h s = grind (arith, nat_tests, common_steps, bare-slot)
 pub cells-fresh : (n : Branch) → IsFresh n → cells n ≡ nothing
 unfolding cell_at
 cells-fresh n h = path_ext (ap own_cell h.no_marks) (λ s p. cells-step n s p ∙ ap (λ x. slot_cell x p) (fresh-slot n h s))
+
+abbrev pub none_open : Path → ℕ
+none_open p = 0
 
 pub counts-fresh : (n : Branch) → IsFresh n → counts n ≡ none_open
 unfolding count_at

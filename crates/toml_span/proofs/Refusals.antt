@@ -13,7 +13,8 @@ use Rattle.toml_span_read.specs.code.Faults.{IsPlacedStop}
 use Rattle.toml_span_read.specs.Faults.{Tells}
 use Rattle.toml_span_read.specs.Keys.{SpellsKey}
 use Rattle.toml_span_read.specs.Read as read
-use Rattle.toml_span_read.specs.Grammar.{SpellsDocument, SpellsSections}
+use Rattle.toml_span_read.specs.Grammar.{SpellsDocument}
+use Rattle.toml_span_read.proofs.Spelled.{SpellsSections}
 use Rattle.toml_span.specs.declared.claims.Clash.{Clash}
 use Rattle.toml_span.specs.code.Marks.{Halt}
 use Rattle.toml_span.specs.Claims.{claims}

@@ -43,12 +43,9 @@ entries_standing (e ∷ es) spans =
 -- one level of each type, with each value inside already seen; a string's span is its value's
 abbrev pub inner_step : ValueInner-F (Span → Held) Held → Span → Held
 inner_step (ValueInner-F.String s) span spans = (s, Some span) ∷ []
-inner_step (ValueInner-F.Integer n) span spans = []
-inner_step (ValueInner-F.Float x) span spans = []
-inner_step (ValueInner-F.Boolean b) span spans = []
-inner_step (ValueInner-F.Datetime d) span spans = []
 inner_step (ValueInner-F.Array v) span spans = elements_standing 0 v.items spans
 inner_step (ValueInner-F.Table m) span spans = entries_standing m.entries spans
+inner_step _ span spans = []
 
 abbrev pub held_or_none : Option (Span → Held) → Span → Held
 held_or_none None span spans = []

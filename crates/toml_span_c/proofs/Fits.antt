@@ -8,7 +8,8 @@ use Rattle.toml_span_lex.specs.Strings.{IsString}
 use Rattle.toml_span_tree.specs.Node.{Scalar, text as text_scalar, integer, float, boolean, datetime, finite, infinite, not_a_number}
 use Rattle.toml_span_tree.specs.Path.{Path, Step, key, position, Shape, shape_scalar, Place}
 use Rattle.toml_span_read.specs.Data.{ParsedValue, parsed, scalar, array, inline, ParsedItems, no_items, item, ParsedPairs, no_pairs, pair, KeyValue, Block, first_block, SimpleKey}
-use Rattle.toml_span_read.specs.Grammar.{SpellsScalar, Spells, SpellsItems, SpellsPairs, SpellsKeyValues, OpensHeader, ClosesHeader, SpellsHeader, SpellsSections, SpellsDocument}
+use Rattle.toml_span_read.specs.Grammar.{SpellsScalar, Spells, OpensHeader, ClosesHeader, SpellsHeader, SpellsDocument}
+use Rattle.toml_span_read.proofs.Spelled.{SpellsItems, SpellsPairs, SpellsKeyValues, SpellsSections}
 use Rattle.toml_span_read.specs.Keys.{SpellsSimpleKey, Onward, SpellsKey}
 use Rattle.toml_span_read.specs.Numbers.{SpecialFloat}
 use Rattle.toml_span_read.specs.Numerals.{cleaned, is_negative}

@@ -2,7 +2,8 @@
 use Rattle.toml_span_lex.proofs.Common.{◌≡◌, ℕ, ◌+◌, ◌-◌, ◌≤◌, List, [], ◌∷◌, length, arith, sym, refl, subst, slice_range, codes, nat_tests, common_steps}
 use Rattle.toml_span_read.specs.Keys.{SpellsSimpleKey}
 use Rattle.toml_span_read.specs.Data.{SimpleKey, ParsedValue, parsed, ParsedInner, scalar, array, inline, ParsedItems, no_items, item, ParsedPairs, no_pairs, pair, KeyValue, parsed_span, Block, from_to, first_block}
-use Rattle.toml_span_read.specs.Grammar.{Spells, SpellsDocument, SpellsInner, SpellsItems, SpellsPairs, SpellsKeyValues}
+use Rattle.toml_span_read.specs.Grammar.{Spells, SpellsDocument}
+use Rattle.toml_span_read.proofs.Spelled.{SpellsInner, SpellsItems, SpellsPairs, SpellsKeyValues}
 use Rattle.toml_span_laws.specs.Again.{moved, assigned_again, key_value_again, SpellsAgain, ReadsAgain, ScalarReadsAgain, AllReadAgain, InnerReadAgain, ItemsReadAgain, PairsReadAgain, KeyValuesReadAgain, BlocksReadAgain}
 use Rattle.toml_span_read.proofs.SpanLaws.{value_lies}
 use Rattle.toml_span_places.proofs.Moves.{Copied}

@@ -5,7 +5,8 @@ use Rattle.toml_span_lex.specs.Bytes.{is_keylike, MaximalRun}
 use Rattle.toml_span_tree.specs.Node.{Scalar, text as text_scalar, integer, float, boolean, datetime}
 use Rattle.toml_span_read.specs.Dates.{is_date_byte, begins_date, continues_date, IsCandidate}
 use Rattle.toml_span_read.specs.Numbers.{IsNumber}
-use Rattle.toml_span_read.specs.Grammar.{SpellsScalar, truth_text, Spells, SpellsInner, SpellsItems, SpellsPairs}
+use Rattle.toml_span_read.specs.Grammar.{SpellsScalar, truth_text, Spells}
+use Rattle.toml_span_read.proofs.Spelled.{SpellsInner, SpellsItems, SpellsPairs}
 use Rattle.toml_span_places.proofs.Moves.{Moves, also, Copied, At, further, same_range, either, said, given, behind, nothing, first}
 use Rattle.toml_span_places.proofs.NumbersMove.{number}
 use Rattle.toml_span_places.proofs.DatesAgain.{date_carried}

@@ -2,7 +2,8 @@
 use Rattle.toml_span_lex.proofs.Common.{◌≡◌, ◌⊎◌, inl, inr, refl, ℕ, ◌+◌, ◌≤◌, Bool, false, List, [], ◌∷◌, ◌++◌, length, arith, zero, suc, ◌<◌, get_or, IsStrictlyIncreasing, nat_tests, common_steps}
 use Rattle.toml_span_read.specs.Data.{KeyValue, Block, ParsedValue, parsed, scalar, array, inline, ParsedItems, no_items, item, ParsedPairs, no_pairs, pair, last_end, first_block, SimpleKey}
 use Rattle.toml_span_read.specs.Places.{Ascend}
-use Rattle.toml_span_read.specs.Grammar.{SpellsKeyValues, SpellsHeader, SpellsSections, SpellsDocument, Spells, SpellsItems, SpellsPairs}
+use Rattle.toml_span_read.specs.Grammar.{SpellsHeader, SpellsDocument, Spells}
+use Rattle.toml_span_read.proofs.Spelled.{SpellsKeyValues, SpellsSections, SpellsItems, SpellsPairs}
 use Rattle.toml_span_laws.specs.Places.{KeyValuesAscend, BlocksAscend, part_starts, key_starts, item_key_starts, pair_key_starts, key_value_key_starts, block_key_starts, starts, item_starts, pair_starts, key_value_starts, header_starts, block_starts}
 use Rattle.toml_span_read.proofs.InsideLemmas.{tail_inside, opens_on, shuts_on}
 use Rattle.toml_span_read.proofs.KeyOrder.{dotted_ascend}

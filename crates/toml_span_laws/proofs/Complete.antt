@@ -11,7 +11,8 @@ use Rattle.toml_span_read.specs.Data.{ParsedValue, parsed, scalar, array, inline
 use Rattle.toml_span_read.specs.Dates.{begins_date}
 use Rattle.toml_span_read.specs.Faults.{begins_bare, begins_number}
 use Rattle.toml_span_read.specs.Gaps.{MaximalGap, Closes, Separator}
-use Rattle.toml_span_read.specs.Grammar.{truth_text, SpellsScalar, Spells, SpellsItems, SpellsPairs, SpellsPair, SpellsKeyValue, SpellsKeyValues, SpellsLines, ClosesHeader, SpellsHeader, SpellsSection, SpellsSections, SpellsDocument}
+use Rattle.toml_span_read.specs.Grammar.{truth_text, SpellsScalar, Spells, SpellsLines, ClosesHeader, SpellsHeader, SpellsSection, SpellsDocument}
+use Rattle.toml_span_read.proofs.Spelled.{SpellsItems, SpellsPairs, SpellsPair, SpellsKeyValue, SpellsKeyValues, SpellsSections}
 use Rattle.toml_span_read.specs.Keys.{opens_string, SpellsKey, SpellsSimpleKey, Onward}
 use Rattle.toml_span_read.specs.Numbers.{IsNumber, SpecialFloat, UnsignedDecimal}
 use Rattle.toml_span_read.specs.Numerals.{behind_sign}

@@ -4,7 +4,8 @@ use Rattle.toml_span_lex.specs.declared.span.Span.{Span}
 use Rattle.toml_span_read.specs.Data.{ParsedValue, parsed, ParsedInner, scalar, array, inline, ParsedItems, no_items, item, ParsedPairs, no_pairs, pair, KeyValue, block, Block, first_block, SimpleKey}
 use Rattle.toml_span_read.specs.declared.section.Section.{Section}
 use Rattle.toml_span_read.specs.Limits.{Within, WithinInner, WithinItems, WithinPairs, WithinKeyValues, WithinSection, WithinSections}
-use Rattle.toml_span_read.specs.Grammar.{Spells, SpellsInner, SpellsItems, SpellsPairs, SpellsKeyValues, SpellsLines, SpellsSection, SpellsDocument}
+use Rattle.toml_span_read.specs.Grammar.{Spells, SpellsLines, SpellsSection, SpellsDocument}
+use Rattle.toml_span_read.proofs.Spelled.{SpellsInner, SpellsItems, SpellsPairs, SpellsKeyValues}
 use Rattle.toml_span_read.proofs.ReadSound.{document_sound}
 use Rattle.toml_span_laws.proofs.AscendLaws.{AreBlocks, document_blocks, first_blocks}
 use Rattle.toml_span_tree.specs.Node as tree

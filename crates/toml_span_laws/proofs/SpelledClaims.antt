@@ -10,7 +10,8 @@ use Rattle.toml_span.specs.Claims.{Claim, Claims, no_claims, claimed, scope, hea
 use Rattle.toml_span.specs.Flat.{by_header}
 use Rattle.toml_span.specs.Paths.{with_key, with_position, enter, elements_added, opened_by, section_path}
 use Rattle.toml_span_tree.specs.Node.{Scalar}
-use Rattle.toml_span_read.specs.Grammar.{Spells, SpellsItems, SpellsPairs, SpellsDocument, SpellsKeyValues}
+use Rattle.toml_span_read.specs.Grammar.{Spells, SpellsDocument}
+use Rattle.toml_span_read.proofs.Spelled.{SpellsItems, SpellsPairs, SpellsKeyValues}
 use Rattle.toml_span.proofs.Grafts.{followed-assoc}
 use Rattle.toml_span.proofs.EachClaim.{Each}
 use Rattle.toml_span_laws.proofs.AscendLaws.{AreBlocks, document_blocks}

@@ -6,7 +6,8 @@ use Rattle.toml_span_tree.specs.Node.{Node, node}
 use Rattle.toml_span_tree.specs.Value.{is_whole}
 use Rattle.toml_span_read.specs.Data.{ParsedValue, KeyValue, from_to, first_block, SimpleKey}
 use Rattle.toml_span_read.specs.Gaps.{begins_gap, MaximalGap, Tail}
-use Rattle.toml_span_read.specs.Grammar.{Spells, SpellsKeyValue, SpellsDocument}
+use Rattle.toml_span_read.specs.Grammar.{Spells, SpellsDocument}
+use Rattle.toml_span_read.proofs.Spelled.{SpellsKeyValue}
 use Rattle.toml_span_read.specs.Keys.{SpellsSimpleKey}
 use Rattle.toml_span_places.specs.Again.{ReadsAsKey, ReadsAsValue, HasFloatTexts, IsWithin}
 use Rattle.toml_span_places.proofs.Parts.{Part, same_part, back, tail, here, whole}

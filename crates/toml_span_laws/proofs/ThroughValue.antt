@@ -3,7 +3,8 @@ use Rattle.toml_span_lex.proofs.Common.{◌≡◌, ℕ, suc, ◌+◌, List, [], 
 use Rattle.toml_span_tree.specs.Path.{Path, key}
 use Rattle.toml_span_read.specs.Data.{ParsedValue, parsed, scalar, array, inline, ParsedItems, no_items, item, ParsedPairs, no_pairs, pair, KeyValue, Block, first_block, SimpleKey}
 use Rattle.toml_span_read.specs.Earlier.{Clear, NoneAt, part_names}
-use Rattle.toml_span_read.specs.Grammar.{Spells, SpellsItems, SpellsPairs, SpellsKeyValues, SpellsDocument, SpellsLines, SpellsSections}
+use Rattle.toml_span_read.specs.Grammar.{Spells, SpellsDocument, SpellsLines}
+use Rattle.toml_span_read.proofs.Spelled.{SpellsItems, SpellsPairs, SpellsKeyValues, SpellsSections}
 use Rattle.toml_span_read.specs.Keys.{SpellsKey}
 use Rattle.toml_span.specs.declared.claims.Sort.TheVariants.{Dotted, Assigned, StandardTable}
 use Rattle.toml_span.specs.Claims.{Claim, Claims, no_claims, claimed, scope, followed, key_claims, value_claims, inner_claims, item_claims, pair_claims, key_value_claims, element, assigned, dotted, header_claim, end_claims, header_claims, section_claims, claims_behind, claims, head_of}

@@ -8,7 +8,8 @@ use Rattle.toml_span_tree.specs.Value.{is_whole, holds_whole, all_whole, all_mem
 use Rattle.toml_span_read.specs.Data.{ParsedValue, parsed, ParsedInner, scalar, array, inline, ParsedItems, no_items as none_read, item as item_read, ParsedPairs, no_pairs, pair, KeyValue, from_to, SimpleKey}
 use Rattle.toml_span_read.specs.Dates.{begins_date, is_date_byte}
 use Rattle.toml_span_read.specs.Gaps.{begins_gap, MaximalGap, Separator, Closes}
-use Rattle.toml_span_read.specs.Grammar.{truth_text, SpellsScalar, Spells, SpellsInner, SpellsItems, SpellsPairs}
+use Rattle.toml_span_read.specs.Grammar.{truth_text, SpellsScalar, Spells}
+use Rattle.toml_span_read.proofs.Spelled.{SpellsInner, SpellsItems, SpellsPairs}
 use Rattle.toml_span_read.specs.Keys.{SpellsSimpleKey, SpellsKey}
 use Rattle.toml_span_read.specs.Numbers.{SpecialFloat, FloatLiteral}
 use Rattle.toml_span_read.specs.Numerals.{is_digit_in, behind_sign, is_negative, radix_at, cleaned}
@@ -17,7 +18,7 @@ use Rattle.toml_span_read.proofs.ShortIntegers.{decimal_keylike}
 use Rattle.toml_span_places.specs.Again.{parts_off, HasValue, HoldsValue, HaveValues, HaveEntries, IsFloatText, IsScalarText, HasFloatTexts, InnerHasFloatTexts, ItemsHaveFloatTexts, MembersHaveFloatTexts, IsWithin, InnerIsWithin, ItemsAreWithin, MembersAreWithin, ReadsAsValue}
 use Rattle.toml_span_places.specs.Quoted.{key_text}
 use Rattle.toml_span_places.specs.Spelled.{scalar_text, value_text, inner_text, items_text, members_text}
-use Rattle.toml_span_places.specs.code.Spelled.{IsHeldScalar, IsHeld, IsHeldInner, AreHeld, MembersHeld, CanBeSpelled, InnerCanBeSpelled, ItemsCanBeSpelled, MembersCanBeSpelled}
+use Rattle.toml_span_places.specs.code.Spelled.{IsHeldScalar, IsHeld, IsHeldInner, AreHeld, MembersHeld}
 use Rattle.toml_span_places.proofs.Parts.{Part, between, same_part, front, back, tail, here, next, range, within, whole}
 use Rattle.toml_span_places.proofs.QuotedAgain.{off_parts, run_again, string_again, key_again}
 use Rattle.toml_span_places.proofs.NumbersAgain.{off_bytes, integer_again}
@@ -25,6 +26,27 @@ use Rattle.toml_span_places.proofs.DatesAgain.{date_again}
 use Rattle.toml_span_places.proofs.Moves.{Copied}
 use Rattle.toml_span_places.proofs.NumbersMove.{literal}
 use Rattle.toml_span_places.proofs.Undated.{no_date}
+
+-- ---- what can be spelled
+
+-- it is whole, within the limit, and the text of each float in it spells the float by itself
+abbrev mutual
+  CanBeSpelled : ℕ → ℕ → Node → Type 0
+  CanBeSpelled limit d (node i span) = (d ≤ limit) × InnerCanBeSpelled limit d i
+
+  InnerCanBeSpelled : ℕ → ℕ → Inner → Type 0
+  InnerCanBeSpelled limit d taken = ⊥
+  InnerCanBeSpelled limit d (scalar_node s) = IsScalarText s
+  InnerCanBeSpelled limit d (array_node ns) = ItemsCanBeSpelled limit (d + 1) ns
+  InnerCanBeSpelled limit d (table_node ms) = MembersCanBeSpelled limit (d + 1) ms
+
+  ItemsCanBeSpelled : ℕ → ℕ → Items → Type 0
+  ItemsCanBeSpelled limit d no_items = Unit {0}
+  ItemsCanBeSpelled limit d (item n ns) = CanBeSpelled limit d n × ItemsCanBeSpelled limit d ns
+
+  MembersCanBeSpelled : ℕ → ℕ → Members → Type 0
+  MembersCanBeSpelled limit d no_members = Unit {0}
+  MembersCanBeSpelled limit d (member name key n ms) = CanBeSpelled limit (d + 1) n × MembersCanBeSpelled limit d ms
 
 -- ---- what begins a value begins no gap
 

@@ -2,9 +2,9 @@
 use Rattle.std.specs.Prelude.{◌≡◌, ℕ, ◌+◌, ◌≤◌, Bool, true, false, not, ◌||◌, List, [], ◌∷◌, ◌++◌, length, slice_index}
 use Rattle.toml_span_lex.specs.Strings.{IsString}
 use Rattle.toml_span_lex.specs.declared.span.Span.{Span}
-use Rattle.toml_span_tree.specs.Node.{Scalar, text, integer, float, boolean, datetime, Node, node, Inner, taken, Items}
-use Rattle.toml_span_tree.specs.Node.{no_items, item, Members, no_members, member, FloatValue, finite, infinite}
-use Rattle.toml_span_tree.specs.Node.{not_a_number, scalar as scalar_node, array as array_node, table as table_node}
+use Rattle.toml_span_tree.specs.Node.{Scalar, float, Node, node, Inner, taken, Items, no_items, item, Members, no_members}
+use Rattle.toml_span_tree.specs.Node.{member, FloatValue, finite, infinite, not_a_number, scalar as scalar_node}
+use Rattle.toml_span_tree.specs.Node.{array as array_node, table as table_node}
 use Rattle.toml_span_tree.specs.Value.{is_whole}
 use Rattle.toml_span_read.specs.Data.{ParsedValue, parsed, ParsedInner, scalar, array, inline, ParsedItems, from_to}
 use Rattle.toml_span_read.specs.Data.{no_items as none_read, item as item_read, ParsedPairs, no_pairs, pair}
@@ -67,11 +67,8 @@ IsFloatText (infinite negative) = Unit {0}
 IsFloatText (not_a_number negative) = Unit {0}
 
 abbrev pub IsScalarText : Scalar → Type 0
-IsScalarText (text s) = Unit {0}
-IsScalarText (integer z) = Unit {0}
 IsScalarText (float x) = IsFloatText x
-IsScalarText (boolean b) = Unit {0}
-IsScalarText (datetime d) = Unit {0}
+IsScalarText _ = Unit {0}
 
 -- so does that of each float in the value
 abbrev mutual

@@ -10,7 +10,7 @@ use Rattle.toml_span_read.specs.Grammar.{Spells}
 use Rattle.toml_span_read.specs.Places.{Ascend}
 use Rattle.toml_span_read.specs.Read as read
 use Rattle.toml_span_read.specs.Read.{Reading, ValueEnd}
-use Rattle.toml_span_read.specs.code.Earlier.{StartBefore, AddsClear}
+use Rattle.toml_span_read.specs.code.Earlier.{AddsClear}
 use Rattle.toml_span_read.specs.code.Faults.{IsPlacedStop}
 use Rattle.toml_span_read.proofs.KeyOrder.{dotted_ascend}
 use Rattle.toml_span_read.proofs.InsideLemmas.{ascend_forward}
@@ -18,6 +18,11 @@ use Rattle.toml_span_read.proofs.ReadSound.{PartsSound, key_value_sound, value_s
 use Rattle.toml_span_read.proofs.SpanLaws.{value_lies}
 
 -- ---- the parts of a key
+
+-- each part starts at n or before
+abbrev StartBefore : ℕ → List SimpleKey → Type 0
+StartBefore n [] = Unit {0}
+StartBefore n (p ∷ ps) = (p.span.start ≤ n) × StartBefore n ps
 
 ascend_before : (ps : List SimpleKey) (i j n : ℕ) → j ≤ n → Ascend ps i j → StartBefore n ps
 ascend_before [] i j n l h = tt

@@ -1,4 +1,5 @@
 pub mod Places
+pub mod Spelled
 pub mod FaultPlaces
 pub mod KeyLemmas
 pub mod ReadSound

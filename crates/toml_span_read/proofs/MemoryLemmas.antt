@@ -6,7 +6,8 @@ use Rattle.toml_span_read.specs.declared.section.Section.{Section}
 use Rattle.toml_span_read.specs.Data.{KeyValue, first_block, SimpleKey}
 use Rattle.toml_span_read.specs.Gaps.{MaximalGap}
 use Rattle.toml_span_read.specs.Keys.{SpellsKey}
-use Rattle.toml_span_read.specs.Grammar.{SpellsKeyValue, SpellsKeyValues, SpellsLines}
+use Rattle.toml_span_read.specs.Grammar.{SpellsLines}
+use Rattle.toml_span_read.proofs.Spelled.{SpellsKeyValue, SpellsKeyValues}
 use Rattle.toml_span_read.specs.code.Sections.{first_blocks}
 use Rattle.toml_span_read.specs.Reading.{HoldsForm, OnlyFormsTakeMemory}
 use Rattle.toml_span_read.proofs.InsideLemmas.{ascend_forward, tail_inside}

@@ -12,7 +12,8 @@ use Rattle.toml_span_read.specs.Dates.{begins_date}
 use Rattle.toml_span_read.specs.Earlier.{Clear}
 use Rattle.toml_span_read.specs.Faults.{begins_bare, begins_number}
 use Rattle.toml_span_read.specs.Gaps.{MaximalGap, Separator, Closes, Tail}
-use Rattle.toml_span_read.specs.Grammar.{SpellsScalar, Spells, SpellsItems, SpellsPairs, SpellsPair, SpellsKeyValue, SpellsKeyValues, SpellsLines, OpensHeader, ClosesHeader, SpellsHeader, SpellsSection, SpellsSections, SpellsDocument}
+use Rattle.toml_span_read.specs.Grammar.{SpellsScalar, Spells, SpellsLines, OpensHeader, ClosesHeader, SpellsHeader, SpellsSection, SpellsDocument}
+use Rattle.toml_span_read.proofs.Spelled.{SpellsItems, SpellsPairs, SpellsPair, SpellsKeyValue, SpellsKeyValues, SpellsSections}
 use Rattle.toml_span_read.specs.Keys.{SpellsKey}
 use Rattle.toml_span_read.specs.Numbers.{IsNumber}
 use Rattle.toml_span_read.specs.Numerals.{scalar_of, special, numeral, number, run_end}

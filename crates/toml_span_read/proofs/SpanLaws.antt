@@ -5,7 +5,8 @@ use Rattle.toml_span_tree.specs.Node.{Scalar, text as text_scalar, integer, floa
 use Rattle.toml_span_read.specs.Gaps.{Separator, Closes}
 use Rattle.toml_span_read.specs.Data.{SimpleKey, ParsedValue, parsed, ParsedInner, scalar, array, inline, ParsedItems, no_items, item, ParsedPairs, no_pairs, pair, KeyValue, from_to}
 use Rattle.toml_span_read.specs.Places.{Ascend, Inside, InsideItems, InsidePairs}
-use Rattle.toml_span_read.specs.Grammar.{SpellsScalar, Spells, SpellsInner, SpellsItems, SpellsPairs}
+use Rattle.toml_span_read.specs.Grammar.{SpellsScalar, Spells}
+use Rattle.toml_span_read.proofs.Spelled.{SpellsInner, SpellsItems, SpellsPairs}
 use Rattle.toml_span_read.proofs.NumberReads.{number_on}
 use Rattle.toml_span_read.proofs.Places.{read_within}
 use Rattle.toml_span_read.proofs.KeyOrder.{Lies, string_lies, dotted_ascend}

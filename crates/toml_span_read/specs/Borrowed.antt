@@ -44,12 +44,9 @@ dotted_written key = keys_written key.inner.items ++ (key_written key.last ∷ [
 -- one level of each type, with what is written in each value inside; a string's span is its value's
 abbrev pub kind_step : ValKind-F (Span → List Written) (List Written) (List Written) → Span → List Written
 kind_step (ValKind-F.String s) span = string s span ∷ []
-kind_step (ValKind-F.Integer n) span = []
-kind_step (ValKind-F.Float x) span = []
-kind_step (ValKind-F.Boolean b) span = []
-kind_step (ValKind-F.Datetime d) span = []
 kind_step (ValKind-F.Array v) span = joined v.items
 kind_step (ValKind-F.Inline v) span = joined v.items
+kind_step _ span = []
 
 abbrev pub val_step : Val-F (Span → List Written) (List Written) (List Written) → List Written
 val_step v = v.kind v.span

@@ -77,7 +77,7 @@ abbrev mutual
   -- Pairs behind these earlier ones, each a key of at most limit parts that goes through the value of no earlier pair,
   -- and its value, with commas between them, one more comma or none, and the closing brace. Unlike the standard's
   -- `keyval = key keyval-sep val`, where `keyval-sep = ws %x3D ws`, a pair may have line ends and comments round its
-  -- equals sign. What stands from i to m is `SpellsPair` below, written out: whoever changes one changes both.
+  -- equals sign. The pair's extent runs from its key to behind its value.
   --
   -- `inline-table-keyvals =  ws-comment-newline keyval ws-comment-newline inline-table-sep inline-table-keyvals`
   -- `inline-table-keyvals =/ ws-comment-newline keyval ws-comment-newline [ inline-table-sep ]`
@@ -95,22 +95,6 @@ abbrev mutual
 -- TOML's own values: with dates
 abbrev pub Spells : ParsedValue → List ℕ → ℕ → ℕ → ℕ → ℕ → Type 0
 Spells = SpellsWith SpellsScalar
-
-abbrev pub SpellsInner : ParsedInner → Span → List ℕ → ℕ → ℕ → ℕ → ℕ → Type 0
-SpellsInner = InnerWith SpellsScalar
-
-abbrev pub SpellsItems : ParsedItems → List ℕ → ℕ → ℕ → ℕ → ℕ → Type 0
-SpellsItems = ItemsWith SpellsScalar
-
-abbrev pub SpellsPairs : ParsedPairs → List KeyValue → List ℕ → ℕ → ℕ → ℕ → ℕ → Type 0
-SpellsPairs = PairsWith SpellsScalar
-
--- a pair from i to j: a key of at most limit parts, an equals sign, and a value; its extent runs from the key to behind
--- the value
-abbrev pub SpellsPair : KeyValue → List ℕ → ℕ → ℕ → ℕ → ℕ → Type 0
-SpellsPair e t limit d i j =
-    (a b : ℕ) × SpellsKey e.parts t i a × (length e.parts ≤ limit) × Separator equals t a b
-    × Spells e.value t limit (d + length e.parts) b j × (e.extent ≡ from_to i j)
 
 -- ---- assignments
 
@@ -139,12 +123,6 @@ abbrev pub LinesWith : Scalars → List KeyValue → List ℕ → ℕ → ℕ �
 LinesWith S evs text limit i j = (k : ℕ) × MaximalGap text i k × KeyValuesWith S evs [] text limit k j
 
 -- with dates
-abbrev pub SpellsKeyValue : KeyValue → List ℕ → ℕ → ℕ → ℕ → Type 0
-SpellsKeyValue = KeyValueWith SpellsScalar
-
-abbrev pub SpellsKeyValues : List KeyValue → List KeyValue → List ℕ → ℕ → ℕ → ℕ → Type 0
-SpellsKeyValues = KeyValuesWith SpellsScalar
-
 abbrev pub SpellsLines : List KeyValue → List ℕ → ℕ → ℕ → ℕ → Type 0
 SpellsLines = LinesWith SpellsScalar
 
@@ -220,9 +198,6 @@ pub record DocumentWith (S : Scalars) (bs : List Block) (text : List ℕ) (limit
 -- with dates
 abbrev pub SpellsSection : Block → List ℕ → ℕ → ℕ → ℕ → Type 0
 SpellsSection = SectionWith SpellsScalar
-
-abbrev pub SpellsSections : List Block → List ℕ → ℕ → ℕ → Type 0
-SpellsSections = SectionsWith SpellsScalar
 
 abbrev pub SpellsDocument : List Block → List ℕ → ℕ → Type 0
 SpellsDocument = DocumentWith SpellsScalar

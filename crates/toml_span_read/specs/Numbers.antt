@@ -2,8 +2,7 @@
 use Rattle.std.specs.Prelude.{◌≡◌, ℕ, ℤ, pos, neg_ℤ, ◌+◌, ◌^◌, ◌<◌, ◌≤◌, ◌⊎◌, Bool, true, false, ◌||◌, ◌==◌, List}
 use Rattle.std.specs.Prelude.{length, slice_index, slice_range, Some, codes}
 use Rattle.toml_span_lex.specs.Bytes.{underscore, MaximalRun, is_keylike, period, digit_zero}
-use Rattle.toml_span_tree.specs.Node.{finite, infinite, not_a_number, Scalar, text as text_scalar, integer, float}
-use Rattle.toml_span_tree.specs.Node.{boolean, datetime}
+use Rattle.toml_span_tree.specs.Node.{finite, infinite, not_a_number, Scalar, integer, float}
 use Rattle.toml_span_read.specs.Numerals.{is_digit_in, is_figure, magnitude, behind_sign, is_negative, radix_at}
 use Rattle.toml_span_read.specs.Numerals.{is_exponent, cleaned}
 
@@ -91,6 +90,4 @@ IsNumber (float (finite digits)) text i j = FloatLiteral text i j × (digits ≡
 IsNumber (float (infinite negative)) text i j = SpecialFloat (codes "inf") text i j × (negative ≡ is_negative text i)
 IsNumber (float (not_a_number negative)) text i j =
     SpecialFloat (codes "nan") text i j × (negative ≡ is_negative text i)
-IsNumber (text_scalar s) text i j = ⊥
-IsNumber (boolean b) text i j = ⊥
-IsNumber (datetime d) text i j = ⊥
+IsNumber _ text i j = ⊥

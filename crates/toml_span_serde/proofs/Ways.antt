@@ -9,11 +9,17 @@ use Rattle.toml_span.proofs.Ordered.{same-name, first-entry, later-entry}
 use Rattle.toml_span_serde.specs.Misfits.{Names}
 use Rattle.toml_span_serde.specs.Pieces.{Piece, pieces, held_pieces, items_pieces, members_pieces}
 use Rattle.toml_span_serde.specs.Tasks.{piece_content, piece_of}
-use Rattle.toml_span_serde.specs.Walk.{Way, ended, behind, walked, way_at, AllNamed}
+use Rattle.toml_span_serde.specs.Walk.{Way, ended, behind, walked, way_at}
 use Rattle.toml_span_serde.specs.declared.pieces.Piece.{Piece as Made}
 
 abbrev pub Found : Type 0
 Found = Option Span × Node
+
+-- each of the pieces, from that way on, stands where the way to it leads
+abbrev pub AllNamed : Node → Way → List Piece → Type 0
+AllNamed root way [] = Unit {0}
+AllNamed root way (p ∷ ps) =
+    Names (reverse (way_at p.content way)) p.span root × AllNamed root (behind p.content way) ps
 
 -- ---- a walk
 

@@ -1,9 +1,7 @@
 -- The way to each piece of a row, and how many elements an array has before it. A way is a path from its last step to
 -- its first.
-use Rattle.std.specs.Prelude.{⊤, ℕ, ◌+◌, List, [], ◌∷◌, map, reverse}
-use Rattle.toml_span_tree.specs.Node.{Node}
+use Rattle.std.specs.Prelude.{ℕ, ◌+◌, List, [], ◌∷◌, map, reverse}
 use Rattle.toml_span_tree.specs.Path.{Step, key, position}
-use Rattle.toml_span_serde.specs.Misfits.{Names}
 use Rattle.toml_span_serde.specs.Pieces as row
 use Rattle.toml_span_serde.specs.declared.path.Down.{Down}
 use Rattle.toml_span_serde.specs.declared.path.Down.TheVariants as down
@@ -55,12 +53,6 @@ way_at row.array_ends way = outer way
 way_at row.table_begins way = way
 way_at row.table_ends way = way
 way_at (row.key name) way = key name ∷ way
-
--- each of the pieces, from that way on, stands where the way to it leads
-abbrev pub AllNamed : Node → Way → List row.Piece → Type 0
-AllNamed root way [] = ⊤
-AllNamed root way (p ∷ ps) = Names (reverse (way_at p.content way)) p.span root
-    × AllNamed root (behind p.content way) ps
 
 abbrev pub down_of : Down → Step
 down_of (down.Key name) = key name.now

@@ -75,9 +75,7 @@ span_of (node i span) = span
 
 abbrev pub holds_nothing : Inner → Bool
 holds_nothing taken = true
-holds_nothing (scalar s) = false
-holds_nothing (array ns) = false
-holds_nothing (table ms) = false
+holds_nothing _ = false
 
 abbrev pub is_taken : Node → Bool
 is_taken n = holds_nothing (inner_of n)
@@ -103,58 +101,37 @@ abbrev mutual
 
 -- the scalar, the elements, the entries; None of another kind, and where nothing is held
 abbrev pub scalar_in : Inner → Option Scalar
-scalar_in taken = None
 scalar_in (scalar s) = Some s
-scalar_in (array ns) = None
-scalar_in (table ms) = None
+scalar_in _ = None
 
 abbrev pub items_in : Inner → Option Items
-items_in taken = None
-items_in (scalar s) = None
 items_in (array ns) = Some ns
-items_in (table ms) = None
+items_in _ = None
 
 abbrev pub members_in : Inner → Option Members
-members_in taken = None
-members_in (scalar s) = None
-members_in (array ns) = None
 members_in (table ms) = Some ms
+members_in _ = None
 
 -- a scalar of one kind; None of another
 abbrev pub text_of : Scalar → Option (List ℕ)
 text_of (text s) = Some s
-text_of (integer z) = None
-text_of (float x) = None
-text_of (boolean b) = None
-text_of (datetime d) = None
+text_of _ = None
 
 abbrev pub integer_of : Scalar → Option ℤ
-integer_of (text s) = None
 integer_of (integer z) = Some z
-integer_of (float x) = None
-integer_of (boolean b) = None
-integer_of (datetime d) = None
+integer_of _ = None
 
 abbrev pub float_of : Scalar → Option FloatValue
-float_of (text s) = None
-float_of (integer z) = None
 float_of (float x) = Some x
-float_of (boolean b) = None
-float_of (datetime d) = None
+float_of _ = None
 
 abbrev pub boolean_of : Scalar → Option Bool
-boolean_of (text s) = None
-boolean_of (integer z) = None
-boolean_of (float x) = None
 boolean_of (boolean b) = Some b
-boolean_of (datetime d) = None
+boolean_of _ = None
 
 abbrev pub datetime_of : Scalar → Option (List ℕ)
-datetime_of (text s) = None
-datetime_of (integer z) = None
-datetime_of (float x) = None
-datetime_of (boolean b) = None
 datetime_of (datetime d) = Some d
+datetime_of _ = None
 
 abbrev pub text_in : Inner → Option (List ℕ)
 text_in i = option_and_then text_of (scalar_in i)
@@ -192,10 +169,8 @@ is_filled (member name key n ms) = true
 
 -- whether a table is held that has an entry
 abbrev pub has_members : Inner → Bool
-has_members taken = false
-has_members (scalar s) = false
-has_members (array ns) = false
 has_members (table ms) = is_filled ms
+has_members _ = false
 
 -- the error that says what was expected of a value, and the kind of the value that was found
 abbrev pub wrong_kind : List ℕ → Node → ErrorContent

@@ -125,9 +125,6 @@ count_at (position i ∷ p) n = or_zero (option_map (count_at p) (item i (entrie
 abbrev pub counts : Branch → Path → ℕ
 counts n p = count_at p n
 
-abbrev pub none_open : Path → ℕ
-none_open p = 0
-
 -- ---- what always holds of it
 
 abbrev pub is_array_sort : Sort → Bool

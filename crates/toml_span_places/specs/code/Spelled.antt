@@ -1,10 +1,9 @@
 -- What a value has whose text spells it.
-use Rattle.std.specs.Prelude.{ℕ, ◌+◌, ◌≤◌, FitsSigned}
+use Rattle.std.specs.Prelude.{FitsSigned}
 use Rattle.std.specs.Str.{IsUtf8}
 use Rattle.toml_span_tree.specs.Date.{IsDateText}
 use Rattle.toml_span_tree.specs.Node.{Scalar, text, integer, float, boolean, datetime, Node, node, Inner, taken, scalar}
 use Rattle.toml_span_tree.specs.Node.{array, table, Items, no_items, item, Members, no_members, member}
-use Rattle.toml_span_places.specs.Again.{IsScalarText}
 use mir.Syntax.{w64}
 
 -- ---- what every value in memory has
@@ -34,25 +33,3 @@ abbrev mutual
   pub MembersHeld : Members → Type 0
   MembersHeld no_members = Unit {0}
   MembersHeld (member name key n ms) = IsUtf8 name × IsHeld n × MembersHeld ms
-
--- ---- what the caller says
-
--- it is whole, within the limit, and the text of each float in it spells the float by itself
-abbrev mutual
-  pub CanBeSpelled : ℕ → ℕ → Node → Type 0
-  CanBeSpelled limit d (node i span) = (d ≤ limit) × InnerCanBeSpelled limit d i
-
-  pub InnerCanBeSpelled : ℕ → ℕ → Inner → Type 0
-  InnerCanBeSpelled limit d taken = ⊥
-  InnerCanBeSpelled limit d (scalar s) = IsScalarText s
-  InnerCanBeSpelled limit d (array ns) = ItemsCanBeSpelled limit (d + 1) ns
-  InnerCanBeSpelled limit d (table ms) = MembersCanBeSpelled limit (d + 1) ms
-
-  pub ItemsCanBeSpelled : ℕ → ℕ → Items → Type 0
-  ItemsCanBeSpelled limit d no_items = Unit {0}
-  ItemsCanBeSpelled limit d (item n ns) = CanBeSpelled limit d n × ItemsCanBeSpelled limit d ns
-
-  pub MembersCanBeSpelled : ℕ → ℕ → Members → Type 0
-  MembersCanBeSpelled limit d no_members = Unit {0}
-  MembersCanBeSpelled limit d (member name key n ms) =
-      CanBeSpelled limit (d + 1) n × MembersCanBeSpelled limit d ms

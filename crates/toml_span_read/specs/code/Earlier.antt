@@ -18,11 +18,6 @@ use Rattle.toml_span_read.specs.declared.earlier.Earlier.{Earlier}
 use Rattle.toml_span_read.specs.declared.fault.Fault.{Fault}
 use Rattle.toml_span_read.specs.declared.value.Assignment.{Assignment}
 
--- each part starts at n or before
-abbrev pub StartBefore : ℕ → List SimpleKey → Type 0
-StartBefore n [] = Unit {0}
-StartBefore n (p ∷ ps) = (p.span.start ≤ n) × StartBefore n ps
-
 -- the key is of this name
 abbrev pub is_named : List ℕ → Key → Bool
 is_named name key = is_eq (slice_cmp nat_cmp name (cow_str_bytes key.name))
