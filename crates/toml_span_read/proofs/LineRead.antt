@@ -4,7 +4,7 @@ use Rattle.toml_span_lex.specs.declared.stop.Stop.{Stop}
 use Rattle.toml_span_read.specs.declared.fault.Fault.{Fault}
 use Rattle.toml_span_read.specs.declared.value.Assignment.{Assignment}
 use Rattle.toml_span_read.specs.declared.section.Section.{Section}
-use Rattle.toml_span_read.specs.Data.{KeyValue, view, key_value, Block, block, last_end, first_block}
+use Rattle.toml_span_read.specs.Data.{KeyValue, view, key_value, Block, block, last_end}
 use Rattle.toml_span_read.specs.code.Faults.{Gives}
 use Rattle.toml_span_read.specs.code.Sections.{section_found}
 use Rattle.toml_span_read.specs.Grammar.{OpensHeader}

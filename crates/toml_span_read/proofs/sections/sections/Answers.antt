@@ -1,4 +1,4 @@
-use Rattle.toml_span_lex.proofs.Common.{arith, inr, refl, ◌≡◌, ◌<◌, ℕ, length, map, Option, Vec, Global}
+use Rattle.toml_span_lex.proofs.Common.{arith, refl, ◌≡◌, ◌<◌, ℕ, length, map, Option, Vec, Global}
 use Rattle.toml_span_read.specs.Data.{block}
 use Rattle.toml_span_read.specs.code.Sections.{sections_found}
 use Rattle.toml_span_read.specs.declared.fault.Fault.{Fault}
