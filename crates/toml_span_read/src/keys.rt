@@ -172,7 +172,7 @@ pub(crate) fn header_key<'de>(
     text: &'de str,
     at: usize,
     limit: usize,
-) -> Result<(SmallVec<Key<'de>, 5>, usize), Stop<Fault>>
+) -> Result<(SmallVec<Key<'de>, 3>, usize), Stop<Fault>>
     requires boundary { IsCharBoundary text.now at }
     ensures key { Gives header_found (spec.key true text.now limit [] at) result }
     ensures borrows { IfOk result (λ found. AreWrittenRight text.now (keys_written found.0.items)) }

@@ -8,7 +8,7 @@ use toml_span_lex::span::Span;
 /// their own, whose header has no parts.
 #[derive(Debug, Drop)]
 pub struct Section<'de> {
-    pub header: SmallVec<Key<'de>, 5>,
+    pub header: SmallVec<Key<'de>, 3>,
     /// Whether the header stands in double brackets.
     pub array: bool,
     /// From the header's first bracket to behind its line end, or to the end of the text. `0..0` where

@@ -154,7 +154,7 @@ fn header_close(alloc: Global, text: &str, at: usize, array: bool) -> Result<usi
 /// A header: its parts, whether its brackets are double, and its extent.
 #[derive(Drop)]
 struct Header<'de> {
-    parts: SmallVec<Key<'de>, 5>,
+    parts: SmallVec<Key<'de>, 3>,
     array: bool,
     extent: Span,
 }
