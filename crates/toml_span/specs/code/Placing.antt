@@ -20,8 +20,8 @@ use Rattle.toml_span_tree.specs.declared.value.ValueInner.TheVariants.{Table as 
 use Rattle.toml_span_read.specs.Data.{ParsedValue as Read, parsed_span, Block, key_value, simple_key}
 use Rattle.toml_span_read.specs.declared.value.Assignment.{Assignment}
 use Rattle.toml_span.specs.declared.branch.Branch.{Branch}
-use Rattle.toml_span.specs.Claims.{Claims, value_claims, value_shape, parsed_inner, shape_claimed, claims, header_mark}
-use Rattle.toml_span.specs.Claims.{key_value_claims}
+use Rattle.toml_span.specs.Claims.{Claims, value_claims, value_shape, parsed_inner, shape_claimed, claims}
+use Rattle.toml_span.specs.Claims.{header_mark, key_value_claims}
 use Rattle.toml_span.specs.code.Machine.{Gives, clash_met, put_all, nothing, show_all, Cell, State, clash_told}
 use Rattle.toml_span.specs.code.Relative.{counts_after, counts_after_through, passing, section_at, through, through_pair}
 use Rattle.toml_span.specs.code.Tree.{entries, cells, counts, marks, IsScope, IsChild, IsHeld, Sound, value_shows}
