@@ -15,7 +15,7 @@ use Rattle.toml_span.specs.code.Relative.{counts_after_adding, under}
 use Rattle.toml_span.specs.code.Tree.{IsArray, IsChild, IsEntry, IsFresh, IsHeld, IsNamed, IsOpen, IsScope, IsTableOrArray, Sound, count_at, cells, counts, entries, is_entry_sort, item, marks}
 use Rattle.toml_span.proofs.Claimed.{entry-remember}
 use Rattle.toml_span.proofs.Grafts.{graft-itself}
-use Rattle.toml_span.proofs.Nodes.{Sets, Slot, cells-at, cells-fresh, cells-sets, counts-at, counts-fresh, counts-here, counts-sets, good-entry, good-sets, open-good, out-roll, scope-fresh, sets-roll, slot, slot_in, sound-from, sound-good, sound-shape, none_open}
+use Rattle.toml_span.proofs.Nodes.{Sets, Slot, cells-at, cells-fresh, cells-sets, counts-at, counts-fresh, counts-here, counts-sets, good-entry, good-sets, open-good, out-roll, scope-fresh, sets-roll, slot, slot_in, sound-from, sound-good, sound-shape}
 use Rattle.toml_span.proofs.Placed.{cond-slot, on_ok, reaches-below, reaches-stops}
 
 -- ---- lists
@@ -53,7 +53,7 @@ pub puts-set : (m : ℕ) (w n : Branch) (b : Branch-F Branch) → b.marks.items 
 puts-set m w n b claims values tables within written = puts m w n b claims values tables (λ i. ap (item i) written ∙ item-set (entries n) m w within i)
 
 -- a new entry has no entries below it
-counts-pushed : (m : ℕ) (w n new : Branch) → PutsEntry m w n new → item m (entries n) ≡ None → length (entries new) ≡ suc (length (entries n)) → counts w ≡ none_open → counts new ≡ counts_after_adding (counts n)
+counts-pushed : (m : ℕ) (w n new : Branch) → PutsEntry m w n new → item m (entries n) ≡ None → length (entries new) ≡ suc (length (entries n)) → counts w ≡ (λ p. 0) → counts new ≡ counts_after_adding (counts n)
 unfolding count_at
 counts-pushed m w n new puts past many none =
     counts-sets (position m) (Some w, None) n new (counts_after_adding (counts n)) puts.sets many (λ t p. refl)

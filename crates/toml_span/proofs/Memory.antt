@@ -11,8 +11,7 @@ use Rattle.toml_span_read.specs.declared.section.Section.{Section}
 use Rattle.toml_span_read.specs.Data.{KeyValue, Block, block, first_block, SimpleKey}
 use Rattle.toml_span_read.specs.Gaps.{MaximalGap}
 use Rattle.toml_span_read.specs.Keys.{SpellsKey}
-use Rattle.toml_span_read.specs.Grammar.{OpensHeader, SpellsSection}
-use Rattle.toml_span_read.proofs.Spelled.{SpellsKeyValues, SpellsSections}
+use Rattle.toml_span_read.specs.Grammar.{OpensHeader, SpellsSection, KeyValuesWith, SectionsWith, SpellsScalar}
 use Rattle.toml_span_read.specs.Read as read
 use Rattle.toml_span_read.proofs.ReadSound.{document_sound}
 use Rattle.toml_span_read.specs.Reading.{HoldsForm, OnlyFormsTakeMemory}
@@ -31,7 +30,7 @@ section-before : (b : Block) (text : List ℕ) (limit i j : ℕ) → SpellsSecti
 section-before b text limit i j h = grind (arith, nat_tests, common_steps, key-before, opens-forward)
 
 -- where a section is spelled, more than blank lines stand
-sections-hold : (es : List KeyValue) (bs : List Block) (text : List ℕ) (limit start k j : ℕ) → MaximalGap text start k → SpellsKeyValues es [] text limit k j → SpellsSections bs text limit j
+sections-hold : (es : List KeyValue) (bs : List Block) (text : List ℕ) (limit start k j : ℕ) → MaximalGap text start k → KeyValuesWith SpellsScalar es [] text limit k j → SectionsWith SpellsScalar bs text limit j
     → (first_block es ++ bs ≡ [] → ⊥) → HoldsForm text start
 sections-hold [] [] text limit start k j gap h rest some = absurd (some refl)
 sections-hold [] (b ∷ bs) text limit start k j gap h (e, here, rest) some = (k, gap, omega (arith, section-before b text limit j e here, h))

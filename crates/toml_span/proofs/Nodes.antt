@@ -124,10 +124,7 @@ pub cells-fresh : (n : Branch) → IsFresh n → cells n ≡ nothing
 unfolding cell_at
 cells-fresh n h = path_ext (ap own_cell h.no_marks) (λ s p. cells-step n s p ∙ ap (λ x. slot_cell x p) (fresh-slot n h s))
 
-abbrev pub none_open : Path → ℕ
-none_open p = 0
-
-pub counts-fresh : (n : Branch) → IsFresh n → counts n ≡ none_open
+pub counts-fresh : (n : Branch) → IsFresh n → counts n ≡ (λ p. 0)
 unfolding count_at
 counts-fresh n h = path_ext (ap length h.no_entries) (λ s p. counts-step n s p ∙ ap (λ x. slot_count x p) (fresh-slot n h s))
 

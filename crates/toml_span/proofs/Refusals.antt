@@ -13,8 +13,7 @@ use Rattle.toml_span_read.specs.code.Faults.{IsPlacedStop}
 use Rattle.toml_span_read.specs.Faults.{Tells}
 use Rattle.toml_span_read.specs.Keys.{SpellsKey}
 use Rattle.toml_span_read.specs.Read as read
-use Rattle.toml_span_read.specs.Grammar.{SpellsDocument}
-use Rattle.toml_span_read.proofs.Spelled.{SpellsSections}
+use Rattle.toml_span_read.specs.Grammar.{SpellsDocument, SectionsWith, SpellsScalar}
 use Rattle.toml_span.specs.declared.claims.Clash.{Clash}
 use Rattle.toml_span.specs.code.Marks.{Halt}
 use Rattle.toml_span.specs.Claims.{claims}
@@ -37,7 +36,7 @@ answers-fault text limit stop fault error is told placed tells = inl (fault, rw 
 pub some_part : (array : Bool) (text : List ℕ) (i j : ℕ) (ps : List SimpleKey) → SpellsKey ps text i j → ps ≡ [] → array ≡ false
 some_part array text i j ps key none = absurd (rw none at key)
 
-sections-headed : (bs : List Block) (text : List ℕ) (limit i : ℕ) → SpellsSections bs text limit i → AreSections bs
+sections-headed : (bs : List Block) (text : List ℕ) (limit i : ℕ) → SectionsWith SpellsScalar bs text limit i → AreSections bs
 sections-headed [] text limit i h = tt
 sections-headed (b ∷ bs) text limit i (j, here, rest) = grind (arith, nat_tests, common_steps, some_part, sections-headed bs text limit j rest)
 

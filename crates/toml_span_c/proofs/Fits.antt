@@ -8,8 +8,7 @@ use Rattle.toml_span_lex.specs.Strings.{IsString}
 use Rattle.toml_span_tree.specs.Node.{Scalar, text as text_scalar, integer, float, boolean, datetime, finite, infinite, not_a_number}
 use Rattle.toml_span_tree.specs.Path.{Path, Step, key, position, Shape, shape_scalar, Place}
 use Rattle.toml_span_read.specs.Data.{ParsedValue, parsed, scalar, array, inline, ParsedItems, no_items, item, ParsedPairs, no_pairs, pair, KeyValue, Block, first_block, SimpleKey}
-use Rattle.toml_span_read.specs.Grammar.{SpellsScalar, Spells, OpensHeader, ClosesHeader, SpellsHeader, SpellsDocument}
-use Rattle.toml_span_read.proofs.Spelled.{SpellsItems, SpellsPairs, SpellsKeyValues, SpellsSections}
+use Rattle.toml_span_read.specs.Grammar.{SpellsScalar, Spells, OpensHeader, ClosesHeader, SpellsHeader, SpellsDocument, ItemsWith, PairsWith, KeyValuesWith, SectionsWith}
 use Rattle.toml_span_read.specs.Keys.{SpellsSimpleKey, Onward, SpellsKey}
 use Rattle.toml_span_read.specs.Numbers.{SpecialFloat}
 use Rattle.toml_span_read.specs.Numerals.{cleaned, is_negative}
@@ -167,7 +166,7 @@ mutual
   value-fits (parsed (inline ps) s) q text limit d i j (deep, (here, e, k, gap, h)) =
       omega (arith, long-scope (pair_claims ps q), gap.forward, pairs-fit ps [] q text limit (d + 1) k j h)
 
-  items-fit : (vs : ParsedItems) (n : ℕ) (q : Path) (text : List ℕ) (limit d i j : ℕ) → SpellsItems vs text limit d i j → i + long (item_claims vs n q) ≤ j
+  items-fit : (vs : ParsedItems) (n : ℕ) (q : Path) (text : List ℕ) (limit d i j : ℕ) → ItemsWith SpellsScalar vs text limit d i j → i + long (item_claims vs n q) ≤ j
   items-fit no_items n q text limit d i j h = omega (arith, h.1, long-none)
   items-fit (item v vs) n q text limit d i j (m, h, tail) =
       let behind : m + long (item_claims vs (suc n) q) ≤ j = elim tail [
@@ -176,7 +175,7 @@ mutual
       ] in
       omega (arith, element-short v n q (item_claims vs (suc n) q), value-fits v (with_position q n) text limit d i m h, behind)
 
-  pairs-fit : (ps : ParsedPairs) (es : List KeyValue) (q : Path) (text : List ℕ) (limit d i j : ℕ) → SpellsPairs ps es text limit d i j → i + long (pair_claims ps q) ≤ j
+  pairs-fit : (ps : ParsedPairs) (es : List KeyValue) (q : Path) (text : List ℕ) (limit d i j : ℕ) → PairsWith SpellsScalar ps es text limit d i j → i + long (pair_claims ps q) ≤ j
   pairs-fit no_pairs es q text limit d i j h = omega (arith, h.1, long-none)
   pairs-fit (pair ss v x ps) es q text limit d i j (m, (a, b, own_key, few, sign, h, extent), clear, tail) =
       let behind : m + long (pair_claims ps q) ≤ j = elim tail [
@@ -189,7 +188,7 @@ mutual
 
 -- ---- lines
 
-key_values-fit : (es before : List KeyValue) (q : Path) (text : List ℕ) (limit i j : ℕ) → SpellsKeyValues es before text limit i j → i + long (key_value_claims es q) ≤ j
+key_values-fit : (es before : List KeyValue) (q : Path) (text : List ℕ) (limit i j : ℕ) → KeyValuesWith SpellsScalar es before text limit i j → i + long (key_value_claims es q) ≤ j
 unfolding key_value_claims
 key_values-fit [] before q text limit i j h = omega (arith, h, long-none)
 key_values-fit (e ∷ es) before q text limit i j (m, n, k, h, tail, clear, gap, rest) =
@@ -228,11 +227,11 @@ closes-forward a text i j h = grind (arith, nat_tests, common_steps)
 header-fits : (ks : List SimpleKey) (a : Bool) (text : List ℕ) (limit i j : ℕ) → SpellsHeader ks a text limit i j → i + names ks ≤ j
 header-fits ks a text limit i j h = grind (arith, nat_tests, common_steps, closes-forward, key-fits, opens-forward, tail_inside)
 
-section-fits : (e : Path → ℕ) (b : Block) (text : List ℕ) (limit k j : ℕ) → SpellsKeyValues b.key_values [] text limit k j → k + long (section_claims e b) ≤ j + names b.header
+section-fits : (e : Path → ℕ) (b : Block) (text : List ℕ) (limit k j : ℕ) → KeyValuesWith SpellsScalar b.key_values [] text limit k j → k + long (section_claims e b) ≤ j + names b.header
 unfolding section_claims
 section-fits e b text limit k j h = grind (arith, nat_tests, common_steps, header-short, key_values-fit, long-followed)
 
-sections-fit : (earlier bs : List Block) (text : List ℕ) (limit i : ℕ) → SpellsSections bs text limit i → i + long (claims_behind earlier bs) ≤ length text
+sections-fit : (earlier bs : List Block) (text : List ℕ) (limit i : ℕ) → SectionsWith SpellsScalar bs text limit i → i + long (claims_behind earlier bs) ≤ length text
 unfolding claims_behind
 sections-fit earlier [] text limit i h = omega (arith, h, long-none)
 sections-fit earlier (b ∷ bs) text limit i (j, s, rest) =
@@ -246,7 +245,7 @@ sections-fit earlier (b ∷ bs) text limit i (j, s, rest) =
       sections-fit (b ∷ earlier) bs text limit j rest,
     )
 
-first-fits : (es : List KeyValue) (bs : List Block) (text : List ℕ) (limit i j : ℕ) → SpellsKeyValues es [] text limit i j → SpellsSections bs text limit j
+first-fits : (es : List KeyValue) (bs : List Block) (text : List ℕ) (limit i j : ℕ) → KeyValuesWith SpellsScalar es [] text limit i j → SectionsWith SpellsScalar bs text limit j
     → long (claims (first_block es ++ bs)) ≤ length text
 unfolding claims_behind opened_by
 first-fits es bs text limit i j h rest = grind (arith, nat_tests, common_steps, long-followed, section-fits, sections-fit)

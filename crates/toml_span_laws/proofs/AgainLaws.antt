@@ -2,8 +2,7 @@
 use Rattle.toml_span_lex.proofs.Common.{◌≡◌, ℕ, ◌+◌, ◌-◌, ◌≤◌, List, [], ◌∷◌, length, arith, sym, refl, subst, slice_range, codes, nat_tests, common_steps}
 use Rattle.toml_span_read.specs.Keys.{SpellsSimpleKey}
 use Rattle.toml_span_read.specs.Data.{SimpleKey, ParsedValue, parsed, ParsedInner, scalar, array, inline, ParsedItems, no_items, item, ParsedPairs, no_pairs, pair, KeyValue, parsed_span, Block, from_to, first_block}
-use Rattle.toml_span_read.specs.Grammar.{Spells, SpellsDocument}
-use Rattle.toml_span_read.proofs.Spelled.{SpellsInner, SpellsItems, SpellsPairs, SpellsKeyValues}
+use Rattle.toml_span_read.specs.Grammar.{Spells, SpellsDocument, InnerWith, ItemsWith, PairsWith, KeyValuesWith, SpellsScalar}
 use Rattle.toml_span_laws.specs.Again.{moved, assigned_again, key_value_again, SpellsAgain, ReadsAgain, ScalarReadsAgain, AllReadAgain, InnerReadAgain, ItemsReadAgain, PairsReadAgain, KeyValuesReadAgain, BlocksReadAgain}
 use Rattle.toml_span_read.proofs.SpanLaws.{value_lies}
 use Rattle.toml_span_places.proofs.Moves.{Copied}
@@ -59,24 +58,24 @@ mutual
   value_again : (v : ParsedValue) (text : List ℕ) (limit d i j : ℕ) → 1 ≤ d → Spells v text limit d i j → AllReadAgain text limit v
   value_again (parsed x s) text limit d i j deep (few, h) = inner_again x s text limit d i j deep few h
 
-  inner_again : (x : ParsedInner) (s : Span) (text : List ℕ) (limit d i j : ℕ) → 1 ≤ d → d ≤ limit → SpellsInner x s text limit d i j → InnerReadAgain text limit x s
+  inner_again : (x : ParsedInner) (s : Span) (text : List ℕ) (limit d i j : ℕ) → 1 ≤ d → d ≤ limit → InnerWith SpellsScalar x s text limit d i j → InnerReadAgain text limit x s
   inner_again (scalar x) s text limit d i j deep few h = scalar-again x s text limit d i j deep (few, h)
   inner_again (array vs) s text limit d i j deep few (here, e, k, gap, h) =
       (at-span (parsed (array vs) s) text limit d i j deep (few, (here, e, k, gap, h)) e, items_again vs text limit (d + 1) k j (omega arith) h)
   inner_again (inline ps) s text limit d i j deep few (here, e, k, gap, h) =
       (at-span (parsed (inline ps) s) text limit d i j deep (few, (here, e, k, gap, h)) e, pairs_again ps [] text limit (d + 1) k j (omega arith) h)
 
-  items_again : (vs : ParsedItems) (text : List ℕ) (limit d i j : ℕ) → 1 ≤ d → SpellsItems vs text limit d i j → ItemsReadAgain text limit vs
+  items_again : (vs : ParsedItems) (text : List ℕ) (limit d i j : ℕ) → 1 ≤ d → ItemsWith SpellsScalar vs text limit d i j → ItemsReadAgain text limit vs
   items_again no_items text limit d i j deep h = tt
   items_again (item v vs) text limit d i j deep h = grind (arith, nat_tests, common_steps, items_again vs, value_again v)
 
-  pairs_again : (ps : ParsedPairs) (es : List KeyValue) (text : List ℕ) (limit d i j : ℕ) → 1 ≤ d → SpellsPairs ps es text limit d i j → PairsReadAgain text limit ps
+  pairs_again : (ps : ParsedPairs) (es : List KeyValue) (text : List ℕ) (limit d i j : ℕ) → 1 ≤ d → PairsWith SpellsScalar ps es text limit d i j → PairsReadAgain text limit ps
   pairs_again no_pairs es text limit d i j deep h = tt
   pairs_again (pair ss v x ps) es text limit d i j deep h = grind (arith, nat_tests, common_steps, pairs_again ps, value_again v)
 
 -- ---- documents
 
-key_values_again : (evs earlier : List KeyValue) (text : List ℕ) (limit i j : ℕ) → SpellsKeyValues evs earlier text limit i j → KeyValuesReadAgain text limit evs
+key_values_again : (evs earlier : List KeyValue) (text : List ℕ) (limit i j : ℕ) → KeyValuesWith SpellsScalar evs earlier text limit i j → KeyValuesReadAgain text limit evs
 key_values_again [] earlier text limit i j h = tt
 key_values_again (ev ∷ evs) earlier text limit i j h = grind (arith, nat_tests, common_steps, key_values_again evs, some-part, value_again)
 

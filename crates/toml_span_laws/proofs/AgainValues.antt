@@ -5,8 +5,7 @@ use Rattle.toml_span_lex.specs.Bytes.{is_keylike, MaximalRun}
 use Rattle.toml_span_tree.specs.Node.{Scalar, text as text_scalar, integer, float, boolean, datetime}
 use Rattle.toml_span_read.specs.Dates.{is_date_byte, begins_date, continues_date, IsCandidate}
 use Rattle.toml_span_read.specs.Numbers.{IsNumber}
-use Rattle.toml_span_read.specs.Grammar.{SpellsScalar, truth_text, Spells}
-use Rattle.toml_span_read.proofs.Spelled.{SpellsInner, SpellsItems, SpellsPairs}
+use Rattle.toml_span_read.specs.Grammar.{SpellsScalar, truth_text, Spells, InnerWith, ItemsWith, PairsWith}
 use Rattle.toml_span_places.proofs.Moves.{Moves, also, Copied, At, further, same_range, either, said, given, behind, nothing, first}
 use Rattle.toml_span_places.proofs.NumbersMove.{number}
 use Rattle.toml_span_places.proofs.DatesAgain.{date_carried}
@@ -169,22 +168,22 @@ module _ {a b : List ℕ} {s t : ℕ} (w : Copied a b s t (length b) 0) where
     pub value_copied : (v : ParsedValue) (limit c d : ℕ) → c ≤ d → To (Spells v a limit d) (Spells (moved s t v) b limit c)
     value_copied (parsed x span) limit c d q = said (λ i j h. (h.1, h.0)) (λ k l h. (h.1, h.0)) (also (inner_copied x span limit c d q) (λ i j k l o u v h few. omega arith))
 
-    inner_copied : (x : ParsedInner) (span : Span) (limit c d : ℕ) → c ≤ d → To (SpellsInner x span a limit d) (SpellsInner (moved_inner s t x) (moved_span s t span) b limit c)
+    inner_copied : (x : ParsedInner) (span : Span) (limit c d : ℕ) → c ≤ d → To (InnerWith SpellsScalar x span a limit d) (InnerWith SpellsScalar (moved_inner s t x) (moved_span s t span) b limit c)
     inner_copied (scalar x) span limit c d q = scalar_copied w x span
     inner_copied (array vs) span limit c d q = opened 91 span (items_copied vs limit (c + 1) (d + 1) (omega arith))
     inner_copied (inline ps) span limit c d q = opened 123 span (pairs_copied ps [] limit (c + 1) (d + 1) (omega arith))
 
-    items_copied : (vs : ParsedItems) (limit c d : ℕ) → c ≤ d → To (SpellsItems vs a limit d) (SpellsItems (moved_items s t vs) b limit c)
+    items_copied : (vs : ParsedItems) (limit c d : ℕ) → c ≤ d → To (ItemsWith SpellsScalar vs a limit d) (ItemsWith SpellsScalar (moved_items s t vs) b limit c)
     items_copied no_items limit c d q = first w (λ x. x) 93 nothing
     items_copied (item v vs) limit c d q =
         behind (value_copied v limit c d q) (either (given (λ z. ap (λ (r : ParsedItems). moved_items s t r) z) (closes w 93)) (behind (sign w 44) (items_copied vs limit c d q)))
 
-    pairs_copied : (ps : ParsedPairs) (es : List KeyValue) (limit c d : ℕ) → c ≤ d → To (SpellsPairs ps es a limit d) (SpellsPairs (moved_pairs s t ps) (map (moved_key_value s t) es) b limit c)
+    pairs_copied : (ps : ParsedPairs) (es : List KeyValue) (limit c d : ℕ) → c ≤ d → To (PairsWith SpellsScalar ps es a limit d) (PairsWith SpellsScalar (moved_pairs s t ps) (map (moved_key_value s t) es) b limit c)
     pairs_copied no_pairs es limit c d q = first w (λ x. x) 125 nothing
     pairs_copied (pair ss v x ps) es limit c d q =
         let e : KeyValue = record { parts = ss; value = v; extent = x } in
-        let more : To (SpellsPairs ps (es ++ (e ∷ [])) a limit d) (SpellsPairs (moved_pairs s t ps) (map (moved_key_value s t) es ++ (moved_key_value s t e ∷ [])) b limit c) =
-        subst (λ (fs : List KeyValue). To (SpellsPairs ps (es ++ (e ∷ [])) a limit d) (SpellsPairs (moved_pairs s t ps) fs b limit c)) (map-append (moved_key_value s t) es (e ∷ [])) (pairs_copied ps (es ++ (e ∷ [])) limit c d q) in
+        let more : To (PairsWith SpellsScalar ps (es ++ (e ∷ [])) a limit d) (PairsWith SpellsScalar (moved_pairs s t ps) (map (moved_key_value s t) es ++ (moved_key_value s t e ∷ [])) b limit c) =
+        subst (λ (fs : List KeyValue). To (PairsWith SpellsScalar ps (es ++ (e ∷ [])) a limit d) (PairsWith SpellsScalar (moved_pairs s t ps) fs b limit c)) (map-append (moved_key_value s t) es (e ∷ [])) (pairs_copied ps (es ++ (e ∷ [])) limit c d q) in
         said (λ i j h. (h.0, h.1, (h.2, h.3))) (λ k l h. (h.0, h.1, h.2.0, h.2.1))
         (behind (front ss v x limit c d (value_copied v limit (c + length (moved_parts s t ss)) (d + length ss) (omega (arith, length_moved s t ss))))
         (given (λ z. clear_moved s t es e z) (either (given (λ z. ap (λ (r : ParsedPairs). moved_pairs s t r) z) (closes w 125)) (behind (sign w 44) more))))

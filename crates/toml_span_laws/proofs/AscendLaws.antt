@@ -2,8 +2,7 @@
 use Rattle.toml_span_lex.proofs.Common.{◌≡◌, ◌⊎◌, inl, inr, refl, ℕ, ◌+◌, ◌≤◌, Bool, false, List, [], ◌∷◌, ◌++◌, length, arith, zero, suc, ◌<◌, get_or, IsStrictlyIncreasing, nat_tests, common_steps}
 use Rattle.toml_span_read.specs.Data.{KeyValue, Block, ParsedValue, parsed, scalar, array, inline, ParsedItems, no_items, item, ParsedPairs, no_pairs, pair, last_end, first_block, SimpleKey}
 use Rattle.toml_span_read.specs.Places.{Ascend}
-use Rattle.toml_span_read.specs.Grammar.{SpellsHeader, SpellsDocument, Spells}
-use Rattle.toml_span_read.proofs.Spelled.{SpellsKeyValues, SpellsSections, SpellsItems, SpellsPairs}
+use Rattle.toml_span_read.specs.Grammar.{SpellsHeader, SpellsDocument, Spells, KeyValuesWith, SectionsWith, ItemsWith, PairsWith, SpellsScalar}
 use Rattle.toml_span_laws.specs.Places.{KeyValuesAscend, BlocksAscend, part_starts, key_starts, item_key_starts, pair_key_starts, key_value_key_starts, block_key_starts, starts, item_starts, pair_starts, key_value_starts, header_starts, block_starts}
 use Rattle.toml_span_read.proofs.InsideLemmas.{tail_inside, opens_on, shuts_on}
 use Rattle.toml_span_read.proofs.KeyOrder.{dotted_ascend}
@@ -16,7 +15,7 @@ ascend_wide [] h i j k a b x = omega (arith, a, b, x)
 ascend_wide (p ∷ ps) h i j k a b (x, y, z) = (omega (arith, a, x), y, ascend_wide ps p.span.end p.span.end j k (omega arith) b z)
 
 -- the assignments from i on, behind n
-key_values_ascend : (es before : List KeyValue) (text : List ℕ) (limit n i j : ℕ) → n ≤ i → SpellsKeyValues es before text limit i j → KeyValuesAscend es n (last_end n es) × (last_end n es ≤ j)
+key_values_ascend : (es before : List KeyValue) (text : List ℕ) (limit n i j : ℕ) → n ≤ i → KeyValuesWith SpellsScalar es before text limit i j → KeyValuesAscend es n (last_end n es) × (last_end n es ≤ j)
 key_values_ascend [] before text limit n i j l h = (omega arith, omega (arith, l, h))
 key_values_ascend (e ∷ es) before text limit n i j l (m, q, k, h, t, c, g, r) =
     let a = dotted_ascend e.parts text i h.key_end h.key in
@@ -32,13 +31,13 @@ header_ascend ps many text limit i j h =
     ascend_wide ps (i + 1) f.start f.end j (omega (arith, opens_on many text i f.inside f.opens, f.before.forward))
     (omega (arith, f.behind.forward, shuts_on many text h.close h.end h.shuts, (tail_inside text h.end j h.rest).0)) (dotted_ascend ps text f.start f.end f.key).0
 
-sections_ascend : (bs : List Block) (text : List ℕ) (limit n i : ℕ) → n ≤ i → SpellsSections bs text limit i → BlocksAscend bs n (length text)
+sections_ascend : (bs : List Block) (text : List ℕ) (limit n i : ℕ) → n ≤ i → SectionsWith SpellsScalar bs text limit i → BlocksAscend bs n (length text)
 sections_ascend [] text limit n i l h = omega (arith, l, h)
 sections_ascend (b ∷ bs) text limit n i l (j, s, r) =
     let e = key_values_ascend b.key_values [] text limit s.end s.lines.0 j (s.lines.1.forward) s.lines.2 in
     rw (s.header_span, s.extent) (l, ascend_wide b.header i (i + 1) s.end s.end (omega arith) (omega arith) (header_ascend b.header b.array text limit i s.end s.header), e.0, sections_ascend bs text limit (last_end s.end b.key_values) j e.1 r)
 
-first_ascend : (es : List KeyValue) (text : List ℕ) (limit k i j : ℕ) (bs : List Block) → SpellsKeyValues es [] text limit k j → SpellsSections bs text limit j → BlocksAscend (first_block es ++ bs) 0 (length text)
+first_ascend : (es : List KeyValue) (text : List ℕ) (limit k i j : ℕ) (bs : List Block) → KeyValuesWith SpellsScalar es [] text limit k j → SectionsWith SpellsScalar bs text limit j → BlocksAscend (first_block es ++ bs) 0 (length text)
 first_ascend [] text limit k i j bs h r = sections_ascend bs text limit 0 j (omega arith) r
 first_ascend (e ∷ es) text limit k i j bs h r =
     grind (arith, nat_tests, common_steps, key_values_ascend (e ∷ es) [] text limit 0 k j (omega arith) h, sections_ascend bs text limit (last_end e.extent.end es) j)
@@ -59,9 +58,9 @@ header_from b i j h = elim h [ inl (none, on) ↦ rw none on | inr (on, a) ↦ a
 abbrev pub AreBlocks : List Block → List ℕ → ℕ → ℕ → ℕ → Type 0
 AreBlocks [] text limit i n = i ≤ n
 AreBlocks (b ∷ bs) text limit i n =
-    (s k j : ℕ) × HeaderFrom b i s × (length b.header ≤ limit) × (b.header ≡ [] → b.array ≡ false) × (s ≤ k) × SpellsKeyValues b.key_values [] text limit k j × AreBlocks bs text limit j n
+    (s k j : ℕ) × HeaderFrom b i s × (length b.header ≤ limit) × (b.header ≡ [] → b.array ≡ false) × (s ≤ k) × KeyValuesWith SpellsScalar b.key_values [] text limit k j × AreBlocks bs text limit j n
 
-section_blocks : (bs : List Block) (text : List ℕ) (limit h i : ℕ) → h ≤ i → SpellsSections bs text limit i → AreBlocks bs text limit h (length text)
+section_blocks : (bs : List Block) (text : List ℕ) (limit h i : ℕ) → h ≤ i → SectionsWith SpellsScalar bs text limit i → AreBlocks bs text limit h (length text)
 section_blocks [] text limit h i l x = omega (arith, l, x)
 section_blocks (b ∷ bs) text limit h i l (j, s, rest) = (
   s.end,
@@ -76,7 +75,7 @@ section_blocks (b ∷ bs) text limit h i l (j, s, rest) = (
 )
 
 -- the assignments before the first header, and sections from j on
-pub first_blocks : (es : List KeyValue) (bs : List Block) (text : List ℕ) (limit i j n : ℕ) → SpellsKeyValues es [] text limit i j → ((h : ℕ) → h ≤ j → AreBlocks bs text limit h n) → AreBlocks (first_block es ++ bs) text limit 0 n
+pub first_blocks : (es : List KeyValue) (bs : List Block) (text : List ℕ) (limit i j n : ℕ) → KeyValuesWith SpellsScalar es [] text limit i j → ((h : ℕ) → h ≤ j → AreBlocks bs text limit h n) → AreBlocks (first_block es ++ bs) text limit 0 n
 first_blocks [] bs text limit i j n h rest = rest 0 (omega arith)
 first_blocks (e ∷ es) bs text limit i j n h rest = (0, i, j, inl (refl, omega arith), omega arith, (λ none. refl), omega arith, h, rest j (omega arith))
 
@@ -123,11 +122,11 @@ mutual
   starts_rise (parsed (inline ps) s) text limit d i j (few, (here, e, k, gap, h)) =
       grind (arith, nat_tests, common_steps, pair_starts_rise ps [] text limit (d + 1) k j h, rising_wide)
 
-  item_starts_rise : (vs : ParsedItems) (text : List ℕ) (limit d i j : ℕ) → SpellsItems vs text limit d i j → Rising (item_starts vs) i j
+  item_starts_rise : (vs : ParsedItems) (text : List ℕ) (limit d i j : ℕ) → ItemsWith SpellsScalar vs text limit d i j → Rising (item_starts vs) i j
   item_starts_rise no_items text limit d i j h = omega (arith, h.1)
   item_starts_rise (item v vs) text limit d i j h = grind (arith, nat_tests, common_steps, item_starts_rise vs, starts_rise v, rising_on, rising_wide)
 
-  pair_starts_rise : (ps : ParsedPairs) (es : List KeyValue) (text : List ℕ) (limit d i j : ℕ) → SpellsPairs ps es text limit d i j → Rising (pair_starts ps) i j
+  pair_starts_rise : (ps : ParsedPairs) (es : List KeyValue) (text : List ℕ) (limit d i j : ℕ) → PairsWith SpellsScalar ps es text limit d i j → Rising (pair_starts ps) i j
   pair_starts_rise no_pairs es text limit d i j h = omega (arith, h.1)
   pair_starts_rise (pair ss v x ps) es text limit d i j (m, (a, b, key, few, sign, h, extent), clear, then) =
       rising_on (part_starts ss) (starts v ++ pair_starts ps) i a j (parts_rise ss i a (dotted_ascend ss text i a key).0)
@@ -139,7 +138,7 @@ mutual
             (pair_starts_rise ps (es ++ (record { parts = ss; value = v; extent = x } ∷ [])) text limit d p j rest)
       ])))
 
-key_values_starts_rise : (es before : List KeyValue) (text : List ℕ) (limit i j : ℕ) → SpellsKeyValues es before text limit i j → Rising (key_value_starts es) i j
+key_values_starts_rise : (es before : List KeyValue) (text : List ℕ) (limit i j : ℕ) → KeyValuesWith SpellsScalar es before text limit i j → Rising (key_value_starts es) i j
 key_values_starts_rise [] before text limit i j h = omega (arith, h)
 key_values_starts_rise (e ∷ es) before text limit i j (m, n, k, h, tail, clear, gap, rest) =
     let a = dotted_ascend e.parts text i h.key_end h.key in

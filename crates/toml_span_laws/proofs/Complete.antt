@@ -11,8 +11,7 @@ use Rattle.toml_span_read.specs.Data.{ParsedValue, parsed, scalar, array, inline
 use Rattle.toml_span_read.specs.Dates.{begins_date}
 use Rattle.toml_span_read.specs.Faults.{begins_bare, begins_number}
 use Rattle.toml_span_read.specs.Gaps.{MaximalGap, Closes, Separator}
-use Rattle.toml_span_read.specs.Grammar.{truth_text, SpellsScalar, Spells, SpellsLines, ClosesHeader, SpellsHeader, SpellsSection, SpellsDocument}
-use Rattle.toml_span_read.proofs.Spelled.{SpellsItems, SpellsPairs, SpellsPair, SpellsKeyValue, SpellsKeyValues, SpellsSections}
+use Rattle.toml_span_read.specs.Grammar.{truth_text, SpellsScalar, Spells, SpellsLines, ClosesHeader, SpellsHeader, SpellsSection, SpellsDocument, ItemsWith, PairsWith, KeyValueWith, KeyValuesWith, SectionsWith}
 use Rattle.toml_span_read.specs.Keys.{opens_string, SpellsKey, SpellsSimpleKey, Onward}
 use Rattle.toml_span_read.specs.Numbers.{IsNumber, SpecialFloat, UnsignedDecimal}
 use Rattle.toml_span_read.specs.Numerals.{behind_sign}
@@ -22,7 +21,7 @@ use Rattle.toml_span_read.specs.Read.{Reading, token, ValueEnd, Loop, ends, goes
 use Rattle.toml_span_read.proofs.NumberLemmas.{is_false, byte_is, same_byte, clash, here, run_is}
 use Rattle.toml_span_read.proofs.NumberReads.{word_keylike, word_first, zero_first}
 use Rattle.toml_span_read.proofs.NumberComplete.{number_complete}
-use Rattle.toml_span_read.proofs.ReadSound.{onto_more, pairs_onto_more}
+use Rattle.toml_span_read.proofs.ReadSound.{onto_more, pairs_onto_more, SpellsPair}
 use Rattle.toml_span_read.proofs.ValueRead.{levels}
 
 -- a byte that p passes is none that it does not
@@ -162,7 +161,7 @@ mutual
   value_complete (parsed (inline ps) s) text limit (suc left) d i j e (l, (b, x, k, g, h)) =
       inr (rw b refl, inl (same_byte _ 123 b, (k, g, inl ((inline ps, j), pairs_complete ps [] text limit left (d + 1) k j (omega arith) h, rw x refl))))
 
-  items_complete : (vs : ParsedItems) (acc : List ParsedValue) (text : List ℕ) (limit left d i j : ℕ) → left ≡ limit + 1 - d → SpellsItems vs text limit d i j
+  items_complete : (vs : ParsedItems) (acc : List ParsedValue) (text : List ℕ) (limit left d i j : ℕ) → left ≡ limit + 1 - d → ItemsWith SpellsScalar vs text limit d i j
       → Loop (read.next_element text (read.value text limit left zero)) (acc, i) (Ok (array (onto acc vs), j))
   items_complete no_items acc text limit left d i j e h = ends (acc, i) _ (inl (same_byte _ 93 h.0, rw h.1 refl))
   items_complete (item v vs) acc text limit left d i j e (m, a, inl (f, c)) =
@@ -171,7 +170,7 @@ mutual
       goes_on (acc, i) (acc ++ (v ∷ []), p) _ (inr (no_bracket v text limit d i m a, inl ((v, m), value_complete v text limit left d i m e a, comma 93 _ text m p _ (read.array_end (acc ++ (v ∷ []))) c)))
       (rw (onto_more acc v vs) at (items_complete vs (acc ++ (v ∷ [])) text limit left d p j e r))
 
-  pairs_complete : (ps : ParsedPairs) (acc : List KeyValue) (text : List ℕ) (limit left d i j : ℕ) → left ≡ limit + 1 - d → SpellsPairs ps acc text limit d i j
+  pairs_complete : (ps : ParsedPairs) (acc : List KeyValue) (text : List ℕ) (limit left d i j : ℕ) → left ≡ limit + 1 - d → PairsWith SpellsScalar ps acc text limit d i j
       → Loop (read.next_pair text limit (read.value text limit left)) (acc, i) (Ok (inline (pairs_onto acc ps), j))
   pairs_complete no_pairs acc text limit left d i j e h = ends (acc, i) _ (inl (same_byte _ 125 h.0, rw h.1 refl))
   pairs_complete (pair ss v x ps) acc text limit left d i j e (m, p, clear, o) =
@@ -187,13 +186,13 @@ mutual
 
 -- ---- lines
 
-assignment_complete : (e : KeyValue) (text : List ℕ) (limit i j : ℕ) → SpellsKeyValue e text limit i j → read.keyval text limit (MaximalRun is_blank text) (read.value text limit (limit + 1)) i (Ok (e, j))
+assignment_complete : (e : KeyValue) (text : List ℕ) (limit i j : ℕ) → KeyValueWith SpellsScalar e text limit i j → read.keyval text limit (MaximalRun is_blank text) (read.value text limit (limit + 1)) i (Ok (e, j))
 assignment_complete e text limit i j h =
     let n : ℕ = length e.parts in
     let v = value_complete e.value text limit (limit + 1 - n) n h.from j refl h.spelled in
     key_value_complete e text limit (limit + 1) (MaximalRun is_blank text) i h.key_end h.sign.at h.from j h.key h.few h.sign.before h.sign.here h.sign.behind v h.extent
 
-key_values_complete : (es acc : List KeyValue) (text : List ℕ) (limit i j : ℕ) → SpellsKeyValues es acc text limit i j → read.ends_lines text j ≡ true → Loop (read.next_assignment text limit) (acc, i) (Ok (acc ++ es, j))
+key_values_complete : (es acc : List KeyValue) (text : List ℕ) (limit i j : ℕ) → KeyValuesWith SpellsScalar es acc text limit i j → read.ends_lines text j ≡ true → Loop (read.next_assignment text limit) (acc, i) (Ok (acc ++ es, j))
 key_values_complete [] acc text limit i j e t = ends (acc, i) _ (inl (rw e at t, rw (e, append-nil acc) refl))
 key_values_complete (e ∷ es) acc text limit i j (m, n, k, h, t, clear, g, r) s =
     goes_on (acc, i) (acc ++ (e ∷ []), k) _ (inr (grind (arith, nat_tests, common_steps), inl ((e, m), assignment_complete e text limit i m h, inl (n, inl (n, t, refl), inl (acc ++ (e ∷ []), inl (clear, refl), (k, g, refl))))))
@@ -226,11 +225,11 @@ section_complete : (b : Block) (text : List ℕ) (limit i j : ℕ) → SpellsSec
 section_complete b text limit i j s t =
     grind (arith, nat_tests, common_steps, header_complete b.header b.array text limit i s.end s.header, lines_complete b.key_values text limit s.end j s.lines t)
 
-sections_stop : (bs : List Block) (text : List ℕ) (limit i : ℕ) → SpellsSections bs text limit i → read.ends_lines text i ≡ true
+sections_stop : (bs : List Block) (text : List ℕ) (limit i : ℕ) → SectionsWith SpellsScalar bs text limit i → read.ends_lines text i ≡ true
 sections_stop [] text limit i e = rw (same_byte i (length text) e) refl
 sections_stop (b ∷ bs) text limit i (j, s, r) = rw (header_byte b.header b.array text limit i s.end s.header, or_true) refl
 
-sections_complete : (bs acc : List Block) (text : List ℕ) (limit i : ℕ) → SpellsSections bs text limit i → Loop (read.next_section text limit) (acc, i) (Ok (acc ++ bs))
+sections_complete : (bs acc : List Block) (text : List ℕ) (limit i : ℕ) → SectionsWith SpellsScalar bs text limit i → Loop (read.next_section text limit) (acc, i) (Ok (acc ++ bs))
 sections_complete [] acc text limit i e = ends (acc, i) _ (inl (same_byte i (length text) e, rw (append-nil acc) refl))
 sections_complete (b ∷ bs) acc text limit i (j, s, r) =
     let none = not_end (λ c. c == 91) text i refl (same_byte _ 91 (header_byte b.header b.array text limit i s.end s.header)) in

@@ -4,8 +4,7 @@ use Rattle.toml_span_lex.specs.declared.span.Span.{Span}
 use Rattle.toml_span_read.specs.Data.{ParsedValue, parsed, ParsedInner, scalar, array, inline, ParsedItems, no_items, item, ParsedPairs, no_pairs, pair, KeyValue, block, Block, first_block, SimpleKey}
 use Rattle.toml_span_read.specs.declared.section.Section.{Section}
 use Rattle.toml_span_read.specs.Limits.{Within, WithinInner, WithinItems, WithinPairs, WithinKeyValues, WithinSection, WithinSections}
-use Rattle.toml_span_read.specs.Grammar.{Spells, SpellsLines, SpellsSection, SpellsDocument}
-use Rattle.toml_span_read.proofs.Spelled.{SpellsInner, SpellsItems, SpellsPairs, SpellsKeyValues}
+use Rattle.toml_span_read.specs.Grammar.{Spells, SpellsLines, SpellsSection, SpellsDocument, InnerWith, ItemsWith, PairsWith, KeyValuesWith, SpellsScalar}
 use Rattle.toml_span_read.proofs.ReadSound.{document_sound}
 use Rattle.toml_span_laws.proofs.AscendLaws.{AreBlocks, document_blocks, first_blocks}
 use Rattle.toml_span_tree.specs.Node as tree
@@ -25,22 +24,22 @@ mutual
   pub value_within : (v : ParsedValue) (text : List ℕ) (limit d i j : ℕ) → Spells v text limit d i j → Within limit d v
   value_within (parsed x s) text limit d i j (few, h) = (few, inner_within x s text limit d i j h)
 
-  inner_within : (x : ParsedInner) (s : Span) (text : List ℕ) (limit d i j : ℕ) → SpellsInner x s text limit d i j → WithinInner limit d x
+  inner_within : (x : ParsedInner) (s : Span) (text : List ℕ) (limit d i j : ℕ) → InnerWith SpellsScalar x s text limit d i j → WithinInner limit d x
   inner_within (scalar y) s text limit d i j h = tt
   inner_within (array vs) s text limit d i j (here, span, k, gap, h) = items_within vs text limit (d + 1) k j h
   inner_within (inline ps) s text limit d i j (here, span, k, gap, h) = pairs_within ps [] text limit (d + 1) k j h
 
-  items_within : (vs : ParsedItems) (text : List ℕ) (limit d i j : ℕ) → SpellsItems vs text limit d i j → WithinItems limit d vs
+  items_within : (vs : ParsedItems) (text : List ℕ) (limit d i j : ℕ) → ItemsWith SpellsScalar vs text limit d i j → WithinItems limit d vs
   items_within no_items text limit d i j h = tt
   items_within (item v vs) text limit d i j h = grind (arith, nat_tests, common_steps, items_within vs, value_within v)
 
-  pairs_within : (ps : ParsedPairs) (es : List KeyValue) (text : List ℕ) (limit d i j : ℕ) → SpellsPairs ps es text limit d i j → WithinPairs limit d ps
+  pairs_within : (ps : ParsedPairs) (es : List KeyValue) (text : List ℕ) (limit d i j : ℕ) → PairsWith SpellsScalar ps es text limit d i j → WithinPairs limit d ps
   pairs_within no_pairs es text limit d i j h = tt
   pairs_within (pair ss v x ps) es text limit d i j h = grind (arith, nat_tests, common_steps, pairs_within ps, value_within v)
 
 -- ---- documents
 
-key_values_within : (evs earlier : List KeyValue) (text : List ℕ) (limit i j : ℕ) → SpellsKeyValues evs earlier text limit i j → WithinKeyValues limit evs
+key_values_within : (evs earlier : List KeyValue) (text : List ℕ) (limit i j : ℕ) → KeyValuesWith SpellsScalar evs earlier text limit i j → WithinKeyValues limit evs
 key_values_within [] earlier text limit i j h = tt
 key_values_within (ev ∷ evs) earlier text limit i j (m, n, k, h, t, c, g, r) =
     let zero : 0 + length ev.parts ≡ length ev.parts = omega arith in
@@ -154,7 +153,7 @@ mutual
       each-followed (IsWithin limit) (key_claims p parts v (value_claims v)) (pair_claims rest p)
       (key-depth limit d p parts v (value_claims v) fits (deep limit (d + length parts) v h.1) (λ q f. value-depth limit (d + length parts) v q f h.1)) (pair-depth limit d rest p fits h.2)
 
-key_values-depth : (limit : ℕ) (es before : List KeyValue) (p : Path) (text : List ℕ) (i j : ℕ) → Fits limit 0 p → SpellsKeyValues es before text limit i j → Each (IsWithin limit) (key_value_claims es p)
+key_values-depth : (limit : ℕ) (es before : List KeyValue) (p : Path) (text : List ℕ) (i j : ℕ) → Fits limit 0 p → KeyValuesWith SpellsScalar es before text limit i j → Each (IsWithin limit) (key_value_claims es p)
 unfolding key_value_claims
 key_values-depth limit [] before p text i j fits h = tt
 key_values-depth limit (e ∷ es) before p text i j fits (m, o, k, h, tail, clear, gap, rest) =

@@ -3,8 +3,7 @@ use Rattle.toml_span_lex.proofs.Common.{◌≡◌, ℕ, suc, ◌+◌, ◌<◌, �
 use Rattle.toml_span_lex.specs.declared.span.Span.{Span}
 use Rattle.toml_span_tree.specs.Path.{Path}
 use Rattle.toml_span_read.specs.Data.{ParsedValue, parsed, ParsedInner, scalar, array, inline, ParsedItems, no_items, item, ParsedPairs, no_pairs, pair, KeyValue, Block, from_to, SimpleKey}
-use Rattle.toml_span_read.specs.Grammar.{Spells, SpellsDocument}
-use Rattle.toml_span_read.proofs.Spelled.{SpellsInner, SpellsItems, SpellsPairs, SpellsKeyValues}
+use Rattle.toml_span_read.specs.Grammar.{Spells, SpellsDocument, InnerWith, ItemsWith, PairsWith, KeyValuesWith, SpellsScalar}
 use Rattle.toml_span_read.specs.Places.{Ascend}
 use Rattle.toml_span_laws.proofs.AscendLaws.{AreBlocks, document_blocks, header_from}
 use Rattle.toml_span_read.proofs.InsideLemmas.{tail_inside}
@@ -117,7 +116,7 @@ mutual
   unfolding value_claims inner_claims item_claims pair_claims
 
   -- what stands in a value: from m to before n, where its bracket, if it has one, starts before m
-  inner-rises : (x : ParsedInner) (s : Span) (q : Path) (text : List ℕ) (limit d i j m n : ℕ) → m ≤ n → j ≤ n → (s ≡ from_to i j → m ≤ i + 1) → SpellsInner x s text limit d i j
+  inner-rises : (x : ParsedInner) (s : Span) (q : Path) (text : List ℕ) (limit d i j m n : ℕ) → m ≤ n → j ≤ n → (s ≡ from_to i j → m ≤ i + 1) → InnerWith SpellsScalar x s text limit d i j
       → Rise (inner_claims x q) m n
   inner-rises (scalar y) s q text limit d i j m n l w f h = rise-none m n l
   inner-rises (array vs) s q text limit d i j m n l w f (here, e, k, gap, h) =
@@ -138,13 +137,13 @@ mutual
       (rise-followed (inner_claims x q) rest (s.start + 1) (m + 1) j
       (inner-rises x s q text limit d i m (s.start + 1) (m + 1) (omega (arith, a.0.1, a.0.2)) (omega arith) (λ e. omega (arith, ap (λ t. t.start) e)) h.1) r)
 
-  items-rise : (vs : ParsedItems) (n : ℕ) (q : Path) (text : List ℕ) (limit d i j : ℕ) → SpellsItems vs text limit d i j → Rise (item_claims vs n q) i j
+  items-rise : (vs : ParsedItems) (n : ℕ) (q : Path) (text : List ℕ) (limit d i j : ℕ) → ItemsWith SpellsScalar vs text limit d i j → Rise (item_claims vs n q) i j
   items-rise no_items n q text limit d i j h = rise-none i j (omega (arith, h.1))
   items-rise (item v vs) n q text limit d i j (m, h, then) =
       element-rises v (with_position q n) (item_claims vs (suc n) q) text limit d i m j h
       (grind (arith, nat_tests, common_steps, rise-none (m + 1) j, rising-wide (all_claims (item_claims vs (suc n) q)) (m + 1), items-rise vs (suc n) q text limit d))
 
-  pairs-rise : (ps : ParsedPairs) (es : List KeyValue) (q : Path) (text : List ℕ) (limit d i j : ℕ) → SpellsPairs ps es text limit d i j → Rise (pair_claims ps q) i j
+  pairs-rise : (ps : ParsedPairs) (es : List KeyValue) (q : Path) (text : List ℕ) (limit d i j : ℕ) → PairsWith SpellsScalar ps es text limit d i j → Rise (pair_claims ps q) i j
   pairs-rise no_pairs es q text limit d i j h = rise-none i j (omega (arith, h.1))
   pairs-rise (pair ss v x ps) es q text limit d i j (m, (a, b, key, few, sign, h, extent), clear, then) =
       rise-followed (key_claims q ss v (value_claims v)) (pair_claims ps q) i m j
@@ -157,7 +156,7 @@ mutual
             (pairs-rise ps (es ++ (record { parts = ss; value = v; extent = x } ∷ [])) q text limit d p j rest)
       ])
 
-key_values-rise : (es before : List KeyValue) (q : Path) (text : List ℕ) (limit i j : ℕ) → SpellsKeyValues es before text limit i j → Rise (key_value_claims es q) i j
+key_values-rise : (es before : List KeyValue) (q : Path) (text : List ℕ) (limit i j : ℕ) → KeyValuesWith SpellsScalar es before text limit i j → Rise (key_value_claims es q) i j
 unfolding key_value_claims
 key_values-rise [] before q text limit i j h = rise-none i j (omega (arith, h))
 key_values-rise (e ∷ es) before q text limit i j (m, n, k, h, tail, clear, gap, rest) =

@@ -10,8 +10,7 @@ use Rattle.toml_span.specs.Claims.{Claim, Claims, no_claims, claimed, scope, hea
 use Rattle.toml_span.specs.Flat.{by_header}
 use Rattle.toml_span.specs.Paths.{with_key, with_position, enter, elements_added, opened_by, section_path}
 use Rattle.toml_span_tree.specs.Node.{Scalar}
-use Rattle.toml_span_read.specs.Grammar.{Spells, SpellsDocument}
-use Rattle.toml_span_read.proofs.Spelled.{SpellsItems, SpellsPairs, SpellsKeyValues}
+use Rattle.toml_span_read.specs.Grammar.{Spells, SpellsDocument, ItemsWith, PairsWith, KeyValuesWith, SpellsScalar}
 use Rattle.toml_span.proofs.Grafts.{followed-assoc}
 use Rattle.toml_span.proofs.EachClaim.{Each}
 use Rattle.toml_span_laws.proofs.AscendLaws.{AreBlocks, document_blocks}
@@ -122,14 +121,14 @@ mutual
   value-of_text (parsed (array vs) span) p text limit d i j deep (few, (here, e, k, gap, h)) = (items-of_text vs 0 p text limit (d + 1) k j (omega arith) h, tt)
   value-of_text (parsed (inline ps) span) p text limit d i j deep (few, (here, e, k, gap, h)) = (pairs-of_text ps [] p text limit (d + 1) k j (omega arith) h, tt)
 
-  items-of_text : (vs : ParsedItems) (n : ℕ) (p : Path) (text : List ℕ) (limit d i j : ℕ) → 1 ≤ d → SpellsItems vs text limit d i j → AllSpelled text limit (item_claims vs n p)
+  items-of_text : (vs : ParsedItems) (n : ℕ) (p : Path) (text : List ℕ) (limit d i j : ℕ) → 1 ≤ d → ItemsWith SpellsScalar vs text limit d i j → AllSpelled text limit (item_claims vs n p)
   items-of_text no_items n p text limit d i j deep h = tt
   items-of_text (item v vs) n p text limit d i j deep (m, h, then) =
       element-of_text v (with_position p n) (item_claims vs (suc n) p) text limit (record { depth = d; from = i; to = m; deep = deep; spells = h })
       (value-of_text v (with_position p n) text limit d i m deep h)
       (elim then [ inl (e, close) ↦ rw e tt | inr (k, comma, rest) ↦ items-of_text vs (suc n) p text limit d k j deep rest ])
 
-  pairs-of_text : (ps : ParsedPairs) (es : List KeyValue) (p : Path) (text : List ℕ) (limit d i j : ℕ) → 1 ≤ d → SpellsPairs ps es text limit d i j → AllSpelled text limit (pair_claims ps p)
+  pairs-of_text : (ps : ParsedPairs) (es : List KeyValue) (p : Path) (text : List ℕ) (limit d i j : ℕ) → 1 ≤ d → PairsWith SpellsScalar ps es text limit d i j → AllSpelled text limit (pair_claims ps p)
   pairs-of_text no_pairs es p text limit d i j deep h = tt
   pairs-of_text (pair ss v x ps) es p text limit d i j deep (m, (a, b, key, few, sign, h, extent), clear, then) =
       spelled-followed text limit (key_claims p ss v (value_claims v)) (pair_claims ps p)
@@ -142,7 +141,7 @@ mutual
 pub some-part : (parts : List SimpleKey) (text : List ℕ) (i j : ℕ) → SpellsKey parts text i j → 1 ≤ length parts
 some-part parts text i j h = grind (arith, nat_tests, common_steps)
 
-key_values-of_text : (es before : List KeyValue) (p : Path) (text : List ℕ) (limit i j : ℕ) → SpellsKeyValues es before text limit i j → AllSpelled text limit (key_value_claims es p)
+key_values-of_text : (es before : List KeyValue) (p : Path) (text : List ℕ) (limit i j : ℕ) → KeyValuesWith SpellsScalar es before text limit i j → AllSpelled text limit (key_value_claims es p)
 unfolding key_value_claims
 key_values-of_text [] before p text limit i j h = tt
 key_values-of_text (e ∷ es) before p text limit i j (m, n, k, h, tail, clear, gap, rest) =

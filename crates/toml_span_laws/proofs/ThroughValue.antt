@@ -3,8 +3,7 @@ use Rattle.toml_span_lex.proofs.Common.{◌≡◌, ℕ, suc, ◌+◌, List, [], 
 use Rattle.toml_span_tree.specs.Path.{Path, key}
 use Rattle.toml_span_read.specs.Data.{ParsedValue, parsed, scalar, array, inline, ParsedItems, no_items, item, ParsedPairs, no_pairs, pair, KeyValue, Block, first_block, SimpleKey}
 use Rattle.toml_span_read.specs.Earlier.{Clear, NoneAt, part_names}
-use Rattle.toml_span_read.specs.Grammar.{Spells, SpellsDocument, SpellsLines}
-use Rattle.toml_span_read.proofs.Spelled.{SpellsItems, SpellsPairs, SpellsKeyValues, SpellsSections}
+use Rattle.toml_span_read.specs.Grammar.{Spells, SpellsDocument, SpellsLines, ItemsWith, PairsWith, KeyValuesWith, SectionsWith, SpellsScalar}
 use Rattle.toml_span_read.specs.Keys.{SpellsKey}
 use Rattle.toml_span.specs.declared.claims.Sort.TheVariants.{Dotted, Assigned, StandardTable}
 use Rattle.toml_span.specs.Claims.{Claim, Claims, no_claims, claimed, scope, followed, key_claims, value_claims, inner_claims, item_claims, pair_claims, key_value_claims, element, assigned, dotted, header_claim, end_claims, header_claims, section_claims, claims_behind, claims, head_of}
@@ -199,13 +198,13 @@ mutual
   value-guarded (parsed (array vs) span) p l text limit d i j (few, (here, e, k, gap, h)) = (items-guarded vs 0 p [] text limit (d + 1) k j h, tt)
   value-guarded (parsed (inline ps) span) p l text limit d i j (few, (here, e, k, gap, h)) = (pairs-guarded ps [] p [] text limit (d + 1) k j (λ c none. absurd none) h, tt)
 
-  items-guarded : (vs : ParsedItems) (n : ℕ) (p : Path) (l : List Claim) (text : List ℕ) (limit d i j : ℕ) → SpellsItems vs text limit d i j → Guarded l (item_claims vs n p)
+  items-guarded : (vs : ParsedItems) (n : ℕ) (p : Path) (l : List Claim) (text : List ℕ) (limit d i j : ℕ) → ItemsWith SpellsScalar vs text limit d i j → Guarded l (item_claims vs n p)
   items-guarded no_items n p l text limit d i j h = tt
   items-guarded (item v vs) n p l text limit d i j (m, h, behind) =
       element-guarded v (with_position p n) (item_claims vs (suc n) p) l (λ x. value-guarded v (with_position p n) x text limit d i m h)
       (λ x. grind (arith, nat_tests, common_steps, items-guarded vs (suc n) p x text limit d))
 
-  pairs-guarded : (ps : ParsedPairs) (es : List KeyValue) (p : Path) (l : List Claim) (text : List ℕ) (limit d i j : ℕ) → Known (IsAt p) p es l → SpellsPairs ps es text limit d i j
+  pairs-guarded : (ps : ParsedPairs) (es : List KeyValue) (p : Path) (l : List Claim) (text : List ℕ) (limit d i j : ℕ) → Known (IsAt p) p es l → PairsWith SpellsScalar ps es text limit d i j
       → Guarded l (pair_claims ps p)
   pairs-guarded no_pairs es p l text limit d i j known h = tt
   pairs-guarded (pair ss v x ps) es p l text limit d i j known (m, (a, b, named, few, sign, h, extent), clear, behind) =
@@ -216,7 +215,7 @@ mutual
 
 -- ---- the assignments of a section
 
-pub key_values-walk : (R : List Claim → Path → Type 0) (laws : Bases R) (base : Path) (evs before : List KeyValue) (l : List Claim) (text : List ℕ) (limit i j : ℕ) → SpellsKeyValues evs before text limit i j
+pub key_values-walk : (R : List Claim → Path → Type 0) (laws : Bases R) (base : Path) (evs before : List KeyValue) (l : List Claim) (text : List ℕ) (limit i j : ℕ) → KeyValuesWith SpellsScalar evs before text limit i j
     → R l base → Known R base before l → (es : List KeyValue) × Walked R base es l (key_value_claims evs base)
 unfolding key_value_claims
 key_values-walk R laws base [] before l text limit i j h root known =
@@ -350,13 +349,13 @@ section-walk earlier b l text limit i j k parts is lines traced =
 some-parts : (parts : List SimpleKey) (text : List ℕ) (i j : ℕ) → SpellsKey parts text i j → (k : SimpleKey) × (more : List SimpleKey) × (parts ≡ k ∷ more)
 some-parts parts text i j h = grind (arith, nat_tests, common_steps)
 
-sections-walk : (earlier bs : List Block) (l : List Claim) (text : List ℕ) (limit i : ℕ) → SpellsSections bs text limit i → AllTraced (elements_added (opened_by earlier)) l → Guarded l (claims_behind earlier bs)
+sections-walk : (earlier bs : List Block) (l : List Claim) (text : List ℕ) (limit i : ℕ) → SectionsWith SpellsScalar bs text limit i → AllTraced (elements_added (opened_by earlier)) l → Guarded l (claims_behind earlier bs)
 unfolding claims_behind
 sections-walk earlier [] l text limit i h traced = tt
 sections-walk earlier (b ∷ bs) l text limit i (j, s, rest) traced =
     grind (arith, nat_tests, common_steps, sections-walk (b ∷ earlier) bs, guarded-followed l, section-walk earlier b l text limit s.end j, some-parts b.header text)
 
-document-walk : (first : List KeyValue) (rest : List Block) (text : List ℕ) (limit i j : ℕ) → SpellsLines first text limit i j → SpellsSections rest text limit j → Guarded [] (claims (first_block first ++ rest))
+document-walk : (first : List KeyValue) (rest : List Block) (text : List ℕ) (limit i j : ℕ) → SpellsLines first text limit i j → SectionsWith SpellsScalar rest text limit j → Guarded [] (claims (first_block first ++ rest))
 unfolding claims_behind section_claims header_claims followed target opened_by
 document-walk [] rest text limit i j lines sections = sections-walk [] rest [] text limit j sections (λ c here sort. absurd here)
 document-walk (ev ∷ evs) rest text limit i j lines sections =

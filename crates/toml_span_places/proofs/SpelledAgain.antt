@@ -8,8 +8,7 @@ use Rattle.toml_span_tree.specs.Value.{is_whole, holds_whole, all_whole, all_mem
 use Rattle.toml_span_read.specs.Data.{ParsedValue, parsed, ParsedInner, scalar, array, inline, ParsedItems, no_items as none_read, item as item_read, ParsedPairs, no_pairs, pair, KeyValue, from_to, SimpleKey}
 use Rattle.toml_span_read.specs.Dates.{begins_date, is_date_byte}
 use Rattle.toml_span_read.specs.Gaps.{begins_gap, MaximalGap, Separator, Closes}
-use Rattle.toml_span_read.specs.Grammar.{truth_text, SpellsScalar, Spells}
-use Rattle.toml_span_read.proofs.Spelled.{SpellsInner, SpellsItems, SpellsPairs}
+use Rattle.toml_span_read.specs.Grammar.{truth_text, SpellsScalar, Spells, InnerWith, ItemsWith, PairsWith}
 use Rattle.toml_span_read.specs.Keys.{SpellsSimpleKey, SpellsKey}
 use Rattle.toml_span_read.specs.Numbers.{SpecialFloat, FloatLiteral}
 use Rattle.toml_span_read.specs.Numerals.{is_digit_in, behind_sign, is_negative, radix_at, cleaned}
@@ -30,23 +29,17 @@ use Rattle.toml_span_places.proofs.Undated.{no_date}
 -- ---- what can be spelled
 
 -- it is whole, within the limit, and the text of each float in it spells the float by itself
-abbrev mutual
-  CanBeSpelled : ℕ → ℕ → Node → Type 0
-  CanBeSpelled limit d (node i span) = (d ≤ limit) × InnerCanBeSpelled limit d i
+abbrev CanBeSpelled : ℕ → ℕ → Node → Type 0
+CanBeSpelled limit d n = (is_whole n ≡ true) × IsWithin limit d n × HasFloatTexts n
 
-  InnerCanBeSpelled : ℕ → ℕ → Inner → Type 0
-  InnerCanBeSpelled limit d taken = ⊥
-  InnerCanBeSpelled limit d (scalar_node s) = IsScalarText s
-  InnerCanBeSpelled limit d (array_node ns) = ItemsCanBeSpelled limit (d + 1) ns
-  InnerCanBeSpelled limit d (table_node ms) = MembersCanBeSpelled limit (d + 1) ms
+abbrev InnerCanBeSpelled : ℕ → ℕ → Inner → Type 0
+InnerCanBeSpelled limit d k = (holds_whole k ≡ true) × InnerIsWithin limit d k × InnerHasFloatTexts k
 
-  ItemsCanBeSpelled : ℕ → ℕ → Items → Type 0
-  ItemsCanBeSpelled limit d no_items = Unit {0}
-  ItemsCanBeSpelled limit d (item n ns) = CanBeSpelled limit d n × ItemsCanBeSpelled limit d ns
+abbrev ItemsCanBeSpelled : ℕ → ℕ → Items → Type 0
+ItemsCanBeSpelled limit d ns = (all_whole ns ≡ true) × ItemsAreWithin limit d ns × ItemsHaveFloatTexts ns
 
-  MembersCanBeSpelled : ℕ → ℕ → Members → Type 0
-  MembersCanBeSpelled limit d no_members = Unit {0}
-  MembersCanBeSpelled limit d (member name key n ms) = CanBeSpelled limit (d + 1) n × MembersCanBeSpelled limit d ms
+abbrev MembersCanBeSpelled : ℕ → ℕ → Members → Type 0
+MembersCanBeSpelled limit d ms = (all_members_whole ms ≡ true) × MembersAreWithin limit d ms × MembersHaveFloatTexts ms
 
 -- ---- what begins a value begins no gap
 
@@ -148,13 +141,13 @@ scalar_again {text} {rest} {i} {j} (datetime d) held is off p = let o = off_part
 abbrev Inside : Items → Type 0
 Inside ns =
     (text rest : List ℕ) (limit d i j : ℕ) → AreHeld ns → ItemsCanBeSpelled limit d ns → Part text (items_text true ns ++ (93 ∷ [])) rest i j
-    → (vs : ParsedItems) × SpellsItems vs text limit d i j × HaveValues vs ns × (begins_gap text i ≡ false)
+    → (vs : ParsedItems) × ItemsWith SpellsScalar vs text limit d i j × HaveValues vs ns × (begins_gap text i ≡ false)
 
 -- what of the elements follows another one
 abbrev Behind : Items → Type 0
 Behind ns =
     (text rest : List ℕ) (limit d i j : ℕ) → AreHeld ns → ItemsCanBeSpelled limit d ns → Part text (items_text false ns ++ (93 ∷ [])) rest i j
-    → (vs : ParsedItems) × HaveValues vs ns × (((vs ≡ none_read) × Closes 93 text i j) ⊎ ((p : ℕ) × Separator 44 text i p × SpellsItems vs text limit d p j))
+    → (vs : ParsedItems) × HaveValues vs ns × (((vs ≡ none_read) × Closes 93 text i j) ⊎ ((p : ℕ) × Separator 44 text i p × ItemsWith SpellsScalar vs text limit d p j))
 
 closes : {text rest : List ℕ} {i j : ℕ} (c : ℕ) → NoGap c → Part text (c ∷ []) rest i j → Closes c text i j
 closes {text} {rest} {i} {j} c h p = grind (arith, nat_tests, common_steps)
@@ -180,12 +173,12 @@ items_off (item n ns) rest = refl
 abbrev InsideBraces : Members → Type 0
 InsideBraces ms =
     (text rest : List ℕ) (es : List KeyValue) (limit d i j : ℕ) → MembersHeld ms → MembersCanBeSpelled limit d ms → Part text (members_text true ms ++ (125 ∷ [])) rest i j
-    → (ps : ParsedPairs) × SpellsPairs ps es text limit d i j × HaveEntries ps ms × (begins_gap text i ≡ false)
+    → (ps : ParsedPairs) × PairsWith SpellsScalar ps es text limit d i j × HaveEntries ps ms × (begins_gap text i ≡ false)
 
 abbrev BehindPair : Members → Type 0
 BehindPair ms =
     (text rest : List ℕ) (es : List KeyValue) (limit d i j : ℕ) → MembersHeld ms → MembersCanBeSpelled limit d ms → Part text (members_text false ms ++ (125 ∷ [])) rest i j
-    → (ps : ParsedPairs) × HaveEntries ps ms × (((ps ≡ no_pairs) × Closes 125 text i j) ⊎ ((p : ℕ) × Separator 44 text i p × SpellsPairs ps es text limit d p j))
+    → (ps : ParsedPairs) × HaveEntries ps ms × (((ps ≡ no_pairs) × Closes 125 text i j) ⊎ ((p : ℕ) × Separator 44 text i p × PairsWith SpellsScalar ps es text limit d p j))
 
 behind_pairs : (ms : Members) → InsideBraces ms → BehindPair ms
 behind_pairs no_members inside text rest es limit d i j held can p = (no_pairs, tt, inl (refl, closes 125 (refl, refl, refl) p))
@@ -245,12 +238,12 @@ abbrev ValueAt : List ℕ → Node → ℕ → ℕ → ℕ → ℕ → Type 0
 ValueAt text n limit d i j = (v : ParsedValue) × Spells v text limit d i j × HasValue v n
 
 abbrev InnerAt : List ℕ → Inner → ℕ → ℕ → ℕ → ℕ → Type 0
-InnerAt text k limit d i j = (x : ParsedInner) × (span : Span) × SpellsInner x span text limit d i j × HoldsValue x k
+InnerAt text k limit d i j = (x : ParsedInner) × (span : Span) × InnerWith SpellsScalar x span text limit d i j × HoldsValue x k
 
 -- an element, and those behind it
 joined_items : (n : Node) (ns : Items) (text rest : List ℕ) (limit d i j : ℕ)
     → (Part text (value_text n) ((items_text false ns ++ (93 ∷ [])) ++ rest) i (i + length (value_text n)) → ValueAt text n limit d i (i + length (value_text n))) → Behind ns → AreHeld ns → ItemsCanBeSpelled limit d ns
-    → Part text (items_text true (item n ns) ++ (93 ∷ [])) rest i j → (vs : ParsedItems) × SpellsItems vs text limit d i j × HaveValues vs (item n ns) × (begins_gap text i ≡ false)
+    → Part text (items_text true (item n ns) ++ (93 ∷ [])) rest i j → (vs : ParsedItems) × ItemsWith SpellsScalar vs text limit d i j × HaveValues vs (item n ns) × (begins_gap text i ≡ false)
 joined_items n ns text rest limit d i j first others held can p =
     let q = same_part (value_text n ++ (items_text false ns ++ (93 ∷ []))) (append_assoc (value_text n) (items_text false ns) (93 ∷ [])) p in
     let m = i + length (value_text n) in
@@ -261,7 +254,7 @@ joined_items n ns text rest limit d i j first others held can p =
 -- a pair, and those behind it
 joined_pairs : (name : List ℕ) (key : Span) (n : Node) (ms : Members) (text rest : List ℕ) (es : List KeyValue) (limit d i j : ℕ) → IsUtf8 name → d + 1 ≤ limit
     → ((b : ℕ) → Part text (value_text n) ((members_text false ms ++ (125 ∷ [])) ++ rest) b (b + length (value_text n)) → ValueAt text n limit (d + 1) b (b + length (value_text n))) → BehindPair ms → MembersHeld ms → MembersCanBeSpelled limit d ms
-    → Part text (members_text true (member name key n ms) ++ (125 ∷ [])) rest i j → (ps : ParsedPairs) × SpellsPairs ps es text limit d i j × HaveEntries ps (member name key n ms) × (begins_gap text i ≡ false)
+    → Part text (members_text true (member name key n ms) ++ (125 ∷ [])) rest i j → (ps : ParsedPairs) × PairsWith SpellsScalar ps es text limit d i j × HaveEntries ps (member name key n ms) × (begins_gap text i ≡ false)
 joined_pairs name key n ms text rest es limit d i j utf8 few first others held can p =
     let w = value_text n ++ (members_text false ms ++ (125 ∷ [])) in
     let q = same_part (key_text name ++ (32 ∷ 61 ∷ 32 ∷ w)) (regroup (key_text name) (value_text n) (members_text false ms) (125 ∷ [])) p in
@@ -283,12 +276,12 @@ joined_pairs name key n ms text rest es limit d i j utf8 few first others held c
 
 mutual
   pub value_again : (n : Node) (text rest : List ℕ) (limit d i j : ℕ) → IsHeld n → CanBeSpelled limit d n → parts_off rest ≡ true → Part text (value_text n) rest i j → ValueAt text n limit d i j
-  value_again (node k at) text rest limit d i j held (few, can) off p =
-      let (x, span, h, e) = inner_again k text rest limit d i j held can off p in (parsed x span, (few, h), e)
+  value_again (node k at) text rest limit d i j held (w, (few, below), floats) off p =
+      let (x, span, h, e) = inner_again k text rest limit d i j held (w, below, floats) off p in (parsed x span, (few, h), e)
 
   inner_again : (k : Inner) (text rest : List ℕ) (limit d i j : ℕ) → IsHeldInner k → InnerCanBeSpelled limit d k → parts_off rest ≡ true → Part text (inner_text k) rest i j → InnerAt text k limit d i j
-  inner_again taken text rest limit d i j held can off p = absurd can
-  inner_again (scalar_node s) text rest limit d i j held can off p = let (span, h) = scalar_again s held can off p in (scalar s, span, h, refl)
+  inner_again taken text rest limit d i j held (w, below, floats) off p = absurd (false≢true w)
+  inner_again (scalar_node s) text rest limit d i j held (w, below, floats) off p = let (span, h) = scalar_again s held floats off p in (scalar s, span, h, refl)
   inner_again (array_node ns) text rest limit d i j held can off p =
       let q = tail 91 (items_text true ns ++ (93 ∷ [])) p in
       let (vs, h, e, starts) = items_again ns text rest limit (d + 1) (i + 1) j held can q in
@@ -303,43 +296,25 @@ mutual
       let e = here 93 [] p in
       let on = p.on in
       (none_read, (e, omega arith), tt, no_gap_is text i 93 e (refl, refl, refl))
-  items_again (item n ns) text rest limit d i j (held, more) (can, others) p =
-      joined_items n ns text rest limit d i j (λ q. value_again n text ((items_text false ns ++ (93 ∷ [])) ++ rest) limit d i (i + length (value_text n)) held can (items_off ns rest) q) (behind_items ns (items_again ns)) more others p
+  items_again (item n ns) text rest limit d i j (held, more) (w, (few, fewer), (text_is, texts)) p =
+      let both = and_parts (is_whole n) (all_whole ns) w in
+      joined_items n ns text rest limit d i j (λ q. value_again n text ((items_text false ns ++ (93 ∷ [])) ++ rest) limit d i (i + length (value_text n)) held (both.0, few, text_is) (items_off ns rest) q) (behind_items ns (items_again ns)) more (both.1, fewer, texts) p
 
   members_again : (ms : Members) → InsideBraces ms
   members_again no_members text rest es limit d i j held can p =
       let e = here 125 [] p in
       let on = p.on in
       (no_pairs, (e, omega arith), tt, no_gap_is text i 125 e (refl, refl, refl))
-  members_again (member name key (node k at) ms) text rest es limit d i j (utf8, held, more) (can, others) p =
-      joined_pairs name key (node k at) ms text rest es limit d i j utf8 can.0
-      (λ b q. value_again (node k at) text ((members_text false ms ++ (125 ∷ [])) ++ rest) limit (d + 1) b (b + length (inner_text k)) held can (members_off ms rest) q) (behind_pairs ms (members_again ms)) more others p
+  members_again (member name key (node k at) ms) text rest es limit d i j (utf8, held, more) (w, (few, fewer), (text_is, texts)) p =
+      let both = and_parts (holds_whole k) (all_members_whole ms) w in
+      joined_pairs name key (node k at) ms text rest es limit d i j utf8 few.0
+      (λ b q. value_again (node k at) text ((members_text false ms ++ (125 ∷ [])) ++ rest) limit (d + 1) b (b + length (inner_text k)) held (both.0, few, text_is) (members_off ms rest) q) (behind_pairs ms (members_again ms)) more (both.1, fewer, texts) p
 
 -- ---- the contract
 
-mutual
-  can_be : (n : Node) (limit d : ℕ) → is_whole n ≡ true → IsWithin limit d n → HasFloatTexts n → CanBeSpelled limit d n
-  can_be (node k at) limit d w (few, h) f = (few, inner_can_be k limit d w h f)
-
-  inner_can_be : (k : Inner) (limit d : ℕ) → holds_whole k ≡ true → InnerIsWithin limit d k → InnerHasFloatTexts k → InnerCanBeSpelled limit d k
-  inner_can_be taken limit d w h f = false≢true w
-  inner_can_be (scalar_node s) limit d w h f = f
-  inner_can_be (array_node ns) limit d w h f = items_can_be ns limit (d + 1) w h f
-  inner_can_be (table_node ms) limit d w h f = members_can_be ms limit (d + 1) w h f
-
-  items_can_be : (ns : Items) (limit d : ℕ) → all_whole ns ≡ true → ItemsAreWithin limit d ns → ItemsHaveFloatTexts ns → ItemsCanBeSpelled limit d ns
-  items_can_be no_items limit d w h f = tt
-  items_can_be (item n ns) limit d w (h, more) (f, others) =
-      let both = and_parts (is_whole n) (all_whole ns) w in (can_be n limit d both.0 h f, items_can_be ns limit d both.1 more others)
-
-  members_can_be : (ms : Members) (limit d : ℕ) → all_members_whole ms ≡ true → MembersAreWithin limit d ms → MembersHaveFloatTexts ms → MembersCanBeSpelled limit d ms
-  members_can_be no_members limit d w h f = tt
-  members_can_be (member name key n ms) limit d w (h, more) (f, others) =
-      let both = and_parts (is_whole n) (all_members_whole ms) w in (can_be n limit (d + 1) both.0 h f, members_can_be ms limit d both.1 more others)
-
 reads_value : (n : Node) → IsHeld n → ReadsAsValue n (value_text n)
 reads_value n held limit depth whole few floats before rest off =
-    value_again n (before ++ (value_text n ++ rest)) rest limit depth (length before) (length before + length (value_text n)) held (can_be n limit depth whole few floats) off (between before (value_text n) rest)
+    value_again n (before ++ (value_text n ++ rest)) rest limit depth (length before) (length before + length (value_text n)) held (whole, few, floats) off (between before (value_text n) rest)
 
 pub value_read : {E : Type 0} (r : Result (String Global) E) (n : Node) → OnOk r (IsHeld n) → IfOk r (λ text. string_bytes text ≡ value_text n) → IfOk r (λ text. ReadsAsValue n (string_bytes text))
 value_read (Ok text) n held e = subst (ReadsAsValue n) (sym e) (reads_value n held)

@@ -3,8 +3,8 @@ use Rattle.std.specs.Prelude.{◌≡◌, ℕ, ◌+◌, ◌≤◌, Bool, true, fa
 use Rattle.toml_span_lex.specs.Strings.{IsString}
 use Rattle.toml_span_lex.specs.declared.span.Span.{Span}
 use Rattle.toml_span_tree.specs.Node.{Scalar, float, Node, node, Inner, taken, Items, no_items, item, Members}
-use Rattle.toml_span_tree.specs.Node.{no_members, member, FloatValue, finite, infinite, not_a_number, scalar as scalar_node}
-use Rattle.toml_span_tree.specs.Node.{array as array_node, table as table_node}
+use Rattle.toml_span_tree.specs.Node.{no_members, member, FloatValue, finite, infinite, not_a_number}
+use Rattle.toml_span_tree.specs.Node.{scalar as scalar_node, array as array_node, table as table_node}
 use Rattle.toml_span_tree.specs.Value.{is_whole}
 use Rattle.toml_span_read.specs.Data.{ParsedValue, parsed, ParsedInner, scalar, array, inline, ParsedItems, from_to}
 use Rattle.toml_span_read.specs.Data.{no_items as none_read, item as item_read, ParsedPairs, no_pairs, pair}

@@ -1,5 +1,6 @@
 -- Where the fault of a key that goes through an earlier value stands.
 use Rattle.toml_span_lex.proofs.Common.{ℕ, ◌+◌, ◌-◌, ◌≤◌, List, [], ◌∷◌, ◌++◌, length, arith, Ok, Err}
+use Rattle.std.specs.List.{AllByRecursion}
 use Rattle.toml_span_lex.specs.declared.stop.Stop.{Stop}
 use Rattle.toml_span_lex.specs.Bytes.{is_blank, MaximalRun}
 use Rattle.toml_span_read.specs.declared.fault.Fault.{Fault}
@@ -21,8 +22,7 @@ use Rattle.toml_span_read.proofs.SpanLaws.{value_lies}
 
 -- each part starts at n or before
 abbrev StartBefore : ℕ → List SimpleKey → Type 0
-StartBefore n [] = Unit {0}
-StartBefore n (p ∷ ps) = (p.span.start ≤ n) × StartBefore n ps
+StartBefore n ps = AllByRecursion (λ p. p.span.start ≤ n) ps
 
 ascend_before : (ps : List SimpleKey) (i j n : ℕ) → j ≤ n → Ascend ps i j → StartBefore n ps
 ascend_before [] i j n l h = tt

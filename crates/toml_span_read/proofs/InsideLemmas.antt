@@ -3,8 +3,7 @@ use Rattle.toml_span_lex.proofs.Common.{common_steps, nat_tests, ◌≡◌, ℕ,
 use Rattle.toml_span_read.specs.declared.section.Section.{Section}
 use Rattle.toml_span_read.specs.Data.{ParsedValue, parsed, scalar, array, inline, ParsedItems, no_items, item, ParsedPairs, no_pairs, pair, KeyValue, Block, block, first_block, SimpleKey}
 use Rattle.toml_span_read.specs.Gaps.{Tail}
-use Rattle.toml_span_read.specs.Grammar.{Spells, SpellsLines, OpensHeader, ClosesHeader, SpellsHeader, SpellsSection, SpellsDocument}
-use Rattle.toml_span_read.proofs.Spelled.{SpellsItems, SpellsPairs, SpellsKeyValues, SpellsSections}
+use Rattle.toml_span_read.specs.Grammar.{Spells, SpellsLines, OpensHeader, ClosesHeader, SpellsHeader, SpellsSection, SpellsDocument, ItemsWith, PairsWith, KeyValuesWith, SectionsWith, SpellsScalar}
 use Rattle.toml_span_read.specs.Keys.{SpellsKey}
 use Rattle.toml_span_read.specs.Places.{Ascend, IsInside, PartsInside, KeysInside, ItemKeysInside, PairKeysInside, KeyValuesInside, SectionInside, SectionsInside}
 use Rattle.toml_span_read.proofs.KeyOrder.{dotted_ascend}
@@ -30,12 +29,12 @@ mutual
   value_keys (parsed (array vs) span) text limit d i j (l, (here, e, k, gap, items)) = items_keys vs text limit (d + 1) k j items
   value_keys (parsed (inline ps) span) text limit d i j (l, (here, e, k, gap, pairs)) = pairs_keys ps [] text limit (d + 1) k j pairs
 
-  items_keys : (vs : ParsedItems) (text : List ℕ) (limit d i j : ℕ) → SpellsItems vs text limit d i j → ItemKeysInside (length text) vs
+  items_keys : (vs : ParsedItems) (text : List ℕ) (limit d i j : ℕ) → ItemsWith SpellsScalar vs text limit d i j → ItemKeysInside (length text) vs
   items_keys no_items text limit d i j h = tt
   items_keys (item v vs) text limit d i j (m, s, inl (e, close)) = (value_keys v text limit d i m s, rw e tt)
   items_keys (item v vs) text limit d i j (m, s, inr (p, sign, rest)) = (value_keys v text limit d i m s, items_keys vs text limit d p j rest)
 
-  pairs_keys : (ps : ParsedPairs) (es : List KeyValue) (text : List ℕ) (limit d i j : ℕ) → SpellsPairs ps es text limit d i j → PairKeysInside (length text) ps
+  pairs_keys : (ps : ParsedPairs) (es : List KeyValue) (text : List ℕ) (limit d i j : ℕ) → PairsWith SpellsScalar ps es text limit d i j → PairKeysInside (length text) ps
   pairs_keys no_pairs es text limit d i j h = tt
   pairs_keys (pair ss v extent ps) es text limit d i j (m, (a, b, key, few, sign, s, e), clear, inl (none, close)) =
       (dotted_inside ss text i a key, value_keys v text limit (d + length ss) b m s, rw none tt)
@@ -44,7 +43,7 @@ mutual
 
 -- ---- assignments
 
-key_values_keys : (evs earlier : List KeyValue) (text : List ℕ) (limit i j : ℕ) → SpellsKeyValues evs earlier text limit i j → KeyValuesInside (length text) evs
+key_values_keys : (evs earlier : List KeyValue) (text : List ℕ) (limit i j : ℕ) → KeyValuesWith SpellsScalar evs earlier text limit i j → KeyValuesInside (length text) evs
 key_values_keys [] earlier text limit i j h = tt
 key_values_keys (ev ∷ evs) earlier text limit i j h = grind (arith, dotted_inside, value_keys, key_values_keys evs (earlier ++ (ev ∷ [])))
 
@@ -78,7 +77,7 @@ section_block b text limit i j h =
     let f = header_inside b.header b.array text limit i h.end h.header in
     (rw h.header_span f.0, f.1, lines_keys b.key_values text limit h.end j h.lines)
 
-sections_blocks : (bs : List Block) (text : List ℕ) (limit i : ℕ) → SpellsSections bs text limit i → BlocksInside (length text) bs
+sections_blocks : (bs : List Block) (text : List ℕ) (limit i : ℕ) → SectionsWith SpellsScalar bs text limit i → BlocksInside (length text) bs
 sections_blocks [] text limit i h = tt
 sections_blocks (b ∷ bs) text limit i (j, s, rest) = (section_block b text limit i j s, sections_blocks bs text limit j rest)
 

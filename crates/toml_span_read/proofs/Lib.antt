@@ -1,5 +1,4 @@
 pub mod Places
-pub mod Spelled
 pub mod FaultPlaces
 pub mod KeyLemmas
 pub mod ReadSound

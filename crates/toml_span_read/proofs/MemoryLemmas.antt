@@ -6,8 +6,7 @@ use Rattle.toml_span_read.specs.declared.section.Section.{Section}
 use Rattle.toml_span_read.specs.Data.{KeyValue, first_block, SimpleKey}
 use Rattle.toml_span_read.specs.Gaps.{MaximalGap}
 use Rattle.toml_span_read.specs.Keys.{SpellsKey}
-use Rattle.toml_span_read.specs.Grammar.{SpellsLines}
-use Rattle.toml_span_read.proofs.Spelled.{SpellsKeyValue, SpellsKeyValues}
+use Rattle.toml_span_read.specs.Grammar.{SpellsLines, KeyValueWith, KeyValuesWith, SpellsScalar}
 use Rattle.toml_span_read.specs.code.Sections.{first_blocks}
 use Rattle.toml_span_read.specs.Reading.{HoldsForm, OnlyFormsTakeMemory}
 use Rattle.toml_span_read.proofs.InsideLemmas.{ascend_forward, tail_inside}
@@ -18,10 +17,10 @@ use Rattle.toml_span_read.proofs.SpanLaws.{value_lies}
 key_within : (ps : List SimpleKey) (text : List ℕ) (i j : ℕ) → SpellsKey ps text i j → (i < length text) × (i ≤ j)
 key_within ps text i j h = grind (arith, dotted_ascend, ascend_forward)
 
-key_value_forward : (e : KeyValue) (text : List ℕ) (limit i m : ℕ) → SpellsKeyValue e text limit i m → i ≤ m
+key_value_forward : (e : KeyValue) (text : List ℕ) (limit i m : ℕ) → KeyValueWith SpellsScalar e text limit i m → i ≤ m
 key_value_forward e text limit i m h = grind (arith, key_within, value_lies)
 
-key_values_forward : (es before : List KeyValue) (text : List ℕ) (limit i j : ℕ) → SpellsKeyValues es before text limit i j → i ≤ j
+key_values_forward : (es before : List KeyValue) (text : List ℕ) (limit i j : ℕ) → KeyValuesWith SpellsScalar es before text limit i j → i ≤ j
 key_values_forward [] before text limit i j h = omega (arith, h)
 key_values_forward (e ∷ es) before text limit i j (m, n, k, h, t, c, g, r) =
     omega (arith, key_value_forward e text limit i m h, (tail_inside text m n t).0, g.forward, key_values_forward es (before ++ (e ∷ [])) text limit k j r)

@@ -1,6 +1,6 @@
 -- What is read is spelled.
 use Rattle.toml_span_lex.proofs.Common.{common_steps, ◌≡◌, ℕ, zero, suc, ◌+◌, ◌≤◌, Bool, true, false, List, [], ◌∷◌, ◌++◌, length, get_or, arith, inl, inr, sym, refl, ap, append-nil, append_assoc, Result, Ok, slice_range, if◌then◌else◌, ◌||◌, is_some, nat_tests, bytes_eq-Decides}
-use Rattle.toml_span_lex.specs.Bytes.{is_blank, is_keylike, MaximalRun}
+use Rattle.toml_span_lex.specs.Bytes.{equals, is_blank, is_keylike, MaximalRun}
 use Rattle.toml_span_lex.specs.Tokens.{RunAt}
 use Rattle.toml_span_lex.specs.Text.{FirstPlace}
 use Rattle.toml_span_tree.specs.Node.{Scalar}
@@ -12,8 +12,7 @@ use Rattle.toml_span_read.specs.Dates.{begins_date}
 use Rattle.toml_span_read.specs.Earlier.{Clear}
 use Rattle.toml_span_read.specs.Faults.{begins_bare, begins_number}
 use Rattle.toml_span_read.specs.Gaps.{MaximalGap, Separator, Closes, Tail}
-use Rattle.toml_span_read.specs.Grammar.{SpellsScalar, Spells, SpellsLines, OpensHeader, ClosesHeader, SpellsHeader, SpellsSection, SpellsDocument}
-use Rattle.toml_span_read.proofs.Spelled.{SpellsItems, SpellsPairs, SpellsPair, SpellsKeyValue, SpellsKeyValues, SpellsSections}
+use Rattle.toml_span_read.specs.Grammar.{SpellsScalar, Spells, SpellsLines, OpensHeader, ClosesHeader, SpellsHeader, SpellsSection, SpellsDocument, ItemsWith, PairsWith, KeyValueWith, KeyValuesWith, SectionsWith}
 use Rattle.toml_span_read.specs.Keys.{SpellsKey}
 use Rattle.toml_span_read.specs.Numbers.{IsNumber}
 use Rattle.toml_span_read.specs.Numerals.{scalar_of, special, numeral, number, run_end}
@@ -86,10 +85,10 @@ bare_sound s text i j b (inr (d, e)) = choose s text i j _ refl d b (sym e)
 
 -- whatever elements follow, they and those that are read are elements from k on
 abbrev ItemsFrom : List ℕ → ℕ → ℕ → ℕ → Elements → Type 0
-ItemsFrom text limit d k (vs, i) = (rest : ParsedItems) (j : ℕ) → SpellsItems rest text limit d i j → SpellsItems (onto vs rest) text limit d k j
+ItemsFrom text limit d k (vs, i) = (rest : ParsedItems) (j : ℕ) → ItemsWith SpellsScalar rest text limit d i j → ItemsWith SpellsScalar (onto vs rest) text limit d k j
 
 abbrev IsArrayOf : List ℕ → ℕ → ℕ → ℕ → ParsedInner × ℕ → Type 0
-IsArrayOf text limit d k (inner, j) = (vs : ParsedItems) × (inner ≡ array_node vs) × SpellsItems vs text limit d k j
+IsArrayOf text limit d k (inner, j) = (vs : ParsedItems) × (inner ≡ array_node vs) × ItemsWith SpellsScalar vs text limit d k j
 
 pub onto_more : (vs : List ParsedValue) (v : ParsedValue) (rest : ParsedItems) → onto (vs ++ (v ∷ [])) rest ≡ onto vs (item v rest)
 onto_more [] v rest = refl
@@ -139,10 +138,10 @@ key_value_sound e text limit skipped value i j h =
 -- ---- pairs
 
 abbrev PairsFrom : List ℕ → ℕ → ℕ → ℕ → Pairs → Type 0
-PairsFrom text limit d k (es, i) = (rest : ParsedPairs) (j : ℕ) → SpellsPairs rest es text limit d i j → SpellsPairs (pairs_onto es rest) [] text limit d k j
+PairsFrom text limit d k (es, i) = (rest : ParsedPairs) (j : ℕ) → PairsWith SpellsScalar rest es text limit d i j → PairsWith SpellsScalar (pairs_onto es rest) [] text limit d k j
 
 abbrev Members : List ℕ → ℕ → ℕ → ℕ → ParsedInner × ℕ → Type 0
-Members text limit d k (inner, j) = (ps : ParsedPairs) × (inner ≡ inline_node ps) × SpellsPairs ps [] text limit d k j
+Members text limit d k (inner, j) = (ps : ParsedPairs) × (inner ≡ inline_node ps) × PairsWith SpellsScalar ps [] text limit d k j
 
 pub pairs_onto_more : (es : List KeyValue) (p : KeyValue) (rest : ParsedPairs) → pairs_onto (es ++ (p ∷ [])) rest ≡ pairs_onto es (pair_node p.parts p.value p.extent rest)
 pairs_onto_more [] p rest = refl
@@ -151,6 +150,12 @@ pairs_onto_more (e ∷ es) p rest = ap (λ z. pair_node e.parts e.value e.extent
 -- under so many parts of a key
 abbrev pub PartsSound : List ℕ → ℕ → ℕ → (ℕ → ℕ → Reading ValueEnd) → Type 0
 PartsSound text limit d value = (n : ℕ) → ValueSound text limit (d + n) (value n)
+
+-- the pair of a clause of `PairsWith`
+abbrev pub SpellsPair : KeyValue → List ℕ → ℕ → ℕ → ℕ → ℕ → Type 0
+SpellsPair e t limit d i j =
+    (a b : ℕ) × SpellsKey e.parts t i a × (length e.parts ≤ limit) × Separator equals t a b
+    × Spells e.value t limit (d + length e.parts) b j × (e.extent ≡ from_to i j)
 
 pair_spelled : (e : KeyValue) (text : List ℕ) (limit d : ℕ) (value : ℕ → ℕ → Reading ValueEnd) (i j : ℕ) → PartsSound text limit d value → read.keyval text limit (MaximalGap text) value i (Ok (e, j)) → SpellsPair e text limit d i j
 pair_spelled e text limit d value i j sound h =
@@ -209,7 +214,7 @@ value_sound (suc left) text limit d zero e v i j h =
 
 -- ---- lines
 
-key_value_spelled : (e : KeyValue) (text : List ℕ) (limit i j : ℕ) → read.keyval text limit (MaximalRun is_blank text) (read.value text limit (limit + 1)) i (Ok (e, j)) → SpellsKeyValue e text limit i j
+key_value_spelled : (e : KeyValue) (text : List ℕ) (limit i j : ℕ) → read.keyval text limit (MaximalRun is_blank text) (read.value text limit (limit + 1)) i (Ok (e, j)) → KeyValueWith SpellsScalar e text limit i j
 key_value_spelled e text limit i j h =
     let r = key_value_sound e text limit (MaximalRun is_blank text) (read.value text limit (limit + 1)) i j h in
     let depth : 0 + length e.parts ≡ length e.parts = omega arith in
@@ -228,11 +233,11 @@ tail_sound text i j h = grind (arith, nat_tests, common_steps)
 
 -- whatever assignments follow, they and those that are read stand from k on
 abbrev LinesFrom : List ℕ → ℕ → ℕ → Pairs → Type 0
-LinesFrom text limit k (es, i) = (rest : List KeyValue) (j : ℕ) → SpellsKeyValues rest es text limit i j → SpellsKeyValues (es ++ rest) [] text limit k j
+LinesFrom text limit k (es, i) = (rest : List KeyValue) (j : ℕ) → KeyValuesWith SpellsScalar rest es text limit i j → KeyValuesWith SpellsScalar (es ++ rest) [] text limit k j
 
 -- the assignments stand from k on, and no other follows
 abbrev LinesUpTo : List ℕ → ℕ → ℕ → Pairs → Type 0
-LinesUpTo text limit k (es, j) = SpellsKeyValues es [] text limit k j × (read.ends_lines text j ≡ true)
+LinesUpTo text limit k (es, j) = KeyValuesWith SpellsScalar es [] text limit k j × (read.ends_lines text j ≡ true)
 
 line_kept : (text : List ℕ) (limit k : ℕ) (s : Pairs) (t : Turn Pairs Pairs) → LinesFrom text limit k s → read.next_assignment text limit s (Ok t) → Kept (LinesFrom text limit k) (LinesUpTo text limit k) t
 line_kept text limit k (es, i) t from (inl (end, e)) =
@@ -292,7 +297,7 @@ section_sound b text limit i j here h = (ended_section b text limit i j here h).
 
 -- whatever sections follow, they and those that are read are the document, and one begins here, or the text ends
 abbrev DocumentFrom : List ℕ → ℕ → Blocks → Type 0
-DocumentFrom text limit (bs, i) = ((rest : List Block) → SpellsSections rest text limit i → SpellsDocument (bs ++ rest) text limit) × (read.ends_lines text i ≡ true)
+DocumentFrom text limit (bs, i) = ((rest : List Block) → SectionsWith SpellsScalar rest text limit i → SpellsDocument (bs ++ rest) text limit) × (read.ends_lines text i ≡ true)
 
 section_kept : (text : List ℕ) (limit : ℕ) (s : Blocks) (t : Turn Blocks (List Block)) → DocumentFrom text limit s → read.next_section text limit s (Ok t) → Kept (DocumentFrom text limit) (λ a. SpellsDocument a text limit) t
 section_kept text limit (bs, i) t from (inl (end, e)) =

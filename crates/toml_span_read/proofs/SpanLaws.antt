@@ -5,8 +5,7 @@ use Rattle.toml_span_tree.specs.Node.{Scalar, text as text_scalar, integer, floa
 use Rattle.toml_span_read.specs.Gaps.{Separator, Closes}
 use Rattle.toml_span_read.specs.Data.{SimpleKey, ParsedValue, parsed, ParsedInner, scalar, array, inline, ParsedItems, no_items, item, ParsedPairs, no_pairs, pair, KeyValue, from_to}
 use Rattle.toml_span_read.specs.Places.{Ascend, Inside, InsideItems, InsidePairs}
-use Rattle.toml_span_read.specs.Grammar.{SpellsScalar, Spells}
-use Rattle.toml_span_read.proofs.Spelled.{SpellsInner, SpellsItems, SpellsPairs}
+use Rattle.toml_span_read.specs.Grammar.{SpellsScalar, Spells, InnerWith, ItemsWith, PairsWith}
 use Rattle.toml_span_read.proofs.NumberReads.{number_on}
 use Rattle.toml_span_read.proofs.Places.{read_within}
 use Rattle.toml_span_read.proofs.KeyOrder.{Lies, string_lies, dotted_ascend}
@@ -44,7 +43,7 @@ mutual
   pub value_lies : (v : ParsedValue) (text : List ℕ) (limit d i j : ℕ) → Spells v text limit d i j → Inside v i j × (i ≤ j) × (j ≤ length text)
   value_lies (parsed x s) text limit d i j (few, h) = inner_lies x s text limit d i j h
 
-  inner_lies : (x : ParsedInner) (s : Span) (text : List ℕ) (limit d i j : ℕ) → SpellsInner x s text limit d i j → Inside (parsed x s) i j × (i ≤ j) × (j ≤ length text)
+  inner_lies : (x : ParsedInner) (s : Span) (text : List ℕ) (limit d i j : ℕ) → InnerWith SpellsScalar x s text limit d i j → Inside (parsed x s) i j × (i ≤ j) × (j ≤ length text)
   inner_lies (scalar x) s text limit d i j h =
       let a = scalar_lies x s text i j h in ((a.begins, a.forward, a.ends, tt), omega (arith, a.begins, a.forward, a.ends), a.within)
   inner_lies (array vs) s text limit d i j (here, e, k, gap, h) =
@@ -52,7 +51,7 @@ mutual
   inner_lies (inline ps) s text limit d i j (here, e, k, gap, h) =
       let a = pairs_lie ps [] text limit (d + 1) i k j (omega (arith, gap.forward)) h in (rw e (omega arith, a.1, omega arith, a.0), a.1, a.2)
 
-  items_lie : (vs : ParsedItems) (text : List ℕ) (limit d n i j : ℕ) → n ≤ i → SpellsItems vs text limit d i j → InsideItems vs n j × (n ≤ j) × (j ≤ length text)
+  items_lie : (vs : ParsedItems) (text : List ℕ) (limit d n i j : ℕ) → n ≤ i → ItemsWith SpellsScalar vs text limit d i j → InsideItems vs n j × (n ≤ j) × (j ≤ length text)
   items_lie no_items text limit d n i j l h = let w : i < length text = read_within text i (omega (arith, h.0)) in (omega (arith, h.1), omega (arith, h.1), omega (arith, h.1, w))
   items_lie (item v vs) text limit d n i j l (m, h, rest) =
       let a = value_lies v text limit d i m h in
@@ -62,7 +61,7 @@ mutual
       ] in
       ((m, nearer v n i m l a.0, r.0), omega (arith, l, a.1, r.1), r.2)
 
-  pairs_lie : (ps : ParsedPairs) (es : List KeyValue) (text : List ℕ) (limit d n i j : ℕ) → n ≤ i → SpellsPairs ps es text limit d i j → InsidePairs ps n j × (n ≤ j) × (j ≤ length text)
+  pairs_lie : (ps : ParsedPairs) (es : List KeyValue) (text : List ℕ) (limit d n i j : ℕ) → n ≤ i → PairsWith SpellsScalar ps es text limit d i j → InsidePairs ps n j × (n ≤ j) × (j ≤ length text)
   pairs_lie no_pairs es text limit d n i j l h = let w : i < length text = read_within text i (omega (arith, h.0)) in (omega (arith, h.1), omega (arith, h.1), omega (arith, h.1, w))
   pairs_lie (pair ss v x ps) es text limit d n i j l (m, (a, b, key, few, sign, h, extent), clear, rest) =
       let k = dotted_ascend ss text i a key in

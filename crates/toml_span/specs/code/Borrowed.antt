@@ -95,7 +95,8 @@ ValueRight text r = IfOk r (λ v. (at : Option Span) → AreBorrowedRight text (
 -- this holds where these parts of a key, and what is pending behind them, are right
 abbrev pub IfPairRight : List ℕ → List Key → Pending → Type 0 → Type 0
 IfPairRight text inner d P =
-    AreWrittenRight text (keys_written inner) → IsWrittenRight text (key_written d.last) → ValueRight text d.value → P
+    AreWrittenRight text (keys_written inner) → IsWrittenRight text (key_written d.last) → ValueRight text d.value
+    → P
 
 -- this holds where these parts of a header, and the assignments behind it, are right
 abbrev pub IfSectionRight : List ℕ → List Key → List Assignment → Type 0 → Type 0

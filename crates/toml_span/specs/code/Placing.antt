@@ -1,6 +1,6 @@
 -- What the functions that place claims give.
-use Rattle.std.specs.Prelude.{◌≡◌, ⊤, ℕ, ◌⊎◌, false, List, [], ◌∷◌, map, Result, Ok, Err, Option, Some, None}
-use Rattle.std.specs.Prelude.{option_map}
+use Rattle.std.specs.Prelude.{◌≡◌, ⊤, ℕ, ◌⊎◌, false, List, [], ◌∷◌, map, Result, Ok, Err}
+use Rattle.std.specs.Prelude.{Option, Some, None, option_map}
 use Rattle.std.specs.BTreeMap.{BTreeMap}
 use Rattle.std.specs.Cmp.Lexicographic.{slice_cmp}
 use Rattle.std.specs.Cow.{cow_str_bytes}
@@ -23,7 +23,8 @@ use Rattle.toml_span.specs.declared.branch.Branch.{Branch}
 use Rattle.toml_span.specs.Claims.{Claims, value_claims, value_shape, parsed_inner, shape_claimed, claims}
 use Rattle.toml_span.specs.Claims.{header_mark, key_value_claims}
 use Rattle.toml_span.specs.code.Machine.{Gives, clash_met, put_all, nothing, show_all, Cell, State, clash_told}
-use Rattle.toml_span.specs.code.Relative.{counts_after, counts_after_through, passing, section_at, through, through_pair}
+use Rattle.toml_span.specs.code.Relative.{counts_after, counts_after_through, passing, section_at, through}
+use Rattle.toml_span.specs.code.Relative.{through_pair}
 use Rattle.toml_span.specs.code.Tree.{entries, cells, counts, marks, IsScope, IsChild, IsHeld, Sound, value_shows}
 use Rattle.toml_span.specs.declared.claims.Head.{Head}
 use Rattle.toml_span.specs.declared.claims.Mark.{Mark}
@@ -71,24 +72,28 @@ abbrev pub claims_of : List Assignment → Claims
 claims_of pairs = key_value_claims (map key_value pairs) []
 
 -- what is pending is placed from the branch of a part on, behind which these parts follow
-abbrev pub PassesPair : Branch → Branch → Result (Unit {0}) Halt → Key → List Key → Pending → Read → Type 0
+abbrev pub PassesPair : Branch → Branch → Result (Unit {0}) Halt
+    → Key → List Key → Pending → Read → Type 0
 PassesPair old new r part rest d v =
     Passes old new r (through_pair (simple_key part) (map simple_key rest) (simple_key d.last) v) (counts old)
 
 -- a section, of whose header these parts are left, is placed below a branch
-abbrev pub PlacesSection : Branch → Branch → Result (Unit {0}) Halt → Head → List Key → List Assignment → Type 0
+abbrev pub PlacesSection : Branch → Branch → Result (Unit {0}) Halt
+    → Head → List Key → List Assignment → Type 0
 PlacesSection old new r h parts pairs =
     Places old new r (section_at (counts old) h (map simple_key parts) (claims_of pairs))
     (counts_after (counts old) h (map simple_key parts))
 
 -- from the branch of a part on
-abbrev pub PassesHeader : Branch → Branch → Result (Unit {0}) Halt → Head → Key → List Key → List Assignment → Type 0
+abbrev pub PassesHeader : Branch → Branch → Result (Unit {0}) Halt
+    → Head → Key → List Key → List Assignment → Type 0
 PassesHeader old new r h part rest pairs =
     Passes old new r (through (counts old) h (simple_key part) (map simple_key rest) (claims_of pairs))
     (counts_after_through (counts old) h (map simple_key rest))
 
 -- from a table on that the header passes through
-abbrev pub PassesTable : Branch → Branch → Result (Unit {0}) Halt → Head → Key → List Key → List Assignment → Type 0
+abbrev pub PassesTable : Branch → Branch → Result (Unit {0}) Halt
+    → Head → Key → List Key → List Assignment → Type 0
 PassesTable old new r h part rest pairs =
     Opening IsScope (header_mark h Passed part.span) old new r
     (passing h (simple_key part) (map simple_key rest) (claims_of pairs) (counts old))
