@@ -1,6 +1,7 @@
 pub mod Common
 pub mod One
 pub mod Tables
+pub mod Marks
 pub mod Runs
 pub mod Hex
 pub mod EscapeLemmas

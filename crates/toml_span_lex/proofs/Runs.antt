@@ -1,5 +1,5 @@
 -- Where a run ends, the text may be cut.
-use Rattle.toml_span_lex.proofs.Common.{◌≡◌, ℕ, ◌+◌, ◌-◌, ◌<◌, ◌≤◌, ◌⊎◌, Bool, true, false, List, ◌++◌, length, get_or, drop, arith, inl, inr, sym, ◌∙◌, get_or-drop, add-zero, length-drop, refl, ap, encode_utf8, slice_range, ◌||◌, ◌==◌, len_utf8, IsUtf8, IsCharBoundary, IsCharBoundary-after_ascii, IsUtf8-drop, IsCharBoundary-past_char, drop_past_char, byte_from_char, char_from_byte, length-encode, len_utf8_bounds, cases_lt, false≢true, common_steps, nat_tests}
+use Rattle.toml_span_lex.proofs.Common.{◌≡◌, ℕ, ◌+◌, ◌-◌, ◌<◌, ◌≤◌, ◌⊎◌, Bool, true, false, List, ◌++◌, length, get_or, drop, arith, inl, inr, sym, ◌∙◌, get_or-drop, add-zero, length-drop, refl, ap, encode_utf8, ◌||◌, ◌==◌, len_utf8, IsUtf8, IsCharBoundary, IsCharBoundary-after_ascii, IsUtf8-drop, IsCharBoundary-past_char, drop_past_char, byte_from_char, char_from_byte, length-encode, len_utf8_bounds, cases_lt, false≢true, common_steps, nat_tests}
 use Rattle.toml_span_lex.specs.Bytes.{MaximalRun, is_blank, is_keylike, is_printed}
 use Rattle.toml_span_lex.specs.Text.{is_crlf, CharAt, NoLineEnd}
 use Rattle.toml_span_lex.specs.Pieces.{is_ws_or_newline, is_plain}
@@ -113,7 +113,6 @@ not_plain q c h n m = grind (arith, nat_tests)
 pub unprinted_ascii : (c : ℕ) → is_printed c ≡ false → c < 128
 unprinted_ascii c h = grind (arith, nat_tests)
 
--- what holds of the bytes of a part, and of those before it
-pub part_passes : (p : ℕ → Bool) (text part : List ℕ) (from a b : ℕ) → part ≡ slice_range text a b → ((k : ℕ) → from ≤ k → k < a → p (get_or text k 0) ≡ true) → a ≤ b → b ≤ length text
-    → ((k : ℕ) → k < length part → p (get_or part k 0) ≡ true) → (k : ℕ) → from ≤ k → k < b → p (get_or text k 0) ≡ true
-part_passes p text part from a b e before f w here k x y = grind (arith, common_steps, before, here (k - a))
+-- what strings can't have as it is
+pub special_ascii : (q : ℕ) → q < 128 → (c : ℕ) → is_plain q c ≡ false → c < 128
+special_ascii q l c h = grind (arith, nat_tests)

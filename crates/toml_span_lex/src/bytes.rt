@@ -4,6 +4,9 @@ ghost use Rattle.std.specs.Str.{IsCharBoundary};
 ghost use Rattle.toml_span_lex.specs.Bytes as spec;
 ghost use Rattle.toml_span_lex.specs.Bytes.{MaximalRun};
 
+use crate::lanes::{marked_in_comments, marked_in_keys};
+use std::simd::prelude::*;
+
 /// A space or a tab: `wschar = %x20 / %x09`.
 #[inline]
 pub fn is_blank(byte: u8) -> bool
@@ -15,19 +18,16 @@ pub fn is_blank(byte: u8) -> bool
 /// Of `CLASS`: a byte of a bare key.
 const KEYLIKE: u8 = 1;
 
-/// Of `CLASS`: a byte that stands for itself in a string, unless it is its quote.
-const PLAIN: u8 = 2;
-
-// For each byte a digit, whose low two bits are the classes above.
+// For each byte a digit, whose low bit is the class above.
 static CLASS: [u8; 256] = *b"\
-    00000000020000000000000000000000\
-    22222222222223223333333333222222\
-    23333333333333333333333333320223\
-    23333333333333333333333333322220\
-    22222222222222222222222222222222\
-    22222222222222222222222222222222\
-    22222222222222222222222222222222\
-    22222222222222222222222222222222";
+    00000000000000000000000000000000\
+    00000000000001001111111111000000\
+    01111111111111111111111111100001\
+    01111111111111111111111111100000\
+    00000000000000000000000000000000\
+    00000000000000000000000000000000\
+    00000000000000000000000000000000\
+    00000000000000000000000000000000";
 
 /// A byte of a bare key: an ASCII letter, a digit, a dash or an underscore (`ALPHA / DIGIT / %x2D / %x5F`).
 #[inline]
@@ -35,14 +35,6 @@ pub fn is_keylike(byte: u8) -> bool
     ensures { result ≡ spec.is_keylike byte }
 {
     CLASS[byte as usize] & KEYLIKE != 0
-}
-
-/// A byte that stands for itself in a string, unless it is its quote: one of a comment, but no backslash.
-#[inline]
-pub(crate) fn is_unescaped(byte: u8) -> bool
-    ensures { result ≡ (spec.is_printed byte && not (byte == spec.backslash)) }
-{
-    CLASS[byte as usize] & PLAIN != 0
 }
 
 /// A byte that a comment can hold: a tab, or no control character (`non-eol = %x09 / %x20-7E / non-ascii`).
@@ -76,24 +68,20 @@ pub fn keylike_end(text: &str, from: usize) -> usize
     ensures boundary { IsCharBoundary text.now result }
 {
     let bytes = text.as_bytes();
-    for at in from..bytes.len() {
+    let mut start = from;
+    while bytes.len() - start >= 16 {
+        let marked = marked_in_keys(u8x16::from_slice(&bytes[start..]));
+        if marked != 0 {
+            return start + marked.trailing_zeros() as usize;
+        }
+        start += 16;
+    }
+    for at in start..bytes.len() {
         if !is_keylike(bytes[at]) {
             return at;
         }
     }
     bytes.len()
-}
-
-/// Whether a comment can hold each byte.
-#[inline(always)]
-fn all_printed(bytes: &[u8]) -> bool
-    ensures { IsTrue result → (k : ℕ) → k < length bytes.now → spec.is_printed (slice_index bytes.now k) ≡ true }
-{
-    let mut all = true;
-    for byte in bytes {
-        all &= is_printed(*byte);
-    }
-    all
 }
 
 /// Where the run of bytes of a comment ends, found sixteen at a time: `comment = comment-start-symbol *non-eol`.
@@ -104,11 +92,15 @@ pub fn printed_end(text: &str, from: usize) -> usize
 {
     let bytes = text.as_bytes();
     let mut start = from;
-    while bytes.len() - start >= 16 && all_printed(&bytes[start..start + 16]) {
+    while bytes.len() - start >= 16 {
+        let marked = marked_in_comments(u8x16::from_slice(&bytes[start..]));
+        if marked != 0 {
+            return start + marked.trailing_zeros() as usize;
+        }
         start += 16;
     }
     for at in start..bytes.len() {
-        if !is_unescaped(bytes[at]) && !is_printed(bytes[at]) {
+        if !is_printed(bytes[at]) {
             return at;
         }
     }

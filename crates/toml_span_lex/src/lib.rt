@@ -4,6 +4,7 @@
 pub mod bytes;
 mod escapes;
 pub mod key;
+mod lanes;
 pub mod laws;
 pub mod pieces;
 pub mod span;

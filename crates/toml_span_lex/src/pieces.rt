@@ -7,10 +7,12 @@ ghost use Rattle.toml_span_lex.specs.code.Pieces as code;
 ghost use Rattle.toml_span_lex.specs.Strings.{IsQuote};
 ghost use Rattle.toml_span_lex.specs.code.Text.{LeadsTo};
 
-use crate::bytes::{blanks_end, is_blank, is_printed, is_unescaped};
+use crate::bytes::{blanks_end, is_blank, is_printed};
 use crate::escapes::escape;
+use crate::lanes::marked_in_strings;
 use crate::text::{char_at, is_crlf, line_end};
 use crate::tokens::Error;
+use std::simd::prelude::*;
 
 /// What the content of a string is cut into.
 #[derive(Clone, Copy)]
@@ -36,27 +38,6 @@ fn is_plain(quote: u8, byte: u8) -> bool
     is_printed(byte) && byte != quote && !(quote == b'"' && byte == b'\\')
 }
 
-/// As `is_plain`, mostly by one look at a table: faster for one byte. `all_plain` goes without the table, so that
-/// it is compiled to vector instructions.
-#[inline(always)]
-fn is_plain_alone(quote: u8, byte: u8) -> bool
-    ensures { result ≡ spec.is_plain quote byte }
-{
-    (byte != quote && is_unescaped(byte)) || is_plain(quote, byte)
-}
-
-/// Whether each byte stands for itself between these quotes.
-#[inline(always)]
-fn all_plain(quote: u8, bytes: &[u8]) -> bool
-    ensures { IsTrue result → (k : ℕ) → k < length bytes.now → spec.is_plain quote (slice_index bytes.now k) ≡ true }
-{
-    let mut all = true;
-    for byte in bytes {
-        all &= is_plain(quote, *byte);
-    }
-    all
-}
-
 /// Where the run of bytes ends that stand for themselves between these quotes, found sixteen at a
 /// time.
 #[inline(always)]
@@ -67,15 +48,16 @@ pub fn plain_end(text: &str, quote: u8, from: usize) -> usize
     ensures boundary { IsCharBoundary text.now result }
 {
     let bytes = text.as_bytes();
-    if from < bytes.len() && !is_plain_alone(quote, bytes[from]) {
-        return from;
-    }
     let mut start = from;
-    while bytes.len() - start >= 16 && all_plain(quote, &bytes[start..start + 16]) {
+    while bytes.len() - start >= 16 {
+        let marked = marked_in_strings(quote, u8x16::from_slice(&bytes[start..]));
+        if marked != 0 {
+            return start + marked.trailing_zeros() as usize;
+        }
         start += 16;
     }
     for at in start..bytes.len() {
-        if !is_plain_alone(quote, bytes[at]) {
+        if !is_plain(quote, bytes[at]) {
             return at;
         }
     }
