@@ -1,4 +1,4 @@
-//! The classes of bytes, and runs of them (TOML 1.1, "Whitespace", "Keys", "Comment").
+//! Classes of bytes and runs of them (TOML 1.1, "Whitespace", "Keys", "Comment").
 ghost use Rattle.std.specs.Prelude.{◌≡◌, ℕ, ◌<◌, ◌==◌, ◌&&◌, not, true, length, slice_index, IsTrue};
 ghost use Rattle.std.specs.Str.{IsCharBoundary};
 ghost use Rattle.toml_span_lex.specs.Bytes as spec;
@@ -7,7 +7,7 @@ ghost use Rattle.toml_span_lex.specs.Bytes.{MaximalRun};
 use crate::lanes::{marked_in_comments, marked_in_keys};
 use std::simd::prelude::*;
 
-/// A space or a tab: `wschar = %x20 / %x09`.
+/// Returns whether the byte is a space or a tab: `wschar = %x20 / %x09`.
 #[inline]
 pub fn is_blank(byte: u8) -> bool
     ensures { result ≡ spec.is_blank byte }
@@ -15,10 +15,10 @@ pub fn is_blank(byte: u8) -> bool
     byte == b' ' || byte == b'\t'
 }
 
-/// Of `CLASS`: a byte of a bare key.
+/// The bit of `CLASS` that marks the bytes of bare keys.
 const KEYLIKE: u8 = 1;
 
-// For each byte a digit, whose low bit is the class above.
+// A digit for each byte; its lowest bit is `KEYLIKE`.
 static CLASS: [u8; 256] = *b"\
     00000000000000000000000000000000\
     00000000000001001111111111000000\
@@ -29,7 +29,8 @@ static CLASS: [u8; 256] = *b"\
     00000000000000000000000000000000\
     00000000000000000000000000000000";
 
-/// A byte of a bare key: an ASCII letter, a digit, a dash or an underscore (`ALPHA / DIGIT / %x2D / %x5F`).
+/// Returns whether bare keys may contain the byte: an ASCII letter, a digit, `-` or `_`
+/// (`ALPHA / DIGIT / %x2D / %x5F`).
 #[inline]
 pub fn is_keylike(byte: u8) -> bool
     ensures { result ≡ spec.is_keylike byte }
@@ -37,7 +38,8 @@ pub fn is_keylike(byte: u8) -> bool
     CLASS[byte as usize] & KEYLIKE != 0
 }
 
-/// A byte that a comment can hold: a tab, or no control character (`non-eol = %x09 / %x20-7E / non-ascii`).
+/// Returns whether comments may contain the byte: a tab or anything but a control character
+/// (`non-eol = %x09 / %x20-7E / non-ascii`).
 #[inline(always)]
 pub fn is_printed(byte: u8) -> bool
     ensures { result ≡ spec.is_printed byte }
@@ -45,7 +47,7 @@ pub fn is_printed(byte: u8) -> bool
     byte == b'\t' || (byte >= 0x20 && byte != 0x7F)
 }
 
-/// Where the run of spaces and tabs from a place on ends: `ws = *wschar`.
+/// Returns the offset at which the run of spaces and tabs that begins at `from` ends: `ws = *wschar`.
 #[inline(always)]
 pub fn blanks_end(text: &str, from: usize) -> usize
     requires { IsCharBoundary text.now from }
@@ -61,7 +63,8 @@ pub fn blanks_end(text: &str, from: usize) -> usize
     bytes.len()
 }
 
-/// Where the run of bytes of bare keys from a place on ends: `unquoted-key = 1*( ALPHA / DIGIT / %x2D / %x5F )`.
+/// Returns the offset at which the run of bare key bytes that begins at `from` ends:
+/// `unquoted-key = 1*( ALPHA / DIGIT / %x2D / %x5F )`.
 pub fn keylike_end(text: &str, from: usize) -> usize
     requires { IsCharBoundary text.now from }
     ensures run { MaximalRun spec.is_keylike text.now from result }
@@ -84,7 +87,8 @@ pub fn keylike_end(text: &str, from: usize) -> usize
     bytes.len()
 }
 
-/// Where the run of bytes of a comment ends, found sixteen at a time: `comment = comment-start-symbol *non-eol`.
+/// Returns the offset at which the run of comment bytes that begins at `from` ends:
+/// `comment = comment-start-symbol *non-eol`.
 pub fn printed_end(text: &str, from: usize) -> usize
     requires { IsCharBoundary text.now from }
     ensures run { MaximalRun spec.is_printed text.now from result }

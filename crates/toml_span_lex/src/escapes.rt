@@ -1,4 +1,4 @@
-//! Escapes of strings in quotation marks (TOML 1.1, "String").
+//! Escapes in basic strings (TOML 1.1, "String").
 ghost use Rattle.std.specs.Prelude.{◌≡◌, ◌≤◌, ◌<◌, length, slice_index};
 ghost use Rattle.std.specs.Str.{IsCharBoundary};
 ghost use Rattle.toml_span_lex.specs.Escapes as spec;
@@ -8,7 +8,8 @@ ghost use Rattle.toml_span_lex.specs.code.Text.{LeadsTo};
 use crate::text::char_at;
 use crate::tokens::Error;
 
-/// The character that `len` digits behind the letter at `at` write: `%x78 2HEXDIG / %x75 4HEXDIG / %x55 8HEXDIG`.
+/// Reads the `len` hexadecimal digits after the letter at `at` as a character:
+/// `%x78 2HEXDIG / %x75 4HEXDIG / %x55 8HEXDIG`.
 fn hex_escape(
     text: &str,
     start: usize,
@@ -41,7 +42,7 @@ fn hex_escape(
     }
 }
 
-/// The character that a letter stands for behind a backslash:
+/// Returns the character that a backslash and this letter mean:
 /// `escape-seq-char = %x22 / %x5C / %x62 / %x66 / %x6E / %x72 / %x74 / %x65`, and those of `hex_len`.
 #[inline]
 fn simple_escape(letter: u8) -> Option<char>
@@ -60,7 +61,7 @@ fn simple_escape(letter: u8) -> Option<char>
     }
 }
 
-/// How many hexadecimal digits follow a letter behind a backslash:
+/// Returns how many hexadecimal digits follow this letter after a backslash:
 /// `escape-seq-char =/ %x78 2HEXDIG / %x75 4HEXDIG / %x55 8HEXDIG`.
 #[inline]
 fn hex_len(letter: u8) -> usize
@@ -74,7 +75,7 @@ fn hex_len(letter: u8) -> usize
     }
 }
 
-/// The escape whose letter is at a place: `escaped = escape escape-seq-char`, behind the `escape`.
+/// Reads the escape whose letter is at `at`, after the backslash: `escaped = escape escape-seq-char`.
 pub(crate) fn escape(text: &str, start: usize, at: usize) -> Result<(char, usize), (Error, usize)>
     requires { IsCharBoundary text.now at }
     ensures escape { code.EscapeGives start text.now at result }

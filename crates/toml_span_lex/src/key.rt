@@ -1,4 +1,4 @@
-//! Names with the place at which they stand.
+//! Keys: names with their spans.
 ghost use Rattle.std.specs.Prelude.{◌≡◌, [], Some, IfOk, IsOkAnd};
 ghost use Rattle.std.specs.Cow.{cow_str_bytes, IsBorrowedStr};
 
@@ -8,10 +8,10 @@ use std::borrow::CowStr;
 use std::fmt;
 use std::fmt::{Debug, Display, Formatter, Write};
 
-/// A key of a table: its name, and the bytes at which it stands. Of a quoted key these are its content, or
-/// its opening quote where it is empty.
+/// A key of a table: its name and its span. The span of a quoted key covers the text between its quotes, or the
+/// opening quote if there is nothing between them.
 ///
-/// Two keys compare by their names alone, in the order of the names' bytes.
+/// Keys are compared and ordered by the bytes of their names; spans are ignored.
 #[derive(Drop)]
 #[derive_where(PartialEq, Eq, PartialOrd, Ord)]
 pub struct Key<'de> {
@@ -21,7 +21,7 @@ pub struct Key<'de> {
 }
 
 impl<'de> Key<'de> {
-    /// A key of this name, at `0..0`, such as one to look a table up by.
+    /// Creates a key with this name and the span `0..0`, for looking up a table's entry.
     pub fn named(name: &'de str) -> Self
         ensures { (cow_str_bytes result.name ≡ name.now) × (result.span ≡ record { start = 0; end = 0 })
             × IsBorrowedStr result.name }
@@ -34,8 +34,8 @@ impl<'de> Key<'de> {
 }
 
 impl Key<'_> {
-    /// A second key of the same name and span, which borrows the name exactly if this one does. On want of
-    /// memory there is none, and this one is as before.
+    /// Returns a copy with the same name and span. The copy borrows its name exactly if this key does. If an
+    /// allocation fails there is no copy, and this key is unchanged.
     pub fn clone(&self, alloc: Global) -> Result<Self, AllocError>
         ensures name { IfOk result (λ key. cow_str_bytes key.name ≡ cow_str_bytes self.now.name) }
         ensures span { IfOk result (λ key. key.span ≡ self.now.span) }
@@ -56,7 +56,7 @@ impl Key<'_> {
 impl Default for Key<'_> {
     ghost is_default = { λ key. (cow_str_bytes key.name ≡ []) × (key.span ≡ record { start = 0; end = 0 }) };
 
-    /// The empty name, at `0..0`.
+    /// Returns the empty name with the span `0..0`.
     fn default() -> Self {
         Self::named("")
     }

@@ -1,4 +1,4 @@
-//! Laws of the definitions: each is the contract of a function that does nothing else.
+//! Laws of the definitions. Each is the contract of a function that does nothing else.
 ghost use Rattle.std.specs.Prelude.{◌≡◌, ◌↔◌, true};
 ghost use Rattle.std.specs.Str.{IsCharBoundary};
 ghost use Rattle.std.specs.declared.cmp.Ordering.{Ordering};
@@ -11,84 +11,83 @@ use crate::strings::scan_string;
 use crate::tokenizer::token_at;
 use crate::tokens::Token;
 
-/// At most one token begins at a place, with one end, one span and one content.
+/// At most one token begins at an offset, with one end, one span and one content.
 pub fn one_token()
     ensures { law.OneToken }
 {}
 
-/// At most one fault stands at a place.
+/// At most one fault occurs at an offset.
 pub fn one_fault()
     ensures { law.OneFault }
 {}
 
-/// Where a token begins, no fault stands.
+/// No fault occurs where a token begins.
 pub fn token_or_fault()
     ensures { law.TokenOrFault }
 {}
 
-/// Tokens and faults have at least one byte and end within the text.
+/// Tokens and faults are at least one byte long and end within the text.
 pub fn within_the_text()
     ensures tokens { law.TokensWithin }
     ensures faults { law.FaultsWithin }
 {}
 
-/// The content of a string has one value and one end.
+/// The content of a string has exactly one value and one end.
 pub fn one_content()
     ensures { law.OneContent }
 {}
 
-/// Going from character to character gives the folded text.
+/// Reading character by character yields the folded text.
 pub fn folded_text()
     ensures { law.FoldedText }
 {}
 
-/// Neither a token nor a fault ends between the two bytes of a line end.
+/// No token and no fault ends between the two bytes of a line end.
 pub fn line_ends_stay_whole()
     ensures tokens { law.TokensUnfolded }
     ensures faults { law.FaultsUnfolded }
 {}
 
-/// A token whose reading may want memory is a string with a backslash or a carriage return in it.
+/// Only strings that contain a backslash or a carriage return can need memory.
 pub fn copied_strings()
     ensures { law.CopiedStrings }
 {}
 
-/// Keys compare by their names alone, and the order is `Equal` exactly where they are equal.
+/// Keys are compared by their names alone, and the order is `Equal` exactly where they are equal.
 pub fn keys_by_name()
     ensures { law.KeysByName ⟦<Key<'static> as PartialEq>⟧.eq ⟦<Key<'static> as Ord>⟧.cmp }
 {}
 
-/// Tokens are equal exactly where their contents are.
+/// Tokens are equal exactly where their contents are equal.
 pub fn tokens_by_content()
     ensures { law.TokensByContent ⟦<Token<'static> as PartialEq>⟧.eq }
 {}
 
-/// Spanned values are equal where their values are.
+/// Spanned values are equal where their values are equal.
 pub fn spanned_equal_by_value<T: PartialEq>()
     ensures { (a b : Spanned T) → ⟦<Spanned<T> as PartialEq>⟧.eq a b ≡ T.eq a.value b.value }
 {}
 
-/// Spanned values are in the order of their values, where these have one.
+/// Spanned values are ordered as their values, where these are ordered.
 pub fn spanned_partly_ordered_by_value<T: PartialOrd>()
     ensures { (a b : Spanned T) → ⟦<Spanned<T> as PartialOrd>⟧.partial_cmp a b ≡ T.partial_cmp a.value b.value }
 {}
 
-/// Spanned values are in the order of their values, and the order is `Equal` exactly where they are
-/// equal.
+/// Spanned values are ordered as their values, and the order is `Equal` exactly where they are equal.
 pub fn spanned_ordered_by_value<T: Ord>()
     ensures cmp { (a b : Spanned T) → ⟦<Spanned<T> as Ord>⟧.cmp a b ≡ T.cmp a.value b.value }
     ensures ties { (a b : Spanned T)
         → (⟦<Spanned<T> as Ord>⟧.cmp a b ≡ Equal) ↔ (⟦<Spanned<T> as PartialEq>⟧.eq a b ≡ true) }
 {}
 
-/// A bare key's name is the text at its span.
+/// The name of a bare key is the text at its span.
 pub fn bare_keys()
     ensures { law.BareKeys }
 {}
 
-/// At each place of a text between two characters, a token stands, a fault, or the end of the text.
+/// At each offset between two characters there is a token, a fault or the end of the text.
 ///
-/// The body walks the string that opens there, if one does: it is the proof.
+/// The body is the proof: it walks through the string that opens there, if one does.
 pub fn something_stands(text: &str, at: usize)
     requires { IsCharBoundary text.now at }
     ensures { law.SomethingStands text.now at }

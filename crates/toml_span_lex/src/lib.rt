@@ -1,4 +1,4 @@
-//! The tokens of a TOML text, with the bytes at which they stand.
+//! The tokens of a TOML document, with their spans.
 #![tactic(auto)]
 
 pub mod bytes;

@@ -1,4 +1,4 @@
-//! The pieces that a string is cut into (TOML 1.1, "String").
+//! The pieces of a string's content (TOML 1.1, "String").
 ghost use Rattle.std.specs.Prelude.{◌≡◌, ℕ, ◌+◌, ◌≤◌, ◌<◌, ◌==◌, true, length, slice_index, IsTrue, Ok};
 ghost use Rattle.std.specs.Str.{IsCharBoundary};
 ghost use Rattle.toml_span_lex.specs.Bytes.{MaximalRun, backslash, quotation_mark};
@@ -14,20 +14,20 @@ use crate::text::{char_at, is_crlf, line_end};
 use crate::tokens::Error;
 use std::simd::prelude::*;
 
-/// What the content of a string is cut into.
+/// A piece of a string's content.
 #[derive(Clone, Copy)]
 pub enum Piece {
-    /// Characters that stand for themselves.
+    /// Unescaped characters.
     Plain,
-    /// One or two quotes of a string of several lines.
+    /// One or two quotes inside a multi-line string.
     Quotes,
     LineEnd,
     Escape(char),
-    /// A line end that a backslash drops, with the white space round it.
+    /// A line end after a backslash, dropped with the white space around it.
     Dropped,
 }
 
-/// A byte that stands for itself between these quotes.
+/// Returns whether the byte may occur unescaped between these quotes.
 ///
 /// `basic-unescaped = wschar / %x21 / %x23-5B / %x5D-7E / non-ascii`,
 /// `literal-char = %x09 / %x20-26 / %x28-7E / non-ascii`
@@ -38,8 +38,7 @@ fn is_plain(quote: u8, byte: u8) -> bool
     is_printed(byte) && byte != quote && !(quote == b'"' && byte == b'\\')
 }
 
-/// Where the run of bytes ends that stand for themselves between these quotes, found sixteen at a
-/// time.
+/// Returns the offset at which the run of bytes that need no escape between these quotes ends.
 #[inline(always)]
 pub fn plain_end(text: &str, quote: u8, from: usize) -> usize
     requires boundary { IsCharBoundary text.now from }
@@ -64,7 +63,7 @@ pub fn plain_end(text: &str, quote: u8, from: usize) -> usize
     bytes.len()
 }
 
-/// Where the run of quotes ends.
+/// Returns the offset at which the run of quotes that begins at `from` ends.
 fn quotes_end(text: &str, quote: u8, from: usize) -> usize
     requires boundary { IsCharBoundary text.now from }
     requires ascii { quote < 128 }
@@ -80,7 +79,7 @@ fn quotes_end(text: &str, quote: u8, from: usize) -> usize
     bytes.len()
 }
 
-/// Whether a space, a tab or a line end is at a place: `wschar / newline`.
+/// Returns whether a space, a tab or a line end is at `at`: `wschar / newline`.
 #[inline]
 fn is_ws_or_newline(bytes: &[u8], at: usize) -> bool
     requires { at < length bytes.now }
@@ -89,7 +88,7 @@ fn is_ws_or_newline(bytes: &[u8], at: usize) -> bool
     is_blank(bytes[at]) || bytes[at] == b'\n' || is_crlf(bytes, at)
 }
 
-/// Where the white space ends, line ends included: `*( wschar / newline )`.
+/// Returns the offset at which the white space ends, line ends included: `*( wschar / newline )`.
 fn ws_and_newlines_end(text: &str, from: usize) -> usize
     requires { IsCharBoundary text.now from }
     ensures run { spec.WsAndNewlines text.now from result }
@@ -104,7 +103,7 @@ fn ws_and_newlines_end(text: &str, from: usize) -> usize
     bytes.len()
 }
 
-/// One or two quotes of a string of several lines, or its end: `mlb-quotes = 1*2quotation-mark`,
+/// Reads one or two quotes inside a multi-line string, or its end: `mlb-quotes = 1*2quotation-mark`,
 /// `mll-quotes = 1*2apostrophe`, `ml-basic-string-delim = 3quotation-mark`, `ml-literal-string-delim = 3apostrophe`.
 fn quotes(text: &str, quote: u8, at: usize) -> (Option<Piece>, usize)
     requires within { at < length text.now }
@@ -122,7 +121,7 @@ fn quotes(text: &str, quote: u8, at: usize) -> (Option<Piece>, usize)
     }
 }
 
-/// What a backslash begins: `escaped`, or `mlb-escaped-nl`.
+/// Reads what a backslash begins: `escaped` or `mlb-escaped-nl`.
 fn escape_piece(
     text: &str,
     multi: bool,
@@ -144,7 +143,7 @@ fn escape_piece(
     }
 }
 
-/// Whether white space or a line end is at a place.
+/// Returns whether white space or a line end is at an offset.
 fn ws_or_newline_at(text: &str, at: usize) -> bool
     ensures gap { result ≡ spec.is_ws_or_newline text.now at }
     ensures within { IsTrue result → at < length text.now }
@@ -153,7 +152,7 @@ fn ws_or_newline_at(text: &str, at: usize) -> bool
     at < bytes.len() && is_ws_or_newline(bytes, at)
 }
 
-/// What a backslash before white space drops, in a string of several lines:
+/// Reads what a backslash before white space drops in a multi-line string:
 /// `mlb-escaped-nl = escape ws newline *( wschar / newline )`.
 fn drop_line(text: &str, start: usize, at: usize) -> Result<(Option<Piece>, usize), (Error, usize)>
     requires within { at + 1 < length text.now }
@@ -175,7 +174,7 @@ fn drop_line(text: &str, start: usize, at: usize) -> Result<(Option<Piece>, usiz
     }
 }
 
-/// The piece at a place, or the end of the string.
+/// Reads the piece at an offset, or the end of the string.
 ///
 /// `basic-char = basic-unescaped / escaped`, `mlb-content = basic-char / newline / mlb-escaped-nl`,
 /// `mll-content = literal-char / newline`

@@ -1,11 +1,11 @@
-//! Places in a text.
+//! Spans: ranges of byte offsets.
 ghost use Rattle.std.specs.Prelude.{◌≡◌, ◌↔◌, IsTrue};
 
 use std::ops::Range;
 
-/// The bytes of a text from offset `start` up to, and not including, offset `end`.
+/// A range of byte offsets in a text, `end` exclusive.
 ///
-/// Nothing is asked of the two: a reversed span is kept as it is.
+/// `start` may be greater than `end`: a reversed span is kept as it is.
 #[derive(Clone, Copy, PartialEq, Eq, Default, Debug)]
 pub struct Span {
     pub start: usize,
@@ -13,7 +13,7 @@ pub struct Span {
 }
 
 impl Span {
-    /// The span of these two offsets.
+    /// Creates a span from two byte offsets.
     #[inline]
     pub fn new(start: usize, end: usize) -> Self
         ensures start { result.start ≡ start }
@@ -22,7 +22,7 @@ impl Span {
         Self { start, end }
     }
 
-    /// Whether the span ends where it starts.
+    /// Returns whether `start` equals `end`.
     #[inline]
     pub fn is_empty(&self) -> bool
         ensures { IsTrue result ↔ (self.now.start ≡ self.now.end) }

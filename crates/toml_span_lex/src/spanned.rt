@@ -1,4 +1,4 @@
-//! Values with the place at which they stand.
+//! Values with their spans.
 ghost use Rattle.std.specs.Prelude.{◌≡◌, IfOk, IsOk};
 
 use crate::span::Span;
@@ -6,7 +6,7 @@ use std::alloc::{AllocError, Global};
 use std::fmt;
 use std::fmt::{Debug, Formatter, Write};
 
-/// A value with its span. Two of them compare by their values alone.
+/// A value with its span. Comparisons ignore the span.
 #[derive(Drop)]
 #[derive_where(PartialEq, Eq, PartialOrd, Ord; T)]
 pub struct Spanned<T> {
@@ -16,7 +16,7 @@ pub struct Spanned<T> {
 }
 
 impl<T> Spanned<T> {
-    /// The value with the span `0..0`.
+    /// Creates a value with the span `0..0`.
     #[inline]
     pub fn new(value: T) -> Self
         ensures value { result.value ≡ value }
@@ -28,7 +28,7 @@ impl<T> Spanned<T> {
         }
     }
 
-    /// The value with this span.
+    /// Creates a value with this span.
     #[inline]
     pub fn with_span(value: T, span: Span) -> Self
         ensures value { result.value ≡ value }
@@ -37,7 +37,7 @@ impl<T> Spanned<T> {
         Self { value, span }
     }
 
-    /// The value without its span.
+    /// Returns the value without its span.
     #[inline]
     pub fn take(self) -> T
         ensures { result ≡ self.value }
@@ -46,7 +46,7 @@ impl<T> Spanned<T> {
         value
     }
 
-    /// The value turned into another type by `From`, with the same span.
+    /// Converts the value by `From` and keeps the span.
     #[inline]
     pub fn map<V: From<T>>(self) -> Spanned<V>
         ensures value { V.from_gives self.value result.value }
@@ -59,7 +59,7 @@ impl<T> Spanned<T> {
         }
     }
 
-    /// The value, lent.
+    /// Borrows the value.
     #[inline]
     pub fn as_ref(&self) -> &T
         ensures { result.now ≡ self.now.value }
@@ -69,7 +69,7 @@ impl<T> Spanned<T> {
 }
 
 impl<T: PartialEq> Spanned<T> {
-    /// Whether the value equals another one.
+    /// Returns whether the value equals another one.
     #[inline]
     pub fn eq_value(&self, other: &T) -> bool
         ensures { result ≡ T.eq self.now.value other.now }
@@ -79,9 +79,10 @@ impl<T: PartialEq> Spanned<T> {
 }
 
 impl<T: Clone> Spanned<T> {
-    /// A second value with the same span. On want of memory there is none, and this one is as before.
+    /// Returns a clone of the value with the same span. If an allocation fails there is no clone, and this one is
+    /// unchanged.
     ///
-    /// The value is what `T` calls a clone of this one, and equal to it where all its clones are.
+    /// The clone is what `T` calls a clone, and equal to the value if all clones of `T` are.
     pub fn clone(&self, _alloc: Global) -> Result<Self, AllocError>
         ensures value { IfOk result (λ copy. T.is_clone self.now.value copy.value) }
         ensures span { IfOk result (λ copy. copy.span ≡ self.now.span) }

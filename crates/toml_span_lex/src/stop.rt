@@ -1,12 +1,12 @@
-//! Why a call gave no value.
+//! Why a call returned no value.
 use std::alloc::{AllocError, AllocFailed};
 use std::fmt;
 use std::fmt::{Display, Formatter, Write};
 
-/// Why a call gave no value: memory ran out, or the call has a fault to tell.
+/// Why a call returned no value: an allocation failed, or there is a fault to report.
 ///
-/// `Memory`: the allocator refused a request during the call. No contract can say so; tests show it.
-/// `toml_span_serde` answers it also where a position or a count is past what an integer holds.
+/// `Memory` means that the allocator refused a request during the call. Contracts can't express this; it is tested.
+/// `toml_span_serde` also returns it if a position or a count exceeds its integer type.
 #[derive(Debug, Drop)]
 pub enum Stop<E> {
     Memory(AllocError),
@@ -17,8 +17,8 @@ impl<E> Stop<E> {
     ghost use Rattle.std.specs.Prelude.{◌≡◌};
     ghost use Rattle.toml_span_lex.specs.Stop.{Converts, fault_of};
 
-    /// The fault, or the allocator's error: where a function answers `Result<_, AllocError>` or `Stop`,
-    /// `Err(stop) => tell(stop.fault()?)` is the arm for what the call has to tell, and want of memory is passed on.
+    /// Returns the fault, or the allocator's error as `Err`. In a function that returns `Result<_, AllocError>` or
+    /// `Stop`, the arm `Err(stop) => report(stop.fault()?)` handles the fault and passes a failed allocation on.
     pub fn fault(self) -> Result<E, AllocError>
         ensures { result ≡ fault_of self }
     {
@@ -28,8 +28,8 @@ impl<E> Stop<E> {
         }
     }
 
-    /// The same reason, its fault converted by `From`: `read.map_err(Stop::convert)?` passes the one error of a
-    /// read on where a list of errors is answered.
+    /// Converts the fault by `From`. `read.map_err(Stop::convert)?` passes the single error of a read on from a
+    /// function that returns a list of errors.
     pub fn convert<F: From<E>>(self) -> Stop<F>
         ensures { Converts F.from_gives self result }
     {
@@ -51,7 +51,7 @@ impl<E> From<AllocError> for Stop<E> {
     }
 }
 
-/// What could not be stored is dropped.
+/// Drops what could not be stored.
 impl<T: Drop, E> From<AllocFailed<T>> for Stop<E> {
     ghost use Rattle.std.specs.Prelude.{◌≡◌, alloc_error};
     ghost use Rattle.toml_span_lex.specs.declared.stop.Stop.TheVariants.{Memory};
@@ -63,7 +63,7 @@ impl<T: Drop, E> From<AllocFailed<T>> for Stop<E> {
     }
 }
 
-/// The fault's text, or that memory ran out.
+/// Writes the fault, or `out of memory`.
 impl<E: Display> Display for Stop<E> {
     ghost use Rattle.toml_span_lex.specs.Stop.{told};
 

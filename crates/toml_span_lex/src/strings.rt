@@ -1,4 +1,4 @@
-//! Strings: content, value and span (TOML 1.1, "String").
+//! Strings: their content, value and span (TOML 1.1, "String").
 ghost use Rattle.std.specs.Prelude.{◌≡◌, ℕ, ◌+◌, ◌≤◌, ◌<◌, length, slice_index, slice_range, string_bytes, Bool, IfOk};
 ghost use Rattle.std.specs.Prelude.{IfErr, ◌++◌, List};
 ghost use Rattle.std.specs.Str.{IsCharBoundary};
@@ -16,7 +16,7 @@ use crate::tokens::{Error, Token};
 use std::alloc::{AllocError, Global};
 use std::borrow::CowStr;
 
-/// The content so far as a text of its own.
+/// Returns the content read so far as an owned string.
 fn owned(
     alloc: Global,
     kept: Option<String>,
@@ -35,7 +35,7 @@ fn owned(
     }
 }
 
-/// The content with a part that stands for itself.
+/// Adds an unescaped part to the content.
 fn same(
     kept: Option<String>,
     text: &str,
@@ -61,7 +61,7 @@ fn same(
     }
 }
 
-/// The content with one more piece.
+/// Adds a piece to the content.
 fn with_piece(
     alloc: Global,
     kept: Option<String>,
@@ -100,7 +100,7 @@ fn with_piece(
     }
 }
 
-/// The content of a string from a place on, where it ends, and where the string ends.
+/// Reads the content of a string. Returns it with the offset at which it ends and the offset after the string.
 ///
 /// `*basic-char`, `*literal-char`, `ml-basic-body = *mlb-content *( mlb-quotes 1*mlb-content ) [ mlb-quotes ]`,
 /// `ml-literal-body = *mll-content *( mll-quotes 1*mll-content ) [ mll-quotes ]`
@@ -140,7 +140,7 @@ fn content(
     }
 }
 
-/// Whether three quotes are at a place.
+/// Returns whether three quotes are at an offset.
 #[inline]
 fn opens_multi(bytes: &[u8], at: usize) -> bool
     requires within { at < length bytes.now }
@@ -150,8 +150,8 @@ fn opens_multi(bytes: &[u8], at: usize) -> bool
     at + 2 < bytes.len() && bytes[at + 1] == bytes[at] && bytes[at + 2] == bytes[at]
 }
 
-/// Where the content of a string begins: behind `ml-basic-string-delim [ newline ]` or
-/// `ml-literal-string-delim [ newline ]`, or behind one quote.
+/// Returns the offset at which the content of a string begins: after `ml-basic-string-delim [ newline ]`,
+/// `ml-literal-string-delim [ newline ]` or a single quote.
 fn content_from(text: &str, multi: bool, at: usize) -> usize
     requires within { at < length text.now }
     requires ascii { slice_index text.now at < 128 }
@@ -169,7 +169,8 @@ fn content_from(text: &str, multi: bool, at: usize) -> usize
     }
 }
 
-/// The string at a place, its span, and where it ends. A fault comes with the place up to which the string was read.
+/// Reads the string at an offset. Returns it with its span and the offset after it. A fault comes with the offset up
+/// to which the string was read.
 ///
 /// `string = ml-basic-string / basic-string / ml-literal-string / literal-string`
 /// `basic-string = quotation-mark *basic-char quotation-mark`
@@ -212,7 +213,7 @@ pub fn string_at(
     }
 }
 
-/// The span of a string's content, or of its opening quote where it is empty and on one line.
+/// Returns the span of a string's content, or of its opening quote if it is a single-line string without content.
 fn content_span(multi: bool, at: usize, from: usize, to: usize) -> Span
     requires { at < usize.MAX }
     ensures { result ≡ spec.content_span multi at from to }
@@ -230,7 +231,7 @@ fn content_span(multi: bool, at: usize, from: usize, to: usize) -> Span
     }
 }
 
-/// Where the string at a place ends, or the fault that stands there. It takes no memory.
+/// Returns the offset after the string at an offset, or its fault. Allocates nothing.
 pub(crate) fn scan_string(text: &str, at: usize) -> Result<usize, (Error, usize)>
     requires within { at < length text.now }
     requires quote { IsQuote (slice_index text.now at) }

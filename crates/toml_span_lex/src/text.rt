@@ -1,12 +1,12 @@
-//! Characters at a place of a text.
+//! The characters of a text.
 ghost use Rattle.std.specs.Prelude.{◌≡◌, ◌<◌, ◌≤◌, length, IfSome};
 ghost use Rattle.std.specs.Str.{IsCharBoundary};
 ghost use Rattle.toml_span_lex.specs.Text as spec;
 ghost use Rattle.toml_span_lex.specs.code.Text as code;
 ghost use Rattle.toml_span_lex.specs.Text.{CharAt};
 
-/// The character at the byte offset `at`, and the offset of the next one. A carriage return with a line
-/// feed is one character, `'\n'`.
+/// Returns the character at the byte offset `at` with the offset of the next one. A carriage return followed by a line
+/// feed counts as the one character `'\n'`.
 pub fn char_at(text: &str, at: usize) -> (char, usize)
     requires boundary { IsCharBoundary text.now at }
     requires within { at < length text.now }
@@ -27,7 +27,7 @@ pub fn char_at(text: &str, at: usize) -> (char, usize)
     }
 }
 
-/// Whether a carriage return with a line feed stands at a place.
+/// Returns whether a carriage return followed by a line feed is at `at`.
 #[inline]
 pub fn is_crlf(bytes: &[u8], at: usize) -> bool
     requires { at < length bytes.now }
@@ -36,7 +36,7 @@ pub fn is_crlf(bytes: &[u8], at: usize) -> bool
     bytes[at] == b'\r' && at + 1 < bytes.len() && bytes[at + 1] == b'\n'
 }
 
-/// What is behind the line end at a place, if one stands there: `newline = %x0A / %x0D.0A`.
+/// Returns the offset after the line end at an offset, if there is one: `newline = %x0A / %x0D.0A`.
 #[inline]
 #[tactic(auto, using(crate::proofs::Runs::behind_line))]
 pub fn line_end(text: &str, at: usize) -> Option<usize>

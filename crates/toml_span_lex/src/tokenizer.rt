@@ -21,11 +21,11 @@ use std::alloc::{AllocError, Global};
 use std::borrow::CowStr;
 use std::marker::Model;
 
-/// A text, and how far it has been read: an offset between two characters, where a carriage return
-/// with a line feed is one.
+/// A text and the byte offset up to which it has been read, which is always between two characters. A carriage return
+/// followed by a line feed counts as one character.
 ///
-/// Where memory ran out a call can be made again. After a fault the tokenizer stands further on, as
-/// each call says, so that reading can go on there.
+/// If an allocation fails, the call can be repeated. After a fault the tokenizer is at a later offset, which each
+/// method documents, so that reading can go on there.
 #[derive(Drop)]
 pub struct Tokenizer<'a> {
     input: &'a str,
@@ -44,7 +44,7 @@ impl<'a> Model for Tokenizer<'a> {
     ghost invariant = { λ t. IsFoldedPlace t.input.now t.at };
 }
 
-/// Where reading begins: at the start, or behind a byte order mark there.
+/// Returns the offset at which reading begins: 0, or the offset after a byte order mark.
 pub fn first_place(text: &str) -> usize
     ensures place { FirstPlace text.now result }
     ensures boundary { IsCharBoundary text.now result }
@@ -57,7 +57,8 @@ pub fn first_place(text: &str) -> usize
     if c == '\u{feff}' { next } else { 0 }
 }
 
-/// The token at a place, which is no string, and where it ends, or the fault and where the next character begins.
+/// Reads a token that is not a string. Returns it with the offset after it, or the fault with the offset of the next
+/// character.
 ///
 /// `ws = *wschar`, `newline = %x0A / %x0D.0A`, `comment = comment-start-symbol *non-eol`,
 /// `unquoted-key = 1*( ALPHA / DIGIT / %x2D / %x5F )`
@@ -94,7 +95,7 @@ pub fn token_at(input: &str, at: usize) -> Result<(Token<'_>, usize), (Error, us
     }
 }
 
-/// A line end of two characters, the run of a bare key, or a fault.
+/// Reads a line end of two characters or the run of a bare key; anything else is a fault.
 fn other_at(input: &str, at: usize) -> Result<(Token<'_>, usize), (Error, usize)>
     requires boundary { IsCharBoundary input.now at }
     requires within { at < length input.now }
@@ -115,7 +116,7 @@ fn other_at(input: &str, at: usize) -> Result<(Token<'_>, usize), (Error, usize)
     }
 }
 
-/// What is behind the next line end, or the end of the text.
+/// Returns the offset after the next line end, or the text's length if there is none.
 fn line_after(text: &str, from: usize) -> usize
     requires { from ≤ length text.now }
     ensures skips { spec.SkipsLine text.now from result }
@@ -129,7 +130,7 @@ fn line_after(text: &str, from: usize) -> usize
     text.len()
 }
 
-/// Whether two tokens are equal, contents included.
+/// Returns whether two tokens are equal, contents included.
 fn is_same(a: &Token<'_>, b: &Token<'_>) -> bool
     ensures { IsTrue result ↔ (lexeme a.now ≡ lexeme b.now) }
 {
@@ -137,7 +138,7 @@ fn is_same(a: &Token<'_>, b: &Token<'_>) -> bool
 }
 
 impl<'a> Tokenizer<'a> {
-    /// A tokenizer at the start of the text, behind a byte order mark if one stands there.
+    /// Creates a tokenizer at the start of the text, after its byte order mark if it has one.
     pub fn new(input: &'a str) -> Self
         ensures text { result.text ≡ input.now }
         ensures at { FirstPlace input.now result.at }
@@ -148,7 +149,7 @@ impl<'a> Tokenizer<'a> {
         }
     }
 
-    /// A second tokenizer at the same place.
+    /// Returns a copy at the same offset.
     fn copy(&self) -> Self
         ensures { result ≡ self.now }
     {
@@ -158,11 +159,12 @@ impl<'a> Tokenizer<'a> {
         }
     }
 
-    /// The next token with its span, or `None` at the end of the text.
+    /// Reads the next token and returns it with its span, or `None` at the end of the text.
     ///
-    /// Where no token stands it tells the fault that does. It then stands behind the character that the
-    /// fault names, behind the digits or blanks of a refused escape, or at the end of the text for a
-    /// string that is not closed.
+    /// # Errors
+    ///
+    /// Returns a fault if there is no token. The tokenizer is then after the character that the fault names, after the
+    /// digits or blanks of an invalid escape, or at the end of the text if a string is not closed.
     pub fn step(&mut self, alloc: Global) -> Result<Option<(Span, Token<'a>)>, Stop<Error>>
         ensures text { self.new.text ≡ self.old.text }
         ensures step { spec.StepGives self.old.text self.old.at result self.new.at }
@@ -199,7 +201,7 @@ impl<'a> Tokenizer<'a> {
         }
     }
 
-    /// What `step` would answer. Nothing changes.
+    /// Returns what `step` would return. Nothing changes.
     pub fn peek(&mut self, alloc: Global) -> Result<Option<(Span, Token<'a>)>, Stop<Error>>
         ensures unchanged { self.new ≡ self.old }
         ensures step { (j : ℕ) × spec.StepGives self.old.text self.old.at result j
@@ -209,10 +211,9 @@ impl<'a> Tokenizer<'a> {
         ahead.step(alloc)
     }
 
-    /// Whether the next token is the expected one, contents included: then it is eaten.
+    /// Consumes the next token if it is the expected one, contents included, and returns whether it was.
     ///
-    /// Another token and the end of the text are `false`. With these, with a fault and where memory ran
-    /// out nothing changes.
+    /// Nothing changes at another token, at the end of the text, after a fault or if an allocation fails.
     pub fn eat(&mut self, alloc: Global, expected: Token<'a>) -> Result<bool, Stop<Error>>
         ensures text { self.new.text ≡ self.old.text }
         ensures eats { spec.Eats self.old result (lexeme expected.entry) self.new }
@@ -224,9 +225,9 @@ impl<'a> Tokenizer<'a> {
         }
     }
 
-    /// The span of the next token if it is the expected one, contents included: then it is eaten.
+    /// Consumes the next token if it is the expected one, contents included, and returns its span.
     ///
-    /// Where another token stands, none, or a fault, nothing changes.
+    /// Nothing changes at another token, at the end of the text or after a fault.
     pub fn eat_spanned(
         &mut self,
         alloc: Global,
@@ -249,10 +250,12 @@ impl<'a> Tokenizer<'a> {
         }
     }
 
-    /// Eats the next token, which has to be the expected one, contents included.
+    /// Consumes the next token, which must be the expected one, contents included.
     ///
-    /// Else it is `Wanted`, and the tokenizer stands behind the other token. Where no token stands or memory is
-    /// wanted, it stands where `step` leaves it.
+    /// # Errors
+    ///
+    /// Returns `Wanted` for another token, and the tokenizer is after that token. At a fault, or if an allocation
+    /// fails, it is where `step` leaves it.
     pub fn expect(&mut self, alloc: Global, expected: Token<'a>) -> Result<(), Stop<Error>>
         ensures text { self.new.text ≡ self.old.text }
         ensures expects { spec.Expects self.old.text self.old.at result (lexeme expected.entry) self.new.at }
@@ -263,10 +266,12 @@ impl<'a> Tokenizer<'a> {
         }
     }
 
-    /// Eats the next token, which has to be the expected one, and gives its span.
+    /// Consumes the next token, which must be the expected one, and returns its span.
     ///
-    /// Else it is `Wanted`, and the tokenizer stands behind the other token. Where no token stands or memory is
-    /// wanted, it stands where `step` leaves it.
+    /// # Errors
+    ///
+    /// Returns `Wanted` for another token, and the tokenizer is after that token. At a fault, or if an allocation
+    /// fails, it is where `step` leaves it.
     pub fn expect_spanned(
         &mut self,
         alloc: Global,
@@ -296,10 +301,12 @@ impl<'a> Tokenizer<'a> {
         }
     }
 
-    /// Eats a key: a bare one, or a string on one line (`simple-key = quoted-key / unquoted-key`).
+    /// Consumes a key: a bare key or a single-line string (`simple-key = quoted-key / unquoted-key`).
     ///
-    /// A string of several lines is `MultilineStringKey`, another token `Wanted`, and the tokenizer
-    /// stands behind it.
+    /// # Errors
+    ///
+    /// Returns `MultilineStringKey` for a multi-line string and `Wanted` for another token. The tokenizer is then after
+    /// that token.
     pub fn table_key(&mut self, alloc: Global) -> Result<Key<'a>, Stop<Error>>
         ensures text { self.new.text ≡ self.old.text }
         ensures key { spec.TableKeyGives self.old.text self.old.at result self.new.at }
@@ -339,9 +346,11 @@ impl<'a> Tokenizer<'a> {
         }
     }
 
-    /// Eats a line end, or stays at the end of the text.
+    /// Consumes a line end, or stays at the end of the text.
     ///
-    /// Another token is `Wanted`, and the tokenizer stands behind it.
+    /// # Errors
+    ///
+    /// Returns `Wanted` for another token, and the tokenizer is after that token.
     pub fn eat_newline_or_eof(&mut self, alloc: Global) -> Result<(), Stop<Error>>
         ensures text { self.new.text ≡ self.old.text }
         ensures line_end { spec.LineEndDue self.old.text self.old.at result self.new.at }
@@ -357,10 +366,12 @@ impl<'a> Tokenizer<'a> {
         }
     }
 
-    /// Eats a comment (`comment-start-symbol *non-eol`) and the line end behind it, and says whether one stands here.
+    /// Consumes a comment (`comment-start-symbol *non-eol`) and the line end after it, and returns whether there was
+    /// one. At the end of the text no line end is needed.
     ///
-    /// A control character that ends the comment, and is no line end, is the fault `Unexpected`, and the
-    /// tokenizer stands behind it. At the end of the text no line end is needed.
+    /// # Errors
+    ///
+    /// Returns `Unexpected` for a control character in the comment, and the tokenizer is after that character.
     pub fn eat_comment(&mut self) -> Result<bool, Error>
         ensures text { self.new.text ≡ self.old.text }
         ensures comment { spec.EatsComment self.old.text self.old.at result self.new.at }
@@ -403,7 +414,7 @@ impl<'a> Tokenizer<'a> {
         self.at = line_after(self.input, self.at);
     }
 
-    /// The offset of the next character, or the text's length.
+    /// Returns the byte offset of the next character, or the text's length.
     pub fn current(&mut self) -> usize
         ensures offset { result ≡ self.old.at }
         ensures place { IsFoldedPlace self.old.text result }
@@ -412,8 +423,8 @@ impl<'a> Tokenizer<'a> {
         self.at
     }
 
-    /// The next character with its offset, or `None` at the end. A carriage return with a line feed
-    /// is one line feed.
+    /// Consumes the next character and returns it with its byte offset, or `None` at the end. A carriage return
+    /// followed by a line feed is returned as one line feed.
     pub fn one(&mut self) -> Option<(usize, char)>
         ensures text { self.new.text ≡ self.old.text }
         ensures one { spec.OneGives self.old.text self.old.at result self.new.at }
@@ -427,7 +438,7 @@ impl<'a> Tokenizer<'a> {
         Some((at, c))
     }
 
-    /// The offset in the text at which a span of it begins.
+    /// Returns the byte offset at which a slice of the text begins.
     pub fn substr_offset(&self, span: Span) -> usize
         requires forward { span.start ≤ span.end }
         requires within { span.end ≤ length self.now.text }
@@ -442,7 +453,7 @@ impl Clone for Tokenizer<'_> {
 
     ghost is_infallible = { λ _. Unit {0} };
 
-    /// A second tokenizer at the same place of the same text. It takes no memory.
+    /// Returns a copy at the same offset of the same text. Allocates nothing.
     fn clone(&self) -> Result<Self, AllocError> {
         Ok(self.copy())
     }

@@ -1,17 +1,17 @@
-//! The tokens, and what stands where none can.
+//! Tokens and the faults of tokens.
 ghost use Rattle.std.specs.Prelude.{◌≡◌};
 ghost use Rattle.toml_span_lex.specs.Tokens.{lexeme, words};
 
 use std::borrow::CowStr;
 
-/// A token of a TOML text. Two tokens are equal where their contents are.
+/// A token of a TOML document. Tokens are equal if their contents are equal.
 #[derive(PartialEq, Eq, Debug, Drop)]
 pub enum Token<'a> {
-    /// All spaces and tabs in a row.
+    /// A maximal run of spaces and tabs.
     Whitespace(&'a str),
-    /// A line feed, alone or behind a carriage return.
+    /// A line feed, alone or after a carriage return.
     Newline,
-    /// From `#` up to the end of the line, with the `#`.
+    /// A comment from its `#` to the end of the line.
     Comment(&'a str),
     Equals,
     Period,
@@ -22,43 +22,40 @@ pub enum Token<'a> {
     RightBrace,
     LeftBracket,
     RightBracket,
-    /// All ASCII letters, digits, dashes and underscores in a row.
+    /// A maximal run of ASCII letters, digits, `-` and `_`.
     Keylike(&'a str),
     String {
-        /// The string as it stands, with its quotes.
+        /// The string as it is written, with its quotes.
         src: &'a str,
-        /// What it means. It borrows the text where it equals the text.
+        /// The value. It borrows from the text if it equals the text between the quotes.
         val: CowStr<'a>,
-        /// Whether three quotes open it.
+        /// Whether it is a multi-line string.
         multiline: bool,
     },
 }
 
-/// What stands where no token does, or not the token that is due. Each number is a byte offset, unless
-/// it says otherwise.
+/// Why there is no token, or not the expected one. Numbers are byte offsets unless noted otherwise.
 #[derive(PartialEq, Eq, Debug, Drop)]
 pub enum Error {
-    /// A character that a string does not admit.
+    /// A character that strings must not contain.
     InvalidCharInString(usize, char),
-    /// A character behind a backslash that no escape begins with.
+    /// A character after a backslash that begins no escape.
     InvalidEscape(usize, char),
-    /// A character in the place of a hexadecimal digit.
+    /// A character where a hexadecimal digit is expected.
     InvalidHexEscape(usize, char),
-    /// The letter of an escape, the number of its digits, and what they give, which is no character.
+    /// The letter of an escape, the number of its digits, and their value, which is not a Unicode scalar value.
     InvalidEscapeValue(usize, usize, u32),
-    /// A line end in a string on one line.
+    /// A line end in a single-line string.
     NewlineInString(usize),
     /// A character that begins no token.
     Unexpected(usize, char),
-    /// The opening quote of a string that the text ends in.
+    /// The opening quote of a string that is not closed.
     UnterminatedString(usize),
-    /// The opening quote of a string of several lines where a key is due, and that offset plus the
-    /// length of its value.
+    /// The opening quote of a multi-line string where a key is expected, and that offset plus the length of its value.
     MultilineStringKey(usize, usize),
-    /// Another token than the one that is due, or the end of the text, both in the words of `describe`
-    /// or `eof`.
+    /// A token other than the expected one, or the end of the text. Both are named in the words of `describe` or `eof`.
     Wanted {
-        /// Where the token begins, or the length of the text.
+        /// The offset of the token, or the length of the text.
         at: usize,
         expected: &'static str,
         found: &'static str,
@@ -66,7 +63,7 @@ pub enum Error {
 }
 
 impl Token<'_> {
-    /// The token in the words of an error.
+    /// Names the kind of token, as errors do.
     pub fn describe(&self) -> &'static str
         ensures { result.now ≡ words (lexeme self.now) }
     {
