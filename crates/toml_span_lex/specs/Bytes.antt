@@ -1,4 +1,4 @@
--- The classes of bytes, and runs of them.
+-- Classes of bytes and runs of them.
 use Rattle.std.specs.Prelude.{◌≡◌, ℕ, ◌<◌, ◌≤◌, Bool, true, false, not, ◌&&◌, ◌||◌, ◌==◌, nat_le, List, length}
 use Rattle.std.specs.Prelude.{slice_index}
 use Rattle.std.specs.Char.{is_ascii_alphanumeric}
@@ -129,14 +129,14 @@ is_blank c = c == space || c == tab
 abbrev pub is_keylike : ℕ → Bool
 is_keylike c = (is_ascii_alphanumeric c || c == dash) || c == underscore
 
--- `non-eol = %x09 / %x20-7E / non-ascii`: a tab, or no control character of ASCII. A byte from 128 on is part of a
--- character past ASCII.
+-- `non-eol = %x09 / %x20-7E / non-ascii`: a tab or anything but an ASCII control character. Bytes from 128 on are part of
+-- a non-ASCII character.
 abbrev pub is_printed : ℕ → Bool
 is_printed c = c == tab || (nat_le space c && not (c == delete))
 
 -- ---- runs
 
--- The bytes from i to j pass, and the one at j, if there is one, does not.
+-- The bytes from i to j (exclusive) pass the test p, and the byte at j, if there is one, does not.
 pub record MaximalRun (p : ℕ → Bool) (text : List ℕ) (i j : ℕ) : Type 0 where
   pub forward : i ≤ j
   pub within : j ≤ length text

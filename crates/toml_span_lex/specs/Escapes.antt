@@ -1,4 +1,4 @@
--- Escapes of strings in quotation marks.
+-- Escapes in basic strings.
 use Rattle.std.specs.Prelude.{◌≡◌, ℕ, ◌+◌, ◌<◌, ◌≤◌, ◌⊎◌, Bool, true, false, ◌||◌, ◌==◌, nat_lt, if◌then◌else◌, is_some}
 use Rattle.std.specs.Prelude.{List, take, drop, length, slice_index, Option, Some, None}
 use Rattle.std.specs.Char.{is_digit, IsScalar}
@@ -10,7 +10,7 @@ use Rattle.toml_span_lex.specs.Text.{CharAt}
 use Rattle.toml_span_lex.specs.declared.tokens.Error.{Error}
 use Rattle.toml_span_lex.specs.declared.tokens.Error.TheVariants as errors
 
--- the character that one letter stands for behind a backslash, of the standard's
+-- the character that a backslash and this letter mean:
 -- `escape-seq-char = %x22 / %x5C / %x62 / %x65 / %x66 / %x6E / %x72 / %x74` and those of `hex_len`
 abbrev pub simple_escape : ℕ → Option ℕ
 simple_escape c =
@@ -24,8 +24,8 @@ simple_escape c =
     else if c == small_e then Some escape_character
     else None
 
--- `escape-seq-char =/ %x78 2HEXDIG / %x75 4HEXDIG / %x55 8HEXDIG`: how many hexadecimal digits follow a letter behind a
--- backslash
+-- `escape-seq-char =/ %x78 2HEXDIG / %x75 4HEXDIG / %x55 8HEXDIG`: how many hexadecimal digits follow this letter
+-- after a backslash
 abbrev pub hex_len : ℕ → ℕ
 hex_len c = if c == small_x then 2 else if c == small_u then 4 else if c == capital_u then 8 else 0
 
@@ -33,21 +33,21 @@ hex_len c = if c == small_x then 2 else if c == small_u then 4 else if c == capi
 abbrev pub is_hex : ℕ → Bool
 is_hex c = is_digit c 16
 
--- the bytes from a to b are hexadecimal digits
+-- the bytes from a to b (exclusive) are hexadecimal digits
 pub record HexRun (text : List ℕ) (a b : ℕ) : Type 0 where
   pub within : b ≤ length text
   pub digits : (k : ℕ) → a ≤ k → k < b → is_hex (slice_index text k) ≡ true
 
--- the number that the n digits from a on write
+-- the value of the n hexadecimal digits from a on
 abbrev pub hex_value : List ℕ → ℕ → ℕ → ℕ
 hex_value text a n = digits_value 16 (take n (drop a text))
 
--- n digits behind the letter at i write the character c, and end at j
+-- the n digits after the letter at i are the code point c, and end at j
 abbrev pub IsHexEscape : List ℕ → ℕ → ℕ → ℕ → ℕ → Type 0
 IsHexEscape text i n c j = HexRun text (i + 1) j × (j ≡ (i + 1) + n) × (c ≡ hex_value text (i + 1) n) × IsScalar c
 
--- n digits are due behind the letter at i, and this fault stands there: the text ends among digits, another character
--- stands in a digit's place, or the digits write no character
+-- n digits must follow the letter at i, but do not: the text ends among the digits, another character occurs there, or
+-- the digits are not a Unicode scalar value
 abbrev pub IsHexFault : ℕ → List ℕ → ℕ → ℕ → ℕ → Error → Type 0
 IsHexFault start text i n j (errors.UnterminatedString s) =
     (s ≡ start) × (j ≡ length text) × HexRun text (i + 1) (length text) × (length text < (i + 1) + n)
@@ -57,17 +57,17 @@ IsHexFault start text i n j (errors.InvalidEscapeValue at m v) =
     (at ≡ i) × (m ≡ n) × (v ≡ hex_value text (i + 1) n) × HexRun text (i + 1) j × (j ≡ (i + 1) + n) × (IsScalar v → ⊥)
 IsHexFault start text i n j _ = ⊥
 
--- a letter that may stand behind a backslash
+-- the letters that may follow a backslash
 abbrev pub opens_escape : ℕ → Bool
 opens_escape c = is_some (simple_escape c) || nat_lt 0 (hex_len c)
 
--- `escaped = escape escape-seq-char`: the escape whose letter is at i writes c, and ends at j
+-- `escaped = escape escape-seq-char`: the escape whose letter is at i means c, and ends at j
 abbrev pub IsEscape : List ℕ → ℕ → ℕ → ℕ → Type 0
 IsEscape text i c j =
     ((simple_escape (slice_index text i) ≡ Some c) × (i < length text) × (j ≡ i + 1))
     ⊎ ((0 < hex_len (slice_index text i)) × (i < length text) × IsHexEscape text i (hex_len (slice_index text i)) c j)
 
--- at i, behind a backslash, no escape stands, and this fault does
+-- there is no escape at i, after a backslash, and this is the fault
 abbrev pub IsEscapeFault : ℕ → List ℕ → ℕ → ℕ → Error → Type 0
 IsEscapeFault start text i j e =
     ((e ≡ errors.UnterminatedString start) × (i ≡ length text) × (j ≡ i))

@@ -1,4 +1,4 @@
--- What the definitions promise together.
+-- What the definitions imply together.
 use Rattle.std.specs.Prelude.{◌≡◌, ◌↔◌, ℕ, ◌<◌, ◌≤◌, ◌⊎◌, Bool, true, List, ◌∷◌, drop, length, slice_index, slice_range}
 use Rattle.std.specs.Ordering.{nat_cmp}
 use Rattle.std.specs.Cmp.Lexicographic.{slice_cmp}
@@ -14,23 +14,24 @@ use Rattle.toml_span_lex.specs.Text.{CharAt, KeepsLineEnd, folded}
 use Rattle.toml_span_lex.specs.Strings.{IsQuote, IsContent, HasChange, NeedsMemory}
 use Rattle.toml_span_lex.specs.Tokens.{Lexeme, keylike, string, lexeme, Stands, IsNoToken}
 
--- ---- one thing at a place
+-- ---- one thing at an offset
 
--- At most one token begins at a place, with one end, one span and one content.
+-- At most one token begins at an offset, with one end, one span and one content.
 abbrev pub OneToken : Type 0
 OneToken = (text : List ℕ) (i j k : ℕ) (s t : Span) (l r : Lexeme) → Stands text i j s l → Stands text i k t r
     → (j ≡ k) × (s ≡ t) × (l ≡ r)
 
--- At most one fault stands at a place.
+-- At most one fault occurs at an offset.
 abbrev pub OneFault : Type 0
 OneFault = (text : List ℕ) (i j k : ℕ) (e f : Error) → IsNoToken text i j e → IsNoToken text i k f → (j ≡ k) × (e ≡ f)
 
--- Where a token begins, no fault stands.
+-- No fault occurs where a token begins.
 abbrev pub TokenOrFault : Type 0
 TokenOrFault =
     (text : List ℕ) (i j k : ℕ) (s : Span) (l : Lexeme) (e : Error) → Stands text i j s l → IsNoToken text i k e → ⊥
 
--- A token has at least one byte and ends within the text, and so does what a fault names. At the end neither stands.
+-- A token is at least one byte long and ends within the text, and so does what a fault names. There is neither at the
+-- end of the text.
 abbrev pub TokensWithin : Type 0
 TokensWithin = (text : List ℕ) (i j : ℕ) (s : Span) (l : Lexeme) → Stands text i j s l → (i < j) × (j ≤ length text)
 
@@ -43,19 +44,19 @@ SomethingStands text i =
     (i ≡ length text)
     ⊎ (((j : ℕ) × (s : Span) × (l : Lexeme) × Stands text i j s l) ⊎ ((j : ℕ) × (e : Error) × IsNoToken text i j e))
 
--- The content of a string has one value and one end.
+-- The content of a string has exactly one value and one end.
 abbrev pub OneContent : Type 0
 OneContent = (q : ℕ) (m : Bool) (text v w : List ℕ) (i s t j k : ℕ) → IsQuote q → IsContent q m text i v s j
     → IsContent q m text i w t k → (v ≡ w) × (s ≡ t) × (j ≡ k)
 
 -- ---- the folded text
 
--- Going from character to character gives the folded text.
+-- Reading character by character yields the folded text.
 abbrev pub FoldedText : Type 0
 FoldedText =
     (text : List ℕ) (i c j : ℕ) → IsUtf8 (drop i text) → CharAt text i c j → folded text i ≡ (i, c) ∷ folded text j
 
--- From a place of the folded text, tokens and faults lead to one.
+-- Tokens and faults that begin at a character of the folded text end at one.
 abbrev pub TokensUnfolded : Type 0
 TokensUnfolded =
     (text : List ℕ) (i j : ℕ) (s : Span) (l : Lexeme) → KeepsLineEnd text i → Stands text i j s l → KeepsLineEnd text j
@@ -65,7 +66,7 @@ FaultsUnfolded = (text : List ℕ) (i j : ℕ) (e : Error) → IsNoToken text i 
 
 -- ---- memory
 
--- A token that may want memory is a string with a carriage return in it, or one in quotation marks with a backslash.
+-- Only a string that contains a carriage return, or a basic string that contains a backslash, can need memory.
 abbrev pub CopiedStrings : Type 0
 CopiedStrings = (text : List ℕ) (i j : ℕ) (s : Span) (l : Lexeme) → Stands text i j s l → NeedsMemory text i
     → ((source : List ℕ) × (value : List ℕ) × (multi : Bool) × (l ≡ string source value multi))
@@ -73,20 +74,20 @@ CopiedStrings = (text : List ℕ) (i j : ℕ) (s : Span) (l : Lexeme) → Stands
 
 -- ---- keys
 
--- Keys are equal where their names are, and in the order of their names' bytes.
+-- Keys are equal where their names are equal, and ordered by the bytes of their names.
 abbrev pub KeysByName : (Key → Key → Bool) → (Key → Key → Ordering) → Type 0
 KeysByName eq cmp = (a b : Key) →
     ((eq a b ≡ true) ↔ (cow_str_bytes a.name ≡ cow_str_bytes b.name))
     × (cmp a b ≡ slice_cmp nat_cmp (cow_str_bytes a.name) (cow_str_bytes b.name))
     × ((cmp a b ≡ orderings.Equal) ↔ (eq a b ≡ true))
 
--- A bare key's name is the text at its span.
+-- The name of a bare key is the text at its span.
 abbrev pub BareKeys : Type 0
 BareKeys = (text : List ℕ) (i j : ℕ) (span : Span) (name : List ℕ) → Stands text i j span (keylike name)
     → name ≡ slice_range text span.start span.end
 
 -- ---- tokens
 
--- Tokens are equal exactly where their contents are.
+-- Tokens are equal exactly where their contents are equal.
 abbrev pub TokensByContent : (Token → Token → Bool) → Type 0
 TokensByContent eq = (a b : Token) → (eq a b ≡ true) ↔ (lexeme a ≡ lexeme b)

@@ -1,4 +1,4 @@
--- The pieces that a string is cut into. Its quotes are q, and multi says whether there are three of them.
+-- The pieces of a string's content. The string has the quotes q, and `multi` is true for multi-line strings.
 use Rattle.std.specs.Prelude.{◌≡◌, ℕ, ◌+◌, ◌<◌, ◌≤◌, ◌⊎◌, min, Bool, true, false, not, ◌&&◌, ◌||◌, ◌==◌, if◌then◌else◌}
 use Rattle.std.specs.Prelude.{List, [], ◌∷◌, length, slice_index, slice_range, encode_utf8}
 use Rattle.toml_span_lex.specs.Bytes.{quotation_mark, backslash, line_feed, is_blank, is_printed, MaximalRun}
@@ -9,7 +9,7 @@ use Rattle.toml_span_lex.specs.declared.pieces.Piece.TheVariants as pieces
 use Rattle.toml_span_lex.specs.declared.tokens.Error.{Error}
 use Rattle.toml_span_lex.specs.declared.tokens.Error.TheVariants as errors
 
--- A byte that stands for itself between these quotes:
+-- The bytes that may occur unescaped between these quotes:
 -- `basic-unescaped = wschar / %x21 / %x23-5B / %x5D-7E / non-ascii`
 -- `literal-char = %x09 / %x20-26 / %x28-7E / non-ascii`
 abbrev pub is_plain : ℕ → ℕ → Bool
@@ -19,20 +19,21 @@ is_plain q c = is_printed c && not (c == q) && not (q == quotation_mark && c == 
 abbrev pub is_ws_or_newline : List ℕ → ℕ → Bool
 is_ws_or_newline text i = is_blank (slice_index text i) || slice_index text i == line_feed || is_crlf text i
 
--- `*( wschar / newline )`: all spaces, tabs and line ends from i to j, and none at j
+-- `*( wschar / newline )`: there are only spaces, tabs and line ends from i to j, and none
+-- of these at j
 pub record WsAndNewlines (text : List ℕ) (i j : ℕ) : Type 0 where
   pub forward : i ≤ j
   pub within : j ≤ length text
   pub passes : (k : ℕ) → i ≤ k → k < j → is_ws_or_newline text k ≡ true
   pub stops : j < length text → is_ws_or_newline text j ≡ false
 
--- `mlb-escaped-nl = escape ws newline *( wschar / newline )`: what a backslash drops, which are spaces and tabs, a line
--- end, and all spaces, tabs and line ends behind it
+-- `mlb-escaped-nl = escape ws newline *( wschar / newline )`: what a backslash drops: spaces and tabs, a line
+-- end, and all spaces, tabs and line ends after it
 abbrev pub IsDropped : List ℕ → ℕ → ℕ → Type 0
 IsDropped text i j = (k : ℕ) × (l : ℕ) × MaximalRun is_blank text i k × LineEnd text k l × WsAndNewlines text l j
 
--- The text from i to j is this piece. Line ends, one or two quotes and what a backslash drops are pieces of
--- strings of several lines alone, escapes of strings in quotation marks alone.
+-- The text from i to j is this piece. Only multi-line strings have line ends, one or two quotes, and what a backslash
+-- drops; only basic strings have escapes.
 -- `basic-char = basic-unescaped / escaped`
 -- `mlb-content = basic-char / newline / mlb-escaped-nl`, `mlb-quotes = 1*2quotation-mark`
 -- `mll-content = literal-char / newline`, `mll-quotes = 1*2apostrophe`
@@ -45,7 +46,7 @@ IsPiece q multi text i j (pieces.Escape c) =
 IsPiece q multi text i j pieces.Dropped =
     (q ≡ quotation_mark) × (multi ≡ true) × (slice_index text i ≡ backslash) × IsDropped text (i + 1) j
 
--- what it stands for
+-- its value
 abbrev pub piece_value : List ℕ → ℕ → ℕ → Piece → List ℕ
 piece_value text i j pieces.LineEnd = line_feed ∷ []
 piece_value text i j (pieces.Escape c) = encode_utf8 c
@@ -53,21 +54,22 @@ piece_value text i j pieces.Dropped = []
 piece_value text i j _ = slice_range text i j
 
 -- `ml-basic-string-delim = 3quotation-mark`, `ml-literal-string-delim = 3apostrophe`, with `[ mlb-quotes ]` or
--- `[ mll-quotes ]` before them: the string closes with the quotes at i, and j is behind the last one. On one line
--- that is one quote; else they are the first three or more in a row, and five at most.
+-- `[ mll-quotes ]` before them: the string is closed by the quotes at i, and j is the offset after the last one. A
+-- single-line string is closed by one quote, a multi-line string by the first run of three or more, of which it takes
+-- five at most.
 abbrev pub IsClose : ℕ → Bool → List ℕ → ℕ → ℕ → Type 0
 IsClose q false text i j = (slice_index text i ≡ q) × (i < length text) × (j ≡ i + 1)
 IsClose q true text i j = (r : ℕ) × MaximalRun (λ c. c == q) text i r × (i + 3 ≤ r) × (j ≡ min r (i + 5))
 
--- the fault of a backslash at i with spaces and tabs behind it up to j, and no line end there
+-- the fault of a backslash at i that is followed by spaces and tabs up to j, but by no line end there
 abbrev pub drop_fault : ℕ → List ℕ → ℕ → ℕ → Error
 drop_fault start text i j =
     if j == length text then errors.UnterminatedString start
     else errors.InvalidEscape (i + 1) (slice_index text (i + 1))
 
--- A string opened at start. Neither a piece of it nor its end stands at i, and this fault does: the end of the text, a
--- line end on one line, a character that is not admitted, no escape behind a backslash, or no line end behind a
--- backslash with spaces and tabs.
+-- The string opened at `start` has neither a piece nor its end at i, but this fault: the end of the text, a line end in a
+-- single-line string, a character that strings must not contain, an invalid escape, or a backslash with spaces and tabs
+-- that no line end follows.
 abbrev pub IsContentFault : ℕ → Bool → ℕ → List ℕ → ℕ → ℕ → Error → Type 0
 IsContentFault q multi start text i j e =
     ((e ≡ errors.UnterminatedString start) × (i ≡ length text) × (j ≡ i))

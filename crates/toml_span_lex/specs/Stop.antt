@@ -1,15 +1,15 @@
--- What is told of why a call gave no value.
+-- Why a call returned no value.
 use Rattle.std.specs.Prelude.{◌≡◌, ℕ, List, Option, Some, Result, Ok, Err, codes}
 use Rattle.std.specs.declared.alloc.AllocError.{AllocError}
 use Rattle.toml_span_lex.specs.declared.stop.Stop.{Stop}
 use Rattle.toml_span_lex.specs.declared.stop.Stop.TheVariants.{Memory, Fault}
 
--- the fault's text, if that is stated, or that memory ran out
+-- the fault's text, if its type states one, or `out of memory`
 abbrev pub told : {E : Type 0} → (E → Option (List ℕ)) → Stop E → Option (List ℕ)
 told output (Fault fault) = output fault
 told output (Memory error) = Some (codes "memory allocation failed")
 
--- the same reason, with a fault that is made of the fault
+-- the same reason, with the fault converted
 abbrev pub Converts : {E F : Type 0} → (E → F → Type 0) → Stop E → Stop F → Type 0
 Converts gives (Fault fault) stop = (other : _) × gives fault other × (stop ≡ Fault other)
 Converts gives (Memory error) stop = stop ≡ Memory error

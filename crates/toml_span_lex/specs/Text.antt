@@ -1,18 +1,18 @@
--- Characters and line ends at a place of a text, and the folded text. Behind the end of a text stand zeros:
--- `slice_index` gives 0 there. So a byte that is asked for and is not 0, as that of a line end, is within the text.
+-- The characters and line ends of a text, and the folded text. `slice_index` is 0 past the end of a text, so a byte that
+-- is not 0, such as that of a line end, is within it.
 use Rattle.std.specs.Prelude.{◌≡◌, ℕ, ◌+◌, ◌⊎◌, Bool, true, false, ◌&&◌, ◌==◌, List, [], ◌∷◌, ◌++◌, if◌then◌else◌, drop}
 use Rattle.std.specs.Prelude.{length, slice_index, encode_utf8}
 use Rattle.std.specs.Char.{len_utf8}
 use Rattle.std.specs.Str.{chars, IsCharBoundary}
 use Rattle.toml_span_lex.specs.Bytes.{line_feed, carriage_return, byte_order_mark}
 
--- ---- at a place
+-- ---- at an offset
 
--- a carriage return directly followed by a line feed
+-- a carriage return that a line feed follows directly
 abbrev pub is_crlf : List ℕ → ℕ → Bool
 is_crlf text i = slice_index text i == carriage_return && slice_index text (i + 1) == line_feed
 
--- `newline = %x0A / %x0D.0A`: the text from i to j is a line end, a line feed, alone or behind a carriage return
+-- `newline = %x0A / %x0D.0A`: the text from i to j is a line end: a line feed, alone or after a carriage return
 abbrev pub LineEnd : List ℕ → ℕ → ℕ → Type 0
 LineEnd text i j = ((slice_index text i ≡ line_feed) × (j ≡ i + 1)) ⊎ ((is_crlf text i ≡ true) × (j ≡ i + 2))
 
@@ -20,13 +20,13 @@ LineEnd text i j = ((slice_index text i ≡ line_feed) × (j ≡ i + 1)) ⊎ ((i
 abbrev pub NoLineEnd : List ℕ → ℕ → Type 0
 NoLineEnd text i = (slice_index text i == line_feed ≡ false) × (is_crlf text i ≡ false)
 
--- The character at i is c, and the next one begins at j. A carriage return with a line feed is one line feed.
+-- The character at i is c, and the next one begins at j. A carriage return followed by a line feed is one line feed.
 abbrev pub CharAt : List ℕ → ℕ → ℕ → ℕ → Type 0
 CharAt text i c j =
     ((is_crlf text i ≡ true) × (c ≡ line_feed) × (j ≡ i + 2))
     ⊎ ((is_crlf text i ≡ false) × (j ≡ i + len_utf8 c) × (drop i text ≡ encode_utf8 c ++ drop j text))
 
--- A new tokenizer stands at the start, or behind a byte order mark there.
+-- A new tokenizer is at the start of the text, or after its byte order mark.
 abbrev pub FirstPlace : List ℕ → ℕ → Type 0
 FirstPlace text at =
     CharAt text 0 byte_order_mark at
@@ -36,13 +36,13 @@ FirstPlace text at =
 abbrev pub KeepsLineEnd : List ℕ → ℕ → Type 0
 KeepsLineEnd text i = (k : ℕ) → i ≡ k + 1 → is_crlf text k ≡ false
 
--- a place between two characters of the folded text, or at its start or end
+-- an offset between two characters of the folded text, or at its start or end
 abbrev pub IsFoldedPlace : List ℕ → ℕ → Type 0
 IsFoldedPlace text i = IsCharBoundary text i × KeepsLineEnd text i
 
 -- ---- the folded text
 
--- The characters with their offsets. A carriage return with a line feed is one line feed.
+-- The characters with their offsets. A carriage return followed by a line feed is one line feed.
 abbrev pub folded_from : ℕ → Bool → List ℕ → List (ℕ × ℕ)
 folded_from i after_return [] = []
 folded_from i after_return (c ∷ cs) =

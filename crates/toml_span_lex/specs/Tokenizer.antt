@@ -1,4 +1,4 @@
--- What each call of the tokenizer answers, and the place that it leaves.
+-- What each method of the tokenizer returns, and at which offset it leaves it.
 use Rattle.std.specs.Prelude.{◌≡◌, ℕ, ◌≤◌, ◌<◌, ◌+◌, ◌⊎◌, Bool, true, false, List, length, slice_index, Result, Ok, Err}
 use Rattle.std.specs.Prelude.{Option, Some, None, codes}
 use Rattle.std.specs.Cow.{cow_str_bytes, IsBorrowedStr}
@@ -16,30 +16,29 @@ use Rattle.toml_span_lex.specs.declared.tokens.Error.TheVariants as errors
 use Rattle.toml_span_lex.specs.declared.stop.Stop.{Stop}
 use Rattle.toml_span_lex.specs.declared.stop.Stop.TheVariants as stops
 
--- a text, and how far it has been read
+-- a text, and the offset up to which it has been read
 pub record Cursor : Type 0 where
   pub text : List ℕ
   pub at : ℕ
 
 -- ---- refusals
 
--- No token was read at i, and the tokenizer stands at j: where it was for want of memory, else behind what the fault
--- names.
+-- No token was read at i, and the tokenizer is at j: at i if an allocation failed, else after what the fault names.
 abbrev pub Fails : List ℕ → ℕ → Stop Error → ℕ → Type 0
 Fails text i (stops.Memory e) j = (j ≡ i) × NeedsMemory text i
 Fails text i (stops.Fault e) j = IsNoToken text i j e
 
--- the error that at a place one thing was due, and another was found
+-- the error that one token was expected at an offset and another was found
 abbrev pub TellsWanted : Error → ℕ → List ℕ → List ℕ → Type 0
 TellsWanted (errors.Wanted at expected found) i due there = (at ≡ i) × (expected.now ≡ due) × (found.now ≡ there)
 TellsWanted _ i due there = ⊥
 
--- A token stands at i that is not due, and the error tells so. It ends at j.
+-- The token at i is not the expected one, and the error says so. It ends at j.
 abbrev pub IsOther : (Lexeme → Type 0) → List ℕ → List ℕ → ℕ → ℕ → Error → Type 0
 IsOther MayStand due text i j e = (span : Span) × (found : Lexeme) × Stands text i j span found × (MayStand found → ⊥)
     × TellsWanted e i due (words found)
 
--- The text ends at i, and the error tells so.
+-- The text ends at i, and the error says so.
 abbrev pub IsEndOf : List ℕ → List ℕ → ℕ → ℕ → Error → Type 0
 IsEndOf due text i j e = (i ≡ length text) × (j ≡ i) × TellsWanted e i due (codes "eof")
 
@@ -50,18 +49,18 @@ StepGives text i (Ok None) j = (i ≡ length text) × (j ≡ i)
 StepGives text i (Ok (Some found)) j = Stands text i j found.0 (lexeme found.1)
 StepGives text i (Err stop) j = Fails text i stop j
 
--- which strings borrow the text
+-- which strings are borrowed
 abbrev pub BorrowsAt : List ℕ → ℕ → Result (Option (Span × Token)) (Stop Error) → ℕ → Type 0
 BorrowsAt text i (Ok (Some (span, tokens.String src val multi))) j = Borrows text i j span val
 BorrowsAt text i _ j = Unit {0}
 
--- Another token stands at i, or the text ends there.
+-- There is another token at i, or the text ends there.
 abbrev pub Lacks : List ℕ → ℕ → Lexeme → Type 0
 Lacks text i expected =
     (i ≡ length text)
     ⊎ ((j : ℕ) × (span : Span) × (found : Lexeme) × Stands text i j span found × (found ≡ expected → ⊥))
 
--- An expected token is eaten. With another one, with none or with a refusal, nothing changes.
+-- The expected token is consumed. Nothing changes at another token, at the end of the text or on an error.
 abbrev pub EatsSpanned : Cursor → Result (Option Span) (Stop Error) → Lexeme → Cursor → Type 0
 EatsSpanned old (Ok (Some span)) expected new = Stands old.text old.at new.at span expected
 EatsSpanned old (Ok None) expected new = (new ≡ old) × Lacks old.text old.at expected
@@ -72,7 +71,7 @@ Eats old (Ok true) expected new = (span : Span) × Stands old.text old.at new.at
 Eats old (Ok false) expected new = (new ≡ old) × Lacks old.text old.at expected
 Eats old (Err stop) expected new = (new ≡ old) × ((j : ℕ) × Fails old.text old.at stop j)
 
--- The next token has to be the expected one.
+-- The next token must be the expected one.
 abbrev pub RefusesOther : (Lexeme → Type 0) → List ℕ → List ℕ → ℕ → Stop Error → ℕ → Type 0
 RefusesOther MayStand due text i (stops.Memory e) j = Fails text i (stops.Memory e) j
 RefusesOther MayStand due text i (stops.Fault e) j =
@@ -89,20 +88,20 @@ Expects text i (Err stop) expected j = RefusesOther (λ l. l ≡ expected) (word
 -- ---- keys
 
 -- `simple-key = quoted-key / unquoted-key`, `quoted-key = basic-string / literal-string`: the text from i to j is a
--- key, a bare one, whose name is the text itself, or a string on one line
+-- key: a bare key, whose name is that text, or a single-line string
 abbrev pub IsSimpleKey : List ℕ → ℕ → ℕ → Key → Type 0
 IsSimpleKey text i j key =
     (IsBorrowedStr key.name × Stands text i j key.span (keylike (cow_str_bytes key.name)))
     ⊎ ((source : List ℕ) × Stands text i j key.span (string source (cow_str_bytes key.name) false)
     × Borrows text i j key.span key.name)
 
--- a token that a key can be
+-- the tokens that can be keys
 abbrev pub MayBeKey : Lexeme → Type 0
 MayBeKey (keylike s) = Unit {0}
 MayBeKey (string source value multi) = Unit {0}
 MayBeKey _ = ⊥
 
--- A string of several lines stands where a key is due. The error has its place, and that plus the value's length.
+-- There is a multi-line string where a key is expected. The error has its offset, and that plus the length of its value.
 abbrev pub IsMultilineKey : List ℕ → ℕ → ℕ → Error → Type 0
 IsMultilineKey text i j (errors.MultilineStringKey at end) =
     (span : Span) × (source : List ℕ) × (value : List ℕ) × Stands text i j span (string source value true) × (at ≡ i)
@@ -118,7 +117,7 @@ TableKeyGives text i (Err (stops.Fault e)) j =
 
 -- ---- line ends
 
--- past the line end at i, or at the end of the text
+-- after the line end at i, or at the end of the text
 abbrev pub EndsLine : List ℕ → ℕ → ℕ → Type 0
 EndsLine text i j = LineEnd text i j ⊎ ((i ≡ length text) × (j ≡ i))
 
@@ -128,8 +127,8 @@ LineEndDue text i (Err (stops.Memory e)) j = Fails text i (stops.Memory e) j
 LineEndDue text i (Err (stops.Fault e)) j =
     IsNoToken text i j e ⊎ IsOther (λ l. l ≡ newline) (codes "newline") text i j e
 
--- `comment = comment-start-symbol *non-eol`, and the line end or the end of the text behind it; or no comment, or a
--- character that can't follow it
+-- `comment = comment-start-symbol *non-eol`, and the line end or the end of the text after it; or no comment, or a
+-- character that must not follow it
 abbrev pub EatsComment : List ℕ → ℕ → Result Bool Error → ℕ → Type 0
 EatsComment text i (Ok true) j =
     (k : ℕ) × (span : Span) × (s : List ℕ) × Stands text i k span (comment s) × EndsLine text k j
@@ -137,7 +136,7 @@ EatsComment text i (Ok false) j = (slice_index text i ≡ hash → ⊥) × (j �
 EatsComment text i (Err e) j =
     (k : ℕ) × (span : Span) × (s : List ℕ) × Stands text i k span (comment s) × IsUnexpected text k j e
 
--- past the next line end, or to the end of the text
+-- after the next line end, or at the end of the text
 abbrev pub SkipsLine : List ℕ → ℕ → ℕ → Type 0
 SkipsLine text i j = (k : ℕ) × (i ≤ k) × ((n : ℕ) → i ≤ n → n < k → NoLineEnd text n) × EndsLine text k j
 

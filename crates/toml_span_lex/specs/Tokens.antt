@@ -1,4 +1,4 @@
--- The token, or the fault, that stands at a place of a text.
+-- The token, or the fault, at an offset of a text.
 use Rattle.std.specs.Prelude.{◌≡◌, ℕ, ◌+◌, ◌<◌, ◌⊎◌, Bool, true, false, ◌||◌, ◌==◌, if◌then◌else◌, List, slice_index}
 use Rattle.std.specs.Prelude.{slice_range, codes}
 use Rattle.std.specs.Cow.{cow_str_bytes}
@@ -47,7 +47,7 @@ lexeme tokens.RightBracket = punctuator right_bracket
 lexeme (tokens.Keylike s) = keylike s.now
 lexeme (tokens.String src val multiline) = string src.now (cow_str_bytes val) multiline
 
--- a punctuator in the words of an error
+-- the name of a punctuator in errors
 abbrev pub punctuator_words : ℕ → List ℕ
 punctuator_words c =
     if c == equals then codes "an equals"
@@ -60,7 +60,7 @@ punctuator_words c =
     else if c == left_bracket then codes "a left bracket"
     else codes "a right bracket"
 
--- a token in the words of an error
+-- the name of a token in errors
 abbrev pub words : Lexeme → List ℕ
 words (whitespace s) = codes "whitespace"
 words newline = codes "a newline"
@@ -70,16 +70,16 @@ words (keylike s) = codes "an identifier"
 words (string src value true) = codes "a multiline string"
 words (string src value false) = codes "a string"
 
--- ---- what stands at a place
+-- ---- tokens and faults at an offset
 
--- all bytes from i on that pass, at least one
+-- all bytes from i on that pass the test, at least one
 abbrev pub RunAt : (ℕ → Bool) → List ℕ → ℕ → ℕ → List ℕ → Type 0
 RunAt p text i j part = (i < j) × MaximalRun p text i j × (part ≡ slice_range text i j)
 
 abbrev pub PunctuatorAt : ℕ → List ℕ → ℕ → ℕ → Type 0
 PunctuatorAt c text i j = (slice_index text i ≡ c) × (j ≡ i + 1)
 
--- The text from i to j is this token, which is no string:
+-- The text from i to j is this token, which is not a string:
 -- `ws = *wschar`, of one character at least
 -- `newline = %x0A / %x0D.0A`
 -- `comment = comment-start-symbol *non-eol`
@@ -92,8 +92,7 @@ IsToken text i j (punctuator c) = (is_punctuator c ≡ true) × PunctuatorAt c t
 IsToken text i j (keylike s) = RunAt is_keylike text i j s
 IsToken text i j (string src value multi) = ⊥
 
--- The text from i to j is this token, with this span. A span runs from the token's first byte to behind its last
--- one, but for a string.
+-- The text from i to j is this token, with this span. The span is i..j, except for a string.
 abbrev pub Stands : List ℕ → ℕ → ℕ → Span → Lexeme → Type 0
 Stands text i j span (string src value multi) = IsString text i j span src value multi
 Stands text i j span l = IsToken text i j l × (span ≡ record { start = i; end = j })
@@ -106,11 +105,11 @@ begins_alone c = is_blank c || is_punctuator c || c == line_feed || c == hash
 abbrev pub begins_token : ℕ → Bool
 begins_token c = (begins_alone c || is_keylike c) || (c == quotation_mark || c == apostrophe)
 
--- the character at i begins no token, and j is behind it
+-- the character at i begins no token, and ends at j
 abbrev pub IsUnexpected : List ℕ → ℕ → ℕ → Error → Type 0
 IsUnexpected text i j (errors.Unexpected at c) = (at ≡ i) × CharAt text i c j × (begins_token c ≡ false)
 IsUnexpected text i j _ = ⊥
 
--- No token stands at i: this fault does, and j is behind the character that it names, or the end of the text.
+-- There is no token at i but this fault, and j is the offset after the character that it names, or the end of the text.
 abbrev pub IsNoToken : List ℕ → ℕ → ℕ → Error → Type 0
 IsNoToken text i j e = IsUnexpected text i j e ⊎ IsNoString text i j e

@@ -1,4 +1,4 @@
--- How the code's functions share the work: nothing that stands beside this folder cites it.
+-- How the functions share the work. Nothing outside this folder cites it.
 pub mod Text
 pub mod Escapes
 pub mod Lanes

@@ -1,4 +1,4 @@
--- What the functions that read an escape answer.
+-- The results of the functions that read an escape.
 use Rattle.std.specs.Prelude.{ℕ, List, Result, Ok, Err}
 use Rattle.toml_span_lex.specs.declared.tokens.Error.{Error}
 use Rattle.toml_span_lex.specs.Escapes.{IsHexEscape, IsHexFault, IsEscape, IsEscapeFault}

@@ -1,7 +1,7 @@
--- What a mask says of sixteen bytes.
+-- Masks of sixteen bytes.
 use Rattle.std.specs.Prelude.{ℕ, List, Bool, map}
 use Rattle.std.specs.Simd.Lanes.{mask_l}
 
--- The number whose bit k is set where byte k passes.
+-- The number whose bit k is set if byte k passes the test.
 abbrev pub marked : (ℕ → Bool) → List ℕ → ℕ
 marked p bytes = mask_l (map p bytes)

@@ -1,4 +1,4 @@
--- What reading a piece of a string answers.
+-- The results of reading a piece of a string.
 use Rattle.std.specs.Prelude.{ℕ, Bool, List, Result, Ok, Err, Option, Some, None}
 use Rattle.toml_span_lex.specs.declared.pieces.Piece.{Piece}
 use Rattle.toml_span_lex.specs.declared.tokens.Error.{Error}

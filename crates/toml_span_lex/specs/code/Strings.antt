@@ -1,4 +1,4 @@
--- What the functions that read a string answer, and where it ends.
+-- The results of the functions that read a string.
 use Rattle.std.specs.Prelude.{◌≡◌, ℕ, ◌+◌, ◌<◌, ◌≤◌, Bool, List, length, slice_range, string_bytes, Result, Ok, Err}
 use Rattle.std.specs.Prelude.{Option, Some, None}
 use Rattle.std.specs.Str.{IsCharBoundary}
@@ -13,7 +13,7 @@ use Rattle.toml_span_lex.specs.declared.tokens.Token.TheVariants as tokens
 use Rattle.toml_span_lex.specs.Strings.{IsContent, IsContentCutOff, HasChange, NeedsCopy, opens_multi, IsString}
 use Rattle.toml_span_lex.specs.Strings.{IsNoString, NeedsMemory, Borrows, BorrowsWhereSame}
 
--- The content is kept as the text itself while it equals it, and as a shorter text of its own from then on.
+-- The content is borrowed while it equals the text, and a shorter string of its own from then on.
 abbrev pub Kept : {Z : Type 0} → ℕ → List ℕ → ℕ → ℕ → List ℕ → Option (String Z) → Type 0
 Kept q text from at value None = value ≡ slice_range text from at
 Kept q text from at value (Some s) = (string_bytes s ≡ value) × (length value + from < at) × HasChange q text from at
@@ -29,7 +29,7 @@ abbrev pub StringBorrows : List ℕ → Result (Span × Token × ℕ) (Stop (Err
 StringBorrows text (Ok (span, tokens.String src val multi, j)) = BorrowsWhereSame text span val
 StringBorrows text _ = Unit {0}
 
--- what reading a string at i gives
+-- the result of reading a string at i
 abbrev pub StringGives : List ℕ → ℕ → Result (Span × Token × ℕ) (Stop (Error × ℕ)) → Type 0
 StringGives text i (Ok (span, tokens.String src val multi, j)) =
     IsString text i j span src.now (cow_str_bytes val) multi × Borrows text i j span val
@@ -37,7 +37,7 @@ StringGives text i (Ok (span, _, j)) = ⊥
 StringGives text i (Err (stops.Memory e)) = NeedsMemory text i
 StringGives text i (Err (stops.Fault (e, j))) = IsNoString text i j e
 
--- what a walk over the string at i gives
+-- the result of a walk over the string at i
 abbrev pub ScanGives : List ℕ → ℕ → Result ℕ (Error × ℕ) → Type 0
 ScanGives text i (Ok j) =
     (span : Span) × (source : List ℕ) × (value : List ℕ) × IsString text i j span source value (opens_multi text i)

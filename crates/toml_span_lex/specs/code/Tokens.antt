@@ -1,10 +1,10 @@
--- What reading a token that is no string answers.
+-- The results of reading a token that is not a string.
 use Rattle.std.specs.Prelude.{ℕ, List, Result, Ok, Err}
 use Rattle.toml_span_lex.specs.declared.tokens.Token.{Token}
 use Rattle.toml_span_lex.specs.declared.tokens.Error.{Error}
 use Rattle.toml_span_lex.specs.Tokens.{lexeme, IsToken, IsUnexpected}
 
--- the token at i, which is no string, and where it ends, or the fault and where the next character begins
+-- the token at i, which is not a string, with the offset after it, or the fault with the offset of the next character
 abbrev pub Finds : List ℕ → ℕ → Result (Token × ℕ) (Error × ℕ) → Type 0
 Finds text i (Ok found) = IsToken text i found.1 (lexeme found.0)
 Finds text i (Err fault) = IsUnexpected text i fault.1 fault.0
