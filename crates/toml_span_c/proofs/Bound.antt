@@ -1,34 +1,114 @@
 -- A document has no more values than its text allows, and its names and texts fit into it.
-use Rattle.toml_span_lex.proofs.Common.{◌≡◌, ◌≤◌, ◌+◌, ◌*◌, ℕ, suc, List, [], ◌∷◌, length, Option, Some, None, refl, arith, nat_tests, common_steps}
+use Rattle.toml_span_lex.proofs.Common.{◌≡◌, ◌≤◌, ◌+◌, ◌-◌, ◌*◌, ℕ, suc, Bool, true, false, List, [], ◌∷◌, length, Option, Some, None, refl, ap, inl, inr, arith, drop, codes, slice_range, unwrap_or, filter, nat_tests, common_steps}
 use Rattle.std.specs.List.{sum_by}
+use Rattle.std.proofs.lemmas.List.{length-take}
 use Rattle.std.proofs.lemmas.List.Sums.{sum_by-append}
 use Rattle.std.proofs.lemmas.List.Concat.{length-flat_map}
 use Rattle.toml_span_lex.specs.declared.span.Span.{Span}
-use Rattle.toml_span_tree.specs.Node.{Node, node, Inner, taken, scalar, array, table, Items, no_items, item, Members, no_members, member}
-use Rattle.toml_span_tree.specs.Path.{Path, key, position, Place, shape_of}
+use Rattle.toml_span_lex.specs.Strings.{IsString}
+use Rattle.toml_span_lex.proofs.Copies.{content_fits}
+use Rattle.toml_span_lex.proofs.MadeStrings.{content_from_after}
+use Rattle.toml_span_tree.specs.Node.{Scalar, text as text_scalar, integer, float, boolean, datetime, finite, infinite, not_a_number, Node, node, Inner, taken, scalar, array, table, Items, no_items, item, Members, no_members, member}
+use Rattle.toml_span_tree.specs.Path.{Shape, shape_scalar, shape_of}
 use Rattle.toml_span_tree.specs.Value.{view, inner_of, span_of}
 use Rattle.toml_span_tree.specs.declared.value.Value.{Value}
-use Rattle.toml_span.specs.Claims.{Claim, claims}
-use Rattle.toml_span.specs.Flat.{all_claims}
+use Rattle.toml_span_read.specs.Data.{SimpleKey}
+use Rattle.toml_span_read.specs.Grammar.{SpellsScalar}
+use Rattle.toml_span_read.specs.Keys.{SpellsSimpleKey}
+use Rattle.toml_span_read.specs.Numbers.{SpecialFloat}
+use Rattle.toml_span_read.specs.Numerals.{cleaned, is_negative}
+use Rattle.toml_span_read.proofs.KeyOrder.{key_inside}
+use Rattle.toml_span_read.proofs.ReadSound.{document_sound}
 use Rattle.toml_span.specs.Parsing.{IsTree}
-use Rattle.toml_span.specs.declared.claims.Sort.TheVariants.{TableElement}
-use Rattle.toml_span_laws.specs.Order.{claim_start}
-use Rattle.toml_span_laws.proofs.Order.{Onward, Rising, document-rises}
 use Rattle.toml_span_c.specs.declared.records.TheConstants.{NONE}
-use Rattle.toml_span_c.specs.Records.{Entry, no_span, aside, entry_strings, text_of, node_entries, held_entries, items_entries, members_entries, tree_entries, tree_records, tree_strings}
+use Rattle.toml_span_c.specs.Records.{scalar_text, Entry, no_span, aside, entry_strings, text_of, node_entries, held_entries, items_entries, members_entries, tree_entries, tree_records, tree_strings}
 use Rattle.toml_span_c.specs.Calls.{IsText}
 use Rattle.toml_span_c.specs.code.Filling.{Fits}
-use Rattle.toml_span_c.proofs.Paths.{total}
-use Rattle.toml_span_c.proofs.Costs.{Cost, node_cost, inner_cost, items_cost, members_cost, place_cost, prices, tree-few}
-use Rattle.toml_span_read.proofs.ReadSound.{document_sound}
-use Rattle.toml_span_c.proofs.Fits.{bytes_cost, claims-fit}
+use Rattle.toml_span_c.proofs.Costs.{Cost, node_cost, inner_cost, items_cost, members_cost, tree-few}
+use Rattle.toml_span_c.proofs.Fits.{Fair, claims-fit}
 use Rattle.toml_span_c.proofs.Puts.{length-records}
 use Rattle.toml_span_c.proofs.Walks.{own_entry}
 
--- ---- the records of a tree cost one each, and its strings what its names and texts do
+-- ---- texts cost their bytes
+
+-- the bytes of what a scalar says
+abbrev scalar_long : Scalar → ℕ
+scalar_long s = length (unwrap_or (scalar_text s) [])
+
+abbrev shape_long : Shape → ℕ
+shape_long (shape_scalar s) = scalar_long s
+shape_long _ = 0
+
+-- a name costs its bytes, a scalar those of its text
+abbrev bytes_cost : Cost
+bytes_cost = record { name = λ s. length s; shape = shape_long }
+
+part-short : (text : List ℕ) (i j : ℕ) → i ≤ j → i + length (slice_range text i j) ≤ j
+part-short text i j l = omega (arith, length-take (j - i) (drop i text))
+
+kept-short : (p : ℕ → Bool) (xs : List ℕ) → length (filter p xs) ≤ length xs
+kept-short p [] = omega arith
+kept-short p (x ∷ xs) = grind (arith, nat_tests, common_steps, kept-short p xs)
+
+cleaned-short : (literal : List ℕ) → length (cleaned literal) ≤ length literal
+cleaned-short literal = grind (arith, nat_tests, common_steps, kept-short)
+
+string-short : (text v src : List ℕ) (i j : ℕ) (s : Span) (m : Bool) → IsString text i j s src v m → i + length v ≤ j
+string-short text v src i j s m h =
+    omega (arith, content_fits _ m text v h.from h.to j h.content_is, content_from_after m text i h.from h.begins)
+
+-- a word with its sign, which is kept where it is a minus
+plain-short : (word text : List ℕ) (i j : ℕ) → SpecialFloat word text i j → i + length word ≤ j
+plain-short word text i j h = grind (arith, nat_tests, common_steps)
+
+minus-short : (word text : List ℕ) (i j : ℕ) → SpecialFloat word text i j → true ≡ is_negative text i → i + suc (length word) ≤ j
+minus-short word text i j h e = grind (arith, nat_tests, common_steps)
+
+scalar-fits : (x : Scalar) (s : Span) (text : List ℕ) (i j : ℕ) → i ≤ j → SpellsScalar x s text i j → i + scalar_long x ≤ j
+scalar-fits (text_scalar v) s text i j l (src, m, h) = string-short text v src i j s m h
+scalar-fits (integer n) s text i j l h = omega arith
+scalar-fits (boolean b) s text i j l h = omega arith
+scalar-fits (datetime d) s text i j l h = omega (arith, ap (λ t. length t) h.3, part-short text i j l)
+scalar-fits (float (finite digits)) s text i j l (none, h, at) =
+    omega (arith, ap (λ t. length t) h.1, cleaned-short (slice_range text i j), part-short text i j l)
+scalar-fits (float (infinite false)) s text i j l (none, h, at) = plain-short (codes "inf") text i j h.0
+scalar-fits (float (infinite true)) s text i j l (none, h, at) = minus-short (codes "inf") text i j h.0 h.1
+scalar-fits (float (not_a_number false)) s text i j l (none, h, at) = plain-short (codes "nan") text i j h.0
+scalar-fits (float (not_a_number true)) s text i j l (none, h, at) = minus-short (codes "nan") text i j h.0 h.1
+
+simple-fits : (k : SimpleKey) (text : List ℕ) (i j : ℕ) → SpellsSimpleKey k text i j → i + length k.name ≤ j
+simple-fits k text i j (inl (run, e)) = omega (arith, run.0, ap (λ l. length l) run.2, part-short text i j (omega (arith, run.0)))
+simple-fits k text i j (inr (src, h)) = string-short text k.name src i j k.span false h
+
+bytes_fair : Fair
+bytes_fair = record {
+  cost = bytes_cost;
+  room = λ n. n;
+  byte = 0;
+  grows = λ i j l. omega arith;
+  names = λ k text i j h. omega (arith, simple-fits k text i j h);
+  scalars = λ x s text i j l h. omega (arith, scalar-fits x s text i j l h);
+  tables = omega arith;
+}
+
+-- ---- values cost one each
 
 abbrev one_cost : Cost
 one_cost = record { name = λ s. 0; shape = λ s. 1 }
+
+-- a text has no more than two for each byte: an array of tables and its first element stand at one name
+ones_fair : Fair
+ones_fair = record {
+  cost = one_cost;
+  room = λ n. 2 * n;
+  byte = 2;
+  grows = λ i j l. omega arith;
+  names = λ k text i j h. let lies = key_inside k text i j h in omega (arith, lies.0.begins, lies.0.ends, lies.1);
+  scalars = λ x s text i j l h. omega arith;
+  tables = omega arith;
+}
+
+-- ---- the records of a tree cost one each, and its strings what its names and texts do
 
 -- what a name costs, if there is one
 abbrev name_cost : Cost → Option (List ℕ) → ℕ
@@ -78,27 +158,6 @@ count-ones : (es : List Entry) → sum_by (λ e. 1) es ≡ length es
 count-ones [] = refl
 count-ones (e ∷ es) = grind (arith, nat_tests, common_steps, count-ones es)
 
--- ---- how many claims a text has
-
--- behind a claim at most two for each byte, and one less if it is an element, which its array's claim precedes
-onward-few : (c : Claim) (cs : List Claim) (j : ℕ) → Onward c cs j
-    → (suc (length cs) + 2 * claim_start c ≤ 2 * j) × (c.mark.sort ≡ TableElement → suc (suc (length cs)) + 2 * claim_start c ≤ 2 * j)
-onward-few c [] j h = (omega (arith, h.1), λ e. omega (arith, h.1))
-onward-few c (d ∷ ds) j h = grind (arith, nat_tests, common_steps, onward-few d ds j h.2)
-
-rising-few : (cs : List Claim) (i j : ℕ) → Rising cs i j → length cs ≤ 2 * j
-rising-few [] i j h = omega arith
-rising-few (c ∷ cs) i j h = omega (arith, (onward-few c cs j h.1).0)
-
-one-each-place : (p : Path) (x : Place) → place_cost one_cost 0 p x ≡ 1
-one-each-place [] x = refl
-one-each-place (key name ∷ p) x = one-each-place p x
-one-each-place (position i ∷ p) x = one-each-place p x
-
-one-each : (cs : List Claim) → total (prices one_cost cs) ≡ length cs
-one-each [] = refl
-one-each (c ∷ cs) = omega (arith, one-each-place c.path c.place, one-each cs)
-
 -- ---- of a document
 
 tree-weighs : (c : Cost) (w : Entry → ℕ) → IsWorth c w → (n : Node) → sum_by w (tree_entries n) ≤ node_cost c n
@@ -107,18 +166,17 @@ tree-weighs c w f n = omega (arith, node-weighs c w f 0 NONE 0 None no_span n)
 pub few-records : (bytes : List ℕ) (limit : ℕ) (root : Value) → IsTree bytes limit root → length (tree_records bytes (view root)) ≤ 2 * length bytes + 1
 few-records bytes limit root tree =
     let (bs, has, made) = tree in
-    let all = all_claims (claims bs) in
-    let claims_few = rising-few all 0 (length bytes) (document-rises bs bytes limit (document_sound bs bytes limit has.0)) in
+    let fits = claims-fit ones_fair bs bytes limit (document_sound bs bytes limit has.0) in
     let es = tree_entries (view root) in
     let ones = tree-weighs one_cost (λ e. 1) (λ e. omega arith) (view root) in
-    omega (arith, length-records bytes 0 es, count-ones es, ones, tree-few one_cost bs (length bytes) root made, one-each all, claims_few)
+    omega (arith, length-records bytes 0 es, count-ones es, ones, tree-few one_cost bs (length bytes) root made, fits)
 
 pub short-strings : (bytes : List ℕ) (limit : ℕ) (root : Value) → IsTree bytes limit root → length (tree_strings bytes (view root)) ≤ length bytes
 short-strings bytes limit root tree =
     let (bs, has, made) = tree in
     let weighed = tree-weighs bytes_cost _ (strings-worth bytes) (view root) in
     let long = length-flat_map (entry_strings bytes) (tree_entries (view root)) in
-    omega (arith, long, weighed, tree-few bytes_cost bs (length bytes) root made, claims-fit bs bytes limit (document_sound bs bytes limit has.0))
+    omega (arith, long, weighed, tree-few bytes_cost bs (length bytes) root made, claims-fit bytes_fair bs bytes limit (document_sound bs bytes limit has.0))
 
 -- what the calls read can be counted
 pub tree-fits : (bytes : List ℕ) (limit : ℕ) (root : Value) → IsText bytes → IsTree bytes limit root → Fits bytes 0 0 (tree_entries (view root))

@@ -28,3 +28,5 @@ pub mod OneTree
 pub mod Pointed
 pub mod Fields
 pub mod Examples
+pub mod OneText
+pub mod OneAnswer

@@ -11,6 +11,7 @@ pub mod lines;
 pub mod numbers;
 pub mod parse;
 pub mod reading;
+pub mod shown;
 pub mod starts;
 pub mod strings;
 pub mod undated;

@@ -6,5 +6,3 @@ pub mod EntryLines
 pub mod EntryOrder
 pub mod EntryPlaces
 pub mod TreeShown
-pub mod OneText
-pub mod OneAnswer

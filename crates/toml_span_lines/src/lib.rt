@@ -3,7 +3,6 @@
 #![tactic(auto)]
 
 pub mod held;
-pub mod laws;
 pub mod lines;
 pub mod run;
 pub mod sink;

@@ -11,7 +11,7 @@ use Rattle.toml_span_laws.proofs.Answered.{blocks-one, decides, one-refusal}
 use Rattle.toml_span_lines.specs.Lines.{error_line}
 use Rattle.toml_span_lines.specs.Run.{bound, IsShown, IsAnswer, Runs}
 use Rattle.toml_span_lines.specs.Shown.{ShowsDocument, ShowsRefusal, ShowsPlaces}
-use Rattle.toml_span_lines.proofs.OneText.{one-text}
+use Rattle.toml_span_laws.proofs.OneText.{one-text}
 
 pub one-shown : (bytes : List ℕ) (limit : ℕ) (text other : List ℕ) → ShowsDocument bytes limit text → ShowsDocument bytes limit other → text ≡ other
 one-shown bytes limit text other d e =

@@ -1,5 +1,0 @@
-use Rattle.toml_span_lines.proofs.OneAnswer.{one-shown, not-refused, one-told, one-refused}
-use Rattle.toml_span_lines.proofs.laws.one_answer.Goals as goal
-
-pub returns : goal.returns
-returns c = record { document = one-shown; refused = not-refused; line = one-told; told = one-refused }

@@ -1,5 +1,0 @@
-use Rattle.toml_span_lines.proofs.OneAnswer.{one-output, one-run}
-use Rattle.toml_span_lines.proofs.laws.one_output.Goals as goal
-
-pub returns : goal.returns
-returns c = record { answer = one-output; run = one-run }
