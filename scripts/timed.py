@@ -1,14 +1,13 @@
 #!/usr/bin/env python3
-"""Runs a command, and then says how long its proofs, tests and must-fail edits took: timed.py COMMAND WORD..
+"""Runs a command, and then prints how long its proofs, tests and must-fail edits took: timed.py COMMAND ARGUMENT..
 
-The prover's processes below the command are looked at once a second: what each is at, by its crate's name, whether
-it has --test, and whether it works in the folder of an edit; and its processor time. So a figure can lack up to a
-second of each process. Processor seconds in all are the system's own. The parts run side by side: the wall clock of
-one is from its first process's start to its last one's end. The status is the command's.
+Once a second the prover's processes below the command are looked at: which crate each works on, whether it has --test,
+whether it is in the folder of an edit (which edit it is, /proc does not say), and its processor time. So up to a second
+of each process is missing, except in the total, which is the system's own. The parts run side by side: the wall clock
+of one is from the start of its first process to the end of its last. The status is the command's.
 
-Processors differ, and one that others share differs from hour to hour: the proof of toml_span_lex was seen to take 129
-processor seconds and 283. So runs on as many processors are compared by their multiples of that line, if the speed is
-the same all along, and else by a fixed loop timed beside them (docs/DECISIONS.md, "What the whole test costs").
+Processors differ, and one that others share differs from hour to hour: the proof of toml_span_lex took from 129 to 283
+processor seconds. So each figure is also a multiple of that proof in the same run, if it was part of it.
 """
 import os
 import resource
@@ -20,6 +19,7 @@ import time
 
 TICKS = os.sysconf("SC_CLK_TCK")
 EVERY = 1.0
+UNIT = "proofs", "toml_span_lex"
 
 
 def processes():
@@ -73,17 +73,23 @@ def look(top, seen):
 
 
 def report(seen, began):
-    """Prints a line for each part and for each crate of it."""
+    """Prints a line for each part and for each crate of it. Returns the seconds that are the unit, or 0."""
     rows = {}
     for (at, _, _), (first, last, spent, _) in seen.items():
         for name in [(at[0], ""), at]:
             row = rows.setdefault(name, [first, last, 0.0])
             rows[name] = [min(row[0], first), max(row[1], last), row[2] + spent]
+    unit = rows[UNIT][2] if UNIT in rows else 0
     order = ["proofs", "tests", "edits"]
     for part, crate in sorted(rows, key=lambda it: (order.index(it[0]), it[1] != "", -rows[it][2])):
         first, last, spent = rows[part, crate]
-        name = f"  {crate}" if crate else part
-        print(f"time: {name:<24}{spent:8.0f} s of processors, {last - first:6.0f} s from {first - began:.0f} s on")
+        line(f"  {crate}" if crate else part, spent, unit, f"{last - first:6.0f} s from {first - began:.0f} s on")
+    return unit
+
+
+def line(name, spent, unit, lasted):
+    times = f" ({spent / unit:5.2f} times the proof of {UNIT[1]})" if unit else ""
+    print(f"time: {name:<24}{spent:8.0f} s of processors{times}, {lasted}")
 
 
 def main(words):
@@ -104,9 +110,8 @@ def main(words):
         ended.set()
         watcher.join()
     used = resource.getrusage(resource.RUSAGE_CHILDREN)
-    report(seen, began)
-    name, spent, lasted = f"{chr(32).join(words)} in all", used.ru_utime + used.ru_stime, time.monotonic() - began
-    print(f"time: {name:<24}{spent:8.0f} s of processors, {lasted:6.0f} s")
+    unit = report(seen, began)
+    line(f"{' '.join(words)} in all", used.ru_utime + used.ru_stime, unit, f"{time.monotonic() - began:6.0f} s")
     sys.stdout.flush()
     return status if status >= 0 else 128 - status
 
