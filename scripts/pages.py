@@ -9,19 +9,16 @@ A mark says what a block, a list or a table quotes:
     ```text rows        answers of toml_span_rows
     ```text in FILE     lines of this file
     ```toml data NAME   the file crates/*/data/NAME
-    ```console run NAME `$ PROGRAM ARGUMENT..` with the arguments of crates/*/runs/NAME.args, and then its output
-                        (NAME.stdout, NAME.stderr)
+    ```console run NAME `$ PROGRAM ARGUMENT..` of crates/*/runs/NAME.args, and its output (NAME.stdout, NAME.stderr)
     ```sh               names files that exist
     (indented by four)  is as `sh`, a line of crates.txt, or lines of a stored output
     <!-- rows: CALL --> a table or a list whose lines begin with the text of a row of this call (`parse 128` without
                         CALL); whatever else they have in code is in the row's answer: words of one of its lines, or the
                         field that the column or the word before it names (FIELDS). An error has its code and its span
-    <!-- rules -->      a list of `WORDS. DEFINITIONS; FUNCTIONS; ROWS`, after a line that ends in "In `CRATE`:":
-                        `Module.{A, B}` are definitions of specs/Module.antt, `module::{a, b}` items of src/module.rt,
-                        in CRATE or in the crate before them; `none` and a reason if there is none. A row is the only
-                        one with this text, in which `..` stands for anything; `parse 128: ` may be left out
+    <!-- rules -->      a list of `WORDS. DEFINITIONS; FUNCTIONS; ROWS`: `Module.{A, B}` are in a file Module.antt of
+                        specs/, `module::{a, b}` in a file module.rt of src/, and a row is the only one with this text,
+                        in which `..` stands for anything and `parse 128: ` may be left out; or `none` and a reason
     <!-- calls -->      a list of CALLS: WORDS: CLAUSES: the names in CLAUSES occur in the contracts of the calls
-    <!-- cases: FILE FUNCTION --> a table: the cell in the line of `A` and the column of `B` is what FUNCTION A B returns
 
 Everywhere, paths in code and links lead somewhere, names in code occur in the sources or among FOREIGN, and a clause
 that is named belongs to its function. docs/LANGUAGE.md has an example of each error that a row of `parse` reports.
@@ -36,7 +33,6 @@ import sys
 TOP = os.path.dirname(os.path.dirname(os.path.abspath(__file__)))
 ROWS = "crates/toml_span_rows"
 FIELDS = ("first", "expected", "found", "key", "name")
-ITEM = r"(?:pub(?:\(crate\))? )?(?:const )?(?:fn|const|static|struct|enum|trait|macro_rules!)"
 # names of the toolchain, of the C library and of other crates
 FOREIGN = """AsRef BuiltModule Comparable From Given Goals IsSortedBy IsStableBy Lts MALLOC_MMAP_THRESHOLD_
 MALLOC_TRIM_THRESHOLD_ ParsesChar Serialize Tie as_ codespan_reporting deny_unknown_fields from_iter table_from_str
@@ -81,13 +77,6 @@ def split_outside_code(text, mark):
         parts[-1] += f"`{first}" if k else first
         parts += others
     return parts
-
-
-def defines(path, name):
-    """Whether a file of specs/ has this definition."""
-    name = re.escape(name)
-    forms = rf"(?:(?:abbrev|unfoldable) )?(?:mutual )?pub {name} :| *pub (?:(?:record|data) )?{name}\b| +{name} :"
-    return bool(re.search(rf"(?m)^(?:{forms})", text_of(path)))
 
 
 def answers():
@@ -187,7 +176,8 @@ class Page:
 
     def names(self, at, text):
         """The paths, links, clauses and names of some lines."""
-        for code in re.findall(r"`((?:crates|docs|scripts|toml_span\w*|src|specs|proofs|must-fail|mistakes)/[^` ]*)`", text):
+        folders = r"crates|docs|scripts|toml_span\w*|src|specs|proofs|must-fail|mistakes"
+        for code in re.findall(rf"`(?:bash |python3 )?((?:{folders})/[^` ]*)", text):
             is_open = re.search(r"\b(NAME|CRATE|FILE|X|m|out)\b", code)
             if not is_open and not any(found(before + code) for before in ("", "crates/", "crates/*/")):
                 self.fault(at, f"there is no {code}")
@@ -238,22 +228,18 @@ class Page:
 
     def rust(self, at, lines):
         """The parts between lines `// ..` follow each other in one file."""
-        parts, far = [[]], (0, "no file has its first line")
+        parts = [[]]
         for line in map(str.strip, lines):
             parts = [*parts, []] if line.startswith("// ..") else [*parts[:-1], [*parts[-1], line]]
         parts = ["\n".join(part).strip("\n").split("\n") for part in parts if any(part)]
-        for path, source in self.sources.code.items():
+        for source in self.sources.code.values():
             start = 0
-            for k, part in enumerate(parts):
-                place = position_of(source, part, start)
-                if place is None:
-                    size = max(it for it in range(len(part)) if position_of(source, part[:it], start) is not None)
-                    far = max(far, (k * 1000 + size, f"{path} has no line `{part[size]}` there"))
-                    break
-                start = place + len(part)
-            else:
+            for part in parts:
+                place = position_of(source, part, start) if start is not None else None
+                start = place + len(part) if place is not None else None
+            if start is not None:
                 return
-        self.fault(at, f"this is not in the sources: {far[1]}")
+        self.fault(at, "no file of the sources has these lines")
 
     def clauses(self, at, path, lines):
         files = self.sources.quotable
@@ -294,8 +280,6 @@ class Page:
         rows = [self.cells(self.lines[k]) for k in range(at, end)]
         if kind == "rules":
             self.rules(at, end)
-        elif kind == "cases":
-            self.cases(at, of.split(), rows)
         elif kind not in ("rows", "calls"):
             self.fault(at - 1, f"`{mark}` is not a mark: see scripts/pages.py")
         for k in range(at, end) if kind in ("rows", "calls") else []:
@@ -333,17 +317,6 @@ class Page:
             self.fault(at, f"what this returns is not said in code: {said}")
         self.shown |= {words[1]} if words[0] == "error" else set()
 
-    def cases(self, at, named, rows):
-        """Each cell has what the definition by cases returns, and each case has a cell."""
-        path, function = named
-        cases = re.findall(rf"(?m)^{function} (\w+) (\w+) = Some (\w+)$", text_of(f"crates/{path}"))
-        cases = {(one, two): re.sub(r"(?<!^)(?=[A-Z])", "-", it).lower() for one, two, it in cases}
-        said = {(*codes_in(row[0]), *codes_in(head)[-1:]): "".join(codes_in(cell)) for row in rows[2:] for head, cell in zip(rows[0][1:], row[1:])}
-        for case in cases.keys() | said.keys():
-            head = tuple(it.removeprefix("then ") for it in case)
-            if cases.get(head, "") != said.get(case, ""):
-                self.fault(at, f"`{function} {' '.join(head)}` is `{cases.get(head, '')}` in {path}")
-
     def calls(self, at, first, clauses):
         names = [name for code in codes_in(first) for name in re.findall(r"[A-Za-z_]\w*", code)]
         contract = self.sources.contracts_of(names)
@@ -353,35 +326,19 @@ class Page:
 
     def rules(self, at, end):
         """Each line of a list names definitions, functions and rows that exist."""
-        head = next((k for k in range(at, 0, -1) if self.lines[k].startswith("#")), 0)
-        crate = re.search(r"(?m)In `(toml_span\w*)`:$", "\n".join(self.lines[head:at]))
         for k in range(at, end):
             *words, code, row = split_outside_code(f"; ; {self.lines[k]}", "; ")
             words = split_outside_code("; ".join(words), ". ")
-            if len(words) < 2 or not crate:
-                self.fault(k, "this is not `- WORDS. DEFINITIONS; FUNCTIONS; ROWS` after a line \"In `CRATE`:\"")
-                continue
-            for told, *where in ((words[-1], "specs", ".", ".antt"), (code, "src", "::", ".rt")):
-                for name, paths in self.named(k, crate[1], told, *where):
-                    item = rf"(?m)^ *{ITEM} {re.escape(name)}\b"
-                    if not any(defines(it, name) if where[0] == "specs" else re.search(item, text_of(it)) for it in paths):
-                        self.fault(k, f"{', '.join(paths)} has no {name}")
-            for told in (words[-1], code, row):
+            for told in (words[-1] if len(words) > 1 else "", code, row):
                 if "`" not in told and not told.startswith("none"):
-                    self.fault(k, "neither a name nor `none` and a reason")
+                    self.fault(k, "this is not `- WORDS. DEFINITIONS; FUNCTIONS; ROWS`, nor is it said why it has none")
+            for told in codes_in(f"{words[-1]} {code}"):
+                *_, module, names = re.split(r"::|\.(?!\.)", f"x.{told}")
+                found_in = [text_of(it) for it in found(f"crates/*/s[rp]*c*/**/{module}.*t*")]
+                for name in re.findall(r"[^\s,{}]+", names):
+                    if not any(re.search(rf"(?<!\w){re.escape(name)}(?!\w)", text) for text in found_in):
+                        self.fault(k, f"no file {module} of src/ or specs/ has {name}")
             self.rows_of_rule(k, row)
-
-    def named(self, at, crate, told, folder, mark, end):
-        """The names of a part of a rule, and the files that may have each."""
-        for code in codes_in(told):
-            parts = code.split("{")[0].rstrip(mark).split(mark)
-            names = re.findall(r"[^\s,{}]+", code.split("{")[1]) if "{" in code else [parts.pop()]
-            of = parts.pop(0) if parts[:1] and parts[0].startswith("toml_span") else crate
-            top, file = f"crates/{of}/{folder}", f"{'/'.join(parts)}{end}"
-            paths = found(f"{top}/{file}") or found(f"{top}/**/{file}")
-            if not parts or not paths:
-                self.fault(at, f"there is no {top}/{file}")
-            yield from ((name, paths) for name in names if parts and paths)
 
     def rows_of_rule(self, at, told):
         for code in codes_in(told):

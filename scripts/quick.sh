@@ -19,23 +19,28 @@ if ! command -v rt >/dev/null; then
     exit 5
 fi
 
-# try NAME INPUT STDOUT STATUS: whether the program answers an input as stored; without these files it prints nothing
-# and has status 0. A slow machine gets more time once.
+# path FILE: where a stored file is, or an empty one if it is not there
+path() {
+    if [ -f "$1" ]; then realpath -- "$1"; else echo /dev/null; fi
+}
+
+# try INPUT STDOUT STATUS: whether the program answers an input as stored. A slow machine gets more time once.
 try() {
-    local output=$3 wanted=0 status limit
-    if [ ! -f "$output" ]; then output=/dev/null; fi
-    if [ -f "$4" ]; then wanted=$(<"$4"); fi
+    local input output status limit wanted=0
+    input=$(path "$1")
+    output=$(path "$2")
+    if [ -f "$3" ]; then wanted=$(<"$3"); fi
     for limit in 20 600; do
-        (cd "$work/data" && exec timeout "$limit" "$native" "${words[@]}") <"$2" >"$work/written" 2>"$work/complaint"
+        (cd "$work/data" && exec timeout "$limit" "$native" "${words[@]}") <"$input" >"$work/written" 2>"$work/complaint"
         status=$?
         if [ "$status" -ne 124 ]; then break; fi
-        echo "$1: no answer in $limit s"
+        echo "$crate: $1: no answer in $limit s"
     done
     if [ "$status" -eq "$wanted" ] && cmp -s "$output" "$work/written"; then return; fi
-    echo "wrong: $1 ended with status $status (expected: $wanted) and wrote (<: stored, >: now)"
+    echo "$crate: $1: status $status (expected: $wanted), and it wrote (<: stored, >: now)"
     diff "$output" "$work/written" | head -n 10
     head -n 5 "$work/complaint"
-    if [ "$status" -eq 132 ]; then echo "it stopped at a fault: \`rt try\` in crates/$crate with this input says where"; fi
+    if [ "$status" -eq 132 ]; then echo "It stopped at a fault: \`rt try\` in crates/$crate with this input says where."; fi
     return 1
 }
 
@@ -45,10 +50,10 @@ stored() {
     if [ -f args ]; then mapfile -t words <args; fi
     mkdir "$work/data"
     if [ -d data ]; then cp -R data/. "$work/data"; fi
-    try stdin "$(realpath stdin 2>/dev/null || echo /dev/null)" stdout status || wrong=1
+    try stdin stdout status || wrong=1
     for input in runs/*; do
         case $input in *.stdout | *.status | 'runs/*') continue ;; esac
-        try "$input" "$PWD/$input" "$input.stdout" "$input.status" || wrong=1
+        try "$input" "$input.stdout" "$input.status" || wrong=1
     done
     return "$wrong"
 }
@@ -83,7 +88,7 @@ if [ "${1-}" = --job ]; then
     if [ -f "$passed" ] && [ "$(<"$passed")" = "$sum" ]; then
         echo "$crate: right (unchanged since it passed)"
     elif (runs) >"$work/said" 2>&1; then
-        grep 'no answer in' "$work/said"
+        grep 'no answer in' "$work/said" | sed 's/$/, so it was given more/'
         mkdir -p "crates/$crate/out" && echo "$sum" >"$passed"
         echo "$crate: right ($SECONDS s)"
     else

@@ -1,11 +1,10 @@
 #!/usr/bin/env python3
 """Runs the checker on the suite toml-test (TOML 1.1) and counts: toml_test.py [PROGRAM ARGUMENT..]
 
-Two source packages of Debian's sid have the suite: golang-toml as files, and golang-github-pelletier-go-toml.v2 as
-string literals in Go. apt fetches them from where this machine has its packages from, into a temporary folder. PROGRAM
-with its arguments reads a document from standard input: of a valid one it prints the values with their types, which are
-compared with those of the suite by value; it ends with status 1 if one is invalid. It is a native build
-(scripts/native.sh) unless it is given.
+The source package golang-toml of Debian's sid has the suite. apt fetches it from where this machine has its packages
+from, into a temporary folder. PROGRAM with its arguments reads a document from standard input: of a valid one it prints
+the values with their types, which are compared with those of the suite by value; it ends with status 1 if one is
+invalid. It is a native build (scripts/native.sh) unless it is given.
 
 Status: 0 if all pass, 1 if one does not, 2 if the suite cannot be fetched, as without a network or apt.
 """
@@ -20,7 +19,6 @@ from fractions import Fraction
 from pathlib import Path
 
 TOP = Path(__file__).resolve().parent.parent
-PACKAGES = ["golang-toml", "golang-github-pelletier-go-toml.v2"]
 WHEN = re.compile(r"(?:(\d{4}-\d\d-\d\d)(?:[Tt ]|$))?(?:(\d\d:\d\d:\d\d)(\.\d+)?([Zz]|[+-]\d\d:\d\d)?)?")
 
 
@@ -79,32 +77,6 @@ def from_files(folder):
         yield name, (folder / (name + ".toml")).read_bytes(), wanted
 
 
-ESCAPE = re.compile(r"\\(?:x(..)|u(.{4})|U(.{8})|([0-7]{3})|(.))|([^\\]+)", re.DOTALL)
-NAMED = {"n": "\n", "t": "\t", "r": "\r", "a": "\a", "b": "\b", "f": "\f", "v": "\v"}
-
-
-def unquoted(literal):
-    """The bytes of a string literal in Go."""
-    if literal[0] == "`":
-        return literal[1:-1].replace("\r", "").encode()
-    out = b""
-    for byte, short, long, octal, name, text in ESCAPE.findall(literal[1:-1]):
-        number = int(byte, 16) if byte else int(octal, 8) if octal else None
-        char = chr(int(short or long, 16)) if short or long else NAMED.get(name, name) + text
-        out += char.encode() if number is None else bytes([number])
-    return out
-
-
-LITERAL = r'("(?:[^"\\]|\\.)*"|`[^`]*`)'
-CASE = re.compile(rf"func TestTOMLTest_(\w+)\(t \*testing.T\) {{\n\tinput := {LITERAL}(?:\n\tjsonRef := {LITERAL})?\n")
-
-
-def from_go(source):
-    """Each document of the suite as string literals: its name, its bytes, and its answer if it is valid."""
-    for name, document, answer in CASE.findall(source.read_text(encoding="utf-8")):
-        yield name, unquoted(document), unquoted(answer).decode() if answer else None
-
-
 def passes(program, document, wanted):
     """Whether the program answers what the suite expects of a document, and what it answers."""
     run = subprocess.run(program, input=document, capture_output=True, timeout=60, check=False)
@@ -150,9 +122,8 @@ def fetch(work):
     apt = ["apt-get", "-qq", *(part for name, value in options.items() for part in ("-o", f"{name}={value}"))]
     if called(*apt, "update") is None:
         return "apt reaches no list of sources (is there a network?)"
-    for package in PACKAGES:
-        if called(*apt, "source", "--download-only", "--tar-only", package, cwd=work) is None:
-            print(f"toml-test: {package} cannot be fetched", file=sys.stderr)
+    if called(*apt, "source", "--download-only", "--tar-only", "golang-toml", cwd=work) is None:
+        return "apt cannot fetch golang-toml"
     for packed in work.glob("*.orig.tar.*"):
         if called("tar", "-xf", packed, "-C", work / "sources") is None:
             return f"{packed.name} cannot be unpacked"
@@ -165,7 +136,9 @@ def main(program):
             print(f"toml-test: the suite cannot be fetched: {why}", file=sys.stderr)
             return 2
         if not program:
-            crate, words = ("toml_span_cli", ["check"]) if (TOP / "crates/toml_span_cli").exists() else ("toml_span_check", [])
+            crate, words = "toml_span_check", []
+            if (TOP / "crates/toml_span_cli").is_dir():
+                crate, words = "toml_span_cli", ["check"]
             made = called("bash", TOP / "scripts/native.sh", crate, stdin=subprocess.DEVNULL)
             if not made:
                 return 2
@@ -174,10 +147,6 @@ def main(program):
         for version in sorted(Path(work).glob("sources/**/toml-test/tests/version.toml")):
             state = re.search(r"date\s*=\s*(\S+)", version.read_text())[1]
             done.append(count(program, f"state of {state}", from_files(version.parent)))
-        for source in sorted(Path(work).glob("sources/**/toml_testgen_test.go")):
-            with source.open(encoding="utf-8") as lines:
-                state = re.search(r"ref (\S+)", next(lines))[1]
-            done.append(count(program, state, from_go(source)))
         if not done:
             print("toml-test: no suite is in these sources", file=sys.stderr)
             return 2
