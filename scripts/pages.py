@@ -1,6 +1,7 @@
 #!/usr/bin/env python3
 """Checks that the pages say what the sources say, that each edit applies, and that nothing is cited that is not here:
-pages.py [PAGE..] (README.md and docs/*.md)
+pages.py [--items] [PAGE..] (README.md and docs/*.md). With --items it writes docs/public_items.txt: what callers can
+name in each library, an item a line.
 
 A mark says what a block, a list or a table quotes:
 
@@ -24,6 +25,7 @@ Everywhere, paths in code and links lead somewhere, names in code occur in the s
 that is named belongs to its function. docs/LANGUAGE.md has an example of each error that a row of `parse` reports.
 """
 
+import difflib
 import glob
 import os
 import re
@@ -99,11 +101,15 @@ class Sources:
         specs = {path: text_of(path) for path in found("crates/*/specs/**/*.antt")}
         proofs = {path: text_of(path) for path in found("crates/*/proofs/**/*.antt")}
         worked = {path: text for path, text in proofs.items() if path.endswith("proofs/Examples.antt")}
+        self.modules = {}
+        for path, text in [*code.items(), *specs.items()]:
+            name = os.path.basename(path).split(".")[0]
+            self.modules[name] = self.modules.get(name, "") + text
         self.code = {path: [line.strip() for line in text.split("\n")] for path, text in code.items()}
         self.quotable = {path: squeezed(text) for path, text in (code | specs | worked).items()}
         self.answers, self.row_lines = answers(), text_of(f"{ROWS}/stdout").split("\n")
-        stored = [text_of(path).split("\n") for path in found("crates/*/**/*stdout") if "/out/" not in path]
-        self.outputs = [*stored, [line.removeprefix("    ") for line in self.row_lines]]
+        stored = found("crates/*/stdout") + found("crates/*/runs/**/*stdout")
+        self.outputs = [*(text_of(path).split("\n") for path in stored), [line.removeprefix("    ") for line in self.row_lines]]
         self.heads, self.names = {}, {*FOREIGN}
         for folder in ("crates/*/[!o]*", "crates/*/[!o]*/**/*", "scripts/*", "crates/*"):
             self.names |= {os.path.basename(path).split(".")[0] for path in found(folder)}
@@ -210,7 +216,8 @@ class Page:
         elif kind in (["text", "rows"], ["text", "in"]):
             self.quoted(at, f"{ROWS}/stdout" if kind[1] == "rows" else name, lines, position_of)
         elif kind == ["toml", "data"]:
-            self.quoted(at, *found(f"crates/*/data/{name}")[:1] or [name], lines, self.is_whole)
+            paths = [*found(f"crates/*/data/{name}"), *found(f"crates/*/runs/data/{name}"), name]
+            self.quoted(at, paths[0], lines, self.is_whole)
         elif kind == ["console", "run"]:
             self.run(at, name, lines)
         elif words[:1] == ["sh"]:
@@ -250,7 +257,7 @@ class Page:
 
     def run(self, at, name, lines):
         said = re.sub(r"\A\$ \S+ ", "", "\n".join(lines).rstrip("\n"))
-        for run in found(f"crates/*/runs/**/{name}.args"):
+        for run in found(f"crates/*/runs/**/{name}.args") + found(f"crates/*/runs/{name}/args"):
             files = [run.removesuffix("args") + end for end in ("stdout", "stderr")]
             told = [text_of(it).rstrip("\n") for it in files if os.path.isfile(f"{TOP}/{it}")]
             if said == "\n".join(filter(None, [text_of(run).rstrip("\n").replace("\n", " "), *told])):
@@ -334,9 +341,8 @@ class Page:
                     self.fault(k, "this is not `- WORDS. DEFINITIONS; FUNCTIONS; ROWS`, nor is it said why it has none")
             for told in codes_in(f"{words[-1]} {code}"):
                 *_, module, names = re.split(r"::|\.(?!\.)", f"x.{told}")
-                found_in = [text_of(it) for it in found(f"crates/*/s[rp]*c*/**/{module}.*t*")]
                 for name in re.findall(r"[^\s,{}]+", names):
-                    if not any(re.search(rf"(?<!\w){re.escape(name)}(?!\w)", text) for text in found_in):
+                    if not re.search(rf"(?<!\w){re.escape(name)}(?!\w)", self.sources.modules.get(module, "")):
                         self.fault(k, f"no file {module} of src/ or specs/ has {name}")
             self.rows_of_rule(k, row)
 
@@ -382,12 +388,117 @@ def citations():
                 yield f"{path}:{at + 1}: this cites something that is not in the repository: {line.strip()[:80]}"
 
 
+# ---- public items
+
+HEAD = re.compile(r"(?s)(.*?)(?=\s*(?:[{;]|\Z|\n\s*(?:requires|ensures|follows|where)\b))")
+HEADED = re.compile(r'(pub )?(?:pub\(\w+\) )?(?:const (?=fn))?(?:extern "C" (?=fn))?(\w+)!?\W*(\w+)?')
+TYPES = ("struct", "enum", "trait")
+
+
+def code_of(path):
+    """A file of src/ without its comments."""
+    return re.sub(r"(?m)^\s*//.*\n", "", text_of(path))
+
+
+def line_of(text):
+    text = re.sub(r"\s+", " ", text).strip().replace(", }", " }")
+    return re.sub(r",? ([)\]]|>(?=[,( ]))", r"\1", re.sub(r"([(<\[]) ", r"\1", text))
+
+
+def items_of(text):
+    return [it.strip("\n") for it in re.split(r"(?m)^(?=#!?\[|\w)", text) if it.strip()]
+
+
+def body_of(item):
+    inner = re.search(r"(?ms)\{\n(.*)^\}", item)
+    return re.sub(r"(?m)^    ", "", inner[1]) if inner else ""
+
+
+class Crate:
+    """The public items of a library, each as a line with the module that it is in."""
+
+    def __init__(self, name):
+        self.lines, self.impls, self.private, self.path = [], [], {"Model"}, name
+        src = f"crates/{name}/src"
+        texts = "".join(code_of(it) for it in found(f"{src}/**/*.rt"))
+        self.handed_on = {*re.findall(r"\w+", " ".join(re.findall(r"(?ms)^ *pub use ([^;]*);", texts)))}
+        self.module(name, code_of(f"{src}/lib.rt"), src, True)
+        for self.path, item in self.impls:
+            head = line_of(HEAD.match(item)[1])
+            if not self.private & {*re.findall(r"\w+", head)}:
+                name = re.sub(r"<.*>", "", re.sub(r"^impl(<[^>]*>)? ", "", head))
+                self.says(head) if " for " in head else self.calls(name, body_of(item), r"pub (?:const )?(?:fn|const)")
+
+    def says(self, what):
+        self.lines.append(f"{self.path}: {what}")
+
+    def module(self, path, text, folder, is_open):
+        held = ""
+        for item in items_of(text):
+            self.path = path
+            if item.startswith("#"):
+                held += item
+                continue
+            is_public, kind, name = HEADED.match(item).groups()
+            if kind == "impl":
+                self.impls.append((path, item))
+            elif kind == "mod" and name != "laws":
+                inner = body_of(item) if "{" in item else code_of(f"{folder}/{name}.rt")
+                self.module(f"{path}::{name}", inner, f"{folder}/{name}", is_open and is_public)
+            elif kind == "macro_rules" and "#[macro_export]" in held:
+                self.says(f"macro {name}!")
+            elif kind == "use" and is_public:
+                base, _, group = item[len("pub use ") :].rstrip("};").partition("{")
+                for one in group.strip(" ,\n").split(","):
+                    self.says(f"use {base.strip()}{one.strip()}")
+            elif is_public and (is_open or name in self.handed_on):
+                self.public(kind, name, item, held)
+            elif kind in TYPES:
+                self.private.add(name)
+            held = ""
+
+    def public(self, kind, name, item, held):
+        own = re.sub(r"(?m)^ *#\[.*\n", "", item)[len("pub ") :]
+        derived = ", ".join(re.findall(r"derive(?:_where)?\(([^);]*)", held))
+        if kind in (*TYPES, "fn", "type"):
+            self.says(line_of(HEAD.match(own)[1]) + (f" derives {line_of(derived)}" if derived else ""))
+        elif kind in ("const", "static"):
+            self.says(line_of(own.split("=")[0]))
+        if kind == "struct":
+            for field in re.findall(r"(?m)^pub (\w+: .*),$", body_of(own)):
+                self.says(f"{name}.{field}")
+        elif kind == "enum":
+            for variant in re.split(r",\n(?=\w)", body_of(own)):
+                self.says(f"{name}::{line_of(variant.rstrip().rstrip(','))}")
+        elif kind == "trait":
+            self.calls(name, body_of(own), r"(?:const )?fn|type")
+
+    def calls(self, name, body, kinds):
+        for call in items_of(re.sub(r"(?m)^#\[.*\n", "", body)):
+            if re.match(kinds, call):
+                self.says(f"{name}::{line_of(HEAD.match(re.sub(r'^(pub )?(const )?(fn |type )?', '', call))[1])}")
+
+
+def public_items(words):
+    """Compares docs/public_items.txt with the libraries, except those of laws alone, or writes it."""
+    libraries = re.findall(r"(?m)^(\w+)(?: \w+)*:", text_of("crates.txt"))
+    libraries = [it for it in libraries if found(f"crates/{it}/src/lib.rt") and not it.endswith("_laws")]
+    items = sorted(line for library in libraries for line in Crate(library).lines)
+    if "--items" in words:
+        with open(f"{TOP}/docs/public_items.txt", "w", encoding="utf-8") as file:
+            print(*items, sep="\n", file=file)
+    kept = text_of("docs/public_items.txt").split("\n")[:-1]
+    for line in difflib.ndiff(kept, items):
+        if line[0] in "+-":
+            yield f"docs/public_items.txt: {line}"
+
+
 def main(words):
-    sources = Sources()
-    pages = [Page(path, sources) for path in words or ["README.md", *found("docs/*.md")]]
+    sources, named = Sources(), [word for word in words if not word.startswith("-")]
+    pages = [Page(path, sources) for path in named or ["README.md", *found("docs/*.md")]]
     faults = [fault for page in pages for fault in page.faults]
-    if not words:
-        faults += [*edits(sources), *citations()]
+    if not named:
+        faults += [*edits(sources), *citations(), *public_items(words)]
         shown = {code for page in pages if page.path == "docs/LANGUAGE.md" for code in page.shown}
         told = [lines[0].split() for row, lines in sources.answers.items() if row.startswith("parse ")]
         codes = {it[1] for it in told if it[0] == "error"}
@@ -396,4 +507,4 @@ def main(words):
     return 1 if faults else 0
 
 
-sys.exit(main([word for word in sys.argv[1:] if not word.startswith("-")]))
+sys.exit(main(sys.argv[1:]))

@@ -4,8 +4,8 @@
 #
 # Each program is built without proofs (scripts/native.sh, which keeps the build while the sources stay the same), or is
 # the proved build if that is no older. It runs on the file stdin and on the files in its folder runs/, and its output
-# and status must be those stored beside them (stdout and status, NAME.stdout and NAME.status); programs whose runs have
-# arguments are tried by scripts/runs.sh. What passed is not run again while the program and its runs stay the same.
+# and status must be those stored beside them (stdout and status, NAME.stdout and NAME.status); runs that are folders
+# are tried by scripts/runs.sh. What passed is not run again while the program and its runs stay the same.
 #
 # The builds stop at an index out of range, an overflow or a failed unwrap (status 132), so this finds those on these
 # inputs, and wrong output; what holds for all inputs is proved by scripts/test.sh. QUICK_JOBS programs run side by side
@@ -52,19 +52,22 @@ stored() {
     if [ -d data ]; then cp -R data/. "$work/data"; fi
     try stdin stdout status || wrong=1
     for input in runs/*; do
-        case $input in *.stdout | *.status | 'runs/*') continue ;; esac
-        try "$input" "$input.stdout" "$input.status" || wrong=1
+        case $input in *.stdout | *.status) continue ;; esac
+        if [ -f "$input" ]; then try "$input" "$input.stdout" "$input.status" || wrong=1; fi
     done
     return "$wrong"
 }
 
 # runs: whether the program passes its runs
 runs() {
-    case $crate in
-    toml_span_check | toml_span_edit) bash "scripts/${crate#toml_span_}_runs.sh" "$native" ;;
-    toml_span_cli) bash scripts/runs.sh "$crate" "$native" ;;
-    *) cd "crates/$crate" && stored ;;
-    esac
+    local older=scripts/${crate#toml_span_}_runs.sh
+    if [ -f "$older" ]; then
+        bash "$older" "$native"
+    elif compgen -G "crates/$crate/runs/*/stdout" >/dev/null; then
+        bash scripts/runs.sh "$crate" "$native" && cd "crates/$crate" && stored
+    else
+        cd "crates/$crate" && stored
+    fi
 }
 
 # sum_of_runs: the checksum of the program, of its runs and of what compares them

@@ -14,8 +14,8 @@ rounds (--rounds, 3). `peak` is the most memory of one parse in MB (some 20 MB a
 many times as long the Rust crate took. With --instructions a line has the instructions of a parse for each byte, as
 valgrind's callgrind counts them: they do not change with what else the machine does.
 
---limits runs programs that read standard input (native builds of toml_span_show and of the checker unless they are
-given) on the worst documents at the limit of 128 nested levels (a path has at most 128 keys of a header and 128 of an
+--limits runs programs that read standard input (native builds of toml-span and toml_span_show unless they are given) on
+the worst documents at the limit of 128 nested levels (a path has at most 128 keys of a header and 128 of an
 assignment). Stack: the least `ulimit -s`, in KB and to 4 KB, with which the program ends by itself, without an
 environment. Memory: the greatest resident size as a multiple of the text, up to 1 GB; some minutes.
 """
@@ -285,11 +285,8 @@ def limits(named):
     """Prints the stack and the memory of each program."""
     programs = [[os.path.abspath(it)] for it in named]
     if not programs:
-        checker, words = "toml_span_check", []
-        if os.path.isdir(f"{TOP}/crates/toml_span_cli"):
-            checker, words = "toml_span_cli", ["check"]
-        checker, show = native(checker), native("toml_span_show")
-        programs = [[checker, *words], [checker, *words, "--items"], [checker, *words, "--tagged"], [show]]
+        cli, show = native("toml_span_cli"), native("toml_span_show")
+        programs = [[cli, "check"], [cli, "get", "--items", "-", ""], [cli, "get", "--tagged", "-", ""], [show]]
     for program in programs:
         print(f"{' '.join([os.path.relpath(program[0], TOP), *program[1:]])}:")
         for name, text in deepest():

@@ -41,6 +41,8 @@ ended() {
         cat "$work/$index"
         count "${names[index]}" "$status"
     done
+    names=()
+    begun=()
 }
 
 echo "== rt ci"
@@ -58,18 +60,16 @@ start "stored runs of toml_span_show" bash scripts/runs.sh toml_span_show
 start "stored runs of the examples" bash scripts/quick.sh toml_span_example toml_span_lint
 start "refused requests for memory" bash scripts/refuse.sh
 start "scripts that people start" bash scripts/scripts_test.sh
-start "pages and edits say what the sources say" python3 scripts/pages.py
-start "public items are those that are kept" python3 scripts/public_items.py --check
+start "pages, edits and public items" python3 scripts/pages.py
 ended
-# alone, since it compiles on all processors
-names=()
-begun=()
+# (alone, since it compiles on all processors)
 start "the library for C, and the module for Python" bash scripts/c_test.sh
 ended
 
 times >"$work/log.times"
 awk -v wall="$SECONDS" '
-    FNR == NR { if (!unit && $2 == "toml_span_lex") unit = $3; next }
+    FNR == NR && /^time: [a-z]/ { part = $2 }
+    FNR == NR { if (part == "proofs" && $2 == "toml_span_lex") unit = $3; next }
     { split($1, user, /[ms]/); split($2, system_, /[ms]/) }
     END {
         spent = 60 * (user[1] + system_[1]) + user[2] + system_[2]

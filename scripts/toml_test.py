@@ -1,10 +1,10 @@
 #!/usr/bin/env python3
-"""Runs the checker on the suite toml-test (TOML 1.1) and counts: toml_test.py [PROGRAM ARGUMENT..]
+"""Runs toml-span on the suite toml-test (TOML 1.1) and counts: toml_test.py [PROGRAM ARGUMENT..]
 
 The source package golang-toml of Debian's sid has the suite. apt fetches it from where this machine has its packages
 from, into a temporary folder. PROGRAM with its arguments reads a document from standard input: of a valid one it prints
 the values with their types, which are compared with those of the suite by value; it ends with status 1 if one is
-invalid. It is a native build (scripts/native.sh) unless it is given.
+invalid. It is `toml-span get --tagged - ''` of a native build (scripts/native.sh) unless it is given.
 
 Status: 0 if all pass, 1 if one does not, 2 if the suite cannot be fetched, as without a network or apt.
 """
@@ -102,7 +102,7 @@ def count(program, title, documents):
 def called(*words, **named):
     """The output of a command, or None if it fails or is not there."""
     try:
-        return subprocess.run(words, check=True, timeout=300, stdout=subprocess.PIPE, text=True, **named).stdout
+        return subprocess.run(words, check=True, timeout=900, stdout=subprocess.PIPE, text=True, **named).stdout
     except (OSError, subprocess.SubprocessError):
         return None
 
@@ -136,13 +136,10 @@ def main(program):
             print(f"toml-test: the suite cannot be fetched: {why}", file=sys.stderr)
             return 2
         if not program:
-            crate, words = "toml_span_check", []
-            if (TOP / "crates/toml_span_cli").is_dir():
-                crate, words = "toml_span_cli", ["check"]
-            made = called("bash", TOP / "scripts/native.sh", crate, stdin=subprocess.DEVNULL)
+            made = called("bash", TOP / "scripts/native.sh", "toml_span_cli", stdin=subprocess.DEVNULL)
             if not made:
                 return 2
-            program = [made.strip(), *words, "--tagged", "-"]
+            program = [made.strip(), "get", "--tagged", "-", ""]
         done = []
         for version in sorted(Path(work).glob("sources/**/toml-test/tests/version.toml")):
             state = re.search(r"date\s*=\s*(\S+)", version.read_text())[1]
