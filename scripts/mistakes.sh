@@ -2,13 +2,13 @@
 # Tries mistakes that the prover must refuse: bash scripts/mistakes.sh [CRATE..]
 #
 # An edit crates/CRATE/mistakes/NAME.edit makes a mistake in the code. Its first line names the clauses that refuse it,
-# the second says what the wrong code does; then come a line `file: ` and pairs of lines `old: ` and `new: `, as in
-# must-fail/. Those in must-fail/ are the mistakes that matter most, and `rt ci` tries them each time. The others cost as
-# much again, so they are tried here, after a change of a contract: `rt must-fail` tries them in a copy of the repository
-# in which they are in must-fail/, and begins with what `rt check` kept of the crates. Without CRATE it goes through all.
+# the second says what the wrong code does; then come a line `file: ` and pairs of lines `old: ` and `new: `. Edits in
+# must-fail/ are the same, and `rt ci` tries them each time. Those in mistakes/ are tried here, after a change of a
+# contract: `rt must-fail` does so in a copy of the repository in which they are in must-fail/, and begins with what
+# `rt check` kept of the crates. Without CRATE all are tried. Without a prover, scripts/pages.py checks that each edit
+# applies, and that its clauses exist.
 #
-# Status: 0 if each is refused, 1 if one is not, or cannot be tried. `scripts/pages.py` checks without a prover that each
-# edit applies, and that its clauses exist.
+# Status: 0 if each is refused, 1 if one is not, or cannot be tried.
 set -uo pipefail
 cd "$(dirname "$0")/.." || exit
 crates=("$@")
@@ -23,10 +23,12 @@ work=$(mktemp -d) || exit
 trap 'rm -rf "$work"' EXIT
 git ls-files -z --cached --others --exclude-standard -- crates crates.txt HANDLES |
     xargs -0 sh -c 'for file; do [ ! -f "$file" ] || cp --parents -- "$file" "$0"; done' "$work" || exit
-rm -rf "$work"/crates/*/must-fail
-for folder in "$work"/crates/*/mistakes; do mv -- "$folder" "${folder%/*}/must-fail"; done
 cd "$work" || exit
+rm -rf crates/*/must-fail
+for folder in crates/*/mistakes; do mv -- "$folder" "${folder%/*}/must-fail"; done
 rt must-fail "${crates[@]}" | tee log
 status=${PIPESTATUS[0]}
-echo "mistakes: $(grep -c '^rt: must-fail .*: refused' log) of $(cd crates && ls "${crates[@]/%//must-fail}" | grep -c '\.edit$') refused"
+edits=("${crates[@]/#/crates/}")
+edits=$(find "${edits[@]/%//must-fail}" -name '*.edit' | wc -l)
+echo "mistakes: $(grep -c '^rt: must-fail .*: refused' log) of $edits refused"
 exit "$status"

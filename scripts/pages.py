@@ -109,7 +109,8 @@ class Sources:
         self.quotable = {path: squeezed(text) for path, text in (code | specs | worked).items()}
         self.answers, self.row_lines = answers(), text_of(f"{ROWS}/stdout").split("\n")
         stored = found("crates/*/stdout") + found("crates/*/runs/**/*stdout")
-        self.outputs = [*(text_of(path).split("\n") for path in stored), [line.removeprefix("    ") for line in self.row_lines]]
+        self.outputs = [text_of(path).split("\n") for path in stored]
+        self.outputs.append([line.removeprefix("    ") for line in self.row_lines])
         self.heads, self.names = {}, {*FOREIGN}
         for folder in ("crates/*/[!o]*", "crates/*/[!o]*/**/*", "scripts/*", "crates/*"):
             self.names |= {os.path.basename(path).split(".")[0] for path in found(folder)}

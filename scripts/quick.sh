@@ -31,7 +31,8 @@ try() {
     output=$(path "$2")
     if [ -f "$3" ]; then wanted=$(<"$3"); fi
     for limit in 20 600; do
-        (cd "$work/data" && exec timeout "$limit" "$native" "${words[@]}") <"$input" >"$work/written" 2>"$work/complaint"
+        (cd "$work/data" && exec timeout "$limit" "$native" "${words[@]}") \
+            <"$input" >"$work/written" 2>"$work/complaint"
         status=$?
         if [ "$status" -ne 124 ]; then break; fi
         echo "$crate: $1: no answer in $limit s"
@@ -40,7 +41,7 @@ try() {
     echo "$crate: $1: status $status (expected: $wanted), and it wrote (<: stored, >: now)"
     diff "$output" "$work/written" | head -n 10
     head -n 5 "$work/complaint"
-    if [ "$status" -eq 132 ]; then echo "It stopped at a fault: \`rt try\` in crates/$crate with this input says where."; fi
+    if [ "$status" -eq 132 ]; then echo "It stopped at a fault: \`rt try\` in crates/$crate says where."; fi
     return 1
 }
 

@@ -44,7 +44,8 @@ long write(int file, const void *at, unsigned long size) { return is_interrupted
 END
 }
 
-# make_failures FOLDER: makes FOLDER/fail.so likewise: the write number $FAILED and all later ones fail as on a full disk.
+# make_failures FOLDER: makes FOLDER/fail.so likewise: the write number $FAILED and all later ones fail as if a disk were
+# full.
 make_failures() {
     make_library "$1" fail <<'END'
 static long made;
@@ -187,7 +188,8 @@ for document in "$(printf '%40000s' '#')" "$tree" "$clash" '# x\n'; do
     silent 4 0 "$show" "$work/document"
 done
 silent 1 20 "$example" crates/toml_span_example/stdin
-grep -E '^(nodes|text_order|key_places|section_places|table_forms a|insertion_point bin|node_at 1[0-5]|quote_key|quote_string|replaced|write[^:]*(look|at)=)' crates/toml_span_rows/stdin >"$work/rows"
+walks='nodes|text_order|key_places|section_places|table_forms a|insertion_point bin|node_at 1[0-5]|quote_key|quote_string'
+grep -E "^($walks|replaced|write[^:]*(look|at)=)" crates/toml_span_rows/stdin >"$work/rows"
 silent 1 0 "$rows" "$work/rows"
 if [ "$silenced" -lt 200 ]; then fault "programs made only $silenced requests"; fi
 
