@@ -9,7 +9,6 @@ invalid. It is `toml-span get --tagged - ''` of a native build (scripts/native.s
 Status: 0 if all pass, 1 if one does not, 2 if the suite cannot be fetched, as without a network or apt.
 """
 import json
-import os
 import re
 import subprocess
 import sys
@@ -60,21 +59,15 @@ def same(wanted, written):
     return wanted["type"] == written["type"] and compare(wanted["value"], written["value"])
 
 
-def from_files(folder):
-    """Each document of the suite as files: its name, its bytes, and its answer if it is valid."""
-    listed = folder / "files-toml-1.1.0"
-    if listed.exists():
-        names = [name.removesuffix(".toml") for name in listed.read_text().split() if name.endswith(".toml")]
-    else:
-        # what TOML 1.1 leaves out
-        part = (folder.parent / "version.go").read_text(encoding="utf-8").split('"1.1.0"')[1].split("}")[0]
-        out = [name.removesuffix("*") for name in re.findall(r'"([^"]+)"', part)]
-        names = sorted(str(path.relative_to(folder))[:-5] for path in folder.glob("*alid/**/*.toml"))
-        names = [name for name in names if not any(name == o or (o[-1] == "/" and name.startswith(o)) for o in out)]
-    for name in names:
-        answer = folder / (name + ".json")
-        wanted = answer.read_text(encoding="utf-8") if name.startswith("valid/") else None
-        yield name, (folder / (name + ".toml")).read_bytes(), wanted
+def documents(folder):
+    """Each document of the suite that TOML 1.1 does not leave out: its name, its bytes, and its answer if it is valid."""
+    part = (folder.parent / "version.go").read_text(encoding="utf-8").split('"1.1.0"')[1].split("}")[0]
+    out = [name.removesuffix("*") for name in re.findall(r'"([^"]+)"', part)]
+    for path in sorted(folder.glob("*alid/**/*.toml")):
+        name = str(path.relative_to(folder)).removesuffix(".toml")
+        if not any(name == it or (it[-1] == "/" and name.startswith(it)) for it in out):
+            answer = path.with_suffix(".json")
+            yield name, path.read_bytes(), answer.read_text(encoding="utf-8") if answer.exists() else None
 
 
 def passes(program, document, wanted):
@@ -85,18 +78,19 @@ def passes(program, document, wanted):
     return same(json.loads(wanted), json.loads(run.stdout)), run.stdout.decode().rstrip()
 
 
-def count(program, title, documents):
-    """Runs the documents of a suite and prints how many pass. Whether all do, and there are some of each kind."""
-    passed, all_of = {True: 0, False: 0}, {True: 0, False: 0}
-    for name, document, wanted in documents:
-        is_valid = wanted is not None
+def passes_all(program, folder):
+    """Runs the documents and prints how many pass. Whether all do, and there are some of each kind."""
+    passed, count = {True: 0, False: 0}, {True: 0, False: 0}
+    for name, document, wanted in documents(folder):
         good, answer = passes(program, document, wanted)
-        all_of[is_valid] += 1
-        passed[is_valid] += good
+        count[wanted is not None] += 1
+        passed[wanted is not None] += good
         if not good:
-            print(f"toml-test: {title}: {name}: {answer}")
-    print(f"toml-test: {title}: valid {passed[True]} of {all_of[True]}, invalid {passed[False]} of {all_of[False]}")
-    return passed == all_of and min(all_of.values()) > 0
+            print(f"toml-test: {name}: {answer}")
+    state = re.search(r"date\s*=\s*(\S+)", (folder / "version.toml").read_text())[1]
+    valid, invalid = (f"{passed[it]} of {count[it]}" for it in (True, False))
+    print(f"toml-test, state of {state}: valid {valid}, invalid {invalid}")
+    return passed == count and min(count.values()) > 0
 
 
 def called(*words, **named):
@@ -140,14 +134,10 @@ def main(program):
             if not made:
                 return 2
             program = [made.strip(), "get", "--tagged", "-", ""]
-        done = []
-        for version in sorted(Path(work).glob("sources/**/toml-test/tests/version.toml")):
-            state = re.search(r"date\s*=\s*(\S+)", version.read_text())[1]
-            done.append(count(program, f"state of {state}", from_files(version.parent)))
-        if not done:
-            print("toml-test: no suite is in these sources", file=sys.stderr)
-            return 2
-        return 0 if all(done) else 1
+        for version in Path(work).glob("sources/**/toml-test/tests/version.toml"):
+            return 0 if passes_all(program, version.parent) else 1
+        print("toml-test: no suite is in these sources", file=sys.stderr)
+        return 2
 
 
 if __name__ == "__main__":
