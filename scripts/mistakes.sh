@@ -21,6 +21,7 @@ for crate in "${crates[@]}"; do
 done
 work=$(mktemp -d) || exit
 trap 'rm -rf "$work"' EXIT
+# shellcheck disable=SC2016 # (the words of `sh -c` are its own)
 git ls-files -z --cached --others --exclude-standard -- crates crates.txt HANDLES |
     xargs -0 sh -c 'for file; do [ ! -f "$file" ] || cp --parents -- "$file" "$0"; done' "$work" || exit
 cd "$work" || exit
@@ -28,7 +29,7 @@ rm -rf crates/*/must-fail
 for folder in crates/*/mistakes; do mv -- "$folder" "${folder%/*}/must-fail"; done
 rt must-fail "${crates[@]}" | tee log
 status=${PIPESTATUS[0]}
-edits=("${crates[@]/#/crates/}")
-edits=$(find "${edits[@]/%//must-fail}" -name '*.edit' | wc -l)
-echo "mistakes: $(grep -c '^rt: must-fail .*: refused' log) of $edits refused"
+count=0
+for crate in "${crates[@]}"; do count=$((count + $(find "crates/$crate/must-fail" -name '*.edit' | wc -l))); done
+echo "mistakes: $(grep -c '^rt: must-fail .*: refused' log) of $count refused"
 exit "$status"

@@ -3,13 +3,13 @@
 # bash scripts/quick.sh [CRATE..]
 #
 # Each program is built without proofs (scripts/native.sh, which keeps the build while the sources stay the same), or is
-# the proved build if that is no older. It runs on the file stdin and on the files in its folder runs/, and its output
+# the proved build if that is up to date. It runs on the file stdin and on the files in its folder runs/, and its output
 # and status must be those stored beside them (stdout and status, NAME.stdout and NAME.status); runs that are folders
 # are tried by scripts/runs.sh. What passed is not run again while the program and its runs stay the same.
 #
 # The builds stop at an index out of range, an overflow or a failed unwrap (status 132), so this finds those on these
-# inputs, and wrong output; what holds for all inputs is proved by scripts/test.sh. QUICK_JOBS programs run side by side
-# (one a processor). The last line counts. Status 5: the toolchain's command rt is missing.
+# inputs, and wrong output; what holds for all inputs is proved by scripts/test.sh. QUICK_JOBS programs run side by
+# side, by default one for each processor. The last line counts. Status 5: the toolchain's command rt is missing.
 set -uo pipefail
 unset CDPATH
 script=$(readlink -f -- "${BASH_SOURCE[0]}")
