@@ -29,6 +29,7 @@ import difflib
 import glob
 import os
 import re
+import shlex
 import subprocess
 import sys
 
@@ -114,6 +115,8 @@ class Sources:
         self.heads, self.names = {}, {*FOREIGN}
         for folder in ("crates/*/[!o]*", "crates/*/[!o]*/**/*", "scripts/*", "crates/*"):
             self.names |= {os.path.basename(path).split(".")[0] for path in found(folder)}
+        for path in found("include/*.h*") + found("python/src/*/*.py"):
+            self.names |= {*re.findall(r"\w+", text_of(path))}
         for text in code.values():
             self.contracts(re.sub(r"(?m)^\s*//.*\n", "", text))
         for text in [*specs.values(), *proofs.values()]:
@@ -257,11 +260,13 @@ class Page:
                 self.fault(at, f"{path or 'no source'} does not have `{paragraph.strip()[:60]}`..")
 
     def run(self, at, name, lines):
-        said = re.sub(r"\A\$ \S+ ", "", "\n".join(lines).rstrip("\n"))
+        command, *said = "\n".join(lines).rstrip("\n").split("\n")
+        command = re.sub(r"^\$ \S+ ", "", command)
         for run in found(f"crates/*/runs/**/{name}.args") + found(f"crates/*/runs/{name}/args"):
             files = [run.removesuffix("args") + end for end in ("stdout", "stderr")]
             told = [text_of(it).rstrip("\n") for it in files if os.path.isfile(f"{TOP}/{it}")]
-            if said == "\n".join(filter(None, [text_of(run).rstrip("\n").replace("\n", " "), *told])):
+            words = text_of(run).splitlines()
+            if command in (" ".join(words), shlex.join(words)) and said == "\n".join(filter(None, told)).split("\n"):
                 return
         self.fault(at, f"no run crates/*/runs/{name} is like this")
 

@@ -3,8 +3,8 @@
 #
 # Prints each given row with its answer. Without arguments it compares the rows of crates/toml_span_rows/stdout with the
 # program: it makes `stdin` of the lines of `stdout` that are not answers, runs it, and shows each answer that differs
-# (< as stored, > now), with status 1. docs/ROWS.md says how a row is read. The program is a native build
-# (scripts/native.sh), which is made once after a change of the sources.
+# (< as stored, > now), with status 1. docs/ARCHITECTURE.md ("Tests are rows of data") says how a row is read. The
+# program is a native build (scripts/native.sh), which is made once after a change of the sources.
 set -euo pipefail
 cd "$(dirname "$0")/.."
 program=$(bash scripts/native.sh toml_span_rows </dev/null)
