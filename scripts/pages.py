@@ -1,70 +1,51 @@
 #!/usr/bin/env python3
-"""Checks that the pages (README.md, docs/*.md) say what the sources say: pages.py [--check] [--needed] [PAGE..]
+"""Checks that the pages say what the sources say, that each edit applies, and that nothing is cited that is not here:
+pages.py [--items] [PAGE..] (README.md and docs/*.md). With --items it writes docs/public_items.txt: what callers can
+name in each library, an item a line.
 
-What is looked at is marked:
+A mark says what a block, a list or a table quotes:
 
-    ```rust            stands line by line in one file of crates/*/src that is proved, indentation aside. A line
-                       `// ..` stands for lines that are left out.
-    ```text clause     each paragraph stands in one file of crates/*/src or crates/*/specs, or in proofs/Examples.antt
-                       of a crate, white space aside; in the file that is named, if one is, as in
-                       `text clause toml_span/specs/Flat.antt`
-    ```text rows       stands line by line in the answers of toml_span_rows (its file stdout)
-    ```toml row        is the text of a row of toml_span_rows
-    ```toml run NAME   is the input crates/toml_span_show/runs/NAME (or `stdin`, beside it)
-    ```text run NAME   is what the program writes on it (NAME.stdout, or `stdout`)
-    ```toml data NAME  is the file crates/toml_span_check/data/NAME
-    ```console run NAME    is `$ toml_span_check` with the words of crates/toml_span_check/runs/NAME.args, and then what
-                       the checker writes and complains of (NAME.stdout, NAME.stderr)
-    ```sh              names files of scripts/, docs/ and crates/ that are there
-    ```text in FILE    stands line by line in this file
-    ```text            quotes contracts in short: each name of a line stands in the contract of the function, or among
-                       the members of the `impl` or the trait, that the last line with no `ensures` names
-    (indented by four) stands line by line in stored outputs (stdout), is a line of crates.txt, or is as `sh`
-    <!-- rows: CALL -->    before a table: the first cell of each line has the text of a row of this call (of `parse 128`
-                       where the mark is `rows`), and all that stands in code behind it stands in that row's answer: as
-                       words of one of its lines or, in a column with the name of a field (first, expected, found, key,
-                       name), as that field. Of a fault one cell has the code and the span. A column
-                       without a heading has remarks. Or before a list of items `TEXT`: ANSWER: REMARK, where the name
-                       of a field stands before it
-    <!-- rules -->    before a list, behind a line that ends in "In `CRATE`:": each item is a rule, its words and a full
-                       stop, and then, with semicolons between, its definition, its code and a row. `Module.{A, B}`
-                       are definitions of specs/Module.antt, `module::{a, b}` functions, constants, types or macros of
-                       src/module.rt or of a folder of src/, in CRATE or in the crate before them. Without a name
-                       either says `none` and why. Row: each text is one line of the stdin of toml_span_rows with an
-                       answer, where `parse 128: ` may be left out, and `..` stands for what else is; a path is there
-    <!-- calls -->    before a table: each name under `Clauses` stands in a contract of a function that the first cell
-                       names, in an `impl` or a type of that name, or is a definition that such a contract cites.
-                       Or before a list of items CALLS: WORDS: CLAUSES
-    <!-- cases: FILE FUNCTION -->    before a table: the cell in the line of `A` and the column of `B` has in code what
-                       `FUNCTION A B` gives, as `duplicate-key` of a line `FUNCTION A B = Some DuplicateKey`, and no
-                       code where no such line is there
-    <!-- reading order: FILE FUNCTION..; .. -->    before a list of items `FILE`: WORDS, which names the files of specs/
-                       in which something stands that the clauses of these functions need, each behind those that it
-                       uses; --needed prints which of their definitions are needed
+    ```rust             code: the parts between lines `// ..` follow each other in one file of crates/*/src
+    ```text clause FILE paragraphs of crates/FILE, or of any source without FILE, white space aside
+    ```text rows        answers of toml_span_rows
+    ```text in FILE     lines of this file
+    ```toml data NAME   the file crates/*/data/NAME
+    ```console run NAME `$ PROGRAM ARGUMENT..` of crates/*/runs/NAME.args, and its output (NAME.stdout, NAME.stderr)
+    ```sh               names files that exist
+    (indented by four)  is as `sh`, a line of crates.txt, or lines of a stored output
+    <!-- rows: CALL --> a table or a list whose lines begin with the text of a row of this call (`parse 128` without
+                        CALL); whatever else they have in code is in the row's answer: words of one of its lines, or the
+                        field that the column or the word before it names (FIELDS). An error has its code and its span
+    <!-- rules -->      a list of `WORDS. DEFINITIONS; FUNCTIONS; ROWS`: `Module.{A, B}` are in a file Module.antt of
+                        specs/, `module::{a, b}` in a file module.rt of src/, and a row is the only one with this text,
+                        in which `..` stands for anything and `parse 128: ` may be left out; or `none` and a reason
+    <!-- calls -->      a list of CALLS: WORDS: CLAUSES: the names in CLAUSES occur in the contracts of the calls
 
-Besides, each path that stands in code and begins with `crates/`, `docs/` or `scripts/`, or is one of a crate, and each
-link leads somewhere; each name in code that is written as a definition, a function, a clause or a type stands in the
-sources, or among FOREIGN; clause `A` of `f`, or `f`, clause `A`, is a word of that contract; and each fault that a row
-of `parse` tells has an example in docs/LANGUAGE.md.
+Everywhere, paths in code and links lead somewhere, names in code occur in the sources or among FOREIGN, and a clause
+that is named belongs to its function. docs/LANGUAGE.md has an example of each error that a row of `parse` reports.
 """
 
+import difflib
 import glob
 import os
 import re
+import shlex
+import subprocess
 import sys
 
 TOP = os.path.dirname(os.path.dirname(os.path.abspath(__file__)))
 ROWS = "crates/toml_span_rows"
-SHOW = "crates/toml_span_show"
-CHECK = "crates/toml_span_check"
-RUN = (".args", ".stdout", ".stderr")
 FIELDS = ("first", "expected", "found", "key", "name")
-# what stands behind each mark
-BEGINS = {"rows": ("|", "- "), "rules": "- ", "calls": ("|", "- "), "cases": "|", "reading order": "- "}
 # names of the toolchain, of the C library and of other crates
 FOREIGN = """AsRef BuiltModule Comparable From Given Goals IsSortedBy IsStableBy Lts MALLOC_MMAP_THRESHOLD_
 MALLOC_TRIM_THRESHOLD_ ParsesChar Serialize Tie as_ codespan_reporting deny_unknown_fields from_iter table_from_str
 the_lemmas write_all""".split()
+# what only a reader of other papers could look up: their names, and their rules by number
+THINGS = r"(?:rule|row|rung|table|paper|section|request) (?:\d+|[A-F])"
+CITED = [
+    re.compile(r"(?i)(?:^|[^0-9a-z])0[1-9]-[a-z]{4,}"),
+    re.compile(rf"(?:^|[^\w+])(?:[DTWR](?:1?\d|2[0-5])(?:\.\d)?|{THINGS})(?:[^\w.]|\.?$)"),
+]
 
 
 def text_of(path):
@@ -72,112 +53,27 @@ def text_of(path):
         return file.read()
 
 
-def crates():
-    lines = [line.split("#")[0].strip() for line in text_of("crates.txt").split("\n")]
-    return [line.split(":")[0].split()[0] for line in lines if line]
+def found(pattern):
+    return sorted(glob.glob(pattern, root_dir=TOP, recursive=True))
 
 
-def proved_sources():
-    """The files of src/ that a crate's root leads to by `mod` items, and their lines without indentation."""
-    found = {}
-    for crate in crates():
-        src = f"crates/{crate}/src"
-        root = "lib" if os.path.isfile(f"{TOP}/{src}/lib.rt") else "main"
-        todo = [(root, "")]
-        while todo:
-            module, below = todo.pop()
-            path = f"{src}/{module}.rt"
-            lines = text_of(path).split("\n")
-            found[path] = [line.strip() for line in lines]
-            for line in lines:
-                named = re.match(r"(?:pub(?:\(crate\))? )?mod (\w+);", line)
-                if named:
-                    inner = f"{below}{named[1]}"
-                    todo.append((inner, f"{inner}/"))
-    return found
+def codes_in(text):
+    return re.findall(r"`([^`]+)`", text)
 
 
 def squeezed(text):
-    """A text with one space for all white space, and one at each end."""
+    """A text with one space for each run of white space, and one at each end."""
     return f" {' '.join(text.split())} "
 
 
-def quotable():
-    """The files of src/ and specs/, and worked examples, without their white space."""
-    paths = [*proved_sources()]
-    for crate in crates():
-        paths += glob.glob(f"crates/{crate}/specs/**/*.antt", root_dir=TOP, recursive=True)
-        paths += glob.glob(f"crates/{crate}/proofs/Examples.antt", root_dir=TOP)
-    return {path: squeezed(text_of(path)) for path in paths}
-
-
-def answers():
-    """The lines that answer each row of toml_span_rows."""
-    found, row = {}, None
-    for line in text_of(f"{ROWS}/stdout").split("\n"):
-        if line.startswith("    ") and row is not None:
-            found[row].append(line[4:])
-        elif line and not line.startswith("#"):
-            row = line
-            found[row] = []
-        else:
-            row = None
-    asked = {line for line in text_of(f"{ROWS}/stdin").split("\n") if line and not line.startswith("#")}
-    return {row: lines for row, lines in found.items() if row in asked}
-
-
-def anchors(path):
-    """The names by which links lead to the headings of a page."""
-    heads = re.findall(r"(?m)^#+ (.*)$", text_of(path))
-    return {re.sub(r"[^\w -]", "", head).lower().replace(" ", "-") for head in heads}
-
-
-def in_rows(text):
-    """A text as the rows write it."""
-    for char, escape in (("\\", "\\\\"), ("\n", "\\n"), ("\r", "\\r"), ("\t", "\\t")):
-        text = text.replace(char, escape)
-    return text
-
-
-def fields_of(line):
-    """The fields of a fault's kind: texts without their quotes, spans as A..B."""
-    found = {}
-    for name, text, start, end in re.findall(r'(\w+): (?:"([^"]*)"|Span { start: (\d+), end: (\d+) })', line):
-        found[name] = f"{start}..{end}" if start else text
-    return found
-
-
-def call_of(mark):
-    """The call that a mark names."""
-    return mark.removeprefix("rows").removeprefix(": ") or "parse 128"
-
-
 def position_of(lines, part, start=0):
-    """Where these lines stand one behind the other, or None."""
-    for at in range(start, len(lines) - len(part) + 1):
-        if lines[at : at + len(part)] == part:
-            return at
-    return None
-
-
-def bare(text):
-    """A file of definitions without its comments."""
-    return re.sub(r"(?m)(^|(?<=\s))--(\s.*|-.*)?$", "", text)
-
-
-def imports(text):
-    """The names that a file takes from elsewhere, and the modules that it names as a whole."""
-    names, modules = {}, {}
-    for path, group, module in re.findall(r"(?m)^(?:ghost )?use Rattle\.([\w.]+?)(?:\.\{(.*)\}| as (\w+));?$", text):
-        for name, new in re.findall(r"([^\s,]+)(?: as ([^\s,]+))?", group):
-            names[new or name] = (path, name)
-        if module:
-            modules[module] = path
-    return names, modules
+    """Where these lines follow each other, or None."""
+    fits = (at for at in range(start, len(lines) - len(part) + 1) if lines[at : at + len(part)] == part)
+    return next(fits, None)
 
 
 def split_outside_code(text, mark):
-    """Splits a text at each mark that stands in no code."""
+    """Splits a text at each mark that is not in code."""
     parts = [""]
     for k, part in enumerate(text.split("`")):
         first, *others = [part] if k % 2 else part.split(mark)
@@ -186,534 +82,62 @@ def split_outside_code(text, mark):
     return parts
 
 
-class Module:
-    """A file of specs/: its definitions, which of them has each constructor, and what it takes from elsewhere."""
-
-    def __init__(self, file):
-        self.file, self.bodies, self.owners = file, {}, {}
-        self.names, self.modules = imports(text_of(file))
-        name, kind, depth, is_mutual = None, "", 0, False
-        for line in bare(text_of(file)).split("\n"):
-            if line[:1].strip():
-                is_mutual = line.endswith("mutual")
-            named = re.match(r"(?:(?:abbrev|unfoldable) )?( *)pub (data |record )?([^\s:(]+)", line)
-            case = re.match(r"( *)(\S+) :", line)
-            if named and (is_mutual or not named[1]):
-                name, kind, depth = named[3], named[2], len(named[1])
-            elif case and kind == "data " and len(case[1]) == depth + 2:
-                self.owners[case[2]] = name
-            if name:
-                self.bodies[name] = f"{self.bodies.get(name, '')}{line}\n"
-
-    def needs(self, path, body):
-        """The module and the name of each word of a definition."""
-        for word in re.findall(r"[^\s(){}\[\],;]+", body):
-            first, _, rest = word.partition(".")
-            name = self.owners.get(first, first)
-            if name in self.bodies:
-                yield path, name
-            elif first in self.names:
-                yield self.names[first]
-            elif first in self.modules and rest:
-                yield self.modules[first], rest.split(".")[0]
-
-
-class Needed:
-    """The definitions that the clauses of functions are made of, by module, and the definitions below those."""
-
-    def __init__(self, roots):
-        self.known, self.found = {}, {}
-        todo = []
-        for root in roots.split("; "):
-            file, *functions = root.split()
-            names, _ = imports(text_of(f"crates/{file}"))
-            for function in functions:
-                head = re.search(rf"(?ms)^pub fn {function}\b.*?^\{{", text_of(f"crates/{file}"))
-                words = re.findall(r"[^\s(){}\[\],;]+", head[0])
-                todo += [names[word] for word in words if word in names]
-        while todo:
-            path, name = todo.pop()
-            module = self.module(path)
-            name = module.owners.get(name, name) if module else None
-            if module and name in module.bodies and name not in self.found.setdefault(path, set()):
-                self.found[path].add(name)
-                todo += module.needs(path, module.bodies[name])
-
-    def module(self, path):
-        """The file of specs/ of a module, if it is one of the repository's and not a type of Rust's."""
-        if path not in self.known:
-            crate, _, inner = path.partition(".specs.")
-            file = f"crates/{crate}/specs/{inner.replace('.', '/')}.antt"
-            self.known[path] = Module(file) if os.path.isfile(f"{TOP}/{file}") else None
-        return self.known[path]
-
-    def below(self, path):
-        """The modules that one uses."""
-        module = self.module(path)
-        return {it for it, _ in module.names.values()} | {*module.modules.values()}
-
-    def said(self, path):
-        """Which definitions of a module are needed."""
-        bodies = self.module(path).bodies
-        has = [name for name in bodies if name in self.found[path]]
-        left = [name for name in bodies if name not in self.found[path]]
-        few = ", ".join(f"`{name}`" for name in (has if len(has) <= len(left) else left))
-        return few if len(has) <= len(left) else f"all but {few}" if left else "all"
-
-
-class Page:
-    """A page, the sources that it quotes, and what is wrong with it."""
-
-    def __init__(self, path, sources):
-        self.path, self.sources = path, sources
-        self.lines = text_of(path).split("\n")
-        self.faults, self.counts, self.needed = [], {}, []
-        self.shown = set()
-
-    def fault(self, at, what):
-        self.faults.append(f"{self.path}:{at + 1}: {what}")
-
-    def count(self, what):
-        self.counts[what] = self.counts.get(what, 0) + 1
-
-    def look(self):
-        """Goes over the page once."""
-        at, mark = 0, None
-        while at < len(self.lines):
-            line = self.lines[at]
-            fence = re.match(r" *```+(.*)", line)
-            if fence:
-                end = next((k for k in range(at + 1, len(self.lines)) if re.match(r" *```+ *$", self.lines[k])), None)
-                if end is None:
-                    return self.fault(at, "this block does not end: write ``` behind it")
-                self.block(at + 1, fence[1].split(), self.lines[at + 1 : end])
-                at = end
-            elif comment := re.match(r"<!-- (rows(?:: [^>]*)?|rules|calls|(?:cases|reading order): [^>]*) -->$", line):
-                mark = comment[1]
-                begins = BEGINS[mark.split(":")[0]]
-                if not any(it.startswith(begins) for it in self.lines[at + 1 : at + 3]):
-                    self.fault(at, "nothing stands behind this mark: write it right behind, or take the mark away")
-            elif line.startswith("- ") and mark:
-                behind = (k for k in range(at, len(self.lines)) if not self.lines[k].startswith("- "))
-                end = next(behind, len(self.lines))
-                self.list(at, mark, end)
-                self.paths(at, "\n".join(self.lines[at:end]))
-                mark, at = None, end - 1
-            elif line.startswith("|"):
-                behind = (k for k in range(at, len(self.lines)) if not self.lines[k].startswith("|"))
-                end = next(behind, len(self.lines))
-                if mark:
-                    self.table(at, mark, end)
-                self.paths(at, "\n".join(self.lines[at:end]))
-                mark, at = None, end - 1
-            elif line.startswith("    ") and not self.lines[at - 1].strip():
-                behind = (k for k in range(at, len(self.lines)) if re.match(r"(?!    )\S| {1,3}\S", self.lines[k]))
-                end = next(behind, len(self.lines))
-                self.indented(at, [it[4:] for it in self.lines[at:end]])
-                at = end - 1
-            else:
-                self.paths(at, line)
-            at += 1
-
-    def paths(self, at, text):
-        """The paths in code and the links of some lines."""
-        for code in re.findall(r"`((?:crates|docs|scripts)/[^` ]*)`", text):
-            if not re.search(r"\b(NAME|CRATE|FILE|out)\b", code) and not glob.glob(f"{TOP}/{code}"):
-                self.fault(at, f"there is no {code}: name what is there now")
-        for code in re.findall(r"`((?:toml_span\w*|src|specs|proofs|must-fail)/[^` ]*)`", text):
-            known = glob.glob(f"{TOP}/crates/{code}") + glob.glob(f"{TOP}/crates/*/{code}")
-            if not known and not re.search(r"/(m|CRATE|X)\b", code):
-                self.fault(at, f"there is no {code}: name what is there now")
-        for link, anchor in re.findall(r"\]\(([^)#: ]*)#?([^): ]*)\)", text):
-            path = f"{os.path.dirname(self.path)}/{link}" if link else self.path
-            if not os.path.exists(f"{TOP}/{path}"):
-                self.fault(at, f"this link leads nowhere: {link}")
-            elif anchor and anchor not in anchors(path):
-                self.fault(at, f"no heading of {path} is called {anchor}")
-
-        told = re.findall(r"[Cc]lause `(\w+)` of (?:the law )?`([\w:]+)`", text)
-        told += [(clause, of) for of, clause in re.findall(r"`([\w:]+)`, clause `(\w+)`", text)]
-        for clause, function in told:
-            if clause not in self.sources.contracts_of([function]):
-                self.fault(at, f"{function} has no clause {clause}: say what is there now")
-        for code in re.findall(r"`([A-Za-z][\w:]*)[!.]*(?:\([^`]*\))?`", text):
-            for name in code.split("::"):
-                if re.search(r"_|[a-z][A-Z]|^[A-Z][a-z]", name) and name not in self.sources.names:
-                    self.fault(at, f"nothing is called {name}: say what is there now")
-
-    # ---- blocks
-
-    def block(self, at, words, lines):
-        if words[:1] == ["rust"]:
-            self.rust(at, lines)
-        elif words[:2] == ["text", "clause"]:
-            self.clauses(at, words[2:], lines)
-        elif words == ["text", "rows"]:
-            self.count("blocks of rows")
-            if position_of(self.sources.row_lines, lines) is None:
-                self.fault(at, f"these lines do not stand so in {ROWS}/stdout: quote them as they are there now")
-        elif words == ["toml", "row"]:
-            self.document(at, lines)
-        elif words[:2] in (["toml", "data"], ["console", "run"]) and len(words) == 3:
-            self.checked(at, words[1] == "data", words[2], lines)
-        elif words[1:2] == ["run"] and len(words) == 3 and words[0] in ("toml", "text"):
-            self.run(at, words[0] == "toml", words[2], lines)
-        elif words[:1] in (["sh"], ["bash"], ["console"]):
-            self.commands(at, lines)
-        elif words[:2] == ["text", "in"] and len(words) == 3:
-            self.count("outputs")
-            if not os.path.isfile(f"{TOP}/{words[2]}") or position_of(text_of(words[2]).split("\n"), lines) is None:
-                self.fault(at, f"these lines do not stand so in {words[2]}: quote them as they are there now")
-        elif words == ["text"]:
-            self.contracts(at, lines)
+def answers():
+    """The lines that answer each row of toml_span_rows."""
+    told, row = {}, None
+    for line in text_of(f"{ROWS}/stdout").split("\n"):
+        if line.startswith("    ") and row:
+            told[row].append(line[4:])
         else:
-            self.fault(at - 1, f"`{' '.join(words)}` is no mark: scripts/pages.py lists them")
-
-    def rust(self, at, lines):
-        """The parts between lines `// ..` stand in one file, one behind the other."""
-        self.count("blocks of code")
-        parts = [[]]
-        for k, line in enumerate(lines):
-            if line.strip().startswith("// .."):
-                parts.append([])
-            elif line.strip() or parts[-1]:
-                parts[-1].append((k, line.strip()))
-        parts = [part for part in parts if part]
-        for part in parts:
-            while not part[-1][1]:
-                part.pop()
-        far, where = -1, None
-        for path, source in self.sources.proved.items():
-            stands = self.how_far(parts, source)
-            if stands is None:
-                return
-            if stands > far:
-                far, where = stands, path
-        line = lines[max(far, 0)].strip()
-        best = f"{where} has the lines before it" if far > 0 else "no proved file begins so"
-        self.fault(at + max(far, 0), f"`{line}` does not stand so in the sources ({best}): quote them as they are now")
-
-    @staticmethod
-    def how_far(parts, source):
-        """None where all parts stand in the file, or the first line of the block that doesn't."""
-        start = 0
-        for part in parts:
-            place = position_of(source, [line for _, line in part], start)
-            if place is not None:
-                start = place + len(part)
-                continue
-            far = part[0][0]
-            for place in (k for k in range(start, len(source)) if source[k] == part[0][1]):
-                same = next((k for k, (_, line) in enumerate(part) if source[place + k : place + k + 1] != [line]), 0)
-                far = max(far, part[same][0])
-            return far
-        return None
-
-    def clauses(self, at, words, lines):
-        """Each paragraph stands in the sources."""
-        files = self.sources.quotable
-        if words:
-            path = words[0] if words[0].startswith("crates/") else f"crates/{words[0]}"
-            if path not in files:
-                return self.fault(at - 1, f"there is no {path} among the sources: name the file that has these lines")
-            files = {path: files[path]}
-        paragraph = []
-        for k, line in enumerate([*lines, ""]):
-            if line.strip():
-                paragraph.append(line)
-                continue
-            if paragraph:
-                self.count("clauses and definitions")
-                if not any(squeezed("\n".join(paragraph)) in text for text in files.values()):
-                    among = [*files][0] if words else "any file of src/ or specs/"
-                    self.fault(at + k - len(paragraph), f"this does not stand so in {among}: quote what is there now")
-            paragraph = []
-
-    def document(self, at, lines):
-        self.count("documents")
-        text = in_rows("\n".join(lines) + "\n")
-        if not any(row.endswith(f": {text}") for row in self.sources.answers):
-            self.fault(at, f"no row of {ROWS}/stdin has this text: add `parse 128: {text}` with its answer")
-
-    def run(self, at, is_input, name, lines):
-        self.count("runs")
-        beside = f"{SHOW}/{'stdin' if is_input else 'stdout'}"
-        path = beside if name == "stdin" else f"{SHOW}/runs/{name}{'' if is_input else '.stdout'}"
-        if not os.path.isfile(f"{TOP}/{path}"):
-            return self.fault(at - 1, f"there is no {path}: name a run that is there")
-        if text_of(path).rstrip("\n") != "\n".join(lines).rstrip("\n"):
-            self.fault(at, f"this is not {path}: quote it as it is now")
-
-    def checked(self, at, is_data, name, lines):
-        """A file that the checker reads, or a run of it."""
-        self.count("runs")
-        wanted = [f"{CHECK}/data/{name}"] if is_data else [f"{CHECK}/runs/{name}{end}" for end in RUN]
-        if not os.path.isfile(f"{TOP}/{wanted[0]}"):
-            return self.fault(at - 1, f"there is no {wanted[0]}: name what is there now")
-        texts = [text_of(path).rstrip("\n") for path in wanted if os.path.isfile(f"{TOP}/{path}")]
-        if not is_data:
-            texts[0] = f"$ toml_span_check {texts[0]}".replace("\n", " ")
-        if "\n".join(it for it in texts if it) != "\n".join(lines).rstrip("\n"):
-            self.fault(at, f"this is not {', '.join(wanted)}: quote it as it is now")
-
-    def contracts(self, at, lines):
-        """The names of each line stand in the contract of the function, or of the `impl`, above it."""
-        contract, above = None, ""
-        for k, line in enumerate(lines):
-            heads = re.findall(r"\bfn ([\w:]+)|^(?:impl|trait) (?:.* for )?(\w+)", line)
-            heads = [fn or of for fn, of in heads]
-            above = line if heads else above
-            contract = self.sources.contracts_of(heads) if heads else contract
-            self.count("lines of contracts")
-            if not contract:
-                self.fault(at + k, f"no contract of `{line.strip()}` is among the sources: name what is there now")
-                continue
-            for name in re.findall(r"(?<![\w'.<])[A-Za-z]\w{2,}", line):
-                if name not in contract and name not in above:
-                    self.fault(at + k, f"`{name}` does not stand in this contract: quote what is there now")
-
-    def indented(self, at, lines):
-        """Lines of a stored output, a line of crates.txt, or commands."""
-        while not lines[-1].strip():
-            lines.pop()
-        if re.match(r"(bash|python3|rt|\(cd) ", lines[0]):
-            return self.commands(at, lines)
-        if named := re.match(r"\w+: (.*)$", lines[0]):
-            for name in named[1].split():
-                if not re.search(rf"(?m)(^| ){name}(:| |$)", text_of("crates.txt")):
-                    self.fault(at, f"crates.txt names no {name}: name what is there now")
-        elif not any(position_of(text, lines) is not None for text in self.sources.outputs):
-            self.fault(at, "these lines stand in no stored output: quote them as they are there now")
-        self.count("indented blocks")
-
-    def commands(self, at, lines):
-        for k, line in enumerate(lines):
-            for path in re.findall(r"\b(?:scripts|docs|crates)/[\w./*-]+", line.split("#")[0]):
-                if not glob.glob(f"{TOP}/{path}"):
-                    self.fault(at + k, f"there is no {path}: name what is there now")
-
-    # ---- lists and tables
-
-    def list(self, at, mark, end):
-        """What each item of a list says."""
-        if mark == "rules":
-            return self.rules(at, end)
-        if mark.startswith("reading order: "):
-            return self.reading_order(at, Needed(mark[len("reading order: ") :]), end)
-        for k in range(at, end):
-            first, *told = split_outside_code(self.lines[k].removeprefix("- "), ": ")
-            if mark == "calls":
-                self.calls(k, {"Clauses": told[-1] if told else ""}, first)
-            else:
-                self.item(k, call_of(mark), first, told[0] if told else "")
-
-    def table(self, at, mark, end):
-        heads = self.cells(self.lines[at])
-        if mark.startswith("cases: "):
-            return self.cases(at, mark.split()[1:], heads, end)
-        for k in range(at + 2, end):
-            cells = self.cells(self.lines[k])
-            if mark == "calls":
-                self.calls(k, dict(zip(heads, cells)), cells[0])
-            else:
-                self.row(k, call_of(mark), heads, cells)
-
-    @staticmethod
-    def cells(line):
-        return [cell.strip() for cell in line.strip().strip("|").split("|")]
-
-    def item(self, at, call, text, told):
-        """The row of an item of a list, and what stands of its answer before a remark."""
-        self.example(at, call, text, re.findall(rf"(?:\b({'|'.join(FIELDS)}) )?`([^`]+)`", told))
-
-    def row(self, at, call, heads, cells):
-        """The row of the first cell of a line, and what the others say of its answer."""
-        told = []
-        for head, cell in zip(heads[1:], cells[1:]):
-            field = head.strip("`") if head.strip("`") in FIELDS else ""
-            told += [(field, words) for words in re.findall(r"`([^`]+)`", cell) if head]
-        self.example(at, call, cells[0], told)
-
-    def example(self, at, call, text, told):
-        """A row, and what is told of its answer: words of one of its lines, or a field."""
-        self.count("examples")
-        code = re.match(r"`([^`]*)`", text)
-        row = f"{call}: {code[1]}" if code else f"{call}:"
-        answer = self.sources.answers.get(row)
-        if answer is None:
-            return self.fault(at, f"no row `{row}`: add it to {ROWS}/stdin, and its answer to {ROWS}/stdout")
-        refused = answer[0].startswith("error ")
-        is_it = f"the answer to `{row}` is `{answer[0]}`" + self.more(answer)
-        for field, words in told:
-            if field:
-                stands = any(fields_of(line).get(field) == words for line in answer)
-            else:
-                stands = any(f" {words} " in f" {line} " for line in answer)
-            if not stands:
-                self.fault(at, f"`{words}` does not stand there: {is_it}")
-        fault = " ".join(answer[0].split()[1:3])
-        if not told:
-            self.fault(at, f"nothing of it is said in code: {is_it}")
-        elif refused and ("", fault) not in told:
-            self.fault(at, f"say `{fault}` in code: {is_it}")
-        if refused:
-            self.shown.add(answer[0].split()[1])
-
-    @staticmethod
-    def more(answer):
-        return "" if len(answer) == 1 else f" and {len(answer) - 1} more"
-
-    def cases(self, at, named, heads, end):
-        """Each cell has what the definition by cases gives, and each case has a cell."""
-        self.count("tables of cases")
-        path, function = named
-        found = re.findall(rf"(?m)^{function} (\w+) (\w+) = Some (\w+)$", text_of(f"crates/{path}"))
-        left = {(one, two): re.sub(r"(?<!^)(?=[A-Z])", "-", it).lower() for one, two, it in found}
-        for k in range(at + 2, end):
-            cells = self.cells(self.lines[k])
-            for head, cell in zip(heads[1:], cells[1:]):
-                one, two = re.findall(r"`(\w+)`", cells[0] + head)
-                said, wanted = "".join(re.findall(r"`([^`]+)`", cell)), left.pop((one, two), "")
-                if said != wanted:
-                    self.fault(k, f"`{function} {one} {two}` is `{wanted}` in {path}: write that in its cell")
-        for one, two in left:
-            self.fault(at, f"no cell has `{function} {one} {two}` of {path}: add it")
-
-    def reading_order(self, at, needed, end):
-        """Each file with something needed stands behind those that it uses."""
-        self.count("reading orders")
-        read = set()
-        for k in range(at, end):
-            file = self.lines[k].removeprefix("- ").split(": ")[0].strip("`")
-            path = file.removesuffix(".antt").replace("/", ".")
-            if path not in needed.found or path in read:
-                self.fault(k, f"nothing of {file} is needed that no line above says: take this line away")
-                continue
-            read.add(path)
-            for other in sorted(needed.below(path) & needed.found.keys() - read):
-                self.fault(k, f"{file} uses {other}: write it behind the line of that file")
-            self.needed.append(f"{file}: {needed.said(path)}")
-        for path in sorted(needed.found.keys() - read):
-            self.fault(at, f"no line names {path}, of which is needed: {needed.said(path)}")
-
-    def calls(self, at, cells, first):
-        """What is named as clauses belongs to the calls of the first cell."""
-        self.count("calls")
-        names = [name for code in re.findall(r"`([^`]+)`", first) for name in re.findall(r"[A-Za-z_]\w*", code)]
-        contract = self.sources.contracts_of(names)
-        for code in re.findall(r"`([^`]+)`", cells.get("Clauses", "")):
-            for name in re.findall(r"[A-Za-z_]\w*", code):
-                if name not in contract:
-                    self.fault(at, f"`{name}` stands in no contract of {', '.join(names)}: name what is there now")
-
-    # ---- rules
-
-    def rules(self, at, end):
-        """Each line of a list has its definition, its code and a row."""
-        head = next(k for k in range(at, -1, -1) if k == 0 or self.lines[k].startswith("#"))
-        crate = re.search(r"(?m)In `(toml_span\w*)`:$", "\n".join(self.lines[head:at]))
-        if not crate:
-            return self.fault(at, "no crate is named above this list: write a line that ends in \"In `CRATE`:\"")
-        for k in range(at, end):
-            *front, code, row = split_outside_code(f"; ; {self.lines[k]}", "; ")
-            words = split_outside_code("; ".join(front), ". ")
-            if len(words) < 2:
-                self.fault(k, "this is not `- WORDS. DEFINITION; CODE; ROW`: write it so")
-            else:
-                self.rule(k, crate[1], words[-1], code, row)
-
-    def rule(self, at, crate, definition, code, row):
-        """What a rule names is there."""
-        self.count("rules")
-        for name, paths in self.named(at, crate, definition, "specs", ".", ".antt"):
-            if not any(defines(path, name) for path in paths):
-                self.fault(at, f"{', '.join(paths)} has no definition {name}: name the file that has it")
-        for name, paths in self.named(at, crate, code, "src", "::", ".rt"):
-            if not any(re.search(rf"(?m)^ *{ITEM} {re.escape(name)}\b", text_of(path)) for path in paths):
-                self.fault(at, f"{', '.join(paths)} has no function {name}: name the file that has it")
-        for told in (definition, code):
-            if "`" not in told and not told.startswith("none"):
-                self.fault(at, "no name stands here: write one, or say `none` and why")
-        self.rows_of_rule(at, row)
-
-    def named(self, at, crate, told, folder, mark, end):
-        """The names of a part of a rule, and the files that may have each."""
-        for code in re.findall(r"`([^`]+)`", told):
-            parts = code.split("{")[0].rstrip(mark).split(mark)
-            names = re.findall(r"[^\s,{}]+", code.split("{")[1]) if "{" in code else [parts.pop()]
-            of = parts.pop(0) if parts[:1] and parts[0].startswith("toml_span") else crate
-            file = f"{'/'.join(parts)}{end}"
-            top = f"{TOP}/crates/{of}/{folder}"
-            paths = [file] if os.path.isfile(f"{top}/{file}") else glob.glob(f"**/{file}", root_dir=top, recursive=True)
-            if not parts or not paths:
-                self.fault(at, f"there is no crates/{of}/{folder}/{file}: name what is there now")
-            else:
-                yield from ((name, [f"crates/{of}/{folder}/{path}" for path in paths]) for name in names)
-
-    def rows_of_rule(self, at, told):
-        """Each text is a row with an answer, or begins one; a path is there."""
-        codes = re.findall(r"`([^`]+)`", told)
-        if not codes and not told.startswith("none"):
-            self.fault(at, "no row stands in code here: name one, or say `none` and why")
-        for code in codes:
-            if re.match(r"(?:toml_span\w*|crates|scripts)/", code):
-                if not any(os.path.exists(f"{TOP}/{before}{code}") for before in ("", "crates/")):
-                    self.fault(at, f"there is no {code}: name what is there now")
-                continue
-            parts = re.compile(f"(?:parse 128: )?{re.escape(code)}".replace(r"\.\.", ".*"), re.DOTALL)
-            known = [row for row in self.sources.answers if parts.fullmatch(row)]
-            if len(known) != 1:
-                self.fault(at, f"{len(known)} rows are `{code}` in {ROWS}/stdin and stdout: name one that is there")
-
-
-ITEM = r"(?:pub(?:\(crate\))? )?(?:const )?(?:fn|const|static|struct|enum|trait|macro_rules!)"
-
-
-def defines(path, name):
-    """Whether a file has this definition."""
-    forms = (
-        rf"^(?:(?:abbrev|unfoldable) )?(?:mutual )?pub {re.escape(name)} :",
-        rf"^ *pub (?:(?:record|data) )?{re.escape(name)}\b",
-        rf"^ +{re.escape(name)} :",
-    )
-    return any(re.search(form, text_of(path), re.M) for form in forms)
+            row = line if line and not line.startswith("#") else None
+            told |= {row: []} if row else {}
+    return told
 
 
 class Sources:
     """What pages quote, read once."""
 
     def __init__(self):
-        self.proved = proved_sources()
-        self.quotable = quotable()
-        self.answers = answers()
-        self.row_lines = text_of(f"{ROWS}/stdout").split("\n")
-        self.heads, self.outputs = {}, []
-        self.names = {*FOREIGN, *(it.split(".")[0] for it in os.listdir(f"{TOP}/scripts"))}
-        for folder, inner, files in os.walk(f"{TOP}/crates"):
-            inner[:] = [it for it in inner if it != "out"]
-            self.names |= {it.split(".")[0] for it in [*inner, *files]}
-            stored = [os.path.relpath(f"{folder}/{it}", TOP) for it in files if it.endswith("stdout")]
-            self.outputs += [text_of(path).split("\n") for path in stored]
+        code = {path: text_of(path) for path in found("crates/*/src/**/*.rt")}
+        specs = {path: text_of(path) for path in found("crates/*/specs/**/*.antt")}
+        proofs = {path: text_of(path) for path in found("crates/*/proofs/**/*.antt")}
+        worked = {path: text for path, text in proofs.items() if path.endswith("proofs/Examples.antt")}
+        self.modules = {}
+        for path, text in [*code.items(), *specs.items()]:
+            name = os.path.basename(path).split(".")[0]
+            self.modules[name] = self.modules.get(name, "") + text
+        self.code = {path: [line.strip() for line in text.split("\n")] for path, text in code.items()}
+        self.quotable = {path: squeezed(text) for path, text in (code | specs | worked).items()}
+        self.answers, self.row_lines = answers(), text_of(f"{ROWS}/stdout").split("\n")
+        stored = found("crates/*/stdout") + found("crates/*/runs/**/*stdout")
+        self.outputs = [text_of(path).split("\n") for path in stored]
         self.outputs.append([line.removeprefix("    ") for line in self.row_lines])
-        for path in glob.glob("crates/*/src/**/*.rt", root_dir=TOP, recursive=True):
-            self.code(text_of(path))
-        for path in glob.glob("crates/*/[sp][pr]*/**/*.antt", root_dir=TOP, recursive=True):
-            text = bare(text_of(path))
+        self.heads, self.names = {}, {*FOREIGN}
+        for folder in ("crates/*/[!o]*", "crates/*/[!o]*/**/*", "scripts/*", "crates/*"):
+            self.names |= {os.path.basename(path).split(".")[0] for path in found(folder)}
+        for path in found("include/*.h*") + found("python/src/*/*.py"):
+            self.names |= {*re.findall(r"\w+", text_of(path))}
+        for text in code.values():
+            self.contracts(re.sub(r"(?m)^\s*//.*\n", "", text))
+        for text in [*specs.values(), *proofs.values()]:
+            text = re.sub(r"(?m)(^|(?<=\s))--(\s.*|-.*)?$", "", text)
             self.names |= {*re.findall(r"\bpub (?:data |record )?([^\s:(]+)", text)}
-            self.names |= {*re.findall(r"(?m)^ *([^\s:(]+)", text), *imports(text_of(path))[0]}
+            self.names |= {*re.findall(r"(?m)^ *([^\s:(]+)", text)}
+            for group in re.findall(r"(?m)^use [\w.]+\.\{(.*)\}$", text):
+                self.names |= {*re.findall(r"[^\s,]+", group)}
 
-    def code(self, text):
-        """The names that a file of src/ has or uses, and the contracts by functions, types and traits."""
-        text = re.sub(r"(?m)^\s*//.*\n", "", text)
+    def contracts(self, text):
+        """Adds the names of a file of src/, and the words of its contracts by functions, types and traits."""
         self.names |= {*re.findall(r"\w+", text)}
         for item in re.split(r"(?m)^(?=pub|fn|impl|trait|#)", text):
             of = re.findall(r"\w+", re.sub(r"<[^{]*?>", "", item.split("\n")[0]))
+            is_block = of[:1] in (["impl"], ["trait"])
             ghosts = " ".join(re.findall(r"(?ms)^    ghost (?!use)(.*?);\n", item))
             for head in re.findall(r"(?ms)^ *(?:pub(?:\(crate\))? )?(?:const )?fn .*?(?:^ *\{$|\{\n|;$|\Z)", item):
                 name = re.search(r"fn (\w+)", head)[1]
                 self.heads.setdefault(name, set()).update(re.findall(r"\w+", f"{head} {ghosts}"))
-                ghosts += head if of[:1] in (["impl"], ["trait"]) else ""
-            for name in of if of[:1] in (["impl"], ["trait"]) else []:
+                ghosts += head if is_block else ""
+            for name in of if is_block else []:
                 self.heads.setdefault(name, set()).update(re.findall(r"\w+", ghosts))
 
     def contracts_of(self, names):
@@ -721,32 +145,371 @@ class Sources:
         return {word for name in names for part in name.split("::") for word in self.heads.get(part, ())}
 
 
-def untold(page, sources):
-    """The faults that `parse` tells in a row and that have no example on the page of the language."""
-    told = [lines[0].split() for row, lines in sources.answers.items() if row.startswith("parse ")]
-    codes = {words[1] for words in told if words[0] == "error"}
-    for code in sorted(codes - page.shown):
-        page.fault(0, f"no example of the fault {code} is on this page: add one to a table of rows")
+class Page:
+    """A page, the sources that it quotes, and what is wrong with it."""
+
+    def __init__(self, path, sources):
+        self.path, self.sources, self.lines = path, sources, text_of(path).split("\n")
+        self.faults, self.shown = [], set()
+        self.look()
+
+    def fault(self, at, what):
+        self.faults.append(f"{self.path}:{at + 1}: {what}")
+
+    def until(self, at, is_end):
+        """The first line from here on that is one, or the end of the page."""
+        return next((k for k in range(at, len(self.lines)) if is_end(self.lines[k])), len(self.lines))
+
+    def look(self):
+        at, mark = 0, None
+        while at < len(self.lines):
+            line, end = self.lines[at], at + 1
+            if fence := re.match(r" *```+(.*)", line):
+                end = self.until(at + 1, lambda it: re.match(r" *```+ *$", it)) + 1
+                self.block(at + 1, fence[1].split(), self.lines[at + 1 : end - 1])
+            elif comment := re.match(r"<!-- (.*) -->$", line):
+                mark = comment[1]
+                if not any(it.startswith(("- ", "|")) for it in self.lines[at + 1 : at + 3]):
+                    self.fault(at, "no list or table follows this mark")
+            elif line.startswith(("- ", "|")):
+                end = self.until(at, lambda it: not it.startswith(line[:1]))
+                if mark:
+                    self.marked(at, mark, end)
+                self.names(at, "\n".join(self.lines[at:end]))
+                mark = None
+            elif line.startswith("    ") and not self.lines[at - 1].strip():
+                end = self.until(at, lambda it: re.match(r"(?!    )\S| {1,3}\S", it))
+                self.indented(at, "\n".join(it[4:] for it in self.lines[at:end]).rstrip("\n").split("\n"))
+            else:
+                self.names(at, line)
+            at = end
+
+    def names(self, at, text):
+        """The paths, links, clauses and names of some lines."""
+        folders = r"crates|docs|scripts|toml_span\w*|src|specs|proofs|must-fail|mistakes"
+        for code in re.findall(rf"`(?:bash |python3 )?((?:{folders})/[^` ]*)", text):
+            is_open = re.search(r"\b(NAME|CRATE|FILE|X|m|out)\b", code)
+            if not is_open and not any(found(before + code) for before in ("", "crates/", "crates/*/")):
+                self.fault(at, f"there is no {code}")
+        for link, anchor in re.findall(r"\]\(([^)#: ]*)#?([^): ]*)\)", text):
+            path = f"{os.path.dirname(self.path)}/{link}" if link else self.path
+            if not os.path.exists(f"{TOP}/{path}"):
+                self.fault(at, f"this link leads nowhere: {link}")
+            elif anchor:
+                heads = [re.sub(r"[^\w -]", "", it).lower() for it in re.findall(r"(?m)^#+ (.*)$", text_of(path))]
+                if anchor not in [it.replace(" ", "-") for it in heads]:
+                    self.fault(at, f"{path} has no heading {anchor}")
+        told = re.findall(r"[Cc]lause `(\w+)` of (?:the law )?`([\w:]+)`", text)
+        told += [(clause, of) for of, clause in re.findall(r"`([\w:]+)`, clause `(\w+)`", text)]
+        for clause, function in told:
+            if clause not in self.sources.contracts_of([function]):
+                self.fault(at, f"{function} has no clause {clause}")
+        for code in re.findall(r"`([A-Za-z][\w:]*)[!.]*(?:\([^`]*\))?`", text):
+            for name in code.split("::"):
+                if re.search(r"_|[a-z][A-Z]|^[A-Z][a-z]", name) and name not in self.sources.names:
+                    self.fault(at, f"nothing is called {name}")
+
+    # ---- blocks
+
+    def block(self, at, words, lines):
+        kind, name = words[:2], words[2] if len(words) == 3 else ""
+        if words[:1] == ["rust"]:
+            self.rust(at, lines)
+        elif kind == ["text", "clause"]:
+            self.clauses(at, f"crates/{name}" if name else "", lines)
+        elif kind in (["text", "rows"], ["text", "in"]):
+            self.quoted(at, f"{ROWS}/stdout" if kind[1] == "rows" else name, lines, position_of)
+        elif kind == ["toml", "data"]:
+            paths = [*found(f"crates/*/data/{name}"), *found(f"crates/*/runs/data/{name}"), name]
+            self.quoted(at, paths[0], lines, self.is_whole)
+        elif kind == ["console", "run"]:
+            self.run(at, name, lines)
+        elif words[:1] == ["sh"]:
+            self.commands(at, lines)
+        else:
+            self.fault(at - 1, f"`{' '.join(words)}` is not a mark: see scripts/pages.py")
+
+    @staticmethod
+    def is_whole(text, lines):
+        return 0 if "\n".join(text).rstrip("\n") == "\n".join(lines).rstrip("\n") else None
+
+    def quoted(self, at, path, lines, place):
+        if not os.path.isfile(f"{TOP}/{path}") or place(text_of(path).split("\n"), lines) is None:
+            self.fault(at, f"{path} does not have these lines")
+
+    def rust(self, at, lines):
+        """The parts between lines `// ..` follow each other in one file."""
+        parts = [[]]
+        for line in map(str.strip, lines):
+            parts = [*parts, []] if line.startswith("// ..") else [*parts[:-1], [*parts[-1], line]]
+        parts = ["\n".join(part).strip("\n").split("\n") for part in parts if any(part)]
+        for source in self.sources.code.values():
+            start = 0
+            for part in parts:
+                place = position_of(source, part, start) if start is not None else None
+                start = place + len(part) if place is not None else None
+            if start is not None:
+                return
+        self.fault(at, "no file of the sources has these lines")
+
+    def clauses(self, at, path, lines):
+        files = self.sources.quotable
+        texts = files.values() if not path else [files.get(path, "")]
+        for paragraph in re.split(r"\n\s*\n", "\n".join(lines).strip("\n")):
+            if not any(squeezed(paragraph) in text for text in texts):
+                self.fault(at, f"{path or 'no source'} does not have `{paragraph.strip()[:60]}`..")
+
+    def run(self, at, name, lines):
+        command, *said = "\n".join(lines).rstrip("\n").split("\n")
+        command = re.sub(r"^\$ \S+ ", "", command)
+        for run in found(f"crates/*/runs/**/{name}.args") + found(f"crates/*/runs/{name}/args"):
+            files = [run.removesuffix("args") + end for end in ("stdout", "stderr")]
+            told = [text_of(it).rstrip("\n") for it in files if os.path.isfile(f"{TOP}/{it}")]
+            words = text_of(run).splitlines()
+            if command in (" ".join(words), shlex.join(words)) and said == "\n".join(filter(None, told)).split("\n"):
+                return
+        self.fault(at, f"no run crates/*/runs/{name} is like this")
+
+    def indented(self, at, lines):
+        if re.match(r"(bash|python3|rt|\(cd) ", lines[0]):
+            self.commands(at, lines)
+        elif named := re.match(r"\w+: (.*)$", lines[0]):
+            for name in named[1].split():
+                if not re.search(rf"(?m)(^| ){name}(:| |$)", text_of("crates.txt")):
+                    self.fault(at, f"crates.txt has no {name}")
+        elif not any(position_of(text, lines) is not None for text in self.sources.outputs):
+            self.fault(at, "no stored output has these lines")
+
+    def commands(self, at, lines):
+        for k, line in enumerate(lines):
+            for path in re.findall(r"\b(?:scripts|docs|crates)/[\w./*-]+", line.split("#")[0]):
+                if not found(path):
+                    self.fault(at + k, f"there is no {path}")
+
+    # ---- lists and tables
+
+    def marked(self, at, mark, end):
+        kind, _, of = mark.partition(": ")
+        rows = [self.cells(self.lines[k]) for k in range(at, end)]
+        if kind == "rules":
+            self.rules(at, end)
+        elif kind not in ("rows", "calls"):
+            self.fault(at - 1, f"`{mark}` is not a mark: see scripts/pages.py")
+        for k in range(at, end) if kind in ("rows", "calls") else []:
+            first, *told = split_outside_code(self.lines[k].removeprefix("- "), ": ")
+            if kind == "calls":
+                self.calls(k, first, told[-1] if told else "")
+            elif self.lines[k].startswith("- "):
+                said = re.findall(rf"(?:\b({'|'.join(FIELDS)}) )?`([^`]+)`", told[0] if told else "")
+                self.example(k, of or "parse 128", first, said)
+            elif k > at + 1:
+                heads = [it.strip("`") for it in rows[0]]
+                said = [(it, words) for it, cell in zip(heads[1:], rows[k - at][1:]) if it for words in codes_in(cell)]
+                said = [(it if it in FIELDS else "", words) for it, words in said]
+                self.example(k, of or "parse 128", rows[k - at][0], said)
+
+    @staticmethod
+    def cells(line):
+        return [cell.strip() for cell in line.strip().strip("|").split("|")]
+
+    def example(self, at, call, text, told):
+        """A row, and what is said of its answer: words of one of its lines, or a field."""
+        code = re.match(r"`([^`]*)`", text)
+        row = f"{call}: {code[1]}" if code else f"{call}:"
+        answer = self.sources.answers.get(row)
+        if answer is None:
+            return self.fault(at, f"there is no row `{row}`")
+        said = f"the answer to `{row}` is `{answer[0]}`" + (f" and {len(answer) - 1} more" if len(answer) > 1 else "")
+        for field, words in told:
+            span = re.fullmatch(r"(\d+)\.\.(\d+)", words)
+            value = f"Span {{ start: {span[1]}, end: {span[2]} }}" if span and field else f'"{words}"'
+            if not any(f"{field}: {value}" in line if field else f" {words} " in f" {line} " for line in answer):
+                self.fault(at, f"`{words}` is not there: {said}")
+        words = answer[0].split()
+        if not told or words[0] == "error" and ("", " ".join(words[1:3])) not in told:
+            self.fault(at, f"what this returns is not said in code: {said}")
+        self.shown |= {words[1]} if words[0] == "error" else set()
+
+    def calls(self, at, first, clauses):
+        names = [name for code in codes_in(first) for name in re.findall(r"[A-Za-z_]\w*", code)]
+        contract = self.sources.contracts_of(names)
+        for name in re.findall(r"[A-Za-z_]\w*", " ".join(codes_in(clauses))):
+            if name not in contract:
+                self.fault(at, f"no contract of {', '.join(names)} has `{name}`")
+
+    def rules(self, at, end):
+        """Each line of a list names definitions, functions and rows that exist."""
+        for k in range(at, end):
+            *words, code, row = split_outside_code(f"; ; {self.lines[k]}", "; ")
+            words = split_outside_code("; ".join(words), ". ")
+            for told in (words[-1] if len(words) > 1 else "", code, row):
+                if "`" not in told and not told.startswith("none"):
+                    self.fault(k, "this is not `- WORDS. DEFINITIONS; FUNCTIONS; ROWS`, nor is it said why it has none")
+            for told in codes_in(f"{words[-1]} {code}"):
+                *_, module, names = re.split(r"::|\.(?!\.)", f"x.{told}")
+                for name in re.findall(r"[^\s,{}]+", names):
+                    if not re.search(rf"(?<!\w){re.escape(name)}(?!\w)", self.sources.modules.get(module, "")):
+                        self.fault(k, f"no file {module} of src/ or specs/ has {name}")
+            self.rows_of_rule(k, row)
+
+    def rows_of_rule(self, at, told):
+        for code in codes_in(told):
+            if re.match(r"(?:toml_span\w*|crates|scripts)/", code):
+                if not found(code) and not found(f"crates/{code}"):
+                    self.fault(at, f"there is no {code}")
+                continue
+            row = re.compile(f"(?:parse 128: )?{re.escape(code)}".replace(r"\.\.", ".*"), re.DOTALL)
+            count = sum(bool(row.fullmatch(it)) for it in self.sources.answers)
+            if count != 1:
+                self.fault(at, f"{count} rows are `{code}`")
+
+
+def edits(sources):
+    """What is wrong with the edits: text that is not in its file once, or a clause that does not exist."""
+    for path in found("crates/*/must-fail/*.edit") + found("crates/*/mistakes/*.edit"):
+        first, words, *lines = text_of(path).split("\n")
+        if not first.startswith("clause: ") or not words.endswith("."):
+            yield f"{path}: it does not begin with `clause: FUNCTION CLAUSE, ..` and a sentence that says what is wrong"
+        for function, _, clause in (it.rpartition(" ") for it in first.removeprefix("clause: ").split(", ")):
+            if clause not in sources.contracts_of(re.findall(r"\w+", function)):
+                yield f"{path}: {function} has no clause {clause}"
+        file = old = text = ""
+        for kind, _, said in (line.partition(": ") for line in lines):
+            if kind == "file":
+                file, text = said, text_of(f"{os.path.dirname(os.path.dirname(path))}/{said}")
+            elif kind == "old" and text.count(said) != 1:
+                yield f"{path}: {file} has `{said.strip()}` {text.count(said)} times"
+            elif kind == "new":
+                text = text.replace(old, said)
+            old = said
+
+
+def citations():
+    """The lines that cite something that the repository does not have."""
+    kinds = ["*.rt", "*.antt", "*.md", "*.edit", "*.sh", ".ci/run"]
+    listed = subprocess.run(["git", "ls-files", "--", *kinds], cwd=TOP, stdout=subprocess.PIPE, text=True, check=True)
+    for path in filter(lambda it: os.path.isfile(f"{TOP}/{it}"), listed.stdout.split("\n")):
+        for at, line in enumerate(text_of(path).split("\n")):
+            if any(it.search(line) for it in CITED):
+                yield f"{path}:{at + 1}: this cites something that is not in the repository: {line.strip()[:80]}"
+
+
+# ---- public items
+
+HEAD = re.compile(r"(?s)(.*?)(?=\s*(?:[{;]|\Z|\n\s*(?:requires|ensures|follows|where)\b))")
+HEADED = re.compile(r'(pub )?(?:pub\(\w+\) )?(?:const (?=fn))?(?:extern "C" (?=fn))?(\w+)!?\W*(\w+)?')
+TYPES = ("struct", "enum", "trait")
+
+
+def code_of(path):
+    """A file of src/ without its comments."""
+    return re.sub(r"(?m)^\s*//.*\n", "", text_of(path))
+
+
+def line_of(text):
+    text = re.sub(r"\s+", " ", text).strip().replace(", }", " }")
+    return re.sub(r",? ([)\]]|>(?=[,( ]))", r"\1", re.sub(r"([(<\[]) ", r"\1", text))
+
+
+def items_of(text):
+    return [it.strip("\n") for it in re.split(r"(?m)^(?=#!?\[|\w)", text) if it.strip()]
+
+
+def body_of(item):
+    inner = re.search(r"(?ms)\{\n(.*)^\}", item)
+    return re.sub(r"(?m)^    ", "", inner[1]) if inner else ""
+
+
+class Crate:
+    """The public items of a library, each as a line with the module that it is in."""
+
+    def __init__(self, name):
+        self.lines, self.impls, self.private, self.path = [], [], {"Model"}, name
+        src = f"crates/{name}/src"
+        texts = "".join(code_of(it) for it in found(f"{src}/**/*.rt"))
+        self.handed_on = {*re.findall(r"\w+", " ".join(re.findall(r"(?ms)^ *pub use ([^;]*);", texts)))}
+        self.module(name, code_of(f"{src}/lib.rt"), src, True)
+        for self.path, item in self.impls:
+            head = line_of(HEAD.match(item)[1])
+            if not self.private & {*re.findall(r"\w+", head)}:
+                name = re.sub(r"<.*>", "", re.sub(r"^impl(<[^>]*>)? ", "", head))
+                self.says(head) if " for " in head else self.calls(name, body_of(item), r"pub (?:const )?(?:fn|const)")
+
+    def says(self, what):
+        self.lines.append(f"{self.path}: {what}")
+
+    def module(self, path, text, folder, is_open):
+        held = ""
+        for item in items_of(text):
+            self.path = path
+            if item.startswith("#"):
+                held += item
+                continue
+            is_public, kind, name = HEADED.match(item).groups()
+            if kind == "impl":
+                self.impls.append((path, item))
+            elif kind == "mod" and name != "laws":
+                inner = body_of(item) if "{" in item else code_of(f"{folder}/{name}.rt")
+                self.module(f"{path}::{name}", inner, f"{folder}/{name}", is_open and is_public)
+            elif kind == "macro_rules" and "#[macro_export]" in held:
+                self.says(f"macro {name}!")
+            elif kind == "use" and is_public:
+                base, _, group = item[len("pub use ") :].rstrip("};").partition("{")
+                for one in group.strip(" ,\n").split(","):
+                    self.says(f"use {base.strip()}{one.strip()}")
+            elif is_public and (is_open or name in self.handed_on):
+                self.public(kind, name, item, held)
+            elif kind in TYPES:
+                self.private.add(name)
+            held = ""
+
+    def public(self, kind, name, item, held):
+        own = re.sub(r"(?m)^ *#\[.*\n", "", item)[len("pub ") :]
+        derived = ", ".join(re.findall(r"derive(?:_where)?\(([^);]*)", held))
+        if kind in (*TYPES, "fn", "type"):
+            self.says(line_of(HEAD.match(own)[1]) + (f" derives {line_of(derived)}" if derived else ""))
+        elif kind in ("const", "static"):
+            self.says(line_of(own.split("=")[0]))
+        if kind == "struct":
+            for field in re.findall(r"(?m)^pub (\w+: .*),$", body_of(own)):
+                self.says(f"{name}.{field}")
+        elif kind == "enum":
+            for variant in re.split(r",\n(?=\w)", body_of(own)):
+                self.says(f"{name}::{line_of(variant.rstrip().rstrip(','))}")
+        elif kind == "trait":
+            self.calls(name, body_of(own), r"(?:const )?fn|type")
+
+    def calls(self, name, body, kinds):
+        for call in items_of(re.sub(r"(?m)^#\[.*\n", "", body)):
+            if re.match(kinds, call):
+                self.says(f"{name}::{line_of(HEAD.match(re.sub(r'^(pub )?(const )?(fn |type )?', '', call))[1])}")
+
+
+def public_items(words):
+    """Compares docs/public_items.txt with the libraries, except those of laws alone, or writes it."""
+    libraries = re.findall(r"(?m)^(\w+)(?: \w+)*:", text_of("crates.txt"))
+    libraries = [it for it in libraries if found(f"crates/{it}/src/lib.rt") and not it.endswith("_laws")]
+    items = sorted(line for library in libraries for line in Crate(library).lines)
+    if "--items" in words:
+        with open(f"{TOP}/docs/public_items.txt", "w", encoding="utf-8") as file:
+            print(*items, sep="\n", file=file)
+    kept = text_of("docs/public_items.txt").split("\n")[:-1]
+    for line in difflib.ndiff(kept, items):
+        if line[0] in "+-":
+            yield f"docs/public_items.txt: {line}"
 
 
 def main(words):
-    named = [word for word in words if not word.startswith("-")]
-    paths = named or ["README.md", *sorted(glob.glob("docs/*.md", root_dir=TOP))]
-    sources, counts, faults = Sources(), {}, []
-    for path in paths:
-        page = Page(path, sources)
-        page.look()
-        if path == "docs/LANGUAGE.md":
-            untold(page, sources)
-        faults += page.faults
-        if "--needed" in words:
-            print("\n".join(page.needed), end="\n" if page.needed else "")
-        for what, count in page.counts.items():
-            counts[what] = counts.get(what, 0) + count
-    for fault in faults:
-        print(fault)
-    said = ", ".join(f"{count} {what}" for what, count in counts.items())
-    print(f"{len(paths)} pages: {said}; {len(faults)} wrong")
+    sources, named = Sources(), [word for word in words if not word.startswith("-")]
+    pages = [Page(path, sources) for path in named or ["README.md", *found("docs/*.md")]]
+    faults = [fault for page in pages for fault in page.faults]
+    if not named:
+        faults += [*edits(sources), *citations(), *public_items(words)]
+        shown = {code for page in pages if page.path == "docs/LANGUAGE.md" for code in page.shown}
+        told = [lines[0].split() for row, lines in sources.answers.items() if row.startswith("parse ")]
+        codes = {it[1] for it in told if it[0] == "error"}
+        faults += [f"docs/LANGUAGE.md has no example of {code}" for code in sorted(codes - shown)]
+    print(*faults, f"{len(pages)} pages, {len(faults)} faults", sep="\n")
     return 1 if faults else 0
 
 

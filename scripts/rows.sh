@@ -1,10 +1,10 @@
 #!/usr/bin/env bash
-# Rows of tests: bash scripts/rows.sh [ROW..]
+# Runs rows of tests: bash scripts/rows.sh [ROW..]
 #
-# With rows as words it prints each with its answer. With none it holds the rows of crates/toml_span_rows/stdout against
-# the program: it makes `stdin` of the lines of `stdout` that are no answers, runs it, and shows each answer that differs
-# (< as stored, > now), with status 1. docs/ROWS.md says how a row is read. What runs is a native build
-# (scripts/native.sh), which is made once after a change of the sources.
+# Prints each given row with its answer. Without arguments it compares the rows of crates/toml_span_rows/stdout with the
+# program: it makes `stdin` of the lines of `stdout` that are not answers, runs it, and shows each answer that differs
+# (< as stored, > now), with status 1. docs/ARCHITECTURE.md ("Tests are rows of data") says how a row is read. The
+# program is a native build (scripts/native.sh), which is made once after a change of the sources.
 set -euo pipefail
 cd "$(dirname "$0")/.."
 program=$(bash scripts/native.sh toml_span_rows </dev/null)

@@ -1,28 +1,30 @@
 #!/usr/bin/env python3
-"""Measures how fast documents are read: speed.py [--bytes N,..] [--passes N] [--rounds N] [--instructions]
-[--crate FOLDER] [KIND|FILE..]
+"""Measures how fast documents are parsed, or how much stack and memory that takes:
+speed.py [--bytes N,..] [--passes N] [--rounds N] [--instructions] [--crate FOLDER] [KIND|FILE..]
+speed.py --limits [PROGRAM..]
 
-It makes a document of each kind, of about N bytes (1,000,000), in a temporary folder, or takes a file that is named,
-and lets toml_span_bench parse it: the proved build where it is no older than the sources, else a native build without
-the proofs (scripts/native.sh). With --crate, an unpacked copy of the Rust crate toml-span is measured beside it: a
-small program over it is built by cargo in the temporary folder (cargo has to reach the crate's own dependency
-smallvec), and the two run in turn.
+A document of each kind, of about N bytes (1,000,000), or a file, is parsed by toml_span_bench: by the proved build if
+it is no older than the sources, else by a native build (scripts/native.sh). With --crate, an unpacked copy of the Rust
+crate toml-span is measured beside it, by a small program that cargo builds.
 
-A line says, for each byte of the text, how many nanoseconds of processor time a parse takes, with the drop of the
-tree: `user` is the program's own time, `all` has the system's part too. It is the difference between a run of one
-parse and a run of N more (--passes, 10; of a text shorter than a megabyte as many times more as it is shorter), so that
-the start and the reading of the file are left out; of the rounds (--rounds, 3) the best. `peak` is the most memory that
-a process of one parse held, in MB (some 20 MB are this script's own, before the program starts), and a ratio says how
-many times as long the Rust crate took. How the time grows is seen by several sizes: --bytes 100000,1000000,10000000.
+A line has, for each byte of the text, the nanoseconds of processor time of a parse and the drop of its tree: `user` is
+the program's own time, `all` includes the system's. It is the difference between a run of one parse and a run of N
+more (--passes, 10; more for a text shorter than a megabyte), so that start and reading are left out; the best of the
+rounds (--rounds, 3). `peak` is the most memory of one parse in MB (some 20 MB are this script's own). A ratio says how
+many times as long the Rust crate took. With --instructions a line has the instructions of a parse for each byte, as
+valgrind's callgrind counts them: they do not change with what else the machine does.
 
-With --instructions a line says instead how many instructions a parse takes for each byte, and how many times as many
-the Rust crate takes: what valgrind's callgrind counts, which does not change with what else the machine does.
+--limits runs programs that read standard input (native builds of toml-span and toml_span_show unless they are given) on
+the worst documents at the limit of 128 nested levels (a path has at most 128 keys of a header and 128 of an
+assignment). Stack: the least `ulimit -s`, in KB and to 4 KB, with which the program ends by itself, without an
+environment. Memory: the greatest resident size as a multiple of the text, up to 1 GB; some minutes.
 """
 
 import argparse
 import os
 import random
 import re
+import resource
 import subprocess
 import sys
 import tempfile
@@ -131,7 +133,31 @@ def document(kind, size):
     return "".join(parts)
 
 
+def documents(given, work):
+    """The documents that are measured: what each is called, and its file."""
+    for kind in given.documents or KINDS:
+        if kind not in KINDS:
+            yield os.path.basename(kind), kind
+            continue
+        for size in given.bytes.split(","):
+            yield kind, written(f"{work}/{kind}.toml", document(kind, int(size)))
+
+
+def written(path, text):
+    with open(path, "w", encoding="utf-8") as file:
+        file.write(text)
+    return path
+
+
 # ---- runs
+
+
+def native(crate):
+    """A build of a program."""
+    made = subprocess.run(["bash", f"{TOP}/scripts/native.sh", crate], stdout=subprocess.PIPE, text=True, check=False)
+    if made.returncode:
+        sys.exit(made.returncode)
+    return made.stdout.strip()
 
 
 def run(program, path, passes):
@@ -145,20 +171,19 @@ def run(program, path, passes):
     return used.ru_utime, used.ru_utime + used.ru_stime, used.ru_maxrss / 1000
 
 
-def measure(programs, path, passes, rounds):
-    """For each program its nanoseconds a byte, user and all, and its peak; the programs run in turn."""
-    best = [[float("inf")] * 2 for _ in programs]
-    peaks = [0.0] * len(programs)
+def timed(programs, path, given):
+    """The cells of a line on time: user, all and peak of each program, which run in turn, and the ratios."""
+    best = [[float("inf"), float("inf"), 0.0] for _ in programs]
     size = os.path.getsize(path)
-    passes = max(passes, passes * 1_000_000 // size)
-    for _ in range(rounds):
+    passes = max(given.passes, given.passes * 1_000_000 // size)
+    for _ in range(given.rounds):
         for at, program in enumerate(programs):
             *few, peak = run(program, path, 1)
             *many, _ = run(program, path, 1 + passes)
             spent = [(more - less) / passes / size * 1e9 for less, more in zip(few, many)]
-            best[at] = [min(pair) for pair in zip(best[at], spent)]
-            peaks[at] = max(peaks[at], peak)
-    return [(*spent, peak) for spent, peak in zip(best, peaks)]
+            best[at] = [*map(min, best[at], spent), max(best[at][2], peak)]
+    ratios = [f"{theirs / ours:.1f}" for theirs, ours in zip(best[-1][:2], best[0])] if len(programs) > 1 else []
+    return [cell for *spent, peak in best for cell in [*(f"{it:.1f}" for it in spent), f"{peak:.0f}"]] + ratios
 
 
 def counted(program, path, passes):
@@ -171,93 +196,143 @@ def counted(program, path, passes):
     return int(found[1])
 
 
-def count(programs, path):
-    """For each program the instructions of a further parse for each byte."""
+def instructions(programs, path, _):
+    """The cells of a line on instructions: those of a further parse for each byte, and the ratio."""
     size = os.path.getsize(path)
     more = max(1, 100_000 // size)
-    return [(counted(it, path, 1 + more) - counted(it, path, 1)) / more / size for it in programs]
+    found = [(counted(it, path, 1 + more) - counted(it, path, 1)) / more / size for it in programs]
+    return [f"{it:.1f}" for it in found] + [f"{it / found[0]:.1f}" for it in found[1:]]
 
 
 def built_over(crate, work):
     """The program over the Rust crate."""
     os.makedirs(f"{work}/measured/src")
-    with open(f"{work}/measured/Cargo.toml", "w", encoding="utf-8") as file:
-        file.write(CARGO.format(crate=os.path.abspath(crate)))
-    with open(f"{work}/measured/src/main.rs", "w", encoding="utf-8") as file:
-        file.write(MAIN)
+    written(f"{work}/measured/Cargo.toml", CARGO.format(crate=os.path.abspath(crate)))
+    written(f"{work}/measured/src/main.rs", MAIN)
     if subprocess.run(["cargo", "build", "--release", "--quiet"], cwd=f"{work}/measured", check=False).returncode:
         sys.exit(f"speed: cargo could not build a program over {crate}")
     return f"{work}/measured/target/release/measured"
 
 
-def documents(words, work):
-    """The documents that are measured: what each is called, and its file."""
-    for word in words.documents or KINDS:
-        if word not in KINDS:
-            yield os.path.basename(word), word
-            continue
-        for size in words.bytes.split(","):
-            path = f"{work}/{word}.toml"
-            with open(path, "w", encoding="utf-8") as file:
-                file.write(document(word, int(size)))
-            yield word, path
+# ---- stack and memory
 
 
-def timed_cells(programs, path, words):
-    """The cells of a line on time."""
-    found = measure(programs, path, words.passes, words.rounds)
-    cells = [f"{it:.0f}" if at == 2 else f"{it:.1f}" for each in found for at, it in enumerate(each)]
-    if words.crate:
-        (user, total, _), (their_user, their_total, _) = found
-        cells += [f"{their_user / user:.1f}", f"{their_total / total:.1f}"]
-    return cells
+def keys(count, name="k"):
+    return ".".join([name] * count)
 
 
-def counted_cells(programs, path):
-    """The cells of a line on instructions."""
-    found = count(programs, path)
-    return [f"{found[0]:.1f}", *(f"{it:.1f}" for it in found[1:]), *(f"{it / found[0]:.1f}" for it in found[1:])]
+def filled(line, size=1_000_000):
+    """As many lines, each with another number, as fit."""
+    return "".join(f"{line % at}\n" for at in range(size // (len(line % 10**5) + 1)))
+
+
+def deepest():
+    """Documents that take much stack."""
+    yield "one assignment", "a = 1\n"
+    yield "127 brackets", f"a = {'[' * 127}{']' * 127}\n"
+    yield "127 inline tables", f"a = {'{a = ' * 127}1{'}' * 127}\n"
+    yield "a key of 128 parts", f"{keys(128)} = 1\n"
+    yield "a header of 128 parts, and below it a key of 128", f"[{keys(128, 'h')}]\n{keys(128)} = 1\n"
+    headers = "".join(f"[[{keys(count, 'h')}]]\n" for count in range(1, 129))
+    yield "128 arrays of tables in one another, and below them a key of 128", f"{headers}{keys(128)} = 1\n"
+
+
+def largest():
+    """Documents that take much memory."""
+    yield "headers of 128 parts", filled(f"[k%d.{keys(127, 'a')}]")
+    yield "dotted keys of 128 parts", filled(f"k%d.{keys(127, 'a')} = 1")
+    yield "headers of 2 parts", filled("[k%d.a]")
+    yield "assignments", filled("k%d = 1")
+    yield "an array of integers", f"a = [{'1,' * 499_997}]\n"
+    yield "an array of integers, its key of 1,000 bytes", f"{'k' * 1000} = [{'1,' * 499_497}]\n"
+
+
+def ends(program, text, size):
+    """Whether a program ends by itself with this many KB of stack, four times: the system places a stack at random."""
+
+    def limit():
+        resource.setrlimit(resource.RLIMIT_CORE, (0, 0))
+        resource.setrlimit(resource.RLIMIT_STACK, (size << 10, resource.getrlimit(resource.RLIMIT_STACK)[1]))
+
+    how = {"input": text, "stdout": subprocess.DEVNULL, "stderr": subprocess.DEVNULL, "env": {}, "preexec_fn": limit}
+    try:
+        return all(0 <= subprocess.run(program, check=False, **how).returncode <= 4 for _ in range(4))
+    except OSError:
+        return False
+
+
+def least(program, text):
+    """The least stack in KB with which a program ends by itself."""
+    low, high = 0, 8192
+    while high - low > 4:
+        middle = (low + high) // 8 * 4
+        low, high = (low, middle) if ends(program, text, middle) else (middle, high)
+    return high
+
+
+def peak(program, text):
+    """The greatest resident size of a program, as a multiple of the text."""
+    with tempfile.TemporaryFile() as file:
+        file.write(text)
+        file.seek(0)
+        with subprocess.Popen(program, stdin=file, stdout=subprocess.DEVNULL, env={}) as ran:
+            _, status, used = os.wait4(ran.pid, 0)
+            ran.returncode = os.waitstatus_to_exitcode(status)
+    return f"{used.ru_maxrss * 1024 / len(text):.0f}" if status == 0 else f"(status {ran.returncode})"
+
+
+def limits(named):
+    """Prints the stack and the memory of each program."""
+    programs = [[os.path.abspath(it)] for it in named]
+    if not programs:
+        cli, show = native("toml_span_cli"), native("toml_span_show")
+        programs = [[cli, "check"], [cli, "get", "--items", "-", ""], [cli, "get", "--tagged", "-", ""], [show]]
+    for program in programs:
+        print(f"{' '.join([os.path.relpath(program[0], TOP), *program[1:]])}:")
+        for name, text in deepest():
+            print(f"{least(program, text.encode()):8} KB of stack: {name}", flush=True)
+        for name, text in largest():
+            print(f"{peak(program, text.encode()):>8} times the text in memory: {name}", flush=True)
 
 
 def asked():
-    """The words of the command line."""
+    """The arguments."""
     about = __doc__.split("\n\n", 1)
-    parser = argparse.ArgumentParser(description=about[0], epilog=about[1])
+    parser = argparse.ArgumentParser(usage=about[0], description=about[1])
     parser.formatter_class = argparse.RawTextHelpFormatter
     parser.add_argument("--bytes", default="1000000")
     parser.add_argument("--passes", type=int, default=10)
     parser.add_argument("--rounds", type=int, default=3)
     parser.add_argument("--instructions", action="store_true")
     parser.add_argument("--crate")
+    parser.add_argument("--limits", action="store_true")
     parser.add_argument("documents", nargs="*", metavar="KIND|FILE", help=", ".join(KINDS))
-    words = parser.parse_args()
-    unknown = [it for it in words.documents if it not in KINDS and not os.path.isfile(it)]
+    given = parser.parse_args()
+    unknown = [it for it in given.documents if it not in KINDS and not os.path.isfile(it)]
     if unknown:
         parser.error(f"there is no kind or file {unknown[0]}; the kinds are {', '.join(KINDS)}")
-    return words
+    return given
 
 
 def main():
-    words = asked()
-    native = ["bash", f"{TOP}/scripts/native.sh", "toml_span_bench"]
-    made = subprocess.run(native, stdout=subprocess.PIPE, text=True, check=False)
-    if made.returncode:
-        sys.exit(made.returncode)
-    programs = [made.stdout.strip()]
+    given = asked()
+    if given.limits:
+        return limits(given.documents)
+    programs = [native("toml_span_bench")]
     if "/unproved/" in programs[0]:
         print("speed: this is a build without the proofs, not the one that the gate makes", file=sys.stderr)
-    heads = ["instructions/byte"] if words.instructions else ["user ns/byte", "all ns/byte", "peak MB"]
-    if words.crate:
-        heads += ["the crate", "ratio"] if words.instructions else ["the crate: user", "all", "peak MB"]
-        heads += [] if words.instructions else ["ratio user", "ratio all"]
-    heads = ["document", "KB", *heads]
+    cells, heads = timed, ["user ns/byte", "all ns/byte", "peak MB"]
+    theirs = ["the crate: user", "all", "peak MB", "ratio user", "ratio all"]
+    if given.instructions:
+        cells, heads, theirs = instructions, ["instructions/byte"], ["the crate", "ratio"]
+    heads = ["document", "KB", *heads, *(theirs if given.crate else [])]
     with tempfile.TemporaryDirectory() as work:
-        if words.crate:
-            programs.append(built_over(words.crate, work))
+        if given.crate:
+            programs.append(built_over(given.crate, work))
         print("| " + " | ".join(heads) + " |\n|" + "---|" * len(heads), flush=True)
-        for name, path in documents(words, work):
-            cells = counted_cells(programs, path) if words.instructions else timed_cells(programs, path, words)
-            print("| " + " | ".join([name, f"{os.path.getsize(path) / 1e3:.1f}", *cells]) + " |", flush=True)
+        for name, path in documents(given, work):
+            row = [name, f"{os.path.getsize(path) / 1e3:.1f}", *cells(programs, path, given)]
+            print("| " + " | ".join(row) + " |", flush=True)
 
 
 if __name__ == "__main__":

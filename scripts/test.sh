@@ -1,25 +1,23 @@
 #!/usr/bin/env bash
-# Everything that has to hold of the repository: the gate over all crates from nothing, stored runs of the program
-# that the gate built, each request for memory refused in turn, and rules that no prover looks at. Lines `time:` say
+# Tests everything: the gate over all crates, which proves what it has not proved on this machine, stored runs of the
+# programs that it built, each request for memory refused in turn, and rules that no prover checks. Lines `time:` say
 # what each part took. The last line counts.
 set -uo pipefail
-cd "$(dirname "$0")/.."
+cd "$(dirname "$0")/.." || exit
+work=$(mktemp -d)
+trap 'rm -rf "$work"' EXIT
 passed=0
 failed=0
 
-# run NAME COMMAND..: counts a check that passes or fails as a whole
-run() {
-    local name=$1
-    shift
-    echo "== $name"
-    local TIMEFORMAT="time: $name: %R s, %U + %S s of processors"
-    if time "$@"; then passed=$((passed + 1)); else
+# count NAME STATUS: counts a check that passes or fails as a whole
+count() {
+    if [ "$2" -eq 0 ]; then passed=$((passed + 1)); else
         failed=$((failed + 1))
-        echo "failed: $name"
+        echo "failed: $1"
     fi
 }
 
-# start NAME COMMAND..: begins a check as `run` does, beside those that are begun already
+# start NAME COMMAND..: begins a check beside those that have begun already
 names=()
 begun=()
 start() {
@@ -33,7 +31,7 @@ start() {
     names+=("$name")
 }
 
-# ended: waits for the checks that were begun, and says of each what it wrote and counts it
+# ended: waits for the checks that have begun, prints what each wrote, and counts it
 ended() {
     local index status
     for index in "${!names[@]}"; do
@@ -41,46 +39,43 @@ ended() {
         status=$?
         echo "== ${names[index]}"
         cat "$work/$index"
-        if [ "$status" -eq 0 ]; then passed=$((passed + 1)); else
-            failed=$((failed + 1))
-            echo "failed: ${names[index]}"
-        fi
+        count "${names[index]}" "$status"
     done
+    names=()
+    begun=()
 }
 
-# the gate: its last line has its own counts
 echo "== rt ci"
-work=$(mktemp -d)
-trap 'rm -rf "$work"' EXIT
-log=$work/log
-python3 scripts/timed.py rt ci 2>&1 | tee "$log"
+python3 scripts/timed.py rt ci 2>&1 | tee "$work/log"
 status=${PIPESTATUS[0]}
-counts=$(grep -oE '^[0-9]+ passed, [0-9]+ failed' "$log" | tail -n 1)
-if [[ "$counts" =~ ^([0-9]+)\ passed,\ ([0-9]+)\ failed$ ]]; then
-    passed=$((passed + BASH_REMATCH[1]))
-    failed=$((failed + BASH_REMATCH[2]))
-else
-    failed=$((failed + 1))
+if [[ $(grep -E '^[0-9]+ passed, [0-9]+ failed' "$work/log" | tail -n 1) =~ ^([0-9]+)\ passed,\ ([0-9]+) ]]; then
+    passed=${BASH_REMATCH[1]}
+    failed=${BASH_REMATCH[2]}
 fi
-if [ "$status" -ne 0 ] && [ "$failed" -eq 0 ]; then failed=1; fi
+if [ "$status" -ne 0 ] || [ "$passed" -eq 0 ]; then failed=$((failed > 0 ? failed : 1)); fi
 
-run "no handles" grep -qx 'Handles allowed: none.' HANDLES
-
-# These run side by side, each on a processor of its own where there are two, and are told of in this order
-start "stored runs of the program" bash scripts/runs.sh
-start "stored runs of the checker" bash scripts/check_runs.sh
-start "stored runs of the editor" bash scripts/edit_runs.sh
-start "runs with each request for memory refused" bash scripts/refused_runs.sh
+start "no handles" grep -qx 'Handles allowed: none.' HANDLES
+start "stored runs of toml-span" bash scripts/runs.sh toml_span_cli
+start "stored runs of toml_span_show" bash scripts/runs.sh toml_span_show
+start "stored runs of the example" bash scripts/quick.sh toml_span_example
+start "refused requests for memory" bash scripts/refuse.sh
 start "scripts that people start" bash scripts/scripts_test.sh
-start "the repository stands alone" bash scripts/stands_alone.sh
-start "each edit names its clause" python3 scripts/edits.py --check
-start "pages quote the sources" python3 scripts/pages.py --check
-start "public items are those that are kept" python3 scripts/public_items.py --check
+start "pages, edits and public items" python3 scripts/pages.py
 ended
-run "the library for C, and the module for Python" bash scripts/c_test.sh
+# (alone, since it compiles on all processors)
+start "the library for C, and the module for Python" bash scripts/c_test.sh
+ended
 
-times >"$log"
-read -r user system < <(tail -n 1 "$log")
-echo "time: in all $SECONDS s, $user + $system of processors"
+times >"$work/log.times"
+awk -v wall="$SECONDS" '
+    FNR == NR && /^time: [a-z]/ { part = $2 }
+    FNR == NR { if (part == "proofs" && $2 == "toml_span_lex") unit = $3; next }
+    { split($1, user, /[ms]/); split($2, system_, /[ms]/) }
+    END {
+        spent = 60 * (user[1] + system_[1]) + user[2] + system_[2]
+        printf "time: in all %d s, %d s of processors", wall, spent
+        if (unit) printf ", %.1f times the proof of toml_span_lex", spent / unit
+        print ""
+    }' "$work/log" "$work/log.times"
 echo "$passed passed, $failed failed"
 [ "$failed" -eq 0 ]

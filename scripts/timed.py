@@ -1,14 +1,12 @@
 #!/usr/bin/env python3
-"""Runs a command, and then says how long its proofs, tests and must-fail edits took: timed.py COMMAND WORD..
+"""Runs a command, and then prints what its proofs, tests and must-fail edits took: timed.py COMMAND ARGUMENT..
 
-The prover's processes below the command are looked at once a second: what each is at, by its crate's name, whether
-it has --test, and whether it works in the folder of an edit; and its processor time. So a figure can lack up to a
-second of each process. Processor seconds in all are the system's own. The parts run side by side: the wall clock of
-one is from its first process's start to its last one's end. The status is the command's.
+Once a second the prover's processes below the command are looked at: which crate each works on, whether it has --test
+or is in the folder of an edit, and its processor time. So up to a second of each process is missing, except in the
+total, which is the system's own. The status is the command's.
 
-Processors differ, and one that others share differs from hour to hour: the proof of toml_span_lex was seen to take 129
-processor seconds and 283. So runs on as many processors are compared by their multiples of that line, if the speed is
-the same all along, and else by a fixed loop timed beside them (docs/DECISIONS.md, "What the whole test costs").
+Processors differ, and one that others share differs from hour to hour: the proof of toml_span_lex took from 129 to 283
+processor seconds. So each figure is also a multiple of that proof in the same run, if it was part of it.
 """
 import os
 import resource
@@ -19,7 +17,8 @@ import threading
 import time
 
 TICKS = os.sysconf("SC_CLK_TCK")
-EVERY = 1.0
+PARTS = ["proofs", "tests", "edits"]
+UNIT = "proofs", "toml_span_lex"
 
 
 def processes():
@@ -50,50 +49,44 @@ def task(process):
 
 
 def look(top, seen):
-    """Adds what is seen now: of each process at a task its first and last sight, and its processor seconds."""
-    now, found = time.monotonic(), processes()
-    below = {top}
-    while True:
-        more = {it for it, (parent, _, _) in found.items() if parent in below} - below
-        if not more:
-            break
+    """Adds what is seen now: the processor seconds of each process at a task."""
+    found, below, more = processes(), set(), {top}
+    while more:
         below |= more
+        more = {it for it, (parent, _, _) in found.items() if parent in below} - below
     known = {it: task(it) for it in below if it in found}
     for process, at in known.items():
         parent, started, spent = found[process]
-        if not at:
-            continue
-        # a copy that the prover forks counts until it ends, and from then on with its parent, who waited for it
-        key = at, process, started
-        first = seen[key][0] if key in seen else now - EVERY
-        seen[key] = first, now, spent, known.get(parent) == at and parent
-    live = {key[1] for key in seen if key[1] in known}
-    for key in [it for it, row in seen.items() if row[3] in live and it[1] not in live]:
+        if at:
+            # a copy that the prover forks counts until it ends, and from then on with its parent, who waited for it
+            seen[at, process, started] = spent, known.get(parent) == at and parent
+    live = {process for _, process, _ in seen if process in known}
+    for key in [it for it, (_, parent) in seen.items() if parent in live and it[1] not in live]:
         del seen[key]
 
 
-def report(seen, began):
-    """Prints a line for each part and for each crate of it."""
+def report(seen, total):
+    """Prints a line for each part, for each crate of it, and for all."""
     rows = {}
-    for (at, _, _), (first, last, spent, _) in seen.items():
+    for (at, _, _), (spent, _) in seen.items():
         for name in [(at[0], ""), at]:
-            row = rows.setdefault(name, [first, last, 0.0])
-            rows[name] = [min(row[0], first), max(row[1], last), row[2] + spent]
-    order = ["proofs", "tests", "edits"]
-    for part, crate in sorted(rows, key=lambda it: (order.index(it[0]), it[1] != "", -rows[it][2])):
-        first, last, spent = rows[part, crate]
-        name = f"  {crate}" if crate else part
-        print(f"time: {name:<24}{spent:8.0f} s of processors, {last - first:6.0f} s from {first - began:.0f} s on")
+            rows[name] = rows.get(name, 0) + spent
+    unit = rows.get(UNIT)
+    order = sorted(rows, key=lambda it: (PARTS.index(it[0]), it[1] != "", -rows[it]))
+    lines = [(f"  {crate}" if crate else part, rows[part, crate]) for part, crate in order]
+    for name, spent in [*lines, total]:
+        times = f", {spent / unit:.2f} times the proof of {UNIT[1]}" if unit else ""
+        print(f"time: {name:<24}{spent:8.0f} s of processors{times}")
+    sys.stdout.flush()
 
 
 def main(words):
-    began, seen = time.monotonic(), {}
-    ended = threading.Event()
+    seen, ended, began = {}, threading.Event(), time.monotonic()
     ran = subprocess.Popen(words)
     signal.signal(signal.SIGTERM, lambda *_: ran.terminate())
 
     def watch():
-        while not ended.wait(EVERY):
+        while not ended.wait(1):
             look(ran.pid, seen)
 
     watcher = threading.Thread(target=watch)
@@ -104,10 +97,8 @@ def main(words):
         ended.set()
         watcher.join()
     used = resource.getrusage(resource.RUSAGE_CHILDREN)
-    report(seen, began)
-    name, spent, lasted = f"{chr(32).join(words)} in all", used.ru_utime + used.ru_stime, time.monotonic() - began
-    print(f"time: {name:<24}{spent:8.0f} s of processors, {lasted:6.0f} s")
-    sys.stdout.flush()
+    name = f"{' '.join(words)}, {time.monotonic() - began:.0f} s"
+    report(seen, (name, used.ru_utime + used.ru_stime))
     return status if status >= 0 else 128 - status
 
 

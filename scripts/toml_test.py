@@ -1,26 +1,28 @@
-"""Runs the checker on the suite toml-test: toml_test.py PROGRAM FOLDER
+#!/usr/bin/env python3
+"""Runs toml-span on the suite toml-test (TOML 1.1) and counts: toml_test.py [PROGRAM ARGUMENT..]
 
-FOLDER has unpacked sources that hold the suite: its documents as files, as `golang-toml` has them, or as string
-literals in Go, as `go-toml` has them. A valid document passes where `PROGRAM --tagged` ends with status 0 and writes
-the answer of the suite, compared by value; an invalid one where it ends with status 1. Ends with status 1 where one
-does not pass.
+The source package golang-toml of Debian's sid has the suite. apt fetches it from where this machine has its packages
+from, into a temporary folder. PROGRAM with its arguments reads a document from standard input: of a valid one it prints
+the values with their types, which are compared with those of the suite by value; it ends with status 1 if one is
+invalid. It is `toml-span get --tagged - ''` of a native build (scripts/native.sh) unless it is given.
+
+Status: 0 if all pass, 1 if one does not, 2 if the suite cannot be fetched, as without a network or apt.
 """
 import json
 import re
 import subprocess
 import sys
+import tempfile
 from datetime import datetime, timedelta
 from fractions import Fraction
 from pathlib import Path
 
+TOP = Path(__file__).resolve().parent.parent
 WHEN = re.compile(r"(?:(\d{4}-\d\d-\d\d)(?:[Tt ]|$))?(?:(\d\d:\d\d:\d\d)(\.\d+)?([Zz]|[+-]\d\d:\d\d)?)?")
 
 
 def moment(text):
-    """What a date or a time says: its day, or its second with a fraction, in UTC where it has an offset.
-
-    Nothing where it is none, or has no seconds.
-    """
+    """What a date or a time says: its day, or its second with a fraction, in UTC if it has an offset; else None."""
     found = WHEN.fullmatch(text)
     if not text or not found:
         return None
@@ -28,9 +30,7 @@ def moment(text):
     if clock is None:
         return day
     leap = clock.endswith(":60")
-    if leap:
-        clock = clock[:-2] + "59"
-    at = datetime.fromisoformat(f"{day or '2000-01-01'}T{clock}")
+    at = datetime.fromisoformat(f"{day or '2000-01-01'}T{clock[:-2] + '59' if leap else clock}")
     if offset not in (None, "Z", "z"):
         ahead = timedelta(hours=int(offset[1:3]), minutes=int(offset[4:6]))
         at = at - ahead if offset[0] == "+" else at + ahead
@@ -38,9 +38,13 @@ def moment(text):
 
 
 def same_float(wanted, written):
-    """Whether two texts are the same float, all NaN being one."""
     one, other = float(wanted), float(written)
     return one == other or (one != one and other != other)
+
+
+SAME = {"integer": lambda one, other: int(one) == int(other), "float": same_float}
+for kind in ("datetime", "datetime-local", "date-local", "time-local"):
+    SAME[kind] = lambda one, other: moment(one) is not None and moment(one) == moment(other)
 
 
 def same(wanted, written):
@@ -51,117 +55,90 @@ def same(wanted, written):
         return False
     if wanted.keys() != {"type", "value"} or not isinstance(wanted["type"], str):
         return all(same(wanted[name], written[name]) for name in wanted)
-    if wanted["type"] != written["type"]:
-        return False
-    one, other = wanted["value"], written["value"]
-    if wanted["type"] == "integer":
-        return int(one) == int(other)
-    if wanted["type"] == "float":
-        return same_float(one, other)
-    if wanted["type"] in ("datetime", "datetime-local", "date-local", "time-local"):
-        return moment(one) is not None and moment(one) == moment(other)
-    return one == other
+    compare = SAME.get(wanted["type"], str.__eq__)
+    return wanted["type"] == written["type"] and compare(wanted["value"], written["value"])
 
 
-def excluded(version):
-    """The tests that TOML 1.1 leaves out, as the suite's `version.go` lists them."""
-    part = version.read_text(encoding="utf-8").split('"1.1.0"')[1].split("}")[0]
-    return [name.removesuffix("*") for name in re.findall(r'"([^"]+)"', part)]
-
-
-def from_files(folder):
-    """Each document of the suite as files: its name, its bytes, and its answer where it is valid."""
-    listed = folder / "files-toml-1.1.0"
-    if listed.exists():
-        names = [name.removesuffix(".toml") for name in listed.read_text().split() if name.endswith(".toml")]
-    else:
-        out = excluded(folder.parent / "version.go")
-        names = sorted(str(path.relative_to(folder))[:-5] for path in folder.glob("*alid/**/*.toml"))
-        names = [name for name in names if not any(name == o or (o[-1] == "/" and name.startswith(o)) for o in out)]
-    for name in names:
-        answer = folder / (name + ".json")
-        wanted = answer.read_text(encoding="utf-8") if name.startswith("valid/") else None
-        yield name, (folder / (name + ".toml")).read_bytes(), wanted
-
-
-ESCAPES = {"n": b"\n", "t": b"\t", "r": b"\r", "a": b"\a", "b": b"\b", "f": b"\f", "v": b"\v"}
-
-
-def unquoted(literal):
-    """The bytes of a string literal in Go."""
-    if literal[0] == "`":
-        return literal[1:-1].replace("\r", "").encode()
-    out, at, text = b"", 1, literal
-    while at < len(text) - 1:
-        if text[at] != "\\":
-            out += text[at].encode()
-            at += 1
-            continue
-        kind = text[at + 1]
-        size = {"x": 2, "u": 4, "U": 8}.get(kind)
-        if size:
-            code = int(text[at + 2:at + 2 + size], 16)
-            out += bytes([code]) if kind == "x" else chr(code).encode()
-            at += 2 + size
-        elif kind in "01234567":
-            out += bytes([int(text[at + 1:at + 4], 8)])
-            at += 4
-        else:
-            out += ESCAPES.get(kind, kind.encode())
-            at += 2
-    return out
-
-
-LITERAL = r'("(?:[^"\\]|\\.)*"|`[^`]*`)'
-CASE = re.compile(
-    r"func TestTOMLTest_(\w+)\(t \*testing.T\) \{\n\tinput := " + LITERAL + r"(?:\n\tjsonRef := " + LITERAL + r")?\n")
-
-
-def from_go(source):
-    """Each document of the suite as string literals: its name, its bytes, and its answer where it is valid."""
-    for found in CASE.finditer(source.read_text(encoding="utf-8")):
-        name, document, answer = found.groups()
-        yield name, unquoted(document), unquoted(answer).decode() if answer else None
+def documents(folder):
+    """Each document of the suite that TOML 1.1 does not leave out: its name, its bytes, and its answer if it is valid."""
+    part = (folder.parent / "version.go").read_text(encoding="utf-8").split('"1.1.0"')[1].split("}")[0]
+    out = [name.removesuffix("*") for name in re.findall(r'"([^"]+)"', part)]
+    for path in sorted(folder.glob("*alid/**/*.toml")):
+        name = str(path.relative_to(folder)).removesuffix(".toml")
+        if not any(name == it or (it[-1] == "/" and name.startswith(it)) for it in out):
+            answer = path.with_suffix(".json")
+            yield name, path.read_bytes(), answer.read_text(encoding="utf-8") if answer.exists() else None
 
 
 def passes(program, document, wanted):
-    """Whether the program answers what the suite wants of a document; otherwise what it answers."""
-    run = subprocess.run([program, "--tagged", "-"], input=document, capture_output=True, timeout=60)
-    if wanted is None:
-        return run.returncode == 1, f"status {run.returncode}"
-    if run.returncode != 0:
-        return False, f"status {run.returncode}"
+    """Whether the program answers what the suite expects of a document, and what it answers."""
+    run = subprocess.run(program, input=document, capture_output=True, timeout=60, check=False)
+    if wanted is None or run.returncode != 0:
+        return wanted is None and run.returncode == 1, f"status {run.returncode}"
     return same(json.loads(wanted), json.loads(run.stdout)), run.stdout.decode().rstrip()
 
 
-def count(program, title, documents):
-    """Runs the documents of a suite and prints how many pass. Whether all do, and there are some."""
-    passed, all_of = {True: 0, False: 0}, {True: 0, False: 0}
-    for name, document, wanted in documents:
-        is_valid = wanted is not None
-        all_of[is_valid] += 1
+def passes_all(program, folder):
+    """Runs the documents and prints how many pass. Whether all do, and there are some of each kind."""
+    passed, count = {True: 0, False: 0}, {True: 0, False: 0}
+    for name, document, wanted in documents(folder):
         good, answer = passes(program, document, wanted)
-        passed[is_valid] += good
+        count[wanted is not None] += 1
+        passed[wanted is not None] += good
         if not good:
-            print(f"toml-test: {title}: {name}: {answer}")
-    print(f"toml-test: {title}: valid {passed[True]} of {all_of[True]}, invalid {passed[False]} of {all_of[False]}")
-    return passed == all_of and min(all_of.values()) > 0
+            print(f"toml-test: {name}: {answer}")
+    state = re.search(r"date\s*=\s*(\S+)", (folder / "version.toml").read_text())[1]
+    valid, invalid = (f"{passed[it]} of {count[it]}" for it in (True, False))
+    print(f"toml-test, state of {state}: valid {valid}, invalid {invalid}")
+    return passed == count and min(count.values()) > 0
 
 
-def main(program, folder):
-    """Runs each suite that the folder has."""
-    done = []
-    for version in sorted(Path(folder).glob("**/toml-test/tests/version.toml")):
-        state = re.search(r"date\s*=\s*(\S+)", version.read_text())[1]
-        done.append(count(program, f"state of {state}", from_files(version.parent)))
-    for source in sorted(Path(folder).glob("**/toml_testgen_test.go")):
-        with source.open(encoding="utf-8") as lines:
-            state = re.search(r"ref (\S+)", next(lines))[1]
-        done.append(count(program, state, from_go(source)))
-    if not done:
-        print("toml-test: no suite is in these sources")
-    return 0 if done and all(done) else 1
+def called(*words, **named):
+    """The output of a command, or None if it fails or is not there."""
+    try:
+        return subprocess.run(words, check=True, timeout=900, stdout=subprocess.PIPE, text=True, **named).stdout
+    except (OSError, subprocess.SubprocessError):
+        return None
+
+
+def fetch(work):
+    """Fetches the packages into a folder and unpacks them. Returns why that fails, if it does."""
+    targets = called("apt-get", "indextargets", "--format", "$(ORIGIN) $(RELEASE) $(REPO_URI)") or ""
+    hosts = re.findall(r"(?m)^Debian \w+ (\S+)$", targets)
+    if not hosts:
+        return "apt knows no Debian archive: run apt-get update"
+    for folder in ("lists/partial", "cache/archives/partial", "sources"):
+        (work / folder).mkdir(parents=True)
+    (work / "sources.list").write_text(f"deb-src {hosts[0]} sid main\n")
+    options = {"Dir::Etc::SourceList": work / "sources.list", "Dir::Etc::SourceParts": "/dev/null"}
+    options |= {"Dir::State::Lists": work / "lists", "Dir::Cache": work / "cache", "Acquire::Retries": 1}
+    options |= {"APT::Sandbox::User": called("id", "-un").strip(), "Acquire::http::Timeout": 30}
+    apt = ["apt-get", "-qq", *(part for name, value in options.items() for part in ("-o", f"{name}={value}"))]
+    if called(*apt, "update") is None:
+        return "apt reaches no list of sources (is there a network?)"
+    if called(*apt, "source", "--download-only", "--tar-only", "golang-toml", cwd=work) is None:
+        return "apt cannot fetch golang-toml"
+    for packed in work.glob("*.orig.tar.*"):
+        if called("tar", "-xf", packed, "-C", work / "sources") is None:
+            return f"{packed.name} cannot be unpacked"
+    return None
+
+
+def main(program):
+    with tempfile.TemporaryDirectory() as work:
+        if why := fetch(Path(work)):
+            print(f"toml-test: the suite cannot be fetched: {why}", file=sys.stderr)
+            return 2
+        if not program:
+            made = called("bash", TOP / "scripts/native.sh", "toml_span_cli", stdin=subprocess.DEVNULL)
+            if not made:
+                return 2
+            program = [made.strip(), "get", "--tagged", "-", ""]
+        for version in Path(work).glob("sources/**/toml-test/tests/version.toml"):
+            return 0 if passes_all(program, version.parent) else 1
+        print("toml-test: no suite is in these sources", file=sys.stderr)
+        return 2
 
 
 if __name__ == "__main__":
-    sys.exit(main(sys.argv[1], sys.argv[2]))
+    sys.exit(main(sys.argv[1:]))
