@@ -80,7 +80,7 @@ simple-fits : (k : SimpleKey) (text : List ℕ) (i j : ℕ) → SpellsSimpleKey 
 simple-fits k text i j (inl (run, e)) = omega (arith, run.0, ap (λ l. length l) run.2, part-short text i j (omega (arith, run.0)))
 simple-fits k text i j (inr (src, h)) = string-short text k.name src i j k.span false h
 
-bytes_fair : Fair
+abbrev bytes_fair : Fair
 bytes_fair = record {
   cost = bytes_cost;
   room = λ n. n;
@@ -97,7 +97,7 @@ abbrev one_cost : Cost
 one_cost = record { name = λ s. 0; shape = λ s. 1 }
 
 -- a text has no more than two for each byte: an array of tables and its first element stand at one name
-ones_fair : Fair
+abbrev ones_fair : Fair
 ones_fair = record {
   cost = one_cost;
   room = λ n. 2 * n;

@@ -1,5 +1,5 @@
 -- What the claims of a document cost, its text has room for.
-use Rattle.toml_span_lex.proofs.Common.{◌≡◌, ◌≤◌, ◌+◌, ◌-◌, ℕ, suc, Bool, true, false, List, [], ◌∷◌, ◌++◌, length, refl, ap, inl, inr, arith, cases_lt, nat_tests, common_steps}
+use Rattle.toml_span_lex.proofs.Common.{◌≡◌, ◌≤◌, ◌<◌, ◌+◌, ◌-◌, ℕ, suc, Bool, List, [], ◌∷◌, ◌++◌, length, refl, ap, inl, inr, arith, cases_lt, nat_tests, common_steps}
 use Rattle.toml_span_lex.specs.declared.span.Span.{Span}
 use Rattle.toml_span_tree.specs.Node.{Scalar}
 use Rattle.toml_span_tree.specs.Path.{Path, Step, key, position, shape_scalar, shape_array, shape_table, Place}
@@ -91,7 +91,7 @@ module _ (f : Fair) where
 
   spent-followed : (xs ys : Claims) → spent (followed xs ys) ≡ spent xs + spent ys
   unfolding followed all_claims
-  spent-followed no_claims ys = refl
+  spent-followed no_claims ys = omega arith
   spent-followed (claimed c xs) ys = omega (arith, spent-followed xs ys)
   spent-followed (scope inner xs) ys =
       omega (arith, prices-append f.cost (all_claims inner) (all_claims xs), prices-append f.cost (all_claims inner) (all_claims (followed xs ys)), spent-followed xs ys)
@@ -131,7 +131,7 @@ module _ (f : Fair) where
 
     value-fits : (v : ParsedValue) (q : Path) (text : List ℕ) (limit d i j : ℕ) → Spells v text limit d i j → f.room i + (value_cost v + spent (value_claims v q)) ≤ f.room j + f.byte
     value-fits (parsed (scalar x) s) q text limit d i j h =
-        omega (arith, spent-none, f.scalars x s text i j (value_lies (parsed (scalar x) s) text limit d i j h).1.0 h.1)
+        omega (arith, spent-none, f.scalars x s text i j (value_lies (parsed (scalar x) s) text limit d i j h).1 h.1)
     value-fits (parsed (array vs) s) q text limit d i j (deep, (here, e, k, gap, h)) =
         omega (arith, f.tables, spent-scope (item_claims vs 0 q), f.grows i k (omega (arith, gap.forward)), items-fit vs 0 q text limit (d + 1) k j h)
     value-fits (parsed (inline ps) s) q text limit d i j (deep, (here, e, k, gap, h)) =
@@ -221,10 +221,18 @@ module _ (f : Fair) where
         sections-fit (b ∷ earlier) bs text limit j rest,
       )
 
+  -- a first section without a header, and those behind it
+  headless-fit : (b : Block) (bs : List Block) (text : List ℕ) (limit i j : ℕ) → b.header ≡ [] → KeyValuesWith SpellsScalar b.key_values [] text limit i j → SectionsWith SpellsScalar bs text limit j
+      → f.room i + spent (claims (b ∷ bs)) ≤ f.room (length text)
+  unfolding claims_behind
+  headless-fit b bs text limit i j none h rest =
+      let e = elements_added (opened_by []) in
+      omega (arith, ap key_cost none, spent-followed (section_claims e b) (claims_behind (b ∷ []) bs), section-fits e b text limit i j h, sections-fit (b ∷ []) bs text limit j rest)
+
   first-fits : (es : List KeyValue) (bs : List Block) (text : List ℕ) (limit i j : ℕ) → KeyValuesWith SpellsScalar es [] text limit i j → SectionsWith SpellsScalar bs text limit j
       → f.room i + spent (claims (first_block es ++ bs)) ≤ f.room (length text)
-  unfolding claims_behind opened_by
-  first-fits es bs text limit i j h rest = grind (arith, nat_tests, common_steps, spent-followed, section-fits, sections-fit)
+  first-fits [] bs text limit i j h rest = omega (arith, forth i j (omega (arith, h)), sections-fit [] bs text limit j rest)
+  first-fits (e ∷ es) bs text limit i j h rest = headless-fit _ bs text limit i j refl h rest
 
   pub claims-fit : (bs : List Block) (text : List ℕ) (limit : ℕ) → SpellsDocument bs text limit → claims_cost f.cost (claims bs) ≤ f.room (length text)
   claims-fit bs text limit x = rw x.all (omega (arith, first-fits x.first x.rest text limit x.lines.0 x.end x.lines.2 x.sections))

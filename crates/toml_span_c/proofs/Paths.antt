@@ -1,5 +1,5 @@
 -- Lists of paths with prices, taken apart by the first steps of the paths.
-use Rattle.toml_span_lex.proofs.Common.{◌≡◌, ◌≤◌, ◌+◌, ◌⊎◌, ℕ, false, List, [], ◌∷◌, refl, sym, ap, ◌∙◌, arith, if◌then◌else◌, false≢true, nat_tests, common_steps}
+use Rattle.toml_span_lex.proofs.Common.{◌≡◌, ◌≤◌, ◌+◌, ◌⊎◌, ℕ, false, List, [], ◌∷◌, refl, arith, if◌then◌else◌, nat_tests, common_steps}
 use Rattle.toml_span_tree.specs.Path.{Path, Step}
 use Rattle.toml_span.specs.Paths.{same_step}
 use Rattle.toml_span.proofs.Grafts.{same_step-self}
@@ -38,19 +38,10 @@ stepping-total : (ps : List (Path × ℕ)) → stepping ps ≤ total ps
 stepping-total [] = omega arith
 stepping-total ((p, w) ∷ ps) = grind (arith, nat_tests, common_steps, stepping-total ps)
 
-same-rest : (s t : Step) (p q : Path) → s ∷ p ≡ t ∷ q → p ≡ q
-same-rest s t p q e = cc
-
-same-first : (s t : Step) (p q : Path) → s ∷ p ≡ t ∷ q → s ≡ t
-same-first s t p q e = cc
-
 -- the empty path's price and the prices of those that have a step
 pub stepping-fewer : (w : ℕ) (ps : List (Path × ℕ)) → Has [] w ps → w + stepping ps ≤ total ps
 stepping-fewer w [] h = absurd h
 stepping-fewer w ((p, v) ∷ ps) h = grind (arith, nat_tests, common_steps, stepping-total ps, stepping-fewer w ps)
-
-off-step : (s t : Step) → s ≡ t → same_step s t ≡ false → ⊥
-off-step s t e off = false≢true (sym off ∙ ap (λ u. same_step s u) (sym e) ∙ same_step-self s)
 
 pub after-mem : (s : Step) (q : Path) (w : ℕ) (ps : List (Path × ℕ)) → Has (s ∷ q) w ps → Has q w (after s ps)
 after-mem s q w [] h = h

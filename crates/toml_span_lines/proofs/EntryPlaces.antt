@@ -44,9 +44,6 @@ abbrev found_in : Path → Inner → Option Place
 found_in [] i = None
 found_in (s ∷ p) i = found p (at_step s i)
 
-nothing-below : (p : Path) (x : Place) → found p None ≡ Some x → ⊥
-nothing-below p x h = none-some x h
-
 mutual
   in-node : (at : Option Span) (n : Node) (p : Path) (x : Place) → option_map place_of (reached p (at, n)) ≡ Some x → IsIn (p, x) (node_entries at n)
   in-node at (node i span) [] x h = inl (ap (λ y. ([], y)) (sym (same_Some (place_of (at, node i span)) x h)))

@@ -16,10 +16,6 @@ pub node_lines-held : (n : Node) (i : Inner) (span : Span) (path before own kind
     after ≡ (before ++ line own kind span.start span.end) ++ held_lines path i → after ≡ before ++ node_lines path n
 node_lines-held n i span path before own kind after e h k l m = grind (arith, nat_tests, common_steps, not_taken_lines i span path)
 
--- one that is taken has none
-pub node_lines-taken : (n : Node) (path before : List ℕ) → is_taken n ≡ true → before ≡ before ++ node_lines path n
-node_lines-taken n path before h = grind (arith, nat_tests, common_steps)
-
 -- the lines of the elements from one on
 pub items_lines-next : (path : List ℕ) (i : ℕ) (es : List Value) (e : Value) (out after all : List ℕ) →
     i < length es → get_or es i e ≡ e →
