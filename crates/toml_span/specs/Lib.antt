@@ -11,5 +11,5 @@ pub mod Flat
 pub mod Ordered
 pub mod Borrowed
 pub mod Parsing
-pub mod Reading
+pub mod FromText
 pub mod code

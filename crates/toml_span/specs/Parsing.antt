@@ -9,7 +9,8 @@ use Rattle.toml_span_tree.specs.declared.error.Error.{Error}
 use Rattle.toml_span_tree.specs.Error.{content_of}
 use Rattle.toml_span_read.specs.Data.{Block}
 use Rattle.toml_span_read.specs.declared.fault.Fault.{Fault}
-use Rattle.toml_span_read.specs.Faults.{StartsInside, IsLineInfo, Tells}
+use Rattle.toml_span_lex.specs.Lines.{IsLineInfo}
+use Rattle.toml_span_read.specs.Faults.{StartsInside, Tells}
 use Rattle.toml_span_read.specs.Read.{document}
 use Rattle.toml_span.specs.Claims.{claims}
 use Rattle.toml_span.specs.Clashes.{Resolves, NamedClash, first_clash, content_of_clash}

@@ -13,8 +13,9 @@ ghost use Rattle.toml_span.specs.Parsing.{Answers, IsBorrowedTree, IsRoot};
 
 use crate::sections::{Grown, begin, finish, grow};
 use std::alloc::Global;
+use toml_span_lex::lines::line_info;
 use toml_span_lex::stop::Stop;
-use toml_span_read::fault::{Fault, error_of, line_info};
+use toml_span_read::fault::{Fault, error_of};
 use toml_span_read::{read_first, read_section};
 use toml_span_tree::{Error, Value};
 

@@ -4,13 +4,14 @@
 mod branch;
 mod claims;
 pub mod de;
-mod read;
+mod from_text;
 mod rest;
 mod scopes;
 mod sections;
 
 pub use de::parse;
-pub use read::{from_str, from_str_with_warnings, line_and_byte};
+pub use from_text::{from_str, from_str_with_warnings};
+pub use toml_span_lex::lines::line_and_byte;
 pub use toml_span_lex::span::Span;
 pub use toml_span_lex::spanned::Spanned;
 pub use toml_span_lex::stop::Stop;

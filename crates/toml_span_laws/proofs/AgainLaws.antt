@@ -5,7 +5,7 @@ use Rattle.toml_span_read.specs.Data.{SimpleKey, ParsedValue, parsed, ParsedInne
 use Rattle.toml_span_read.specs.Grammar.{Spells, SpellsDocument, InnerWith, ItemsWith, PairsWith, KeyValuesWith, SpellsScalar}
 use Rattle.toml_span_laws.specs.Again.{moved, assigned_again, key_value_again, SpellsAgain, ReadsAgain, ScalarReadsAgain, AllReadAgain, InnerReadAgain, ItemsReadAgain, PairsReadAgain, KeyValuesReadAgain, BlocksReadAgain}
 use Rattle.toml_span_read.proofs.SpanLaws.{value_lies}
-use Rattle.toml_span_places.proofs.Moves.{Copied}
+use Rattle.toml_span_read.proofs.Moves.{Copied}
 use Rattle.toml_span_laws.proofs.AgainValues.{value_copied}
 use Rattle.toml_span_laws.proofs.SpelledLine.{assigned, document}
 use Rattle.toml_span_lex.specs.declared.span.Span.{Span}

@@ -6,7 +6,7 @@ use Rattle.toml_span_lex.specs.Text.{is_crlf, LineEnd}
 use Rattle.toml_span_lex.specs.Tokens.{RunAt}
 use Rattle.toml_span_read.specs.Gaps.{GapPiece, begins_gap, GapBy, MaximalGap, Dot, NoDot, Separator, Closes}
 use Rattle.toml_span_read.proofs.Places.{run_some}
-use Rattle.toml_span_places.proofs.Moves.{Moves, either, said, Copied, At, behind, nothing, byte, stays, first, run, same_range, further, room, between}
+use Rattle.toml_span_read.proofs.Moves.{Moves, either, said, Copied, At, behind, nothing, byte, stays, first, run, same_range, further, room, between}
 use Rattle.toml_span_lex.specs.declared.span.Span.{Span}
 use Rattle.toml_span_lex.specs.declared.pieces.Piece.{Piece}
 use Rattle.toml_span_lex.specs.declared.pieces.Piece.TheVariants as pieces

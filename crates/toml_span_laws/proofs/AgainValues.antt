@@ -6,9 +6,9 @@ use Rattle.toml_span_tree.specs.Node.{Scalar, text as text_scalar, integer, floa
 use Rattle.toml_span_read.specs.Dates.{is_date_byte, begins_date, continues_date, IsCandidate}
 use Rattle.toml_span_read.specs.Numbers.{IsNumber}
 use Rattle.toml_span_read.specs.Grammar.{SpellsScalar, truth_text, Spells, InnerWith, ItemsWith, PairsWith}
-use Rattle.toml_span_places.proofs.Moves.{Moves, also, Copied, At, further, same_range, either, said, given, behind, nothing, first}
-use Rattle.toml_span_places.proofs.NumbersMove.{number}
-use Rattle.toml_span_places.proofs.DatesAgain.{date_carried}
+use Rattle.toml_span_read.proofs.Moves.{Moves, also, Copied, At, further, same_range, either, said, given, behind, nothing, first}
+use Rattle.toml_span_read.proofs.NumbersMove.{number}
+use Rattle.toml_span_read.proofs.DatesMove.{date_carried}
 use Rattle.toml_span_laws.specs.Again.{moved_span, moved_parts, moved, moved_inner, moved_items, moved_pairs}
 use Rattle.toml_span_laws.proofs.AgainStrings.{runs, worded, gap, sign, closes, dot, no_dot, string, string_on, spans, equal_moved}
 use Rattle.toml_span_read.specs.Gaps.{Separator, MaximalGap}

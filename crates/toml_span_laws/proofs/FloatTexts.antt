@@ -9,8 +9,8 @@ use Rattle.toml_span.specs.Ordered.{HasOneEach, ItemsHaveOneEach, MembersHaveOne
 use Rattle.toml_span.specs.Parsing.{IsTree}
 use Rattle.toml_span.proofs.Grafts.{same_step-eq, same_step-self}
 use Rattle.toml_span.proofs.Ordered.{one-each}
-use Rattle.toml_span_places.specs.Again.{IsScalarText, HasFloatTexts, ItemsHaveFloatTexts, MembersHaveFloatTexts}
-use Rattle.toml_span_places.proofs.CleanedFloats.{cleaned_spells}
+use Rattle.toml_span_read.specs.Again.{IsScalarText, HasFloatTexts, ItemsHaveFloatTexts, MembersHaveFloatTexts}
+use Rattle.toml_span_laws.proofs.CleanedFloats.{cleaned_spells}
 use Rattle.toml_span_laws.proofs.ReadAgain.{HasScalar, tree-scalar}
 
 -- ---- what no path shows otherwise holds of the tree

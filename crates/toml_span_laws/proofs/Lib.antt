@@ -21,6 +21,7 @@ pub mod OneScope
 pub mod ThroughValue
 pub mod SpelledClaims
 pub mod ReadAgain
+pub mod CleanedFloats
 pub mod FloatTexts
 pub mod SpelledLine
 pub mod ValueAgain

@@ -8,9 +8,9 @@ use Rattle.toml_span_read.specs.Data.{ParsedValue, KeyValue, from_to, first_bloc
 use Rattle.toml_span_read.specs.Gaps.{begins_gap, MaximalGap, Tail}
 use Rattle.toml_span_read.specs.Grammar.{Spells, SpellsDocument, KeyValueWith, SpellsScalar}
 use Rattle.toml_span_read.specs.Keys.{SpellsSimpleKey}
-use Rattle.toml_span_places.specs.Again.{ReadsAsKey, ReadsAsValue, HasFloatTexts, IsWithin}
-use Rattle.toml_span_places.proofs.Parts.{Part, same_part, back, tail, here, whole}
-use Rattle.toml_span_places.proofs.SpelledAgain.{no_gap, key_starts, value_starts, nothing, blank_run}
+use Rattle.toml_span_read.specs.Again.{ReadsAsKey, ReadsAsValue, HasFloatTexts, IsWithin}
+use Rattle.toml_span_read.proofs.Parts.{Part, same_part, back, tail, here, whole}
+use Rattle.toml_span_read.proofs.GapStarts.{no_gap, key_starts, value_starts, nothing, blank_run}
 use Rattle.toml_span_laws.specs.Again.{SpellsAssignment}
 
 -- a key's first byte

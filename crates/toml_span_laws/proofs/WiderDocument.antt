@@ -9,7 +9,7 @@ use Rattle.toml_span_read.specs.Data.{ParsedValue, parsed, ParsedInner, scalar, 
 use Rattle.toml_span_read.specs.Grammar.{Scalars, SpellsScalar, Spells, SpellsWith, InnerWith, ItemsWith, PairsWith, HeaderFront, SpellsHeader, KeyValuesWith, LinesWith, SectionsWith, DocumentWith, SpellsDocument}
 use Rattle.toml_span_read.proofs.NumberLemmas.{is_false, byte_is, clash}
 use Rattle.toml_span_laws.specs.Undated.{UndatedScalar, SpellsUndated, SpellsUndatedDocument}
-use Rattle.toml_span_places.proofs.Undated.{no_date}
+use Rattle.toml_span_read.proofs.Undated.{no_date}
 
 -- ---- what stands behind a value in brackets, or an assignment, is no colon
 

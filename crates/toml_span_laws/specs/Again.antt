@@ -7,7 +7,7 @@ use Rattle.toml_span_read.specs.Data.{no_items, first_block, item, ParsedPairs, 
 use Rattle.toml_span_read.specs.Data.{Block}
 use Rattle.toml_span_read.specs.Earlier.{part_names}
 use Rattle.toml_span_read.specs.Grammar.{SpellsDocument}
-use Rattle.toml_span_places.specs.Again.{HasValue}
+use Rattle.toml_span_read.specs.Again.{HasValue}
 
 -- a span, moved so that what stood at `from` stands at `to`
 abbrev pub moved_span : ℕ → ℕ → Span → Span

@@ -6,7 +6,7 @@ ghost use Rattle.toml_span_tree.specs.declared.value.Value.{Value};
 ghost use Rattle.toml_span_read.specs.Data.{ParsedValue, Block};
 ghost use Rattle.toml_span_read.specs.Grammar.{Spells, SpellsDocument};
 ghost use Rattle.toml_span.specs.Parsing.{IsTree};
-ghost use Rattle.toml_span_places.specs.Again.{HasFloatTexts, IsWithin, ReadsAsKey, ReadsAsValue};
+ghost use Rattle.toml_span_read.specs.Again.{HasFloatTexts, IsWithin, ReadsAsKey, ReadsAsValue};
 ghost use Rattle.toml_span_laws.specs.Again.{SpellsAgain, SpellsAssignment, BlocksReadAgain};
 
 /// The text that spells a value spells it again: behind `x = ` it is a document of one assignment, whose key

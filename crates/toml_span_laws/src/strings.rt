@@ -3,9 +3,9 @@ ghost use Rattle.std.specs.Prelude.{◌≡◌, ◌↔◌, ℕ, Bool, List, Ok, s
 ghost use Rattle.std.specs.Cow.{cow_str_bytes, IsBorrowedStr};
 ghost use Rattle.toml_span_lex.specs.declared.span.Span.{Span};
 ghost use Rattle.toml_span_lex.specs.Strings.{IsString, IsEmptyOnOneLine, HasChange};
-ghost use Rattle.toml_span_read.specs.declared.wanted.StringToken.{StringToken};
+ghost use Rattle.toml_span_read.specs.declared.strings.StringToken.{StringToken};
 ghost use Rattle.toml_span_laws.specs.Places.{CutsContent};
-ghost use Rattle.toml_span_read.specs.code.Wanted.{StringReads};
+ghost use Rattle.toml_span_read.specs.code.Strings.{StringReads};
 
 /// The span of a string or of a quoted key, other than the empty one on one line, is what stands between its
 /// quotes.

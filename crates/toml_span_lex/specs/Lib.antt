@@ -1,5 +1,6 @@
 pub mod Bytes
 pub mod Text
+pub mod Lines
 pub mod Escapes
 pub mod Pieces
 pub mod Strings

@@ -6,6 +6,7 @@ mod escapes;
 pub mod key;
 mod lanes;
 pub mod laws;
+pub mod lines;
 pub mod pieces;
 pub mod span;
 pub mod spanned;

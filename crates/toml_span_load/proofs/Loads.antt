@@ -4,7 +4,7 @@ use Rattle.toml_span_lex.specs.declared.stop.Stop.{Stop}
 use Rattle.toml_span_lex.specs.declared.stop.Stop.TheVariants as stops
 use Rattle.toml_span_tree.specs.Node.{Node}
 use Rattle.toml_span_typed.specs.Errors.{Errors, all}
-use Rattle.toml_span.specs.Reading.{NotRead}
+use Rattle.toml_span.specs.FromText.{NotRead}
 use Rattle.toml_span_report.specs.Report.{ReportContent}
 use Rattle.toml_span_report.specs.Reported.{AreReported, AreTold}
 use Rattle.toml_span_report.specs.declared.colours.Style.{Style}

@@ -3,7 +3,7 @@ use Rattle.std.specs.Prelude.{⊤, ℕ, List, Option, Some, None, Result, codes,
 use Rattle.toml_span_lex.specs.declared.stop.Stop.TheVariants as stops
 use Rattle.toml_span_tree.specs.Node.{Node}
 use Rattle.toml_span_typed.specs.Errors.{Errors, all}
-use Rattle.toml_span.specs.Reading.{NotRead}
+use Rattle.toml_span.specs.FromText.{NotRead}
 use Rattle.toml_span_report.specs.Report.{report_content}
 use Rattle.toml_span_report.specs.Reported.{AreReported}
 use Rattle.toml_span_report.specs.declared.colours.Style.TheVariants as styles

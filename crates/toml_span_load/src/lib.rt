@@ -2,7 +2,7 @@
 #![tactic(auto)]
 
 ghost use Rattle.std.specs.Prelude.{◌≡◌, IfErr, IfOk, Ok, string_bytes};
-ghost use Rattle.toml_span.specs.Reading.{IsRead};
+ghost use Rattle.toml_span.specs.FromText.{IsRead};
 ghost use Rattle.toml_span_load.specs.Load.{NotLoaded, told};
 
 use std::alloc::{AllocError, Global};

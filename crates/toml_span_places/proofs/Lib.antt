@@ -1,11 +1,6 @@
 pub mod PathLemmas
-pub mod Parts
-pub mod Moves
-pub mod NumbersMove
-pub mod Undated
 pub mod QuotedAgain
 pub mod NumbersAgain
-pub mod CleanedFloats
 pub mod DatesAgain
 pub mod SpelledAgain
 pub mod OpenedLemmas

@@ -1,22 +1,17 @@
 -- Integers and floats as they are spelled are read again.
-use Rattle.toml_span_lex.proofs.Common.{◌≡◌, ℕ, zero, suc, ℤ, pos, negsuc, ◌+◌, ◌-◌, ◌^◌, ◌<◌, ◌≤◌, Bool, true, false, List, [], ◌∷◌, length, get_or, filter, arith, inl, sym, ◌∙◌, refl, ap, decimal, ◌==◌, signed_decimal, is_ascii_digit, AllDigits, nat_tests, decimal_is_IsNumeral, digits_value-decimal, decimal_digit, first_decimal, IsNumeralModel, numerals_by_weight, tells_digits, digit_at, common_steps}
+use Rattle.toml_span_lex.proofs.Common.{◌≡◌, ℕ, zero, suc, ℤ, pos, negsuc, ◌+◌, ◌-◌, ◌^◌, ◌<◌, ◌≤◌, Bool, true, false, List, [], ◌∷◌, length, get_or, filter, arith, inl, sym, ◌∙◌, refl, ap, decimal, signed_decimal, is_ascii_digit, AllDigits, nat_tests, decimal_is_IsNumeral, digits_value-decimal, decimal_digit, first_decimal, IsNumeralModel, numerals_by_weight, tells_digits, digit_at, common_steps}
 use Rattle.std.specs.Int.{IsInRange}
 use lib.Signed.{mag}
-use Rattle.toml_span_lex.specs.Bytes.{is_keylike}
 use Rattle.toml_span_tree.specs.Node.{integer}
 use Rattle.toml_span_read.specs.Dates.{is_date_byte}
 use Rattle.toml_span_read.specs.Data.{from_to}
 use Rattle.toml_span_read.specs.Grammar.{SpellsScalar}
-use Rattle.toml_span_read.specs.Numbers.{Digits, IsSigned}
-use Rattle.toml_span_read.specs.Numerals.{is_digit_in, is_figure, sum_of_digits, magnitude, behind_sign, is_negative}
-use Rattle.toml_span_read.proofs.NumberLemmas.{digit_figure, no_keylike_figure, digit_no_underscore, stands_alone}
+use Rattle.toml_span_read.specs.Numbers.{IsSigned}
+use Rattle.toml_span_read.specs.Numerals.{is_digit_in, sum_of_digits, magnitude, behind_sign, is_negative}
+use Rattle.toml_span_read.proofs.NumberLemmas.{no_keylike_figure, stands_alone}
 use Rattle.toml_span_read.proofs.ShortIntegers.{decimal_digit as digit_ten, short_spelled}
-use Rattle.toml_span_places.proofs.Parts.{Part, tail, here, byte_at, next, range, within, each}
-
--- ---- what a byte is not
-
-pub off_bytes : (c : ℕ) → is_date_byte c ≡ false → (is_keylike c ≡ false) × ((c == 58) ≡ false) × ((c == 46) ≡ false) × ((c == 43) ≡ false)
-off_bytes c h = grind (arith, nat_tests, common_steps)
+use Rattle.toml_span_read.proofs.NumbersMove.{off_bytes, Plain, plain_in}
+use Rattle.toml_span_read.proofs.Parts.{Part, tail, here, byte_at, next, range, within, each}
 
 -- ---- decimal digits
 
@@ -31,22 +26,6 @@ all_kept p [] h = refl
 all_kept p (x ∷ xs) h =
     let e : p x ≡ true = h 0 (omega arith) in
     rw e (ap (λ (l : List ℕ). x ∷ l) (all_kept p xs (λ k l. h (suc k) (omega arith))))
-
--- digits without underscores
-pub record Plain (ds : List ℕ) : Type 0 where
-  pub some : 0 < length ds
-  pub digits : (k : ℕ) → k < length ds → is_digit_in 10 (get_or ds k 0) ≡ true
-
-pub plain_in : {text rest : List ℕ} {i j : ℕ} (ds : List ℕ) → Plain ds → is_figure 10 (get_or rest 0 0) ≡ false → Part text ds rest i j → Digits 10 text i j
-plain_in {text} {rest} {i} {j} ds plain off p =
-    let on = p.on in
-    let some = plain.some in
-    let all = each p (is_digit_in 10) plain.digits in
-    record {
-      begins = all i (omega arith) (omega arith);
-      run = record { forward = omega arith; within = within p; passes = λ k a b. digit_figure 10 (get_or text k 0) (all k a b); stops = λ x. rw (next p) off };
-      between = λ k a b u. absurd (digit_no_underscore 10 (get_or text k 0) (all k a b) u);
-    }
 
 -- a number of 64 bits in decimal digits, as it stands in a text
 record Decimal (text : List ℕ) (n i j : ℕ) : Type 0 where

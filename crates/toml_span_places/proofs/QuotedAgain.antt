@@ -14,10 +14,10 @@ use Rattle.toml_span_lex.proofs.PieceLemmas.{slice_join}
 use Rattle.toml_span_lex.proofs.Runs.{read_within}
 use Rattle.toml_span_read.specs.Dates.{is_date_byte, continues_date}
 use Rattle.toml_span_read.specs.Keys.{SpellsSimpleKey}
-use Rattle.toml_span_places.specs.Again.{parts_off, ReadsAsString, ReadsAsKey}
+use Rattle.toml_span_read.specs.Again.{parts_off, ReadsAsString, ReadsAsKey}
 use Rattle.toml_span_places.specs.Keys.{is_quote}
 use Rattle.toml_span_places.specs.Quoted.{letter_of, letter_or, is_control, number_escape, letter_escape, basic_char, basic, is_escaped, is_unliteral, is_literal, quoted, is_bare, key_text}
-use Rattle.toml_span_places.proofs.Parts.{Part, between, same_part, front, back, tail, here, next, range, within, each, empty_range}
+use Rattle.toml_span_read.proofs.Parts.{Part, between, same_part, front, back, tail, here, next, range, within, each, empty_range}
 use Rattle.std.proofs.lemmas.Bool.{lt-ltb}
 
 -- ---- pieces between quotation marks

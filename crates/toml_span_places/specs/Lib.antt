@@ -1,4 +1,3 @@
-pub mod Again
 pub mod Cuts
 pub mod Keys
 pub mod Lines

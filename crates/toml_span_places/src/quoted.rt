@@ -3,7 +3,7 @@ ghost use Rattle.std.specs.Prelude.{◌≡◌, ◌<◌, ◌++◌, IfOk, OnOk, st
 ghost use Rattle.std.specs.Char.{digit_char};
 ghost use Rattle.std.specs.List.{list_all, list_any};
 ghost use Rattle.toml_span_lex.specs.Bytes.{is_keylike as is_keylike_byte};
-ghost use Rattle.toml_span_places.specs.Again.{ReadsAsString, ReadsAsKey};
+ghost use Rattle.toml_span_read.specs.Again.{ReadsAsString, ReadsAsKey};
 ghost use Rattle.toml_span_places.specs.Quoted as spec;
 
 use std::alloc::{AllocError, Global};

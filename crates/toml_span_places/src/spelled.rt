@@ -4,7 +4,7 @@ ghost use Rattle.std.specs.Fmt.{signed_decimal};
 ghost use Rattle.std.specs.Str.{IsUtf8};
 ghost use Rattle.toml_span_tree.specs.Node.{integer};
 ghost use Rattle.toml_span_tree.specs.Value.{view, inner_view, items_view, members_view};
-ghost use Rattle.toml_span_places.specs.Again.{ReadsAsValue};
+ghost use Rattle.toml_span_read.specs.Again.{ReadsAsValue};
 ghost use Rattle.toml_span_places.specs.Quoted as quoted;
 ghost use Rattle.toml_span_places.specs.Spelled as spec;
 ghost use Rattle.toml_span_places.specs.code.Spelled.{AreHeld, IsHeld, IsHeldScalar, MembersHeld};

@@ -16,7 +16,8 @@ use Rattle.toml_span_read.specs.Read as read
 use Rattle.toml_span_read.specs.Read.{Standing, StandsAt, token, no_token, key_of, one_too_many, Parts}
 use Rattle.toml_span_read.specs.code.Keys.{key_found, PartGives}
 use Rattle.toml_span_read.specs.code.Faults.{Gives, IsPlacedStop}
-use Rattle.toml_span_read.specs.code.Wanted.{StringReads, WantedGives}
+use Rattle.toml_span_read.specs.code.Strings.{StringReads}
+use Rattle.toml_span_read.specs.code.Wanted.{WantedGives}
 
 -- an error that `?` hands on
 pub handed_on : {T E : Type 0} (r : Result T E) (x : E) → IsErrAnd r (λ y. y ≡ x) → r ≡ Err x

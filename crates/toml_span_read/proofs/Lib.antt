@@ -20,3 +20,9 @@ pub mod SpanLaws
 pub mod MemoryLemmas
 pub mod BorrowLemmas
 pub mod StepLemmas
+pub mod Parts
+pub mod Moves
+pub mod NumbersMove
+pub mod DatesMove
+pub mod Undated
+pub mod GapStarts

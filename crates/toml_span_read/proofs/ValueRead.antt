@@ -8,7 +8,7 @@ use Rattle.toml_span_tree.specs.Node.{text as text_scalar, boolean}
 use Rattle.toml_span_read.specs.declared.fault.Fault.{Fault}
 use Rattle.toml_span_read.specs.declared.fault.FaultKind.TheVariants as kinds
 use Rattle.toml_span_read.specs.declared.value.ValKind.{ValKind}
-use Rattle.toml_span_read.specs.declared.wanted.StringToken.{StringToken}
+use Rattle.toml_span_read.specs.declared.strings.StringToken.{StringToken}
 use Rattle.toml_span_read.specs.Data.{ParsedValue, parsed, ParsedInner, scalar, KeyValue, kind_view, from_to}
 use Rattle.toml_span_read.specs.Dates.{begins_date}
 use Rattle.toml_span_read.specs.Faults.{fault_at, opens_nested, begins_bare, begins_number}
@@ -19,7 +19,7 @@ use Rattle.toml_span_read.specs.Read as read
 use Rattle.toml_span_read.specs.Read.{Reading, Turn, on, done, Loop, ends, stops as stops_there, goes_on, ValueEnd, Elements, Pairs, StandsAt, token, no_token}
 use Rattle.toml_span_read.specs.code.Faults.{Gives}
 use Rattle.toml_span_read.specs.code.Values.{value_found, ScalarGives, IsTooDeep, IsOtherWord}
-use Rattle.toml_span_read.specs.code.Wanted.{StringReads}
+use Rattle.toml_span_read.specs.code.Strings.{StringReads}
 use Rattle.toml_span_read.proofs.NumberLemmas.{is_false, same_byte, byte_is, clash, run_is}
 
 -- ---- bare values

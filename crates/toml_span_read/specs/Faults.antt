@@ -1,13 +1,14 @@
 -- Faults: what is told of what is wrong in a text, and how a token is called where another one is due. Which fault is
 -- told, and where, is in `Read`.
-use Rattle.std.specs.Prelude.{◌≡◌, ℕ, ◌+◌, ◌<◌, ◌≤◌, ◌⊎◌, Bool, false, ◌||◌, ◌==◌, List, take, length, slice_index}
-use Rattle.std.specs.Prelude.{if◌then◌else◌, Some, codes, count_by}
+use Rattle.std.specs.Prelude.{◌≡◌, ℕ, ◌+◌, ◌≤◌, Bool, ◌||◌, ◌==◌, List, length}
+use Rattle.std.specs.Prelude.{if◌then◌else◌, Some, codes}
 use Rattle.std.specs.Char.{is_ascii_digit}
 use Rattle.toml_span_lex.specs.declared.tokens.Error.{Error}
 use Rattle.toml_span_lex.specs.declared.tokens.Error.TheVariants as errors
 use Rattle.toml_span_lex.specs.Tokens.{Lexeme, whitespace, newline, comment, punctuator, keylike, string}
 use Rattle.toml_span_lex.specs.Bytes.{is_keylike, plus, period, dash, colon, comma, equals, left_brace}
 use Rattle.toml_span_lex.specs.Bytes.{left_bracket, line_feed, right_brace}
+use Rattle.toml_span_lex.specs.Lines.{IsLineInfo}
 use Rattle.toml_span_tree.specs.Error as tree
 use Rattle.toml_span_read.specs.declared.fault.Due.{Due}
 use Rattle.toml_span_read.specs.declared.fault.Due.TheVariants as dues
@@ -69,15 +70,6 @@ error_kind kinds.UnquotedString = tree.unquoted_string
 error_kind (kinds.Wanted expected found) = tree.wanted (due_words expected) (found_words found)
 error_kind kinds.MultilineStringKey = tree.multiline_string_key
 error_kind (kinds.DottedKeyInvalidType first) = tree.dotted_key_invalid_type first
-
--- The place i stands in this line at this column, both counted from 0: so many line feeds stand before it, and so
--- many bytes behind the last of them, or behind the start of the text.
-pub record IsLineInfo (text : List ℕ) (i line column : ℕ) : Type 0 where
-  pub start : ℕ
-  pub line_is : line ≡ count_by (λ c. c == line_feed) (take i text)
-  pub begins : (start ≡ 0) ⊎ ((k : ℕ) × (start ≡ k + 1) × (slice_index text k ≡ line_feed))
-  pub same_line : (k : ℕ) → start ≤ k → k < i → (slice_index text k == line_feed) ≡ false
-  pub column_is : start + column ≡ i
 
 -- a fault starts within the text, and does not end before it starts
 pub record StartsInside (text : List ℕ) (fault : Fault) : Type 0 where

@@ -12,4 +12,5 @@ pub mod Read
 pub mod Reading
 pub mod Limits
 pub mod Borrowed
+pub mod Again
 pub mod code

@@ -6,7 +6,7 @@ ghost use Rattle.toml_span_read.specs.Earlier as spec;
 ghost use Rattle.toml_span_read.specs.code.Earlier as code;
 
 use crate::fault::{Fault, FaultKind};
-use crate::keys::add;
+use crate::lists::add;
 use crate::value::{Assignment, DottedKey};
 use std::alloc::{AllocError, Global};
 use std::collections::BTreeMap;

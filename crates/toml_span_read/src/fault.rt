@@ -3,9 +3,12 @@ ghost use Rattle.std.specs.Prelude.{◌≡◌, ◌<◌, ◌≤◌, length};
 ghost use Rattle.toml_span_tree.specs.Error.{kind_of, content_of};
 ghost use Rattle.toml_span_read.specs.Faults as spec;
 ghost use Rattle.toml_span_read.specs.Numerals as numerals;
-ghost use Rattle.toml_span_read.specs.Faults.{IsLineInfo, Tells};
+ghost use Rattle.toml_span_read.specs.Faults.{Tells};
+ghost use Rattle.toml_span_read.specs.code.Faults.{Bounded};
 
+use toml_span_lex::lines::line_info;
 use toml_span_lex::span::Span;
+use toml_span_lex::tokens::Error as TokenError;
 use toml_span_tree::{Error, ErrorKind};
 
 /// What is due at a place, where another token stands.
@@ -138,6 +141,33 @@ pub(crate) fn invalid_number(start: usize, end: usize) -> Fault
     }
 }
 
+/// Returns the fault that the tokenizer's refusal is.
+pub(crate) fn token_fault(error: TokenError) -> Fault
+    requires { Bounded usize.MAX error }
+    ensures { result ≡ spec.token_fault error }
+{
+    match error {
+        TokenError::InvalidCharInString(at, c) => fault_at(FaultKind::InvalidCharInString(c), at),
+        TokenError::InvalidEscape(at, c) => fault_at(FaultKind::InvalidEscape(c), at),
+        TokenError::InvalidHexEscape(at, c) => fault_at(FaultKind::InvalidHexEscape(c), at),
+        TokenError::InvalidEscapeValue(at, len, value) => Fault {
+            kind: FaultKind::InvalidEscapeValue(value),
+            span: Span {
+                start: at,
+                end: at + len,
+            },
+        },
+        TokenError::NewlineInString(at) => fault_at(FaultKind::InvalidCharInString('\n'), at),
+        TokenError::Unexpected(at, c) => fault_at(FaultKind::Unexpected(c), at),
+        TokenError::UnterminatedString(at) => fault_at(FaultKind::UnterminatedString, at),
+        TokenError::MultilineStringKey(start, end) => Fault {
+            kind: FaultKind::MultilineStringKey,
+            span: Span { start, end },
+        },
+        TokenError::Wanted { at, .. } => fault_at(FaultKind::UnexpectedEof, at),
+    }
+}
+
 /// What a fault is called among the errors of a document.
 fn error_kind<'s>(kind: FaultKind) -> ErrorKind<'s>
     ensures { kind_of result ≡ spec.error_kind kind }
@@ -161,24 +191,6 @@ fn error_kind<'s>(kind: FaultKind) -> ErrorKind<'s>
         FaultKind::MultilineStringKey => ErrorKind::MultilineStringKey,
         FaultKind::DottedKeyInvalidType { first } => ErrorKind::DottedKeyInvalidType { first },
     }
-}
-
-/// The line and the column of a place, both counted from 0: how many line feeds stand before it, and
-/// how many bytes behind the last of them, or behind the start of the text.
-pub fn line_info(text: &str, at: usize) -> (usize, usize)
-    requires { at ≤ length text.now }
-    ensures { IsLineInfo text.now at result.0 result.1 }
-{
-    let bytes = text.as_bytes();
-    let mut line = 0;
-    let mut start = 0;
-    for i in 0..at {
-        if bytes[i] == b'\n' {
-            line += 1;
-            start = i + 1;
-        }
-    }
-    (line, at - start)
 }
 
 /// A fault as an error of the document, with its line and column.

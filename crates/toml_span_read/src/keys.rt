@@ -1,5 +1,5 @@
 //! Keys and dotted keys.
-ghost use Rattle.std.specs.Prelude.{◌≡◌, ◌<◌, ◌⊎◌, true, false, length, slice_index, [], ◌∷◌, ◌++◌, IfOk, OnOk};
+ghost use Rattle.std.specs.Prelude.{◌≡◌, ◌<◌, ◌⊎◌, true, false, length, slice_index, [], IfOk};
 ghost use Rattle.toml_span_read.specs.Data as read_data;
 ghost use Rattle.std.specs.Str.{IsCharBoundary};
 ghost use Rattle.toml_span_lex.specs.Bytes.{quotation_mark, apostrophe};
@@ -11,23 +11,17 @@ ghost use Rattle.toml_span_read.specs.code.Faults.{Advances, Gives};
 
 use crate::fault::{Due, Fault, FaultKind, fault_at};
 use crate::gaps::{byte_at, dot};
+use crate::lists::add;
+use crate::strings::{opens_string, string};
 use crate::value::DottedKey;
-use crate::wanted::{opens_string, string, wanted};
+use crate::wanted::wanted;
 use smallvec::SmallVec;
-use std::alloc::{AllocError, Global};
+use std::alloc::Global;
 use std::borrow::CowStr;
 use toml_span_lex::bytes::{is_keylike, keylike_end};
 use toml_span_lex::key::Key;
 use toml_span_lex::span::Span;
 use toml_span_lex::stop::Stop;
-
-/// Puts one more at the end.
-pub(crate) fn add<T: Drop>(items: &mut Vec<T>, item: T) -> Result<(), AllocError>
-    ensures { OnOk result (items.new.items ≡ items.old.items ++ (item ∷ [])) }
-{
-    items.push(item)?;
-    Ok(())
-}
 
 /// The string at a place as a key, and where it ends.
 ///

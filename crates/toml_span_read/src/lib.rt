@@ -6,12 +6,14 @@ mod earlier;
 pub mod fault;
 pub mod gaps;
 mod keys;
+mod lists;
 pub mod numbers;
 pub mod section;
 pub mod sections;
+pub mod strings;
 pub mod value;
 mod values;
-pub mod wanted;
+mod wanted;
 
 pub use section::Section;
 pub use sections::{read_first, read_section, read_sections};

@@ -1,135 +1,19 @@
-//! What stands where another token is due.
-ghost use Rattle.std.specs.Prelude.{◌≡◌, ◌<◌, ◌≤◌, ◌||◌, ◌==◌, ◌⊎◌, if◌then◌else◌, length, slice_index, false, IfOk};
-ghost use Rattle.std.specs.Prelude.{IfSome, Ok};
+//! The faults of a place where another token is expected than the one that is there.
+ghost use Rattle.std.specs.Prelude.{◌≡◌, if◌then◌else◌, slice_index, false};
 ghost use Rattle.std.specs.Str.{IsCharBoundary};
-ghost use Rattle.toml_span_lex.specs.Bytes.{quotation_mark, apostrophe};
-ghost use Rattle.toml_span_lex.specs.Strings.{BorrowsWhereSame};
 ghost use Rattle.toml_span_lex.specs.Tokens.{lexeme};
 ghost use Rattle.toml_span_read.specs.Faults as faults;
 ghost use Rattle.toml_span_read.specs.Keys as spec;
 ghost use Rattle.toml_span_read.specs.code.Faults as faults_code;
-ghost use Rattle.toml_span_read.specs.code.Wanted.{StringReads, FoundGives, WantedGives, NoValueGives, Bounded};
+ghost use Rattle.toml_span_read.specs.code.Wanted.{FoundGives, WantedGives, NoValueGives};
 
-use crate::fault::{Due, Fault, FaultKind, Found, fault_at};
-use crate::gaps::byte_at;
+use crate::fault::{Due, Fault, FaultKind, Found, fault_at, token_fault};
+use crate::strings::{opens_string, string};
 use std::alloc::Global;
-use std::borrow::CowStr;
-use toml_span_lex::pieces::plain_end;
 use toml_span_lex::span::Span;
 use toml_span_lex::stop::Stop;
-use toml_span_lex::strings::string_at;
 use toml_span_lex::tokenizer::token_at;
-use toml_span_lex::tokens::{Error, Token};
-
-/// A string: its content, its span, whether it may have several lines, and where it ends.
-#[derive(Drop)]
-pub struct StringToken<'de> {
-    pub content: CowStr<'de>,
-    pub span: Span,
-    pub is_multiline: bool,
-    pub end: usize,
-}
-
-/// The fault that a token's refusal is.
-fn token_fault(error: Error) -> Fault
-    requires { Bounded usize.MAX error }
-    ensures { result ≡ faults.token_fault error }
-{
-    match error {
-        Error::InvalidCharInString(at, c) => fault_at(FaultKind::InvalidCharInString(c), at),
-        Error::InvalidEscape(at, c) => fault_at(FaultKind::InvalidEscape(c), at),
-        Error::InvalidHexEscape(at, c) => fault_at(FaultKind::InvalidHexEscape(c), at),
-        Error::InvalidEscapeValue(at, len, value) => Fault {
-            kind: FaultKind::InvalidEscapeValue(value),
-            span: Span {
-                start: at,
-                end: at + len,
-            },
-        },
-        Error::NewlineInString(at) => fault_at(FaultKind::InvalidCharInString('\n'), at),
-        Error::Unexpected(at, c) => fault_at(FaultKind::Unexpected(c), at),
-        Error::UnterminatedString(at) => fault_at(FaultKind::UnterminatedString, at),
-        Error::MultilineStringKey(start, end) => Fault {
-            kind: FaultKind::MultilineStringKey,
-            span: Span { start, end },
-        },
-        Error::Wanted { at, .. } => fault_at(FaultKind::UnexpectedEof, at),
-    }
-}
-
-/// The string on one line at a place, if it has characters that stand for themselves, and no others.
-#[inline(always)]
-pub(crate) fn short_string<'de>(text: &'de str, at: usize) -> Option<StringToken<'de>>
-    requires within { at < length text.now }
-    requires quote { (slice_index text.now at ≡ quotation_mark) ⊎ (slice_index text.now at ≡ apostrophe) }
-    ensures string { IfSome result (λ token. StringReads text.now at (Ok token)) }
-    ensures borrows { IfSome result (λ token. BorrowsWhereSame text.now token.span token.content) }
-{
-    let quote = text.as_bytes()[at];
-    let start = at + 1;
-    let end = plain_end(text, quote, start);
-    if start == end || byte_at(text, end) != quote {
-        return None;
-    }
-    Some(StringToken {
-        content: CowStr::Borrowed(&text[start..end]),
-        span: Span { start, end },
-        is_multiline: false,
-        end: end + 1,
-    })
-}
-
-/// The string that begins at a place, in pieces.
-#[inline(never)]
-fn pieced_string<'de>(
-    alloc: Global,
-    text: &'de str,
-    at: usize,
-) -> Result<StringToken<'de>, Stop<Fault>>
-    requires within { at < length text.now }
-    requires quote { (slice_index text.now at ≡ quotation_mark) ⊎ (slice_index text.now at ≡ apostrophe) }
-    ensures string { StringReads text.now at result }
-    ensures borrows { IfOk result (λ token. BorrowsWhereSame text.now token.span token.content) }
-    ensures placed { faults_code.IsPlacedEnd text.now result }
-{
-    match string_at(alloc, text, at) {
-        Ok((span, token, end)) => match token {
-            Token::String {
-                src: _,
-                val,
-                multiline,
-            } => Ok(StringToken {
-                content: val,
-                span,
-                is_multiline: multiline,
-                end,
-            }),
-            _ => unreachable!(),
-        },
-        Err(Stop::Memory(e)) => Err(Stop::Memory(e)),
-        Err(Stop::Fault((error, _))) => Err(Stop::Fault(token_fault(error))),
-    }
-}
-
-/// The string that begins at a place: its content, its span, whether it is of several lines, and where it ends.
-/// The fault is that of the string as a token.
-#[inline(always)]
-pub(crate) fn string<'de>(
-    alloc: Global,
-    text: &'de str,
-    at: usize,
-) -> Result<StringToken<'de>, Stop<Fault>>
-    requires within { at < length text.now }
-    requires quote { (slice_index text.now at ≡ quotation_mark) ⊎ (slice_index text.now at ≡ apostrophe) }
-    ensures string { StringReads text.now at result }
-    ensures borrows { IfOk result (λ token. BorrowsWhereSame text.now token.span token.content) }
-    ensures placed { faults_code.IsPlacedEnd text.now result }
-{
-    match short_string(text, at) {
-        Some(token) => Ok(token),
-        None => pieced_string(alloc, text, at),
-    }
-}
+use toml_span_lex::tokens::Token;
 
 /// What a token is called where another one is due.
 fn found_of(token: &Token<'_>) -> Found
@@ -162,14 +46,6 @@ fn string_found(is_multiline: bool) -> Found
     } else {
         Found::OneLineString
     }
-}
-
-/// Whether a string opens with this byte.
-#[inline]
-pub(crate) fn opens_string(byte: u8) -> bool
-    ensures { result ≡ (byte == quotation_mark || byte == apostrophe) }
-{
-    byte == b'"' || byte == b'\''
 }
 
 /// The token that begins at a place, or the end of the text, and where it ends.

@@ -11,7 +11,7 @@ use Rattle.toml_span_tree.specs.Path.{Place, place_at}
 use Rattle.toml_span_tree.specs.Path as tree
 use Rattle.toml_span_tree.specs.Value.{view}
 use Rattle.toml_span_tree.specs.declared.value.Value.{Value}
-use Rattle.toml_span_read.specs.Faults.{IsLineInfo}
+use Rattle.toml_span_lex.specs.Lines.{IsLineInfo}
 use Rattle.toml_span_read.specs.Data.{depth_limit}
 use Rattle.toml_span_report.specs.Names.{nearest}
 use Rattle.toml_span_report.specs.UnknownKeys.{listed, named}

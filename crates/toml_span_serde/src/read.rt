@@ -10,8 +10,8 @@ use crate::row::Row;
 use serde::{Deserialize, DeserializeOwned, Deserializer};
 use std::alloc::Global;
 use toml_span::parse;
+use toml_span_lex::lines::line_info;
 use toml_span_lex::stop::Stop;
-use toml_span_read::fault::line_info;
 use toml_span_tree::Value;
 
 /// The document that the text spells, as a type that derives `Deserialize`.

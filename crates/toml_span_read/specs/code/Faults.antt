@@ -1,9 +1,12 @@
 -- Faults of single functions: a placed one, or what is read.
-use Rattle.std.specs.Prelude.{ℕ, List, Result, Ok, Err}
+use Rattle.std.specs.Prelude.{◌≡◌, ℕ, ◌+◌, ◌<◌, List, Result, Ok, Err}
 use Rattle.toml_span_lex.specs.declared.stop.Stop.{Stop}
 use Rattle.toml_span_lex.specs.declared.stop.Stop.TheVariants as stops
+use Rattle.toml_span_lex.specs.declared.tokens.Error.{Error}
+use Rattle.toml_span_lex.specs.declared.tokens.Error.TheVariants as errors
+use Rattle.toml_span_lex.specs.Tokens.{IsNoToken}
 use Rattle.toml_span_read.specs.declared.fault.Fault.{Fault}
-use Rattle.toml_span_read.specs.Faults.{StartsInside}
+use Rattle.toml_span_read.specs.Faults.{StartsInside, token_fault}
 use Rattle.toml_span_read.specs.Read.{Reading}
 use Rattle.toml_span_read.specs.code.Gaps.{Further}
 
@@ -25,3 +28,19 @@ Advances text i (Err stop) = IsPlacedStop text stop
 abbrev pub IsPlacedEnd : {A : Type 0} → List ℕ → Result A (Stop Fault) → Type 0
 IsPlacedEnd text (Ok found) = Unit {0}
 IsPlacedEnd text (Err stop) = IsPlacedStop text stop
+
+-- no token stands at i, and this is told
+abbrev pub IsTokenFault : List ℕ → ℕ → Fault → Type 0
+IsTokenFault text i fault = (j : ℕ) × (e : Error) × IsNoToken text i j e × (fault ≡ token_fault e)
+
+-- the places that a token's refusal names are below n
+abbrev pub Bounded : ℕ → Error → Type 0
+Bounded n (errors.InvalidCharInString at c) = at < n
+Bounded n (errors.InvalidEscape at c) = at < n
+Bounded n (errors.InvalidHexEscape at c) = at < n
+Bounded n (errors.InvalidEscapeValue at len value) = at + len < n
+Bounded n (errors.NewlineInString at) = at < n
+Bounded n (errors.Unexpected at c) = at < n
+Bounded n (errors.UnterminatedString at) = at < n
+Bounded n (errors.MultilineStringKey start end) = start < n
+Bounded n (errors.Wanted at expected found) = at < n

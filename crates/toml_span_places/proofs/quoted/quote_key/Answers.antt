@@ -1,4 +1,4 @@
-use Rattle.toml_span_places.specs.Again.{ReadsAsKey}
+use Rattle.toml_span_read.specs.Again.{ReadsAsKey}
 use Rattle.toml_span_places.specs.Quoted.{key_text}
 use Rattle.toml_span_places.proofs.QuotedAgain.{if_text, reads_key}
 use Rattle.toml_span_places.proofs.quoted.quote_key.Goals as goal

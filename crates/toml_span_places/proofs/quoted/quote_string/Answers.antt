@@ -1,4 +1,4 @@
-use Rattle.toml_span_places.specs.Again.{ReadsAsString}
+use Rattle.toml_span_read.specs.Again.{ReadsAsString}
 use Rattle.toml_span_places.specs.Quoted.{quoted}
 use Rattle.toml_span_places.proofs.QuotedAgain.{if_text, reads_string}
 use Rattle.toml_span_places.proofs.quoted.quote_string.Goals as goal

@@ -1,14 +1,11 @@
-//! Reads a document as a type, and tells where a span stands.
-ghost use Rattle.std.specs.Prelude.{◌≡◌, ◌+◌, ℕ, IfOk, IfErr, Ok, length, map, min};
+//! Reads a document as a type.
+ghost use Rattle.std.specs.Prelude.{IfOk, IfErr, Ok, map};
 ghost use Rattle.toml_span_tree.specs.Error.{content_of};
-ghost use Rattle.toml_span_read.specs.Faults.{IsLineInfo};
-ghost use Rattle.toml_span.specs.Reading.{IsRead, IsReadWithWarnings, NotRead, NotReadWithWarnings};
+ghost use Rattle.toml_span.specs.FromText.{IsRead, IsReadWithWarnings, NotRead, NotReadWithWarnings};
 
 use crate::de::parse;
 use std::alloc::Global;
-use toml_span_lex::span::Span;
 use toml_span_lex::stop::Stop;
-use toml_span_read::fault::line_info;
 use toml_span_tree::Error;
 use toml_span_typed::{DeserError, Deserialize, DeserializeWithWarnings};
 
@@ -48,18 +45,4 @@ pub fn from_str_with_warnings<'de, T: DeserializeWithWarnings<'de>>(
         Err(Stop::Memory(error)) => return Err(Stop::Memory(error)),
     };
     T::deserialize_with_warnings(alloc, &mut root, warnings)
-}
-
-/// The line at which a span starts, and the byte of that line, both counted from 1: one more than the line
-/// feeds before it, and than the bytes behind the last of them. A span that starts past the text has
-/// those of the text's end.
-///
-/// These are `Error::line_info`, which counts both from 0, and one more of each. The column that editors
-/// show counts characters, not bytes: `toml_span_report::line_column` has it.
-pub fn line_and_byte(text: &str, span: Span) -> (usize, usize)
-    ensures { (line byte : ℕ) × IsLineInfo text.now (min span.start (length text.now)) line byte
-        × (result ≡ (line + 1, byte + 1)) }
-{
-    let (line, byte) = line_info(text, span.start.min(text.len()));
-    (line + 1, byte + 1)
 }

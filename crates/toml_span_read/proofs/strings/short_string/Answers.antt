@@ -1,7 +1,7 @@
 use Rattle.toml_span_lex.proofs.Common.{rules, ◌≡◌, ◌<◌, ◌+◌, get_or, ap, Global}
 use Rattle.std.specs.declared.borrow.CowStr.TheVariants as cow
 use Rattle.toml_span_read.proofs.ShortStrings.{short_read, behind_quote}
-use Rattle.toml_span_read.proofs.wanted.short_string.Goals as goal
+use Rattle.toml_span_read.proofs.strings.short_string.Goals as goal
 
 pub plain_end-end-requires-clause-boundary : goal.plain_end-end-requires-clause-boundary
 plain_end-end-requires-clause-boundary c = behind_quote c.args.text.now c.args.at c.utf8.text c.requires.quote

@@ -7,10 +7,10 @@ use Rattle.toml_span_tree.specs.Node.{float, finite}
 use Rattle.toml_span_read.specs.Numbers.{Digits, Exponent, Fraction, FloatLiteral}
 use Rattle.toml_span_read.specs.Numerals.{is_digit_in, is_figure, behind_sign, is_exponent, cleaned}
 use Rattle.toml_span_read.proofs.NumberLemmas.{clash, sign_on, digits_on, slice_cons}
-use Rattle.toml_span_places.specs.Again.{IsFloatText}
-use Rattle.toml_span_places.proofs.NumbersAgain.{Plain, plain_in}
-use Rattle.toml_span_places.proofs.Undated.{no_date}
-use Rattle.toml_span_places.proofs.Parts.{Part, same_part, here, byte_at, empty_range, range, whole}
+use Rattle.toml_span_read.specs.Again.{IsFloatText}
+use Rattle.toml_span_read.proofs.NumbersMove.{Plain, plain_in}
+use Rattle.toml_span_read.proofs.Undated.{no_date}
+use Rattle.toml_span_read.proofs.Parts.{Part, same_part, here, byte_at, empty_range, range, whole}
 
 -- ---- what cleaning does
 

@@ -1,6 +1,6 @@
 use Rattle.toml_span_lex.specs.Tokens.{string}
 use Rattle.toml_span_lex.proofs.Within.{token_within}
-use Rattle.toml_span_read.proofs.wanted.pieced_string.Goals as goal
+use Rattle.toml_span_read.proofs.strings.pieced_string.Goals as goal
 
 pub returns-in-String-clause-string : goal.returns-in-String-clause-string
 returns-in-String-clause-string c =

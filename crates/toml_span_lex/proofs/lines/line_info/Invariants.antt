@@ -1,5 +1,5 @@
 use Rattle.toml_span_lex.proofs.Common.{◌≡◌, ◌<◌, ◌≤◌, ◌⊎◌, ℕ, ◌+◌, false, take, get_or, ◌==◌, count_by}
-use Rattle.toml_span_read.proofs.fault.line_info.Given as goal
+use Rattle.toml_span_lex.proofs.lines.line_info.Given as goal
 
 abbrev pub invariant-loop-i : goal.invariant-loop-i
 invariant-loop-i l = record {

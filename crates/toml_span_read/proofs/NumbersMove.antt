@@ -1,5 +1,5 @@
 -- A number that stands in a part of a text stands in its copy, behind which no byte goes on with it.
-use Rattle.toml_span_lex.proofs.Common.{◌≡◌, ℕ, ℤ, ◌+◌, ◌-◌, ◌<◌, ◌≤◌, Bool, true, false, List, get_or, filter, arith, inl, inr, sym, ◌∙◌, ap, codes, ◌==◌, ◌||◌, Some, cases_lt, false≢true, or_from, nat_tests, common_steps}
+use Rattle.toml_span_lex.proofs.Common.{◌≡◌, ℕ, ℤ, ◌+◌, ◌-◌, ◌<◌, ◌≤◌, Bool, true, false, List, length, get_or, filter, arith, inl, inr, sym, ◌∙◌, ap, codes, ◌==◌, ◌||◌, Some, cases_lt, false≢true, or_from, nat_tests, common_steps}
 use Rattle.toml_span_lex.specs.Bytes.{is_keylike}
 use Rattle.toml_span_tree.specs.Node.{Scalar, text as text_scalar, integer, float, boolean, datetime, finite, infinite, not_a_number}
 use Rattle.toml_span_read.specs.Dates.{is_date_byte}
@@ -7,9 +7,14 @@ use Rattle.toml_span_read.specs.Numbers.{Digits, UnsignedDecimal, DecimalInteger
 use Rattle.toml_span_read.specs.Numbers.{FloatLiteral, SpecialFloat, IsNumber}
 use Rattle.toml_span_read.specs.Numerals.{is_digit_in, is_figure, sum_of_digits, magnitude, behind_sign, is_exponent}
 use Rattle.toml_span_read.specs.Numerals.{is_negative, radix_at, cleaned}
-use Rattle.toml_span_read.proofs.NumberLemmas.{digit_figure, no_keylike_figure, digits_on, digits_stop, sign_on}
-use Rattle.toml_span_places.proofs.Moves.{Moves, either, said, also, Copied, At, further, behind, nothing, byte, stays, first, run, same_range}
-use Rattle.toml_span_places.proofs.NumbersAgain.{off_bytes}
+use Rattle.toml_span_read.proofs.NumberLemmas.{digit_figure, digit_no_underscore, no_keylike_figure, digits_on, digits_stop, sign_on}
+use Rattle.toml_span_read.proofs.Moves.{Moves, either, said, also, Copied, At, further, behind, nothing, byte, stays, first, run, same_range}
+use Rattle.toml_span_read.proofs.Parts.{Part, next, within, each}
+
+-- ---- what a byte is not
+
+pub off_bytes : (c : ℕ) → is_date_byte c ≡ false → (is_keylike c ≡ false) × ((c == 58) ≡ false) × ((c == 46) ≡ false) × ((c == 43) ≡ false)
+off_bytes c h = grind (arith, nat_tests, common_steps)
 
 -- digits do not end before a digit
 before_end : (radix : ℕ) (a : List ℕ) (i j k : ℕ) → Digits radix a i j → k < j → is_digit_in radix (get_or a (k + 1) 0) ≡ true → k + 1 < j
@@ -124,3 +129,21 @@ module _ {a b : List ℕ} {s t n c : ℕ} (w : Copied a b s t n c) (off : is_dat
   number (text_scalar v) = record { on = λ i j h. absurd h; to = λ i j k l u v h. absurd h }
   number (boolean d) = record { on = λ i j h. absurd h; to = λ i j k l u v h. absurd h }
   number (datetime d) = record { on = λ i j h. absurd h; to = λ i j k l u v h. absurd h }
+
+-- ---- digits as a part
+
+-- digits without underscores
+pub record Plain (ds : List ℕ) : Type 0 where
+  pub some : 0 < length ds
+  pub digits : (k : ℕ) → k < length ds → is_digit_in 10 (get_or ds k 0) ≡ true
+
+pub plain_in : {text rest : List ℕ} {i j : ℕ} (ds : List ℕ) → Plain ds → is_figure 10 (get_or rest 0 0) ≡ false → Part text ds rest i j → Digits 10 text i j
+plain_in {text} {rest} {i} {j} ds plain off p =
+    let on = p.on in
+    let some = plain.some in
+    let all = each p (is_digit_in 10) plain.digits in
+    record {
+      begins = all i (omega arith) (omega arith);
+      run = record { forward = omega arith; within = within p; passes = λ k a b. digit_figure 10 (get_or text k 0) (all k a b); stops = λ x. rw (next p) off };
+      between = λ k a b u. absurd (digit_no_underscore 10 (get_or text k 0) (all k a b) u);
+    }

@@ -11,14 +11,13 @@ use Rattle.toml_span_read.specs.Data.{no_items as none_read, item as item_read, 
 use Rattle.toml_span_read.specs.Dates.{continues_date, is_date_byte}
 use Rattle.toml_span_read.specs.Earlier.{part_names}
 use Rattle.toml_span_read.specs.Grammar.{Spells, SpellsScalar}
-use Rattle.toml_span_read.specs.Keys.{SpellsSimpleKey}
-use Rattle.toml_span_places.specs.Keys.{is_quote}
+use Rattle.toml_span_read.specs.Keys.{SpellsSimpleKey, opens_string}
 
 -- What may stand behind a spelling: the end of the text, or what goes on with no word, number, date or string, which
 -- is no letter, digit, dash, underscore, colon, dot, plus or quote, and no space with a digit behind it.
 abbrev pub parts_off : List ℕ → Bool
 parts_off behind =
-    not (is_date_byte (slice_index behind 0) || (is_quote (slice_index behind 0) || continues_date behind 0))
+    not (is_date_byte (slice_index behind 0) || (opens_string (slice_index behind 0) || continues_date behind 0))
 
 -- wherever the part stands in a text, it is one string on one line, from its first byte to its last, with this content
 abbrev pub ReadsAsString : List ℕ → List ℕ → Type 0
