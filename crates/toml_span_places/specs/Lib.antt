@@ -3,6 +3,7 @@ pub mod Cuts
 pub mod Keys
 pub mod Lines
 pub mod Literals
+pub mod Mentions
 pub mod Points
 pub mod Quoted
 pub mod Sections

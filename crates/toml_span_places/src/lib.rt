@@ -6,6 +6,7 @@ mod cuts;
 mod keys;
 mod lines;
 mod literals;
+mod mentions;
 mod opened;
 mod paths;
 mod points;
@@ -14,7 +15,6 @@ mod sections;
 mod spelled;
 mod spots;
 mod tables;
-mod values;
 
 pub use cuts::replaced;
 pub use keys::{KeyPlace, Role, key_places, with_quotes};
