@@ -4,7 +4,7 @@ use Rattle.toml_span_tree.specs.Path.{Path}
 use Rattle.toml_span_read.specs.Data.{Block, block}
 use Rattle.toml_span_read.specs.declared.section.Section.{Section}
 use Rattle.toml_span.specs.Paths.{elements_added, opened_by}
-use Rattle.toml_span_places.specs.Mentions.{Mentioned, mentions_behind, section_mentions}
+use Rattle.toml_span_places.specs.Mentions.{Mentioned, mentions_after, section_mentions}
 use Rattle.toml_span_places.specs.code.Opened.{counts_behind}
 use Rattle.toml_span_places.proofs.OpenedLemmas.{counts_next}
 
@@ -15,8 +15,8 @@ first_of i ss s under here = drop_more ss i s under ∙ ap (λ x. x ∷ drop (i 
 pub listed_section : (with_assignments : Bool) (i : ℕ) (ss : List Section) (s : Section) (counts counts' : Path → ℕ) (before now all : List Mentioned) →
     i < length ss → get_or ss i s ≡ s → now ≡ before ++ section_mentions with_assignments counts (block s) →
     counts' ≡ counts_behind counts (block s) →
-    ((earlier : List Block) × (counts ≡ elements_added (opened_by earlier)) × (before ++ mentions_behind with_assignments earlier (map block (drop i ss)) ≡ all)) →
-    (earlier : List Block) × (counts' ≡ elements_added (opened_by earlier)) × (now ++ mentions_behind with_assignments earlier (map block (drop (i + 1) ss)) ≡ all)
+    ((earlier : List Block) × (counts ≡ elements_added (opened_by earlier)) × (before ++ mentions_after with_assignments earlier (map block (drop i ss)) ≡ all)) →
+    (earlier : List Block) × (counts' ≡ elements_added (opened_by earlier)) × (now ++ mentions_after with_assignments earlier (map block (drop (i + 1) ss)) ≡ all)
 listed_section with_assignments i ss s counts counts' before now all under here added behind was =
     let earlier = was.0 in (
       block s ∷ earlier,

@@ -1,4 +1,4 @@
--- The keys of a document where they stand: those of the sections that the grammar reads, in the order of the text.
+-- The keys of a document in the order of the text.
 use Rattle.std.specs.Prelude.{ℕ, ◌+◌, ◌-◌, Bool, true, ◌&&◌, ◌||◌, ◌==◌, nat_lt, if◌then◌else◌, List, map, filter_map}
 use Rattle.std.specs.Prelude.{length, slice_index, Option, option_map}
 use Rattle.toml_span_lex.specs.Bytes.{quotation_mark, apostrophe}
@@ -13,7 +13,7 @@ use Rattle.toml_span_places.specs.declared.keys.Role.{Role}
 abbrev pub is_quote : ℕ → Bool
 is_quote c = c == quotation_mark || c == apostrophe
 
--- The span with the quotes round it. An empty string has its opening quote's span, and the closing one is behind it.
+-- The span with the quotes around it. An empty string has its opening quote's span, and the closing one is next.
 abbrev pub with_quotes : List ℕ → Span → Span
 with_quotes text span =
     if nat_lt span.end (length text) && (nat_lt 0 span.start && is_quote (slice_index text (span.start - 1)))
@@ -22,14 +22,14 @@ with_quotes text span =
     then record { start = span.start; end = span.end + 1 }
     else span
 
--- a key where it stands: the path of what it names, its span without and with its quotes, and its role
+-- a key: the path of what it names, its span without and with its quotes, and its role
 pub record Standing : Type 0 where
   pub path : Path
   pub span : Span
   pub whole : Span
   pub role : Role
 
--- a place that is told, seen so
+-- the result as plain data
 abbrev pub standing : KeyPlace → Standing
 standing place =
     record { path = map step_of place.path.items; span = place.span; whole = place.whole; role = place.role }

@@ -16,7 +16,7 @@ use Rattle.toml_span_places.specs.declared.keys.Role.TheVariants as roles
 use Rattle.toml_span_places.specs.declared.tables.TableForm.{TableForm}
 use Rattle.toml_span_places.specs.declared.tables.TableForm.TheVariants as forms
 
--- a path that is lent, and a mention as it is told
+-- a path of borrowed names and a mention, as plain data
 abbrev pub steps_of : Vec Lent Global → Path
 steps_of path = map step_of path.items
 
@@ -53,8 +53,8 @@ last_mention counts b p k =
           else by_header b None role (Some forms.Header) k.span,
     )
 
--- Each part but the last passes through a table: the latest element, where an array of tables stands there. No header is
--- that of the root.
+-- Each part but the last passes through a table: the latest element, where an array of tables stands there. No header
+-- is that of the root.
 abbrev pub header_mentions : (Path → ℕ) → Block → Path → List SimpleKey → List Mentioned
 header_mentions counts b p [] = (p, by_header b None None None b.header_span) ∷ []
 header_mentions counts b p (k ∷ []) = last_mention counts b (with_key p k) k ∷ []
@@ -83,7 +83,7 @@ below p [] = p
 below p (k ∷ ks) = below (with_key p k) ks
 
 abbrev mutual
-  -- the braces and keys in a value that stands at a path, at every nesting
+  -- the braces and keys in a value at a path, at every depth
   pub value_mentions : Path → ParsedValue → List Mentioned
   value_mentions p (parsed i span) = inner_mentions p span i
 
@@ -111,13 +111,13 @@ section_mentions with_assignments counts b =
     header_mentions counts b [] b.header
     ++ (if with_assignments then pair_mentions (section_path counts b) (pairs_onto b.key_values no_pairs) else [])
 
--- those of sections behind these earlier ones, the nearest first
-abbrev pub mentions_behind : Bool → List Block → List Block → List Mentioned
-mentions_behind with_assignments earlier [] = []
-mentions_behind with_assignments earlier (b ∷ bs) =
+-- those of sections after these earlier ones, the nearest first
+abbrev pub mentions_after : Bool → List Block → List Block → List Mentioned
+mentions_after with_assignments earlier [] = []
+mentions_after with_assignments earlier (b ∷ bs) =
     section_mentions with_assignments (elements_added (opened_by earlier)) b
-    ++ mentions_behind with_assignments (b ∷ earlier) bs
+    ++ mentions_after with_assignments (b ∷ earlier) bs
 
 -- all that these sections name
 abbrev pub mentions : Bool → List Block → List Mentioned
-mentions with_assignments bs = mentions_behind with_assignments [] bs
+mentions with_assignments bs = mentions_after with_assignments [] bs

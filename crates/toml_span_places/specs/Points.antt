@@ -24,7 +24,7 @@ abbrev pub without_section : List ℕ → Path → Option InsertionPoint
 without_section text [] = Some (record { offset = text_start text; needs_line_end = false })
 without_section text (s ∷ p) = None
 
--- behind this section, if it assigns in the table at a path, or else as before
+-- after this section, if it assigns in the table at a path, or else as before
 abbrev pub later_point : List ℕ → Path → Option InsertionPoint → StandingSection → Option InsertionPoint
 later_point text p point s = if same_path s.path p then Some (behind_body text s.body) else point
 

@@ -27,7 +27,7 @@ edited text from ((s, with) ∷ es) = slice_range text from s.start ++ (with ++ 
 abbrev pub is_boundary : List ℕ → ℕ → Bool
 is_boundary text at = nat_lt (slice_index text at) 0x80 || nat_le 0xC0 (slice_index text at)
 
--- what is wrong with a span behind one with this end
+-- what is wrong with a span after one with this end
 abbrev pub fault_of : List ℕ → ℕ → Span → Option SpanFault
 fault_of text from s =
     if nat_lt s.end s.start then Some faults.Reversed
@@ -46,7 +46,7 @@ first_fault text index from [] = None
 first_fault text index from ((s, with) ∷ es) =
     or_later index (fault_of text from s) (first_fault text (suc index) s.end es)
 
--- all edits are made, or the first that is wrong is told
+-- all edits are made, or the first wrong one is the error
 abbrev pub Replaces : List ℕ → List Edit → Result (String Global) (Stop ReplaceError) → Type 0
 Replaces text es (Ok new) = (first_fault text 0 0 es ≡ None) × (string_bytes new ≡ edited text 0 es)
 Replaces text es (Err (stops.Fault e)) = first_fault text 0 0 es ≡ Some e

@@ -13,14 +13,14 @@ use Rattle.toml_span_places.specs.declared.sections.SectionPlace.{SectionPlace}
 use Rattle.toml_span_places.specs.declared.tables.TableForm.{TableForm}
 use Rattle.toml_span_places.specs.declared.tables.TableForm.TheVariants as tables
 
--- a section where it stands: the path of its table, how it begins, its header's line and the lines of its assignments
+-- a section: the path of its table, how it begins, its header's line and the lines of its assignments
 pub record StandingSection : Type 0 where
   pub path : Path
   pub form : SectionForm
   pub header : Span
   pub body : Span
 
--- a place that is told, seen so
+-- the result as plain data
 abbrev pub standing_section : SectionPlace → StandingSection
 standing_section place =
     record { path = map step_of place.path.items; form = place.form; header = place.header; body = place.body }
@@ -32,7 +32,7 @@ form_of (Some tables.Header) = Some forms.Table
 form_of (Some tables.Element) = Some forms.Element
 form_of (Some _) = None
 
--- where the assignments begin: behind the header's line, or with the line of the first one
+-- where the assignments begin: after the header's line, or at the line of the first one
 abbrev pub body_start : List ℕ → SectionForm → Details → ℕ
 body_start text forms.Root d = blanks_start text d.extent.start
 body_start text forms.Table d = d.span.end

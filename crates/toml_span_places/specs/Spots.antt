@@ -1,4 +1,4 @@
--- What stands at a byte of a text: keys and values of its tree.
+-- The key or value of a tree at a byte of its text.
 use Rattle.std.specs.Prelude.{ℕ, Bool, ◌&&◌, nat_le, nat_lt, if◌then◌else◌, List, [], map, fold, filter_map}
 use Rattle.std.specs.Prelude.{Option, Some, None, not, option_map}
 use Rattle.toml_span_lex.specs.declared.span.Span.{Span}
@@ -12,14 +12,14 @@ use Rattle.toml_span_places.specs.declared.spots.NodePlace.{NodePlace}
 use Rattle.toml_span_places.specs.declared.spots.Part.{Part}
 use Rattle.toml_span_places.specs.declared.spots.Part.TheVariants as parts
 
--- a value, or its key: the path of the value, where the part stands with its quotes, and the value
+-- a value or its key: the path of the value, the span of the part with its quotes, and the value
 pub record Spot : Type 0 where
   pub path : Path
   pub part : Part
   pub span : Span
   pub value : Node
 
--- a place that is told, seen so
+-- the result as plain data
 abbrev pub spot : NodePlace → Spot
 spot place = record {
   path = map step_of place.path.items;

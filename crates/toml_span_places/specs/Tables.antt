@@ -15,7 +15,7 @@ pub record StandingTable : Type 0 where
   pub form : TableForm
   pub span : Span
 
--- a place that is told, seen so
+-- the result as plain data
 abbrev pub standing_table : TablePlace → StandingTable
 standing_table place = record { path = map step_of place.path.items; form = place.form; span = place.span }
 

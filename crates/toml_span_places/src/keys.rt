@@ -1,4 +1,4 @@
-//! Keys where they stand.
+//! The keys of a text.
 ghost use Rattle.std.specs.Prelude.{◌≡◌, IfOk, map, option_map};
 ghost use Rattle.toml_span_read.specs.Data.{block};
 ghost use Rattle.toml_span_places.specs.Keys as spec;
@@ -25,14 +25,14 @@ pub enum Role {
     Last,
 }
 
-/// A key where it stands in a text.
+/// A key, with its place in the text.
 #[derive(Drop)]
 pub struct KeyPlace<'t> {
     /// The steps from the root to what the key names, the last of which is the key itself.
     pub path: Vec<Step<'t>>,
-    /// Without its quotes. Of an empty key the opening quote.
+    /// The key without its quotes. For an empty key, its opening quote.
     pub span: Span,
-    /// With its quotes.
+    /// The key with its quotes.
     pub whole: Span,
     pub role: Role,
 }
@@ -43,9 +43,10 @@ pub(crate) fn is_quote(byte: u8) -> bool
     byte == b'"' || byte == b'\''
 }
 
-/// The span of a key, or of a string on one line, with its quotes; that of a bare key as it is.
+/// Returns the span of a key, or of a string on one line, with its quotes. A bare key has none, and its span is
+/// returned.
 ///
-/// `span` is the one that is read of the text: the content's, or, of an empty string, its opening quote's.
+/// `span` is the one in the tree: the content's, or the opening quote's where the string is empty.
 pub fn with_quotes(text: &str, span: Span) -> Span
     ensures { result ≡ spec.with_quotes text.now span }
 {
@@ -80,10 +81,10 @@ fn key_of<'t>(text: &str, mention: Mention<'t>) -> Option<KeyPlace<'t>>
     })
 }
 
-/// The keys of these sections where they stand in the text, in its order: the parts of each header, and
-/// those of each assignment, before the ones in its value.
+/// Lists the keys of these sections in the order of the text: the parts of each header, and those of each assignment
+/// before the keys in its value.
 ///
-/// `sections` are those that `read_sections` gives of the text. Takes memory for the list and the steps, and for the
+/// `sections` are those that `read_sections` returns for the text. Takes memory for the list and the steps, and for the
 /// path of each array of tables.
 pub fn key_places<'t, 'de>(
     alloc: Global,

@@ -1,5 +1,5 @@
-//! Where the keys, values and lines of a TOML text stand, for editors, lints and renames, and texts with parts
-//! replaced.
+//! Locates the keys, tables, values and lines of a TOML text, for editors, lints and renames, and replaces parts of
+//! texts.
 #![tactic(auto)]
 
 mod keys;

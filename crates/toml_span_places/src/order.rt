@@ -23,8 +23,8 @@ fn first_start(node: &Visited<'_, '_>) -> usize
 /// Lists all values of a tree, as `nodes` does, in the order in which they start in the text: each by its key or its
 /// span, whichever starts first. A table starts with the first header that names it.
 ///
-/// Values that start at the same byte, as the array and its first element at `[[a]]`, come in the order of `nodes`: each
-/// before those in it. Takes memory for the list and for the steps of each value.
+/// Values that start at the same byte, as the array and its first element at `[[a]]`, come in the order of `nodes`:
+/// each before those in it. Takes memory for the list and for the steps of each value.
 pub fn nodes_in_text_order<'t, 'de>(
     alloc: Global,
     value: &'t Value<'de>,

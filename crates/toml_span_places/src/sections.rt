@@ -25,18 +25,16 @@ pub enum SectionForm {
     Element,
 }
 
-/// A section where it stands in a text.
+/// A section, with its place in the text.
 #[derive(Drop)]
 pub struct SectionPlace<'t> {
     /// The steps from the root to the table in which the section assigns. Below a header in double brackets the last
     /// one is the position of the element that the header adds.
     pub path: Vec<Step<'t>>,
     pub form: SectionForm,
-    /// From the header's first bracket to behind its line end, or to the end of the text. `0..0` where there is no
-    /// header.
+    /// From the header's first bracket to the end of its line, line end included. `0..0` where there is no header.
     pub header: Span,
-    /// The lines of its assignments: from behind the header's line, or from the first one's line, to behind the last
-    /// one's. Empty where there is none.
+    /// The lines of its assignments, line ends included. Without assignments it is empty, after the header's line.
     pub body: Span,
 }
 
@@ -84,9 +82,9 @@ fn section_of<'t>(text: &str, mention: Mention<'t>) -> Result<Option<SectionPlac
     }))
 }
 
-/// These sections where they stand in the text, in its order, each with the path of its table.
+/// Lists these sections in the order of the text, each with the path of its table.
 ///
-/// `sections` are those that `read_sections` gives of the text. There is none for the root where no assignment stands
+/// `sections` are those that `read_sections` returns for the text. The root has one only if there is an assignment
 /// before the first header. Takes memory for the list and the steps.
 pub fn section_places<'t, 'de>(
     alloc: Global,

@@ -1,4 +1,4 @@
-//! What stands at a byte of a text.
+//! The key or value at a byte of a text.
 ghost use Rattle.std.specs.Prelude.{◌≡◌, IfOk, Some, option_map};
 ghost use Rattle.toml_span_tree.specs.Nodes.{seen};
 ghost use Rattle.toml_span_tree.specs.Value.{view};
@@ -19,7 +19,7 @@ pub enum Part {
     Value,
 }
 
-/// A key or a value of a tree where it stands in the text.
+/// A key or a value of a tree, with its place in the text.
 #[derive(Drop)]
 pub struct NodePlace<'t, 'de> {
     /// The steps from the root to the value, or to the value that has the key.
@@ -80,11 +80,12 @@ fn later<'t, 'de>(best: Option<NodePlace<'t, 'de>>, place: NodePlace<'t, 'de>) -
     }
 }
 
-/// The innermost key or value of a tree at a byte of the text, with its path. None behind the end of the text.
+/// Returns the innermost key or value of a tree at a byte of the text, with its path. None at the end of the text and
+/// after it.
 ///
 /// Of those whose span holds the byte, quotes included, it is the one that starts last, and of several that start there
-/// the one furthest down. At a place that the tree has no key for, as in a header behind its table's first one, it is
-/// the table. `root` is the tree that `parse` gives of the text. Takes memory for the steps of each value.
+/// the one furthest down. In a header that names a table again, for which the tree has no key, it is the table. `root`
+/// is the tree that `parse` returns for the text. Takes memory for the steps of each value.
 pub fn node_at<'t, 'de>(
     alloc: Global,
     root: &'t Value<'de>,

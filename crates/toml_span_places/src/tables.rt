@@ -13,7 +13,7 @@ use toml_span_lex::span::Span;
 use toml_span_read::Section;
 use toml_span_tree::nodes::Step;
 
-/// In which way a text names a table.
+/// How a text names a table.
 #[derive(Clone, Copy, Debug, PartialEq, Eq)]
 pub enum TableForm {
     /// By the header of a standard table: `a.b` of `[a.b]`.
@@ -52,11 +52,11 @@ fn table_of<'t>(mention: Mention<'t>) -> Result<Option<TablePlace<'t>>, AllocErr
     Ok(Some(TablePlace { path, form, span }))
 }
 
-/// The tables of these sections, one for each place that names one, in the order of the text. The root has none.
+/// Lists the tables of these sections in the order of the text, one for each place that names one. The root has none.
 ///
-/// A table has as many places as headers, keys and braces name it: with `[a]`, `b.c = 1` and `[a.b.d]` the table `a`
-/// has a header and is passed, and `a.b` is dotted and passed. `sections` are those that `read_sections` gives of the
-/// text. Takes memory for the list and the steps.
+/// A table is listed as often as headers, keys and braces name it: with `[a]`, `b.c = 1` and `[a.b.d]` the table `a`
+/// has a header and is passed, and `a.b` is dotted and passed. `sections` are those that `read_sections` returns for
+/// the text. Takes memory for the list and the steps.
 pub fn table_places<'t, 'de>(
     alloc: Global,
     sections: &'t [Section<'de>],
@@ -72,7 +72,7 @@ pub fn table_places<'t, 'de>(
     Ok(out)
 }
 
-/// In which ways these places name the table at a path.
+/// How these places name the table at a path.
 fn forms_of(
     alloc: Global,
     places: &[TablePlace<'_>],
@@ -90,10 +90,10 @@ fn forms_of(
     Ok(forms)
 }
 
-/// In which ways the text names the table at a path, in its order, one for each place. Empty at the root and where no
-/// table stands.
+/// Returns how the text names the table at a path, a form for each place, in the order of the text. Empty at the root
+/// and where there is no table.
 ///
-/// `sections` are those that `read_sections` gives of the text.
+/// `sections` are those that `read_sections` returns for the text.
 pub fn table_forms<'t, 'de>(
     alloc: Global,
     sections: &'t [Section<'de>],
