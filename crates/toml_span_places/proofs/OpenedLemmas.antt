@@ -3,11 +3,10 @@ use Rattle.toml_span_lex.proofs.Common.{◌≡◌, ℕ, ◌+◌, Bool, true, con
 use Rattle.std.specs.Cmp.{both_tied}
 use Rattle.std.proofs.Math.Path.{fun_ext}
 use Rattle.toml_span_tree.specs.Path.{Path}
-use Rattle.toml_span.specs.Paths.{elements_added, same_path, same_step}
+use Rattle.toml_span.specs.Paths.{elements_added, opened_by, same_path, same_step}
 use Rattle.toml_span.proofs.EachClaim.{same_path-eq}
 use Rattle.toml_span.proofs.Grafts.{same_step-self}
 use Rattle.toml_span_read.specs.Data.{Block}
-use Rattle.toml_span_places.specs.Keys.{opened_behind}
 use Rattle.toml_span_places.specs.code.Opened.{counts_behind, counts_in, one_more, sorted_step}
 use Rattle.toml_span_places.specs.code.Opened.{sorted_steps}
 use Rattle.toml_span_places.specs.declared.opened.SortedStep.{SortedStep}
@@ -62,6 +61,7 @@ pub counts_put : (es new : List Entry) (k : Vec SortedStep Global) (v : ℕ) (p 
 counts_put es new k v p at more new_is = grind (arith, nat_tests, common_steps, fun_ext, inserted, same_path-eq, same_path-sym)
 
 -- behind a section
-pub counts_next : (counts counts' : Path → ℕ) (opened : List Path) (b : Block) → counts' ≡ counts_behind counts b →
-    counts ≡ elements_added opened → counts' ≡ elements_added (opened_behind opened b)
-counts_next counts counts' opened b behind was = grind (arith, nat_tests, common_steps)
+pub counts_next : (counts counts' : Path → ℕ) (earlier : List Block) (b : Block) → counts' ≡ counts_behind counts b →
+    counts ≡ elements_added (opened_by earlier) → counts' ≡ elements_added (opened_by (b ∷ earlier))
+unfolding opened_by
+counts_next counts counts' earlier b behind was = grind (arith, nat_tests, common_steps, fun_ext)

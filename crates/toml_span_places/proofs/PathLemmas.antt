@@ -1,21 +1,19 @@
--- Paths of headers and the elements of arrays of tables, a step at a time; and what is listed of keys.
-use Rattle.toml_span_lex.proofs.Common.{◌≡◌, ℕ, ◌-◌, ◌<◌, true, false, List, [], ◌∷◌, ◌++◌, Vec, Global, map, take, drop, length, get_or, refl, arith, ◌≤◌, ◌==◌, Result, IfOk, nat_tests, common_steps, OnOk}
+-- Paths of headers and the elements of arrays of tables, a step at a time; and what keys name.
+use Rattle.toml_span_lex.proofs.Common.{◌≡◌, ℕ, zero, suc, ◌-◌, ◌<◌, true, false, List, [], ◌∷◌, ◌++◌, Option, Some, Vec, Global, map, take, drop, length, get_or, refl, arith, ◌≤◌, ◌==◌, Result, IfOk, nat_tests, common_steps, OnOk}
 use Rattle.toml_span_lex.specs.declared.key.Key.{Key}
 use Rattle.toml_span_tree.specs.declared.nodes.Step.{Step as Lent}
-use Rattle.toml_span_tree.specs.Path.{Path, position}
-use Rattle.toml_span_read.specs.Data.{simple_key}
+use Rattle.toml_span_tree.specs.Path.{Path}
+use Rattle.toml_span_read.specs.Data.{Block, simple_key}
 use Rattle.toml_span.specs.Paths.{enter, target, with_key}
-use Rattle.toml_span_places.specs.Keys.{steps_of, Standing, header_keys, key_at, parts_keys}
+use Rattle.toml_span_places.specs.Mentions.{Mentioned, by_header, header_mentions, inside, latest, steps_of}
 use Rattle.toml_span_places.specs.declared.keys.Role.TheVariants as roles
+use Rattle.toml_span_places.specs.declared.tables.TableForm.TheVariants as forms
 
 -- into the latest element, or nowhere
-pub enter_latest : (n : ℕ) (p : Path) → 0 < n → enter n p ≡ p ++ (position (n - 1) ∷ [])
+enter_latest : (n : ℕ) (p : Path) → enter n p ≡ inside p (latest n)
 unfolding enter
-enter_latest n p some = grind (arith, nat_tests, common_steps)
-
-pub enter_none : (p : Path) → enter 0 p ≡ p
-unfolding enter
-enter_none p = refl
+enter_latest zero p = refl
+enter_latest (suc n) p = refl
 
 -- ---- lists of keys, of which one is taken
 
@@ -39,29 +37,22 @@ pub header_last : (counts : Path → ℕ) (p : Path) (xs : List Key) (key d : Ke
 unfolding target
 header_last counts p xs key d some first none = grind (arith, nat_tests, common_steps, keys_first)
 
-pub header_more : (counts : Path → ℕ) (p over inside : Path) (xs : List Key) (key d : Key) → 1 ≤ length xs → key ≡ get_or xs 0 d →
-    (length (behind_first xs) == 0) ≡ false → over ≡ with_key p (simple_key key) → inside ≡ enter (counts over) over →
-    target counts inside (map simple_key (behind_first xs)) ≡ target counts p (map simple_key xs)
+pub header_more : (counts : Path → ℕ) (p over into : Path) (e : Option ℕ) (xs : List Key) (key d : Key) → 1 ≤ length xs → key ≡ get_or xs 0 d →
+    (length (behind_first xs) == 0) ≡ false → over ≡ with_key p (simple_key key) → e ≡ latest (counts over) → into ≡ inside over e →
+    target counts into (map simple_key (behind_first xs)) ≡ target counts p (map simple_key xs)
 unfolding target
-header_more counts p over inside xs key d some first more over_is inside_is = grind (arith, nat_tests, common_steps, keys_first)
+header_more counts p over into e xs key d some first more over_is e_is into_is = grind (arith, nat_tests, common_steps, keys_first, enter_latest)
 
 -- ---- what a call has listed
 
 pub on_ok_same : {A E : Type 0} (r : Result A E) (P Q : Type 0) → (P → Q) → OnOk r P → OnOk r Q
 on_ok_same r P Q f h = grind (arith, nat_tests, common_steps)
 
-pub header_listed : (text : List ℕ) (counts : Path → ℕ) (p over inside : Path) (xs : List Key) (key d : Key) (before now next : List Standing) →
+pub header_listed : (counts : Path → ℕ) (b : Block) (p over into : Path) (e : Option ℕ) (xs : List Key) (key d : Key) (before now next : List Mentioned) →
     1 ≤ length xs → key ≡ get_or xs 0 d → (length (behind_first xs) == 0) ≡ false →
-    now ≡ before ++ (key_at text p (simple_key key) roles.Header ∷ []) →
-    over ≡ with_key p (simple_key key) → inside ≡ enter (counts over) over →
-    next ≡ now ++ header_keys text counts inside (map simple_key (behind_first xs)) →
-    next ≡ before ++ header_keys text counts p (map simple_key xs)
-header_listed text counts p over inside xs key d before now next some first more here over_is inside_is then =
+    over ≡ with_key p (simple_key key) → e ≡ latest (counts over) → into ≡ inside over e →
+    now ≡ before ++ ((over, by_header b e (Some roles.Header) (Some forms.Passed) key.span) ∷ []) →
+    next ≡ now ++ header_mentions counts b into (map simple_key (behind_first xs)) →
+    next ≡ before ++ header_mentions counts b p (map simple_key xs)
+header_listed counts b p over into e xs key d before now next some first more over_is e_is into_is here then =
     let behind : 0 < length (map simple_key (behind_first xs)) = grind (arith, nat_tests, common_steps) in grind (arith, nat_tests, common_steps, keys_first xs key d some first, behind)
-
-pub parts_listed : (text : List ℕ) (p over : Path) (xs : List Key) (last key d : Key) (before now next : List Standing) →
-    1 ≤ length xs → key ≡ get_or xs 0 d →
-    now ≡ before ++ (key_at text p (simple_key key) roles.Dotted ∷ []) → over ≡ with_key p (simple_key key) →
-    next ≡ now ++ parts_keys text over (map simple_key (behind_first xs) ++ (simple_key last ∷ [])) →
-    next ≡ before ++ parts_keys text p (map simple_key xs ++ (simple_key last ∷ []))
-parts_listed text p over xs last key d before now next some first here over_is then = grind (arith, nat_tests, common_steps)

@@ -1,12 +1,11 @@
 -- How many parts a value has, a measure of how far down a walk can go; and what is listed of elements, one further on.
-use Rattle.toml_span_lex.proofs.Common.{◌≡◌, ◌≤◌, ◌<◌, ℕ, suc, ◌+◌, List, ◌++◌, nat_tests, common_steps, map, drop, length, get_or, arith}
-use Rattle.toml_span_tree.specs.Path.{Path}
+use Rattle.toml_span_lex.proofs.Common.{◌≡◌, ◌≤◌, ◌<◌, ℕ, suc, ◌+◌, List, [], ◌∷◌, ◌++◌, nat_tests, common_steps, map, drop, length, get_or, arith}
+use Rattle.toml_span_tree.specs.Path.{Path, position}
 use Rattle.toml_span_read.specs.Data.{ParsedValue, parsed, ParsedInner, scalar, array, inline, ParsedItems, no_items, item}
 use Rattle.toml_span_read.specs.Data.{ParsedPairs, no_pairs, pair, key_value, onto, pairs_onto, view}
 use Rattle.toml_span_read.specs.declared.value.Assignment.{Assignment}
 use Rattle.toml_span_read.specs.declared.value.Val.{Val}
-use Rattle.toml_span_places.specs.Keys.{Standing, item_keys, pair_keys}
-use Rattle.toml_span_places.specs.Tables.{StandingTable, item_tables, pair_tables}
+use Rattle.toml_span_places.specs.Mentions.{Mentioned, item_mentions, pair_mentions, value_mentions}
 
 abbrev mutual
   pub value_size : ParsedValue → ℕ
@@ -38,21 +37,14 @@ elements_small i vs v all below here before = grind (arith, nat_tests, common_st
 
 -- ---- what is listed of elements and of assignments
 
-abbrev pub elements_tables : Path → ℕ → List Val → List StandingTable
-elements_tables p i vs = item_tables p i (onto (map view vs) no_items)
+abbrev pub elements_mentions : Path → ℕ → List Val → List Mentioned
+elements_mentions p i vs = item_mentions p i (onto (map view vs) no_items)
 
-abbrev pub assigned_tables : Path → List Assignment → List StandingTable
-assigned_tables p es = pair_tables p (pairs_onto (map key_value es) no_pairs)
-
-abbrev pub elements_keys : List ℕ → Path → ℕ → List Val → List Standing
-elements_keys text p i vs = item_keys text p i (onto (map view vs) no_items)
-
-abbrev pub assigned_keys : List ℕ → Path → List Assignment → List Standing
-assigned_keys text p es = pair_keys text p (pairs_onto (map key_value es) no_pairs)
+abbrev pub assigned_mentions : Path → List Assignment → List Mentioned
+assigned_mentions p es = pair_mentions p (pairs_onto (map key_value es) no_pairs)
 
 -- one element further on
-pub elements_next : {A : Type 0} (of_items : ℕ → ParsedItems → List A) (of_value : ℕ → ParsedValue → List A) →
-    ((i : ℕ) (v : ParsedValue) (vs : ParsedItems) → of_items i (item v vs) ≡ of_value i v ++ of_items (suc i) vs) →
-    (i : ℕ) (vs : List Val) (v : Val) (before now all : List A) → i < length vs → get_or vs i v ≡ v → now ≡ before ++ of_value i (view v) →
-    before ++ of_items i (onto (map view (drop i vs)) no_items) ≡ all → now ++ of_items (i + 1) (onto (map view (drop (i + 1) vs)) no_items) ≡ all
-elements_next of_items of_value first i vs v before now all under here more was = grind (arith, nat_tests, common_steps)
+pub elements_next : (p : Path) (i : ℕ) (vs : List Val) (v : Val) (before now all : List Mentioned) → i < length vs → get_or vs i v ≡ v →
+    now ≡ before ++ value_mentions (p ++ (position i ∷ [])) (view v) →
+    before ++ elements_mentions p i (drop i vs) ≡ all → now ++ elements_mentions p (i + 1) (drop (i + 1) vs) ≡ all
+elements_next p i vs v before now all under here more was = grind (arith, nat_tests, common_steps)

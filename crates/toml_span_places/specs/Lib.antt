@@ -1,7 +1,9 @@
-pub mod Cuts
+pub mod Replace
 pub mod Keys
 pub mod Lines
 pub mod Literals
+pub mod Mentions
+pub mod Order
 pub mod Points
 pub mod Quoted
 pub mod Sections

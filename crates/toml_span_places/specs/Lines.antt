@@ -1,5 +1,5 @@
 -- The lines on which something stands.
-use Rattle.std.specs.Prelude.{ℕ, zero, suc, ◌+◌, ◌==◌, List, [], ◌∷◌, drop, length, slice_index, if◌then◌else◌}
+use Rattle.std.specs.Prelude.{ℕ, zero, suc, ◌+◌, ◌==◌, nat_le, List, [], ◌∷◌, drop, slice_index, if◌then◌else◌}
 use Rattle.toml_span_lex.specs.declared.span.Span.{Span}
 use Rattle.toml_span_lex.specs.Bytes.{is_blank, line_feed}
 use Rattle.toml_span_read.specs.Data.{Block}
@@ -23,10 +23,11 @@ abbrev pub lines_of : List ℕ → Span → Span
 lines_of text extent =
     record { start = blanks_start text extent.start; end = behind_line text extent.end }
 
--- behind the line of a section's last assignment, or of its header
-abbrev pub body_end : List ℕ → Block → ℕ
-body_end text b = if length b.key_values == 0 then b.header_span.end else behind_line text b.extent.end
+-- Behind the line of a section's last assignment, or of its header, where the section ends with that.
+abbrev pub body_end : List ℕ → Span → Span → ℕ
+body_end text header extent = if nat_le extent.end header.end then header.end else behind_line text extent.end
 
 -- the lines of a section
 abbrev pub section_lines : List ℕ → Block → Span
-section_lines text b = record { start = blanks_start text b.extent.start; end = body_end text b }
+section_lines text b =
+    record { start = blanks_start text b.extent.start; end = body_end text b.header_span b.extent }

@@ -1,27 +1,29 @@
-//! Where the keys, values and lines of a TOML text stand, for editors, lints and renames, and texts with parts
-//! replaced.
+//! Locates the keys, tables, values and lines of a TOML text, for editors, lints and renames, and replaces parts of
+//! texts.
 #![tactic(auto)]
 
-mod cuts;
 mod keys;
 mod lines;
 mod literals;
+mod mentions;
 mod opened;
+mod order;
 mod paths;
 mod points;
 mod quoted;
+mod replace;
 mod sections;
 mod spelled;
 mod spots;
 mod tables;
-mod values;
 
-pub use cuts::replaced;
 pub use keys::{KeyPlace, Role, key_places, with_quotes};
 pub use lines::{assignment_lines, section_lines};
 pub use literals::literal_span;
+pub use order::nodes_in_text_order;
 pub use points::{InsertionPoint, insertion_point};
 pub use quoted::{quote_key, quote_string};
+pub use replace::{ReplaceError, Replacement, SpanFault, replace_all, replaced};
 pub use sections::{SectionForm, SectionPlace, section_places};
 pub use spelled::to_toml;
 pub use spots::{NodePlace, Part, node_at};

@@ -53,14 +53,14 @@ pub fn assignment_lines(text: &str, assignment: &Assignment<'_>) -> Span
     }
 }
 
-/// Where a section's own lines end.
-pub(crate) fn body_end(text: &str, section: &Section<'_>) -> usize
-    ensures { result ≡ spec.body_end text.now (block section.now) }
+/// Where the own lines end of a section with this header and this extent.
+pub(crate) fn body_end(text: &str, header: Span, extent: Span) -> usize
+    ensures { result ≡ spec.body_end text.now header extent }
 {
-    if section.assignments.is_empty() {
-        section.header_span.end
+    if extent.end <= header.end {
+        header.end
     } else {
-        behind_line(text, section.extent.end)
+        behind_line(text, extent.end)
     }
 }
 
@@ -72,6 +72,6 @@ pub fn section_lines(text: &str, section: &Section<'_>) -> Span
 {
     Span {
         start: blanks_start(text, section.extent.start),
-        end: body_end(text, section),
+        end: body_end(text, section.header_span, section.extent),
     }
 }

@@ -1,10 +1,11 @@
 //! How many elements headers added to each array of tables.
 ghost use Rattle.std.specs.Prelude.{◌≡◌, ◌∷◌, [], IfOk, OnOk, map};
 ghost use Rattle.toml_span_tree.specs.Nodes.{step_of};
-ghost use Rattle.toml_span_places.specs.Keys.{steps_of};
+ghost use Rattle.toml_span_places.specs.Mentions.{steps_of};
 ghost use Rattle.toml_span_places.specs.code.Opened as spec;
 ghost use Rattle.toml_span_places.specs.code.Opened.{counts_of};
 
+use crate::paths::extended;
 use std::alloc::{AllocError, Global};
 use std::collections::BTreeMap;
 use toml_span_tree::nodes::Step;
@@ -83,4 +84,24 @@ pub(crate) fn add<'t>(
     let sorted = sorted_path(alloc, path)?;
     opened.elements.insert(sorted, more)?;
     Ok(())
+}
+
+/// The path below which a section assigns, of its header's. One in double brackets is put on record.
+pub(crate) fn section_path<'t>(
+    alloc: Global,
+    array: bool,
+    path: Vec<Step<'t>>,
+    opened: &mut Opened<'t>,
+) -> Result<Vec<Step<'t>>, AllocError>
+    ensures path { IfOk result (λ below. steps_of below
+        ≡ spec.assigned_below (counts_of opened.old) array (steps_of path.entry)) }
+    ensures opened { OnOk result (counts_of opened.new
+        ≡ spec.with_counted (counts_of opened.old) array (steps_of path.entry)) }
+{
+    if !array {
+        return Ok(path);
+    }
+    let position = elements_of(alloc, opened, path.as_slice())?;
+    add(alloc, opened, path.as_slice())?;
+    extended(path, Step::Position(position))
 }

@@ -3,7 +3,8 @@ ghost use Rattle.std.specs.Prelude.{◌≡◌, ◌++◌, ◌∷◌, [], IfOk, ma
 ghost use Rattle.toml_span_tree.specs.Nodes.{step_of};
 ghost use Rattle.toml_span_read.specs.Data.{simple_key};
 ghost use Rattle.toml_span.specs.Paths as spec;
-ghost use Rattle.toml_span_places.specs.Keys.{steps_of};
+ghost use Rattle.toml_span_places.specs.Mentions as mentions;
+ghost use Rattle.toml_span_places.specs.Mentions.{inside, steps_of};
 ghost use Rattle.toml_span_places.specs.code.Opened.{counts_of};
 
 use crate::opened::{Opened, elements_of};
@@ -82,19 +83,27 @@ pub(crate) fn same_path(path: &[Step<'_>], other: &[Step<'_>]) -> bool
     same_step(step, other_step) && same_path(path_rest, other_rest)
 }
 
-#[tactic(auto, using(crate::proofs::PathLemmas::enter_latest, crate::proofs::PathLemmas::enter_none))]
-/// The path into the latest element of an array of tables, where one stands there.
-pub(crate) fn enter<'t>(
+/// The position of the latest element of the array of tables at a path, where one stands there.
+pub(crate) fn latest<'t>(
     alloc: Global,
     opened: &Opened<'t>,
-    path: Vec<Step<'t>>,
-) -> Result<Vec<Step<'t>>, AllocError>
-    ensures { IfOk result (λ inside. steps_of inside ≡ spec.enter (counts_of opened.now (steps_of path.entry))
-        (steps_of path.entry)) }
+    path: &[Step<'t>],
+) -> Result<Option<usize>, AllocError>
+    ensures { IfOk result (λ element. element ≡ mentions.latest (counts_of opened.now (map step_of path.now))) }
 {
-    let added = elements_of(alloc, opened, path.as_slice())?;
-    if added == 0 {
-        return Ok(path);
+    let added = elements_of(alloc, opened, path)?;
+    Ok(added.checked_sub(1))
+}
+
+/// The path into an element of the array of tables that it leads to, if one is meant.
+pub(crate) fn entered<'t>(
+    path: Vec<Step<'t>>,
+    element: Option<usize>,
+) -> Result<Vec<Step<'t>>, AllocError>
+    ensures { IfOk result (λ path_inside. steps_of path_inside ≡ inside (steps_of path.entry) element) }
+{
+    match element {
+        Some(position) => extended(path, Step::Position(position)),
+        None => Ok(path),
     }
-    extended(path, Step::Position(added - 1))
 }

@@ -1,17 +1,15 @@
 //! Where an assignment can be put into a table.
-ghost use Rattle.std.specs.Prelude.{◌≡◌, IfOk, OnOk, Some, if◌then◌else◌, map};
+ghost use Rattle.std.specs.Prelude.{◌≡◌, IfOk, fold, map};
 ghost use Rattle.toml_span_read.specs.Data.{block};
 ghost use Rattle.toml_span_tree.specs.Nodes.{step_of};
-ghost use Rattle.toml_span.specs.Paths as paths;
-ghost use Rattle.toml_span_places.specs.code.Opened.{counts_of, counts_behind};
 ghost use Rattle.toml_span_places.specs.Points as spec;
+ghost use Rattle.toml_span_places.specs.Sections.{standing_section};
 
-use crate::lines::body_end;
 use crate::literals::byte_before;
-use crate::opened::Opened;
 use crate::paths::same_path;
-use crate::sections::path_of;
+use crate::sections::{SectionPlace, section_places};
 use std::alloc::{AllocError, Global};
+use toml_span_lex::span::Span;
 use toml_span_read::Section;
 use toml_span_read::gaps::byte_at;
 use toml_span_tree::nodes::Step;
@@ -48,37 +46,32 @@ fn without_section(text: &str, path: &[Step<'_>]) -> Option<InsertionPoint>
     })
 }
 
-/// The place behind the last line of a section.
-fn behind_section(text: &str, section: &Section<'_>) -> InsertionPoint
-    ensures { result ≡ spec.behind_section text.now (block section.now) }
+/// The place behind the last line of a section with this body.
+fn behind_body(text: &str, body: Span) -> InsertionPoint
+    ensures { result ≡ spec.behind_body text.now body }
 {
-    let offset = body_end(text, section);
     InsertionPoint {
-        offset,
-        needs_line_end: byte_before(text, offset, 1) != b'\n',
+        offset: body.end,
+        needs_line_end: byte_before(text, body.end, 1) != b'\n',
     }
 }
 
-/// The place behind the last line of a section, if it assigns in the table at a path, or else this one.
-fn point_behind<'t, 'de>(
-    alloc: Global,
+/// The place behind the last one of these sections that assigns in the table at a path, or else this one.
+fn last_point(
     text: &str,
-    section: &'t Section<'de>,
     path: &[Step<'_>],
-    opened: &mut Opened<'t>,
+    places: &[SectionPlace<'_>],
     point: Option<InsertionPoint>,
-) -> Result<Option<InsertionPoint>, AllocError>
-    ensures point { IfOk result (λ next. next
-        ≡ (if paths.same_path (paths.section_path (counts_of opened.old) (block section.now)) (map step_of path.now)
-        then Some (spec.behind_section text.now (block section.now)) else point)) }
-    ensures opened { OnOk result (counts_of opened.new ≡ counts_behind (counts_of opened.old) (block section.now)) }
+) -> Option<InsertionPoint>
+    ensures { result ≡ fold (spec.later_point text.now (map step_of path.now)) point (map standing_section places.now) }
 {
-    let below = path_of(alloc, section, opened)?;
-    if same_path(below.as_slice(), path) {
-        Ok(Some(behind_section(text, section)))
-    } else {
-        Ok(point)
+    let mut point = point;
+    for place in places {
+        if same_path(place.path.as_slice(), path) {
+            point = Some(behind_body(text, place.body));
+        }
     }
+    point
 }
 
 /// Where a line `key = value` can be put in at the end of the own body of the table at a path: behind the last line of
@@ -99,10 +92,7 @@ pub fn insertion_point<'t, 'de>(
     ensures { IfOk result (λ point. point
         ≡ spec.insertion_point text.now (map step_of path.now) (map block sections.now)) }
 {
-    let mut opened = Opened::new(alloc);
-    let mut point = without_section(text, path);
-    for section in sections {
-        point = point_behind(alloc, text, section, path, &mut opened, point)?;
-    }
-    Ok(point)
+    let places = section_places(alloc, text, sections)?;
+    let point = without_section(text, path);
+    Ok(last_point(text, path, places.as_slice(), point))
 }

@@ -1,19 +1,16 @@
-//! What stands at a byte of a text.
-ghost use Rattle.std.specs.Prelude.{◌≡◌, ◌++◌, IfOk, OnOk, map, None, Some, fold, option_map};
-ghost use Rattle.toml_span_tree.specs.Value.{items_view, members_view, view};
-ghost use Rattle.toml_span_tree.specs.Nodes.{step_of};
-ghost use Rattle.toml_span_places.specs.Keys.{steps_of};
+//! The key or value at a byte of a text.
+ghost use Rattle.std.specs.Prelude.{◌≡◌, IfOk, Some, option_map};
+ghost use Rattle.toml_span_tree.specs.Nodes.{seen};
+ghost use Rattle.toml_span_tree.specs.Value.{view};
 ghost use Rattle.toml_span_places.specs.Spots as spec;
-ghost use Rattle.toml_span_places.specs.Spots.{spot, value_spots, items_spots, members_spots};
+ghost use Rattle.toml_span_places.specs.Spots.{spot};
 
 use crate::keys::with_quotes;
 use crate::literals::literal_span;
-use crate::paths::{copied, element_path, extended};
 use std::alloc::{AllocError, Global};
-use toml_span_lex::key::Key;
 use toml_span_lex::span::Span;
-use toml_span_tree::nodes::Step;
-use toml_span_tree::{Table, Value, ValueInner};
+use toml_span_tree::Value;
+use toml_span_tree::nodes::{Step, Visited, nodes};
 
 /// Which part of an entry or an element.
 #[derive(Clone, Copy, Debug, PartialEq, Eq)]
@@ -22,7 +19,7 @@ pub enum Part {
     Value,
 }
 
-/// A key or a value of a tree where it stands in the text.
+/// A key or a value of a tree, with its place in the text.
 #[derive(Drop)]
 pub struct NodePlace<'t, 'de> {
     /// The steps from the root to the value, or to the value that has the key.
@@ -40,122 +37,37 @@ fn holds(span: Span, offset: usize) -> bool
     span.start <= offset && offset < span.end
 }
 
-/// Puts a key or a value into the list, if it holds the offset.
-fn push_spot<'t, 'de>(
-    offset: usize,
-    place: NodePlace<'t, 'de>,
-    out: &mut Vec<NodePlace<'t, 'de>>,
-) -> Result<(), AllocError>
-    ensures { OnOk result (map spot out.new.items ≡ map spot out.old.items
-        ++ spec.if_held offset (spot place.entry)) }
+/// Of a value and its key the one that holds the offset, and of both the one that starts last. The spans have quotes.
+fn chosen(offset: usize, literal: Span, quoted: Option<Span>) -> (Part, Span)
+    ensures { result ≡ spec.chosen offset literal quoted }
 {
-    if holds(place.span, offset) {
-        out.push(place)?;
+    match quoted {
+        Some(quoted)
+            if holds(quoted, offset)
+                && !(holds(literal, offset) && quoted.start <= literal.start) => (
+            Part::Key,
+            quoted,
+        ),
+        _ => (Part::Value, literal),
     }
-    Ok(())
 }
 
-/// Puts the key of a value into the list, if it holds the offset. The path is the value's.
-fn push_key<'t, 'de>(
-    text: &str,
-    offset: usize,
-    key: &'t Key<'de>,
-    value: &'t Value<'de>,
-    path: Vec<Step<'t>>,
-    out: &mut Vec<NodePlace<'t, 'de>>,
-) -> Result<(), AllocError>
-    ensures { OnOk result (map spot out.new.items ≡ map spot out.old.items
-        ++ spec.if_held offset (spec.key_at text.now (steps_of path.entry) key.now.span (view value.now))) }
+/// A value or its key, if one of them holds the offset.
+fn spot_of<'t, 'de>(text: &str, offset: usize, node: Visited<'t, 'de>) -> Option<NodePlace<'t, 'de>>
+    ensures { option_map spot result ≡ spec.spot_of text.now offset (seen node.entry) }
 {
-    let span = with_quotes(text, key.span);
-    let part = Part::Key;
-    let place = NodePlace {
+    let Visited { path, key, value } = node;
+    let quoted = key.map(|key| with_quotes(text, key.span));
+    let (part, span) = chosen(offset, literal_span(text, value), quoted);
+    if !holds(span, offset) {
+        return None;
+    }
+    Some(NodePlace {
         path,
         part,
         span,
         value,
-    };
-    push_spot(offset, place, out)
-}
-
-/// Puts those of a value and of what is in it into the list that hold the offset.
-#[cycle(push_value)]
-fn push_value<'t, 'de>(
-    alloc: Global,
-    text: &str,
-    offset: usize,
-    value: &'t Value<'de>,
-    path: &[Step<'t>],
-    out: &mut Vec<NodePlace<'t, 'de>>,
-) -> Result<(), AllocError>
-    ensures { OnOk result (map spot out.new.items ≡ map spot out.old.items
-        ++ value_spots text.now offset (map step_of path.now) (view value.now)) }
-{
-    let place = NodePlace {
-        path: copied(alloc, path)?,
-        part: Part::Value,
-        span: literal_span(text, value),
-        value,
-    };
-    push_spot(offset, place, out)?;
-    if value.is_taken() {
-        return Ok(());
-    }
-    match value.as_ref() {
-        ValueInner::Array(elements) => push_elements(
-            alloc,
-            text,
-            offset,
-            elements.as_slice(),
-            path,
-            out,
-        ),
-        ValueInner::Table(table) => push_entries(alloc, text, offset, table, path, out),
-        _ => Ok(()),
-    }
-}
-
-/// Puts those in an array into the list.
-#[cycle(push_value)]
-fn push_elements<'t, 'de>(
-    alloc: Global,
-    text: &str,
-    offset: usize,
-    elements: &'t [Value<'de>],
-    path: &[Step<'t>],
-    out: &mut Vec<NodePlace<'t, 'de>>,
-) -> Result<(), AllocError>
-    ensures { OnOk result (map spot out.new.items ≡ map spot out.old.items
-        ++ items_spots text.now offset (map step_of path.now) 0 (items_view elements.now)) }
-{
-    for (position, element) in elements.iter().enumerate() {
-        let steps = element_path(alloc, path, position)?;
-        push_value(alloc, text, offset, element, steps.as_slice(), out)?;
-    }
-    Ok(())
-}
-
-/// Puts those in a table into the list.
-#[cycle(push_value)]
-fn push_entries<'t, 'de>(
-    alloc: Global,
-    text: &str,
-    offset: usize,
-    table: &'t Table<'de>,
-    path: &[Step<'t>],
-    out: &mut Vec<NodePlace<'t, 'de>>,
-) -> Result<(), AllocError>
-    ensures { OnOk result (map spot out.new.items ≡ map spot out.old.items
-        ++ members_spots text.now offset (map step_of path.now) (members_view table.now.entries)) }
-{
-    for (key, value) in table.iter() {
-        let start = copied(alloc, path)?;
-        let steps = extended(start, Step::Key(key.name.as_ref()))?;
-        let key_steps = copied(alloc, steps.as_slice())?;
-        push_key(text, offset, key, value, key_steps, out)?;
-        push_value(alloc, text, offset, value, steps.as_slice(), out)?;
-    }
-    Ok(())
+    })
 }
 
 /// The one that starts last, and the second where both start at one place.
@@ -168,22 +80,12 @@ fn later<'t, 'de>(best: Option<NodePlace<'t, 'de>>, place: NodePlace<'t, 'de>) -
     }
 }
 
-/// The innermost of these.
-fn innermost<'t, 'de>(held: Vec<NodePlace<'t, 'de>>) -> Option<NodePlace<'t, 'de>>
-    ensures { option_map spot result ≡ fold spec.later None (map spot held.entry.items) }
-{
-    let mut best = None;
-    for place in held {
-        best = Some(later(best, place));
-    }
-    best
-}
-
-/// The innermost key or value of a tree at a byte of the text, with its path. None behind the end of the text.
+/// Returns the innermost key or value of a tree at a byte of the text, with its path. None at the end of the text and
+/// after it.
 ///
 /// Of those whose span holds the byte, quotes included, it is the one that starts last, and of several that start there
-/// the one furthest down. At a place that the tree has no key for, as in a header behind its table's first one, it is
-/// the table. `root` is the tree that `parse` gives of the text. Takes memory for the steps of each value.
+/// the one furthest down. In a header that names a table again, for which the tree has no key, it is the table. `root`
+/// is the tree that `parse` returns for the text. Takes memory for the steps of each value.
 pub fn node_at<'t, 'de>(
     alloc: Global,
     root: &'t Value<'de>,
@@ -192,7 +94,11 @@ pub fn node_at<'t, 'de>(
 ) -> Result<Option<NodePlace<'t, 'de>>, AllocError>
     ensures { IfOk result (λ place. option_map spot place ≡ spec.node_at text.now offset (view root.now)) }
 {
-    let mut held = Vec::new(alloc);
-    push_value(alloc, text, offset, root, &[], &mut held)?;
-    Ok(innermost(held))
+    let mut best = None;
+    for node in nodes(alloc, root)? {
+        if let Some(place) = spot_of(text, offset, node) {
+            best = Some(later(best, place));
+        }
+    }
+    Ok(best)
 }

@@ -4,7 +4,7 @@ use Rattle.std.specs.Global.{Global}
 use Rattle.std.specs.Map.{lookup}
 use Rattle.toml_span_tree.specs.Path.{Path, Step, key, position}
 use Rattle.toml_span_read.specs.Data.{Block}
-use Rattle.toml_span.specs.Paths.{same_path, target}
+use Rattle.toml_span.specs.Paths.{same_path, target, with_position}
 use Rattle.toml_span_places.specs.declared.opened.Opened.{Opened}
 use Rattle.toml_span_places.specs.declared.opened.SortedStep.{SortedStep}
 use Rattle.toml_span_places.specs.declared.opened.SortedStep.TheVariants as sorted
@@ -33,6 +33,10 @@ one_more counts q p = if same_path q p then suc (counts p) else counts p
 -- and behind a header with this path, if it stands in double brackets
 abbrev pub with_counted : (Path → ℕ) → Bool → Path → (Path → ℕ)
 with_counted counts doubled p = if doubled then one_more counts p else counts
+
+-- the path below which a section assigns whose header names this one
+abbrev pub assigned_below : (Path → ℕ) → Bool → Path → Path
+assigned_below counts doubled p = if doubled then with_position p (counts p) else p
 
 -- and behind a section
 abbrev pub counts_behind : (Path → ℕ) → Block → (Path → ℕ)

@@ -1,0 +1,123 @@
+-- Where a text names the tables and values of its document: those of the sections that the grammar reads, in the order
+-- of the text. Keys, tables and sections are picked from this list.
+use Rattle.std.specs.Prelude.{ℕ, zero, suc, Bool, if◌then◌else◌, List, [], ◌∷◌, ◌++◌, map, Option, Some, None, Vec}
+use Rattle.std.specs.Global.{Global}
+use Rattle.toml_span_lex.specs.declared.span.Span.{Span}
+use Rattle.toml_span_tree.specs.Nodes.{step_of}
+use Rattle.toml_span_tree.specs.Path.{Path}
+use Rattle.toml_span_tree.specs.declared.nodes.Step.{Step as Lent}
+use Rattle.toml_span_read.specs.Data.{SimpleKey, ParsedValue, parsed, ParsedInner, scalar, array, inline, ParsedItems}
+use Rattle.toml_span_read.specs.Data.{no_items, item, ParsedPairs, no_pairs, pair, pairs_onto, Block}
+use Rattle.toml_span.specs.Paths.{elements_added, opened_by, section_path, with_key, with_position}
+use Rattle.toml_span_places.specs.declared.mentions.Details.{Details}
+use Rattle.toml_span_places.specs.declared.mentions.Mention.{Mention}
+use Rattle.toml_span_places.specs.declared.keys.Role.{Role}
+use Rattle.toml_span_places.specs.declared.keys.Role.TheVariants as roles
+use Rattle.toml_span_places.specs.declared.tables.TableForm.{TableForm}
+use Rattle.toml_span_places.specs.declared.tables.TableForm.TheVariants as forms
+
+-- a path of borrowed names and a mention, as plain data
+abbrev pub steps_of : Vec Lent Global → Path
+steps_of path = map step_of path.items
+
+abbrev pub Mentioned : Type 0
+Mentioned = Path × Details
+
+abbrev pub mentioned : Mention → Mentioned
+mentioned m = (steps_of m.path, m.details)
+
+-- the path of what is named: that of the key, or the element of the array there
+abbrev pub inside : Path → Option ℕ → Path
+inside p None = p
+inside p (Some i) = with_position p i
+
+abbrev pub path_of : Mentioned → Path
+path_of m = inside m.0 m.1.element
+
+abbrev pub latest : ℕ → Option ℕ
+latest zero = None
+latest (suc n) = Some n
+
+-- ---- headers
+
+abbrev pub by_header : Block → Option ℕ → Option Role → Option TableForm → Span → Details
+by_header b e role form key =
+    record { element = e; role = role; form = form; key = key; span = b.header_span; extent = b.extent }
+
+-- a standard table, or a new element of the array
+abbrev pub last_mention : (Path → ℕ) → Block → Path → SimpleKey → Mentioned
+last_mention counts b p k =
+    let role = Some roles.HeaderLast in (
+      p,
+      if b.array then by_header b (Some (counts p)) role (Some forms.Element) k.span
+          else by_header b None role (Some forms.Header) k.span,
+    )
+
+-- Each part but the last passes through a table: the latest element, where an array of tables stands there. No header
+-- is that of the root.
+abbrev pub header_mentions : (Path → ℕ) → Block → Path → List SimpleKey → List Mentioned
+header_mentions counts b p [] = (p, by_header b None None None b.header_span) ∷ []
+header_mentions counts b p (k ∷ []) = last_mention counts b (with_key p k) k ∷ []
+header_mentions counts b p (k ∷ l ∷ more) =
+    let q = with_key p k in
+    (q, by_header b (latest (counts q)) (Some roles.Header) (Some forms.Passed) k.span)
+    ∷ header_mentions counts b (inside q (latest (counts q))) (l ∷ more)
+
+-- ---- assignments
+
+abbrev pub by_value : Option Role → Option TableForm → Span → Span → Details
+by_value role form key span =
+    record { element = None; role = role; form = form; key = key; span = span; extent = span }
+
+-- the parts of a key in an assignment of this extent
+abbrev pub parts_mentions : Span → Path → List SimpleKey → List Mentioned
+parts_mentions extent p [] = []
+parts_mentions extent p (k ∷ []) = (with_key p k, by_value (Some roles.Last) None k.span extent) ∷ []
+parts_mentions extent p (k ∷ l ∷ more) =
+    (with_key p k, by_value (Some roles.Dotted) (Some forms.Dotted) k.span extent)
+    ∷ parts_mentions extent (with_key p k) (l ∷ more)
+
+-- the path of these parts
+abbrev pub below : Path → List SimpleKey → Path
+below p [] = p
+below p (k ∷ ks) = below (with_key p k) ks
+
+abbrev mutual
+  -- the braces and keys in a value at a path, at every depth
+  pub value_mentions : Path → ParsedValue → List Mentioned
+  value_mentions p (parsed i span) = inner_mentions p span i
+
+  pub inner_mentions : Path → Span → ParsedInner → List Mentioned
+  inner_mentions p span (scalar s) = []
+  inner_mentions p span (array vs) = item_mentions p 0 vs
+  inner_mentions p span (inline ps) = (p, by_value None (Some forms.Inline) span span) ∷ pair_mentions p ps
+
+  -- the elements from a position on
+  pub item_mentions : Path → ℕ → ParsedItems → List Mentioned
+  item_mentions p i no_items = []
+  item_mentions p i (item v vs) = value_mentions (with_position p i) v ++ item_mentions p (suc i) vs
+
+  -- the assignments below a path, each key before its value
+  pub pair_mentions : Path → ParsedPairs → List Mentioned
+  pair_mentions p no_pairs = []
+  pair_mentions p (pair ks v extent ps) =
+      (parts_mentions extent p ks ++ value_mentions (below p ks) v) ++ pair_mentions p ps
+
+-- ---- sections
+
+-- a section's header and its assignments, where `counts` counts the elements of each array of tables before it
+abbrev pub section_mentions : Bool → (Path → ℕ) → Block → List Mentioned
+section_mentions with_assignments counts b =
+    header_mentions counts b [] b.header
+    ++ (if with_assignments then pair_mentions (section_path counts b) (pairs_onto b.key_values no_pairs) else [])
+
+-- those of sections after these earlier ones, the nearest first
+abbrev pub mentions_after : Bool → List Block → List Block → List Mentioned
+mentions_after with_assignments earlier [] = []
+mentions_after with_assignments earlier (b ∷ bs) =
+    section_mentions with_assignments (elements_added (opened_by earlier)) b
+    ++ mentions_after with_assignments (b ∷ earlier) bs
+
+-- all that these sections name
+abbrev pub mentions : Bool → List Block → List Mentioned
+mentions with_assignments bs = mentions_after with_assignments [] bs

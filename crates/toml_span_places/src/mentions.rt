@@ -1,0 +1,303 @@
+//! Where a text names the tables and values of its document: one list, from which keys, tables and sections are picked.
+ghost use Rattle.std.specs.Prelude.{◌≡◌, ◌++◌, ◌∷◌, [], IfOk, OnOk, map};
+ghost use Rattle.toml_span_read.specs.Data.{block, view, key_value, onto, no_items, pairs_onto, no_pairs, simple_key};
+ghost use Rattle.toml_span_tree.specs.Nodes.{step_of};
+ghost use Rattle.toml_span.specs.Paths.{target};
+ghost use Rattle.toml_span_places.specs.Mentions as spec;
+ghost use Rattle.toml_span_places.specs.Mentions.{below, mentioned, steps_of};
+ghost use Rattle.toml_span_places.specs.code.Opened.{counts_of, counts_behind};
+
+use crate::keys::Role;
+use crate::opened::{Opened, elements_of, section_path};
+use crate::paths::{copied, element_path, entered, latest, with_key};
+use crate::tables::TableForm;
+use std::alloc::{AllocError, Global};
+use toml_span_lex::key::Key;
+use toml_span_lex::span::Span;
+use toml_span_read::{Assignment, Section, Val, ValKind};
+use toml_span_tree::nodes::Step;
+
+/// What a mention has besides its path.
+#[derive(Clone, Copy)]
+pub(crate) struct Details {
+    /// The position of the table that is named, where the path leads to an array of tables.
+    pub element: Option<usize>,
+    /// What the key is part of. The root and braces have none.
+    pub role: Option<Role>,
+    /// How a table is named. The root and a key that a value is assigned to have none.
+    pub form: Option<TableForm>,
+    /// The key without its quotes, or `span` where there is none.
+    pub key: Span,
+    /// The header's line, the assignment from its key to the end of its value, or the braces and what is between them.
+    pub span: Span,
+    /// The header's section. Without a header the same as `span`.
+    pub extent: Span,
+}
+
+/// A place in a text that names a table or a value.
+#[derive(Drop)]
+pub(crate) struct Mention<'t> {
+    /// The steps from the root to what the key names.
+    pub path: Vec<Step<'t>>,
+    pub details: Details,
+}
+
+/// Adds a mention of a path.
+fn push<'t>(
+    alloc: Global,
+    path: &[Step<'t>],
+    details: Details,
+    out: &mut Vec<Mention<'t>>,
+) -> Result<(), AllocError>
+    ensures { OnOk result (map mentioned out.new.items ≡ map mentioned out.old.items
+        ++ ((map step_of path.now, details) ∷ [])) }
+{
+    let path = copied(alloc, path)?;
+    out.push(Mention { path, details })?;
+    Ok(())
+}
+
+fn by_header(
+    section: &Section<'_>,
+    element: Option<usize>,
+    role: Option<Role>,
+    form: Option<TableForm>,
+    key: Span,
+) -> Details
+    ensures { result ≡ spec.by_header (block section.now) element role form key }
+{
+    Details {
+        element,
+        role,
+        form,
+        key,
+        span: section.header_span,
+        extent: section.extent,
+    }
+}
+
+fn by_value(role: Option<Role>, form: Option<TableForm>, key: Span, span: Span) -> Details
+    ensures { result ≡ spec.by_value role form key span }
+{
+    Details {
+        element: None,
+        role,
+        form,
+        key,
+        span,
+        extent: span,
+    }
+}
+
+/// Adds what the last part of a header names at a path.
+fn push_last<'t, 'de>(
+    alloc: Global,
+    section: &Section<'_>,
+    key: &Key<'de>,
+    opened: &Opened<'t>,
+    path: &[Step<'t>],
+    out: &mut Vec<Mention<'t>>,
+) -> Result<(), AllocError>
+    ensures { OnOk result (map mentioned out.new.items ≡ map mentioned out.old.items
+        ++ (spec.last_mention (counts_of opened.now) (block section.now) (map step_of path.now) (simple_key key.now)
+        ∷ [])) }
+{
+    let role = Some(Role::HeaderLast);
+    if !section.array {
+        let details = by_header(section, None, role, Some(TableForm::Header), key.span);
+        return push(alloc, path, details, out);
+    }
+    let position = elements_of(alloc, opened, path)?;
+    let details = by_header(
+        section,
+        Some(position),
+        role,
+        Some(TableForm::Element),
+        key.span,
+    );
+    push(alloc, path, details, out)
+}
+
+/// Adds what the parts of a header name, from one of them on, and returns the path of the last one.
+fn push_header<'t, 'de>(
+    alloc: Global,
+    section: &Section<'_>,
+    parts: &'t [Key<'de>],
+    opened: &Opened<'t>,
+    path: Vec<Step<'t>>,
+    out: &mut Vec<Mention<'t>>,
+) -> Result<Vec<Step<'t>>, AllocError>
+    ensures mentions { OnOk result (map mentioned out.new.items ≡ map mentioned out.old.items
+        ++ spec.header_mentions (counts_of opened.now) (block section.now) (steps_of path.entry)
+        (map simple_key parts.now)) }
+    ensures path { IfOk result (λ path_below. steps_of path_below ≡ target (counts_of opened.now)
+        (steps_of path.entry) (map simple_key parts.now)) }
+{
+    let [key, rest @ ..] = parts else {
+        let details = by_header(section, None, None, None, section.header_span);
+        push(alloc, path.as_slice(), details, out)?;
+        return Ok(path);
+    };
+    let path_below = with_key(path, key)?;
+    if rest.is_empty() {
+        push_last(alloc, section, key, opened, path_below.as_slice(), out)?;
+        return Ok(path_below);
+    }
+    let element = latest(alloc, opened, path_below.as_slice())?;
+    let role = Some(Role::Header);
+    let details = by_header(section, element, role, Some(TableForm::Passed), key.span);
+    push(alloc, path_below.as_slice(), details, out)?;
+    let inside = entered(path_below, element)?;
+    push_header(alloc, section, rest, opened, inside, out)
+}
+
+/// Adds what the parts of an assignment's key name, from one of them on, and returns the path of the last one.
+fn push_parts<'t, 'de>(
+    alloc: Global,
+    extent: Span,
+    inner: &'t [Key<'de>],
+    last: &'t Key<'de>,
+    path: Vec<Step<'t>>,
+    out: &mut Vec<Mention<'t>>,
+) -> Result<Vec<Step<'t>>, AllocError>
+    ensures mentions { OnOk result (map mentioned out.new.items ≡ map mentioned out.old.items
+        ++ spec.parts_mentions extent (steps_of path.entry)
+        (map simple_key inner.now ++ (simple_key last.now ∷ []))) }
+    ensures path { IfOk result (λ path_below. steps_of path_below
+        ≡ below (steps_of path.entry) (map simple_key inner.now ++ (simple_key last.now ∷ []))) }
+{
+    let [key, rest @ ..] = inner else {
+        let path_below = with_key(path, last)?;
+        let details = by_value(Some(Role::Last), None, last.span, extent);
+        push(alloc, path_below.as_slice(), details, out)?;
+        return Ok(path_below);
+    };
+    let path_below = with_key(path, key)?;
+    let form = Some(TableForm::Dotted);
+    let details = by_value(Some(Role::Dotted), form, key.span, extent);
+    push(alloc, path_below.as_slice(), details, out)?;
+    push_parts(alloc, extent, rest, last, path_below, out)
+}
+
+/// Adds what assignments name below a path.
+#[cycle(push_value)]
+fn push_pairs<'t, 'de>(
+    alloc: Global,
+    pairs: &'t [Assignment<'de>],
+    path: &[Step<'t>],
+    out: &mut Vec<Mention<'t>>,
+) -> Result<(), AllocError>
+    ensures { OnOk result (map mentioned out.new.items ≡ map mentioned out.old.items
+        ++ spec.pair_mentions (map step_of path.now) (pairs_onto (map key_value pairs.now) no_pairs)) }
+{
+    for pair in pairs {
+        push_pair(alloc, pair, path, out)?;
+    }
+    Ok(())
+}
+
+/// Adds what an assignment's key and its value name.
+#[cycle(push_value)]
+fn push_pair<'t, 'de>(
+    alloc: Global,
+    pair: &'t Assignment<'de>,
+    path: &[Step<'t>],
+    out: &mut Vec<Mention<'t>>,
+) -> Result<(), AllocError>
+    ensures { OnOk result (map mentioned out.new.items ≡ map mentioned out.old.items
+        ++ (spec.parts_mentions (key_value pair.now).extent (map step_of path.now) (key_value pair.now).parts
+        ++ spec.value_mentions (below (map step_of path.now) (key_value pair.now).parts) (key_value pair.now).value)) }
+{
+    let start = copied(alloc, path)?;
+    let inner = pair.parts.inner.as_slice();
+    let path_below = push_parts(alloc, pair.extent, inner, &pair.parts.last, start, out)?;
+    push_value(alloc, &pair.value, path_below.as_slice(), out)
+}
+
+/// Adds what a value at a path names.
+#[cycle(push_value)]
+fn push_value<'t, 'de>(
+    alloc: Global,
+    value: &'t Val<'de>,
+    path: &[Step<'t>],
+    out: &mut Vec<Mention<'t>>,
+) -> Result<(), AllocError>
+    ensures { OnOk result (map mentioned out.new.items ≡ map mentioned out.old.items
+        ++ spec.value_mentions (map step_of path.now) (view value.now)) }
+{
+    match &value.kind {
+        ValKind::Array(items) => push_items(alloc, items.as_slice(), path, out),
+        ValKind::Inline(pairs) => {
+            let details = by_value(None, Some(TableForm::Inline), value.span, value.span);
+            push(alloc, path, details, out)?;
+            push_pairs(alloc, pairs.as_slice(), path, out)
+        }
+        ValKind::String(_)
+        | ValKind::Integer(_)
+        | ValKind::Float(_)
+        | ValKind::Boolean(_)
+        | ValKind::Datetime(_) => Ok(()),
+    }
+}
+
+/// Adds what the elements of an array name.
+#[cycle(push_value)]
+fn push_items<'t, 'de>(
+    alloc: Global,
+    items: &'t [Val<'de>],
+    path: &[Step<'t>],
+    out: &mut Vec<Mention<'t>>,
+) -> Result<(), AllocError>
+    ensures { OnOk result (map mentioned out.new.items ≡ map mentioned out.old.items
+        ++ spec.item_mentions (map step_of path.now) 0 (onto (map view items.now) no_items)) }
+{
+    for (position, item) in items.iter().enumerate() {
+        let element = element_path(alloc, path, position)?;
+        push_value(alloc, item, element.as_slice(), out)?;
+    }
+    Ok(())
+}
+
+/// Adds what a section names: by its header, and `with_assignments` by those too.
+fn push_section<'t, 'de>(
+    alloc: Global,
+    section: &'t Section<'de>,
+    with_assignments: bool,
+    opened: &mut Opened<'t>,
+    out: &mut Vec<Mention<'t>>,
+) -> Result<(), AllocError>
+    ensures mentions { OnOk result (map mentioned out.new.items ≡ map mentioned out.old.items
+        ++ spec.section_mentions with_assignments (counts_of opened.old) (block section.now)) }
+    ensures opened { OnOk result (counts_of opened.new ≡ counts_behind (counts_of opened.old) (block section.now)) }
+{
+    let root = Vec::new(alloc);
+    let header = push_header(alloc, section, section.header.as_slice(), opened, root, out)?;
+    let path_below = section_path(alloc, section.array, header, opened)?;
+    if !with_assignments {
+        return Ok(());
+    }
+    push_pairs(
+        alloc,
+        section.assignments.as_slice(),
+        path_below.as_slice(),
+        out,
+    )
+}
+
+/// What these sections name, in the order of the text: by their headers, and `with_assignments` by those too.
+///
+/// Takes memory for the list and the steps, and for the path of each array of tables.
+pub(crate) fn mentions<'t, 'de>(
+    alloc: Global,
+    sections: &'t [Section<'de>],
+    with_assignments: bool,
+) -> Result<Vec<Mention<'t>>, AllocError>
+    ensures { IfOk result (λ list. map mentioned list.items ≡ spec.mentions with_assignments (map block sections.now)) }
+{
+    let mut opened = Opened::new(alloc);
+    let mut out = Vec::new(alloc);
+    for section in sections {
+        push_section(alloc, section, with_assignments, &mut opened, &mut out)?;
+    }
+    Ok(out)
+}

@@ -1,0 +1,38 @@
+//! All values of a tree in the order of the text.
+ghost use Rattle.std.specs.Prelude.{◌≡◌, [], IfOk, None, map};
+ghost use Rattle.std.specs.List.Sorted.{IsNonDecreasingBy, IsPermutation};
+ghost use Rattle.toml_span_tree.specs.Nodes.{nodes_from, seen};
+ghost use Rattle.toml_span_tree.specs.Value.{view};
+ghost use Rattle.toml_span_places.specs.Order.{start_of};
+
+use std::alloc::{AllocError, Global};
+use toml_span_tree::Value;
+use toml_span_tree::nodes::{Visited, nodes};
+
+/// Where a value or its key starts, whichever is first.
+fn first_start(node: &Visited<'_, '_>) -> usize
+    ensures { result ≡ start_of node.now }
+{
+    let start = node.value.span.start;
+    match node.key {
+        Some(key) => start.min(key.span.start),
+        None => start,
+    }
+}
+
+/// Lists all values of a tree, as `nodes` does, in the order in which they start in the text: each by its key or its
+/// span, whichever starts first. A table starts with the first header that names it.
+///
+/// Values that start at the same byte, as the array and its first element at `[[a]]`, come in the order of `nodes`:
+/// each before those in it. Takes memory for the list and for the steps of each value.
+pub fn nodes_in_text_order<'t, 'de>(
+    alloc: Global,
+    value: &'t Value<'de>,
+) -> Result<Vec<Visited<'t, 'de>>, AllocError>
+    ensures all { IfOk result (λ list. IsPermutation (nodes_from [] None (view value.now)) (map seen list.items)) }
+    ensures ordered { IfOk result (λ list. IsNonDecreasingBy start_of list.items) }
+{
+    let mut list = nodes(alloc, value)?;
+    list.sort_by_key(|node| first_start(node))?;
+    Ok(list)
+}

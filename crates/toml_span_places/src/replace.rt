@@ -1,0 +1,140 @@
+//! A text with parts of it replaced.
+ghost use Rattle.std.specs.Prelude.{◌≡◌, ◌≤◌, ◌++◌, IfOk, OnOk, map, option_map, slice_range, string_bytes};
+ghost use Rattle.std.specs.Str.{IsCharBoundary};
+ghost use Rattle.toml_span_places.specs.Replace as spec;
+ghost use Rattle.toml_span_places.specs.Replace.{Replaces, edit_of};
+
+use std::alloc::{AllocError, Global};
+use thiserror::Error;
+use toml_span_lex::span::Span;
+use toml_span_lex::stop::Stop;
+use toml_span_read::gaps::byte_at;
+
+/// A span of a text, in bytes, and the text to write over it. An empty span is a place to insert the text at.
+#[derive(Clone, Copy, Debug, PartialEq, Eq)]
+pub struct Replacement<'r> {
+    pub span: Span,
+    pub text: &'r str,
+}
+
+/// What is wrong with the span of a replacement.
+#[derive(Clone, Copy, Debug, PartialEq, Eq, Error)]
+pub enum SpanFault {
+    #[error("the span ends before it starts")]
+    Reversed,
+    #[error("the span ends after the end of the text")]
+    OutOfBounds,
+    #[error("the span starts before the end of the one before it")]
+    Overlapping,
+    #[error("the span starts or ends inside a character")]
+    InsideCharacter,
+}
+
+/// Why a text is not replaced: the first replacement with a wrong span.
+#[derive(Clone, Copy, Debug, PartialEq, Eq, Error)]
+#[error("replacement {index}: {fault}")]
+pub struct ReplaceError {
+    /// Counted from 0.
+    pub index: usize,
+    pub fault: SpanFault,
+}
+
+/// Whether no character that began before a place goes on there.
+fn is_boundary(text: &str, at: usize) -> bool
+    ensures { result ≡ spec.is_boundary text.now at }
+{
+    let byte = byte_at(text, at);
+    byte < 0x80 || byte >= 0xC0
+}
+
+/// What is wrong with a span that follows one with this end.
+fn fault_of(text: &str, from: usize, span: Span) -> Option<SpanFault>
+    ensures { result ≡ spec.fault_of text.now from span }
+{
+    if span.end < span.start {
+        Some(SpanFault::Reversed)
+    } else if text.len() < span.end {
+        Some(SpanFault::OutOfBounds)
+    } else if span.start < from {
+        Some(SpanFault::Overlapping)
+    } else if is_boundary(text, span.start) && is_boundary(text, span.end) {
+        None
+    } else {
+        Some(SpanFault::InsideCharacter)
+    }
+}
+
+/// Adds a part of a text, and then another text.
+fn push_part(
+    new: &mut String,
+    text: &str,
+    from: usize,
+    to: usize,
+    then: &str,
+) -> Result<(), AllocError>
+    requires order { from ≤ to }
+    requires from { IsCharBoundary text.now from }
+    requires to { IsCharBoundary text.now to }
+    ensures { OnOk result (string_bytes new.new ≡ string_bytes new.old ++ (slice_range text.now from to ++ then.now)) }
+{
+    new.push_str(&text[from..to])?;
+    new.push_str(then)
+}
+
+/// Returns the text with each replacement made, and all bytes outside of their spans as they are.
+///
+/// The spans are in the order of the text, and none starts before the end of the one before it. The first that is wrong
+/// is the error (`Stop::Fault`).
+pub fn replace_all(
+    alloc: Global,
+    text: &str,
+    replacements: &[Replacement<'_>],
+) -> Result<String, Stop<ReplaceError>>
+    ensures { Replaces text.now (map edit_of replacements.now) result }
+{
+    let mut new = String::new(alloc);
+    let mut from = 0;
+    for (index, replacement) in replacements.iter().enumerate() {
+        let span = replacement.span;
+        if let Some(fault) = fault_of(text, from, span) {
+            return Err(Stop::Fault(ReplaceError { index, fault }));
+        }
+        push_part(&mut new, text, from, span.start, replacement.text)?;
+        from = span.end;
+    }
+    push_part(&mut new, text, from, text.len(), "")?;
+    Ok(new)
+}
+
+/// These spans, each with this text.
+fn with_each<'r>(
+    alloc: Global,
+    spans: &[Span],
+    text: &'r str,
+) -> Result<Vec<Replacement<'r>>, AllocError>
+    ensures { IfOk result (λ list. map edit_of list.items ≡ map (λ span. (span, text.now)) spans.now) }
+{
+    let mut list = Vec::with_capacity(alloc, spans.len())?;
+    for span in spans {
+        list.push(Replacement { span: *span, text })?;
+    }
+    Ok(list)
+}
+
+/// Returns the text with `with` in place of each of these spans, as `replace_all` does. None where a span is wrong.
+pub fn replaced(
+    alloc: Global,
+    text: &str,
+    spans: &[Span],
+    with: &str,
+) -> Result<Option<String>, AllocError>
+    ensures { IfOk result (λ new. option_map string_bytes new
+        ≡ spec.replaced text.now (map (λ span. (span, with.now)) spans.now)) }
+{
+    let list = with_each(alloc, spans, with)?;
+    match replace_all(alloc, text, list.as_slice()) {
+        Ok(new) => Ok(Some(new)),
+        Err(Stop::Fault(_)) => Ok(None),
+        Err(Stop::Memory(error)) => Err(error),
+    }
+}
