@@ -1,22 +1,26 @@
-//! Files that are read and replaced.
-use std::alloc::AllocError;
+//! Single files that are read and replaced.
+use std::alloc::{AllocError, Global};
 use std::fs::File;
 use std::io::ErrorKind;
 use std::{fs, io};
-use toml_span_lines::run::{Cut, read_bytes, write_bytes};
+use toml_span_check::folder::is_folder;
+use toml_span_check::input::{Host, Inputs};
+use toml_span_lines::run::write_bytes;
 use toml_span_lines::told::Told;
 
 /// What the name of the new file beside a file ends in.
-const BESIDE: &str = ".toml_span_edit";
+const BESIDE: &str = ".toml-span";
 
-/// The bytes of a file: of one that is longer than the bound more than that.
-pub(crate) fn bytes_of(rt: &HostRuntime, name: &str) -> io::Result<Vec<u8>> {
-    let file = File::open(rt, name)?;
-    match read_bytes(rt.alloc(), &mut Told::new(file)) {
-        Ok(bytes) => Ok(bytes),
-        Err(Cut::Memory) => Err(io::Error::from(AllocError)),
-        Err(Cut::Failed(error)) => Err(error),
+/// Returns the bytes of a file, or of standard input for `-`, or why there are none. A directory is not read.
+pub(crate) fn read_file(
+    alloc: Global,
+    host: &mut Host,
+    name: &str,
+) -> Result<Result<Vec<u8>, String>, AllocError> {
+    if name != "-" && is_folder(&host.rt, name) {
+        return Ok(Err(String::from_str(alloc, "is a directory")?));
     }
+    host.read(alloc, name)
 }
 
 /// Gives a new file the permissions of another one, and writes a text into it.
@@ -29,8 +33,8 @@ fn fill(rt: &HostRuntime, file: File, name: &str, text: &str) -> io::Result<()> 
     out.into_inner().sync_all()
 }
 
-/// Puts a text into the place of a file: it is written whole into a new file beside it, which then takes its name.
-/// Where that fails the file is as it was. Of a link, what it leads to is replaced.
+/// Replaces the text of a file. It is written whole into a new file beside it, which then gets the file's name. After
+/// an error the file is as it was. For a link, the file that it leads to is replaced.
 pub(crate) fn replace(rt: &HostRuntime, name: &str, text: &str) -> io::Result<()> {
     let place = fs::canonicalize(rt, name)?;
     let mut new = String::from_str(rt.alloc(), place.as_str())?;
@@ -41,7 +45,7 @@ pub(crate) fn replace(rt: &HostRuntime, name: &str, text: &str) -> io::Result<()
         done = fs::rename(rt, new.as_str(), place.as_str());
     }
     if done.is_err() {
-        // (what fails here is told of already)
+        // (a failure here adds nothing to the error that is reported)
         let _removed = fs::remove_file(rt, new.as_str());
     }
     done

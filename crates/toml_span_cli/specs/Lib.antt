@@ -1,0 +1,4 @@
+pub mod Colours
+pub mod Options
+pub mod Say
+pub mod Start
