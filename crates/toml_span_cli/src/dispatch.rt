@@ -18,6 +18,8 @@ use toml_span_report::nearest;
 enum Request<'w> {
     /// A command. The words are its name, or the program's, and its arguments.
     Command(Command, &'w [String]),
+    /// Nothing: there is no argument.
+    Nothing,
     /// The help of the program.
     Help,
     /// The version.
@@ -38,10 +40,10 @@ fn is_file(rt: &HostRuntime, word: &str) -> bool {
 /// Returns what the words of the command line ask for. The first one is the program's name.
 fn request_of<'w>(rt: &HostRuntime, words: &'w [String]) -> Request<'w> {
     let [_, rest @ ..] = words else {
-        return Request::Help;
+        return Request::Nothing;
     };
     let [first, ..] = rest else {
-        return Request::Help;
+        return Request::Nothing;
     };
     match first.as_str() {
         "-h" | "--help" => Request::Help,
@@ -116,6 +118,7 @@ pub(crate) fn dispatch<O: Sink, E: Sink>(
     requires errors { E.failed errors.old ≡ false }
 {
     match request_of(&host.rt, words) {
+        Request::Nothing => Ok(say(errors, HELP, 2)),
         Request::Help => Ok(say(out, HELP, 0)),
         Request::Version => Ok(say(out, VERSION, 0)),
         Request::Unknown(word) => say_unknown(alloc, word, errors),

@@ -145,6 +145,24 @@ pub(crate) fn edit_help(alloc: Global, command: Command) -> Result<String, Alloc
     Ok(text)
 }
 
+/// Reports that a command takes another number of arguments. Returns status 2.
+fn say_count<E: Sink>(
+    alloc: Global,
+    command: Command,
+    given: usize,
+    errors: &mut E,
+) -> Result<u8, AllocError>
+    requires { E.failed errors.old ≡ false }
+{
+    let wanted = match command {
+        Command::Add => 4,
+        Command::Set | Command::Rename => 3,
+        _ => 2,
+    };
+    let message = format!(in alloc; "expected {wanted} arguments, found {given}")?;
+    say_misuse(alloc, command, message.as_str(), errors)
+}
+
 /// Makes the edit that arguments ask for. The words are the command's name and its arguments.
 pub(crate) fn edit<O: Sink, E: Sink>(
     alloc: Global,
@@ -157,7 +175,11 @@ pub(crate) fn edit<O: Sink, E: Sink>(
     requires out { O.failed out.old ≡ false }
     requires errors { E.failed errors.old ≡ false }
 {
-    let arguments = words.get(1..).unwrap_or(&[]);
+    let arguments = match words {
+        [_, dashes, rest @ ..] if dashes.as_str() == "--" => rest,
+        [_, rest @ ..] => rest,
+        [] => words,
+    };
     if arguments.iter().any(|word| is_bytes(word.as_str())) {
         return say_misuse(alloc, command, "an argument is not valid UTF-8", errors);
     }
@@ -166,7 +188,7 @@ pub(crate) fn edit<O: Sink, E: Sink>(
         None if arguments.iter().any(|word| is_help(word.as_str())) => {
             Ok(say(out, edit_help(alloc, command)?.as_str(), 0))
         }
-        None => say_misuse(alloc, command, "wrong number of arguments", errors),
+        None => say_count(alloc, command, arguments.len(), errors),
     }
 }
 

@@ -67,7 +67,8 @@ LINE:COLUMN`, where lines and columns count from 0.
 Exit status:
   0  the file is valid
   1  the file has an error
-  2  the file can't be read, or the arguments are wrong
+  2  the file can't be read, is not UTF-8 or is larger than 16 MiB, or the
+     arguments are wrong
   3  output can't be written
   4  out of memory
 ";
@@ -79,7 +80,7 @@ Prints one value of a TOML file.
 Usage: toml-span get [OPTION].. FILE PATH
 
 PATH is a pointer, as /server/ports/0: keys, and positions in arrays from 0.
-The empty path '' names the whole document. For `-`, standard input is read.
+The empty path '' is the whole document. For `-`, standard input is read.
 
 Options:
   --json           as JSON, floats and dates as strings (the default)
@@ -151,9 +152,9 @@ string needs its quotes: '\"text\"'.
 
 /// What the help of each command that edits a file ends in.
 pub(crate) const EDITING: &str = "
-The result is written only if it is valid and nothing but the value at PATH
-differs; else the file stays as it is. For `-`, standard input is read, and the
-result is written to standard output.
+The file is replaced only if the result is valid TOML and nothing but the value
+at PATH differs. For `-`, standard input is read, and the result is written to
+standard output.
 
 Options:
   -h, --help  print this help

@@ -39,7 +39,7 @@ pub(crate) fn show<O: Sink, E: Sink>(
     requires errors { E.failed errors.old ≡ false }
 {
     let [_, word] = words else {
-        return say_misuse(alloc, Command::Show, "`show` takes one argument", errors);
+        return say_misuse(alloc, Command::Show, "expected one argument", errors);
     };
     match word.as_str() {
         "-h" | "--help" => Ok(say(out, help_of(Command::Show), 0)),
