@@ -1,7 +1,7 @@
 #!/usr/bin/env python3
 """The formats of the checker that other programs read, beside each other: python3 scripts/formats.py PROGRAM
 
-PROGRAM, a build of toml_span_check, is run on files with awkward names and contents. Each line of `--format github` is
+PROGRAM, a build of toml_span_cli, is run on files with awkward names and contents. Each line of `--format github` is
 read as GitHub's runner reads it, and the document of `--format sarif` is compared with what the schema of SARIF 2.1.0
 demands of the objects that it has: which members are required, which are known, and the bounds of their values. Then
 both have to tell what `--format json` tells, of the same files, at the lines and columns that this script counts. The

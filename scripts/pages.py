@@ -10,11 +10,11 @@ What is looked at is marked:
                        `text clause toml_span/specs/Flat.antt`
     ```text rows       stands line by line in the answers of toml_span_rows (its file stdout)
     ```toml row        is the text of a row of toml_span_rows
-    ```toml run NAME   is the input crates/toml_span_show/runs/NAME (or `stdin`, beside it)
-    ```text run NAME   is what the program writes on it (NAME.stdout, or `stdout`)
-    ```toml data NAME  is the file crates/toml_span_check/data/NAME
-    ```console run NAME    is `$ toml_span_check` with the words of crates/toml_span_check/runs/NAME.args, and then what
-                       the checker writes and complains of (NAME.stdout, NAME.stderr)
+    ```toml run NAME   is the input crates/toml_span_show/runs/NAME/stdin (or `stdin`, beside runs)
+    ```text run NAME   is what the program writes on it (`stdout` beside that)
+    ```toml data NAME  is the file crates/toml_span_cli/runs/data/NAME
+    ```console run NAME    is `$ toml-span` with the arguments of crates/toml_span_cli/runs/NAME (its file `args`), and
+                       then what it writes (`stdout`, `stderr`)
     ```sh              names files of scripts/, docs/ and crates/ that are there
     ```text in FILE    stands line by line in this file
     ```text            quotes contracts in short: each name of a line stands in the contract of the function, or among
@@ -51,13 +51,14 @@ of `parse` tells has an example in docs/LANGUAGE.md.
 import glob
 import os
 import re
+import shlex
 import sys
 
 TOP = os.path.dirname(os.path.dirname(os.path.abspath(__file__)))
 ROWS = "crates/toml_span_rows"
 SHOW = "crates/toml_span_show"
-CHECK = "crates/toml_span_check"
-RUN = (".args", ".stdout", ".stderr")
+CLI = "crates/toml_span_cli/runs"
+RUN = ("args", "stdout", "stderr")
 FIELDS = ("first", "expected", "found", "key", "name")
 # what stands behind each mark
 BEGINS = {"rows": ("|", "- "), "rules": "- ", "calls": ("|", "- "), "cases": "|", "reading order": "- "}
@@ -437,22 +438,22 @@ class Page:
 
     def run(self, at, is_input, name, lines):
         self.count("runs")
-        beside = f"{SHOW}/{'stdin' if is_input else 'stdout'}"
-        path = beside if name == "stdin" else f"{SHOW}/runs/{name}{'' if is_input else '.stdout'}"
+        folder = SHOW if name == "stdin" else f"{SHOW}/runs/{name}"
+        path = f"{folder}/{'stdin' if is_input else 'stdout'}"
         if not os.path.isfile(f"{TOP}/{path}"):
             return self.fault(at - 1, f"there is no {path}: name a run that is there")
         if text_of(path).rstrip("\n") != "\n".join(lines).rstrip("\n"):
             self.fault(at, f"this is not {path}: quote it as it is now")
 
     def checked(self, at, is_data, name, lines):
-        """A file that the checker reads, or a run of it."""
+        """A file that `toml-span` reads, or a run of it."""
         self.count("runs")
-        wanted = [f"{CHECK}/data/{name}"] if is_data else [f"{CHECK}/runs/{name}{end}" for end in RUN]
+        wanted = [f"{CLI}/data/{name}"] if is_data else [f"{CLI}/{name}/{part}" for part in RUN]
         if not os.path.isfile(f"{TOP}/{wanted[0]}"):
             return self.fault(at - 1, f"there is no {wanted[0]}: name what is there now")
         texts = [text_of(path).rstrip("\n") for path in wanted if os.path.isfile(f"{TOP}/{path}")]
         if not is_data:
-            texts[0] = f"$ toml_span_check {texts[0]}".replace("\n", " ")
+            texts[0] = f"$ toml-span {shlex.join(text_of(wanted[0]).splitlines())}"
         if "\n".join(it for it in texts if it) != "\n".join(lines).rstrip("\n"):
             self.fault(at, f"this is not {', '.join(wanted)}: quote it as it is now")
 
