@@ -1,5 +1,5 @@
 -- What a caller reads of matches, by the rows that they have.
-use Rattle.toml_span_lex.proofs.Common.{◌≡◌, ◌∙◌, ap, refl, ℕ, List, [], ◌∷◌, map, Option, sym, Bor, option_and_then, option_map, slice_get, find, unwrap_or, is_some, bytes_eq, arith, nat_tests, common_steps}
+use Rattle.toml_span_lex.proofs.Common.{◌≡◌, ◌∙◌, ap, refl, ℕ, List, [], ◌∷◌, map, Option, sym, Bor, option_and_then, option_map, slice_get, find, unwrap_or, bytes_eq, arith, nat_tests, common_steps}
 use Rattle.clap.specs.Facts.{Entry}
 use Rattle.clap.specs.Matches.{first_value, found_of, matched_of, raw_values}
 use Rattle.clap.specs.Walk.{Row, all_of, first_of, row_of, rows_of}
@@ -29,9 +29,6 @@ all-row m id = all-of (find (λ e. bytes_eq e.0.now id) (found_of m).entries.ite
 -- a value that is read, or nothing
 pub or-nothing : (o : Option (Bor (List ℕ))) (d : Bor (List ℕ)) → d.now ≡ [] → (unwrap_or o d).now ≡ unwrap_or (option_map (λ s. s.now) o) []
 or-nothing o d e = grind (arith, nat_tests, common_steps)
-
-pub some-text : (o : Option (Bor (List ℕ))) → is_some o ≡ is_some (option_map (λ s. s.now) o)
-some-text o = grind (arith, nat_tests, common_steps)
 
 pub or-none : (o : Option (Bor (List (Bor (List ℕ))))) (d : Bor (List (Bor (List ℕ)))) → d.now ≡ [] →
     map (λ v. v.now) (unwrap_or o d).now ≡ unwrap_or (option_map (λ s. map (λ v. v.now) s.now) o) []

@@ -1,6 +1,6 @@
 -- Which options come of which words. The words are cut into options by the kit's `clap`, whose `matches_of` and
 -- `fault_of` are functions of them.
-use Rattle.std.specs.Prelude.{◌≡◌, ◌&&◌, ℕ, Bool, true, List, [], ◌∷◌, Option, Some, None, codes, is_some}
+use Rattle.std.specs.Prelude.{◌≡◌, ◌==◌, ℕ, Bool, true, false, List, [], ◌∷◌, Option, Some, None, codes}
 use Rattle.std.specs.Prelude.{unwrap_or, if◌then◌else◌, Result, Ok, Err}
 use Rattle.std.specs.Str.{bytes_eq}
 use Rattle.clap.specs.Lexer.{usize_max}
@@ -117,11 +117,18 @@ abbrev pub shows : Result (Option Form) Mistake → Result Task Mistake
 shows (Ok chosen) = Ok (Show (unwrap_or chosen form.Plain))
 shows (Err mistake) = Err mistake
 
+-- a path is empty or begins with a slash
+abbrev pub is_pointer : List ℕ → Bool
+is_pointer [] = true
+is_pointer (first ∷ rest) = first == 47
+
 -- what to do with documents
 abbrev pub task_of : Reader → List Row → Result Task Mistake
 task_of readers.Check rows = Ok Check
 task_of readers.Get rows =
-    if is_bytes (value_of rows (codes "PATH")) then Err mistake.Path else shows (form_of rows)
+    if is_bytes (value_of rows (codes "PATH")) then Err mistake.Path
+    else if is_pointer (value_of rows (codes "PATH")) then shows (form_of rows)
+    else Err mistake.Slash
 
 -- where a document is shown, what is told can't be one as well
 abbrev pub with_task : Format → Task → Result (Format × Task) Mistake
@@ -165,6 +172,7 @@ kind_of mistake.Format = InvalidValue
 kind_of mistake.Color = InvalidValue
 kind_of mistake.Forms = ArgumentConflict
 kind_of mistake.Path = InvalidValue
+kind_of mistake.Slash = InvalidValue
 kind_of mistake.Sarif = ArgumentConflict
 
 abbrev pub mistake_kinds : Result (Format × Task) Mistake → Kinds

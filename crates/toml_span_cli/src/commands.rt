@@ -1,4 +1,7 @@
 //! The commands.
+ghost use Rattle.std.specs.Prelude.{◌≡◌};
+ghost use Rattle.toml_span_cli.specs.Commands as spec;
+
 use crate::help::{ADD, CHECK, GET, HELP, REMOVE, RENAME, SET, SHOW};
 
 /// A command.
@@ -20,7 +23,9 @@ pub(crate) const NAMES: [&str; 8] = [
 ];
 
 /// Returns the command of this name.
-pub(crate) fn command_named(name: &str) -> Option<Command> {
+pub(crate) fn command_named(name: &str) -> Option<Command>
+    ensures { result ≡ spec.command_named name.now }
+{
     match name {
         "check" => Some(Command::Check),
         "show" => Some(Command::Show),

@@ -4,6 +4,7 @@ ghost use Rattle.std.specs.Prelude.{◌≡◌, false};
 use crate::commands::{Command, help_of};
 use crate::files::{read_file, replace};
 use crate::help::EDITING;
+use crate::options::{NO_POINTER, is_pointer};
 use crate::say::{quoted_word, say, say_misuse};
 use crate::show::say_unread;
 use std::alloc::{AllocError, Global};
@@ -184,6 +185,7 @@ pub(crate) fn edit<O: Sink, E: Sink>(
         return say_misuse(alloc, command, "an argument is not valid UTF-8", errors);
     }
     match change_of(command, arguments) {
+        Some(change) if !is_pointer(change.path) => say_misuse(alloc, command, NO_POINTER, errors),
         Some(change) => perform(alloc, change, host, out, errors),
         None if arguments.iter().any(|word| is_help(word.as_str())) => {
             Ok(say(out, edit_help(alloc, command)?.as_str(), 0))

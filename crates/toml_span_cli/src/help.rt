@@ -152,9 +152,9 @@ string needs its quotes: '\"text\"'.
 
 /// What the help of each command that edits a file ends in.
 pub(crate) const EDITING: &str = "
-The file is replaced only if the result is valid TOML and nothing but the value
-at PATH differs. For `-`, standard input is read, and the result is written to
-standard output.
+The file is replaced only if the result is valid TOML and nothing else in it
+differs. For `-`, standard input is read, and the result is written to standard
+output.
 
 Options:
   -h, --help  print this help

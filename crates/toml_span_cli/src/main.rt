@@ -1,8 +1,6 @@
 //! The command line of toml-span: checks, shows and edits TOML files.
 #![tactic(auto)]
 
-ghost use Rattle.std.specs.Prelude.{◌≤◌, IfOk};
-
 mod colours;
 mod commands;
 mod dispatch;

@@ -22,6 +22,9 @@ pub(crate) enum Reader {
     Get,
 }
 
+/// What is wrong with a path that is no pointer.
+pub(crate) const NO_POINTER: &str = "PATH must begin with `/`, as in /package/name";
+
 /// What arguments ask for.
 #[derive(Drop)]
 pub(crate) struct Options<'w> {
@@ -45,6 +48,8 @@ enum Mistake {
     Forms,
     /// The path is not valid UTF-8.
     Path,
+    /// The path does not begin with a slash.
+    Slash,
     /// Errors as SARIF, which is one document, where a value is shown.
     Sarif,
 }
@@ -200,6 +205,16 @@ fn form_of(matches: &ArgMatches<'_>) -> Result<Option<Form>, Mistake>
     with_form(tagged, is_given(matches, "items"), Form::Items)
 }
 
+/// Whether a path is empty or begins with a slash.
+pub(crate) fn is_pointer(path: &str) -> bool
+    ensures { result ≡ spec.is_pointer path.now }
+{
+    match path.as_bytes() {
+        [] => true,
+        [first, ..] => *first == b'/',
+    }
+}
+
 /// What to do with documents.
 fn task_of(reader: Reader, matches: &ArgMatches<'_>) -> Result<Task, Mistake>
     ensures { result ≡ spec.task_of reader (rows_of (found_of matches.now)) }
@@ -207,6 +222,7 @@ fn task_of(reader: Reader, matches: &ArgMatches<'_>) -> Result<Task, Mistake>
     match reader {
         Reader::Check => Ok(Task::Check),
         Reader::Get if is_bytes(value_of(matches, "PATH")) => Err(Mistake::Path),
+        Reader::Get if !is_pointer(value_of(matches, "PATH")) => Err(Mistake::Slash),
         Reader::Get => match form_of(matches) {
             Ok(form) => Ok(Task::Show(form.unwrap_or(Form::Plain))),
             Err(mistake) => Err(mistake),
@@ -249,7 +265,8 @@ fn kind_of(mistake: Mistake) -> ErrorKind
     ensures { result ≡ spec.kind_of mistake }
 {
     match mistake {
-        Mistake::Format | Mistake::Color | Mistake::Path => ErrorKind::InvalidValue,
+        Mistake::Format | Mistake::Color | Mistake::Path | Mistake::Slash =>
+            ErrorKind::InvalidValue,
         Mistake::Forms | Mistake::Sarif => ErrorKind::ArgumentConflict,
     }
 }
@@ -262,6 +279,7 @@ fn message_of(mistake: Mistake) -> &'static str {
         Mistake::Forms =>
             "only one of '--json', '--raw', '--toml', '--tagged' and '--items' can be used",
         Mistake::Path => "PATH is not valid UTF-8",
+        Mistake::Slash => NO_POINTER,
         Mistake::Sarif => "'--format sarif' can only be used with `check`",
     }
 }

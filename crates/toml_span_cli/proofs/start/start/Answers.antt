@@ -1,5 +1,5 @@
 use Rattle.toml_span_lex.proofs.Common.{inr, refl, arith, nat_tests, common_steps}
-use Rattle.toml_span_check.proofs.start.start.Goals as goal
+use Rattle.toml_span_cli.proofs.start.start.Goals as goal
 
 pub returns-in-Ok : goal.returns-in-Ok
 returns-in-Ok g c = grind (arith, nat_tests, common_steps)

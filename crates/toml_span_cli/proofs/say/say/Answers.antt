@@ -1,5 +1,5 @@
 use Rattle.toml_span_lex.proofs.Common.{arith, nat_tests, common_steps}
-use Rattle.toml_span_check.proofs.start.say.Goals as goal
+use Rattle.toml_span_cli.proofs.say.say.Goals as goal
 
 pub returns-then-write_bytes : goal.returns-then-write_bytes
 returns-then-write_bytes g c = grind (arith, nat_tests, common_steps)
