@@ -1,6 +1,6 @@
 -- The statuses that are told: 0 or 1 of bytes, and 2 at most.
-use Rattle.toml_span_lex.proofs.Common.{◌≡◌, ◌↔◌, ℕ, ◌≤◌, Bool, false, ◌||◌, IsTrue, List, Option, arith, nat_tests, common_steps}
-use Rattle.toml_span_check.specs.Run.{Asked, Reading, Gathered, nothing, answered, unread}
+use Rattle.toml_span_lex.proofs.Common.{◌≡◌, ◌↔◌, ℕ, ◌≤◌, Bool, false, ◌||◌, IsTrue, List, arith, nat_tests, common_steps}
+use Rattle.toml_span_check.specs.Run.{Reading, Gathered, nothing, answered, unread}
 use Rattle.toml_span_check.specs.declared.answer.Task.{Task}
 use Rattle.toml_span_check.specs.declared.faults.Format.{Format}
 
