@@ -1,7 +1,7 @@
 """Tests of the module: python3 test_toml_span.py FOLDER
 
-FOLDER is that of the checker, crates/toml_span_check: its documents runs/tagged/NAME.toml have beside them what they
-say, NAME.json, each scalar with its type.
+FOLDER has the stored runs of `toml-span`, crates/toml_span_cli/runs: a run tagged_NAME has a document, `stdin`, and what
+it says, `stdout`, each scalar with its type.
 """
 
 import glob
@@ -22,8 +22,9 @@ try:
 except ImportError:
     tomllib = None
 
-FOLDER = sys.argv.pop() if len(sys.argv) > 1 else os.path.join("..", "crates", "toml_span_check")
-DOCUMENTS = sorted(glob.glob(os.path.join(FOLDER, "runs", "tagged", "*.toml")))
+FOLDER = sys.argv.pop() if len(sys.argv) > 1 else os.path.join("..", "crates", "toml_span_cli", "runs")
+RUNS = sorted(glob.glob(os.path.join(FOLDER, "tagged_*")))
+DOCUMENTS = [os.path.join(run, "stdin") for run in RUNS if not os.path.exists(os.path.join(run, "status"))]
 
 
 def text_of(path):
@@ -82,7 +83,7 @@ class Loads(unittest.TestCase):
         self.assertGreater(len(DOCUMENTS), 10)
         for path in DOCUMENTS:
             with self.subTest(path):
-                with open(path[:-5] + ".json", encoding="utf-8") as file:
+                with open(os.path.join(os.path.dirname(path), "stdout"), encoding="utf-8") as file:
                     wanted = untagged(json.load(file))
                 self.assertEqual(tagged(toml_span.loads(text_of(path))), wanted)
                 self.assertEqual(tagged(toml_span.parse(text_of(path)).value), wanted)

@@ -61,7 +61,8 @@ archive=$work/lib/lib/libtoml_span.a
 shared=$work/lib/lib/libtoml_span.so
 strict=(-Wall -Wextra -Werror -O2 "-I$work/lib/include")
 tests=scripts/c_tests
-documents=(crates/toml_span_check/data/*.toml crates/toml_span_check/runs/{tagged,refused}/*.toml)
+runs=crates/toml_span_cli/runs
+documents=("$runs"/data/*.toml "$runs"/tagged_*/stdin)
 
 # keys PROGRAM: the example writes what it has to
 keys() { "$1" examples/c/example.toml | diff - examples/c/example.keys; }
@@ -69,7 +70,7 @@ keys() { "$1" examples/c/example.toml | diff - examples/c/example.keys; }
 # a document that is refused ends with status 1 and its report
 refused() {
     local status=0
-    "$1" crates/toml_span_check/data/settings.toml >"$work/out" 2>"$work/report" || status=$?
+    "$1" "$runs/data/settings.toml" >"$work/out" 2>"$work/report" || status=$?
     [ "$status" -eq 1 ] && [ ! -s "$work/out" ] && grep -q '^error\[duplicate-key\]' "$work/report"
 }
 
@@ -107,8 +108,8 @@ build hold "$wrap"
 told "refused memory and each room" "$work/hold" "${documents[@]}"
 if command -v valgrind >/dev/null; then
     told "refused memory under valgrind" valgrind --quiet --error-exitcode=9 --leak-check=full \
-        --errors-for-leak-kinds=all "$work/hold" crates/toml_span_check/runs/tagged/{escapes,table_arrays}.toml \
-        crates/toml_span_check/data/settings.toml
+        --errors-for-leak-kinds=all "$work/hold" "$runs"/tagged_{escapes,table_arrays}/stdin \
+        "$runs/data/settings.toml"
 fi
 build fuzz
 told "changed texts" "$work/fuzz" 1000000 "${documents[@]}"
@@ -120,7 +121,7 @@ if command -v python3 >/dev/null; then
     $times "times of a fill" "$work/speed" 200 "$work"/*20k.toml
     $times "times of a fill of 1 MB" "$work/speed" 8 "$work"/*1m.toml
     export TOML_SPAN_LIBRARY=$shared PYTHONDONTWRITEBYTECODE=1 PYTHONPATH=$top/python
-    told "tests of the module" python3 python/test_toml_span.py crates/toml_span_check
+    told "tests of the module" python3 python/test_toml_span.py "$runs"
     $times "times of the module" python3 "$tests/times.py" "$work"
 fi
 failed=$((failed + missing))

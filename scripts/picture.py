@@ -1,8 +1,8 @@
 #!/usr/bin/env python3
 """docs/report.svg, the picture of a report that README.md shows: python3 scripts/picture.py [--check]
 
-It is drawn from crates/toml_span_check/runs/colour.stdout, what the checker writes with `--color always` on a file
-(scripts/check_runs.sh compares that with the program's own output). With --check nothing is written, and the status is
+It is drawn from crates/toml_span_cli/runs/colour/stdout, what `toml-span check --color always` writes on a file
+(scripts/runs.sh compares that with the program's own output). With --check nothing is written, and the status is
 1 where the picture is another than this script draws, or a sequence of the terminal is one that it doesn't know.
 """
 import html
@@ -11,9 +11,9 @@ import re
 import sys
 
 TOP = os.path.dirname(os.path.dirname(os.path.realpath(__file__)))
-RUN = f"{TOP}/crates/toml_span_check/runs/colour.stdout"
+RUN = f"{TOP}/crates/toml_span_cli/runs/colour/stdout"
 PICTURE = f"{TOP}/docs/report.svg"
-COMMAND = "$ toml_span_check settings.toml"
+COMMAND = "$ toml-span check settings.toml"
 WIDTH, HEIGHT, MARGIN = 8.4, 20, 16
 # by the numbers of a sequence `ESC [ .. m`: red and blue are for a light and for a dark page
 CLASSES = {"1": "bold", "31": "red", "34": "blue", "1;31": "bold red", "1;34": "bold blue"}

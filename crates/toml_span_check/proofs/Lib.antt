@@ -2,6 +2,5 @@ pub mod Commas
 pub mod Endings
 pub mod Judged
 pub mod Pieces
-pub mod Rows
 pub mod Statuses
 pub mod Tellings

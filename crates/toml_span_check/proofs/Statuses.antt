@@ -1,7 +1,6 @@
 -- The statuses that are told: 0 or 1 of bytes, and 2 at most.
-use Rattle.toml_span_lex.proofs.Common.{◌≡◌, ◌↔◌, ℕ, ◌≤◌, Bool, false, ◌||◌, IsTrue, List, Option, arith, nat_tests, common_steps}
-use Rattle.toml_span_check.specs.Run.{Asked, Reading, Gathered, nothing, answered, unread}
-use Rattle.toml_span_check.specs.Start.{Starts}
+use Rattle.toml_span_lex.proofs.Common.{◌≡◌, ◌↔◌, ℕ, ◌≤◌, Bool, false, ◌||◌, IsTrue, List, arith, nat_tests, common_steps}
+use Rattle.toml_span_check.specs.Run.{Reading, Gathered, nothing, answered, unread}
 use Rattle.toml_span_check.specs.declared.answer.Task.{Task}
 use Rattle.toml_span_check.specs.declared.faults.Format.{Format}
 
@@ -13,7 +12,3 @@ told-small format task pointer rs out errors status wrong (unread before said wa
 -- where neither write failed, the status is not that of a failed one
 pub neither-failed : (untold unwarned : Bool) (status : ℕ) → ¬ (status ≡ 3) → untold ≡ false → unwarned ≡ false → (status ≡ 3) ↔ IsTrue (untold || unwarned)
 neither-failed untold unwarned status other good fine = grind (arith, nat_tests, common_steps)
-
-pub starts-small : (words : List (List ℕ)) (t : Bool) (old new : Option Asked) (told told' : Option (List ℕ)) (untold : Bool) (warned warned' : Option (List ℕ)) (unwarned : Bool) (status : ℕ) →
-    Starts words t old new told told' untold warned warned' unwarned status → status ≤ 4
-starts-small words t old new told told' untold warned warned' unwarned status h = grind (arith, nat_tests, common_steps)

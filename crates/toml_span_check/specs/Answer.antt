@@ -13,14 +13,15 @@ use Rattle.toml_span_report.specs.Errors.{TellsError}
 use Rattle.toml_span_report.specs.Report.{ReportContent, bare}
 use Rattle.toml_span_report.specs.declared.report.Severity.TheVariants as severity
 use Rattle.toml_span_check.specs.Faults.{fault_text}
-use Rattle.toml_span_check.specs.Shown.{shown}
+use Rattle.toml_span_check.specs.Shown.{raw, shown}
 use Rattle.toml_span_check.specs.declared.faults.Format.{Format}
 use Rattle.toml_span_check.specs.declared.answer.Task.{Task}
 use Rattle.toml_span_check.specs.declared.answer.Task.TheVariants.{Check, Show}
 use Rattle.toml_span_check.specs.declared.answer.Form.{Form}
-use Rattle.toml_span_check.specs.declared.answer.Form.TheVariants.{Plain, Tagged, Items}
+use Rattle.toml_span_check.specs.declared.answer.Form.TheVariants.{Plain, Tagged, Items, Raw, Toml}
 use Rattle.toml_span_lines.specs.Lines.{tree_lines}
 use Rattle.toml_span_lines.specs.Run.{bound}
+use Rattle.toml_span_places.specs.Spelled.{value_text}
 use Rattle.toml_span_read.specs.Data.{depth_limit}
 
 -- the text for a fault that has no place
@@ -29,13 +30,15 @@ plain_fault format code message name = fault_text format (bare severity.Error co
 
 abbrev pub nothing_there : Format → List ℕ → List ℕ → ℕ × List ℕ
 nothing_there format pointer name =
-    (1, plain_fault format (codes "nothing-there") (codes "nothing stands at `" ++ pointer ++ codes "`") name)
+    (1, plain_fault format (codes "nothing-there") (codes "no value at `" ++ pointer ++ codes "`") name)
 
 -- a value in a form
 abbrev pub formed : Form → Node → List ℕ
 formed Plain n = shown false n ++ codes "\n"
 formed Tagged n = shown true n ++ codes "\n"
 formed Items n = tree_lines n
+formed Raw n = raw n ++ codes "\n"
+formed Toml n = value_text n ++ codes "\n"
 
 -- what a document gives: a status and a text
 abbrev pub found : Format → Form → List ℕ → List ℕ → Option Node → ℕ × List ℕ
@@ -60,10 +63,10 @@ IsRead format task pointer name text answer =
     × IsFaultText format error name text out × (answer ≡ (1, out)))
 
 abbrev pub too_long : Format → List ℕ → ℕ × List ℕ
-too_long format name = (1, plain_fault format (codes "too-long") (codes "the file has more than 16 MiB") name)
+too_long format name = (1, plain_fault format (codes "too-long") (codes "the file is larger than 16 MiB") name)
 
 abbrev pub not_utf8 : Format → List ℕ → ℕ × List ℕ
-not_utf8 format name = (1, plain_fault format (codes "not-utf-8") (codes "the file is no UTF-8") name)
+not_utf8 format name = (1, plain_fault format (codes "not-utf-8") (codes "the file is not valid UTF-8") name)
 
 -- The status and the text for the bytes of a file: more than the bound, no text, or a document or none.
 pub record IsAnswer (format : Format) (task : Task) (pointer : List ℕ) (name : List ℕ) (bytes : List ℕ)

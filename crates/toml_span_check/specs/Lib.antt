@@ -1,12 +1,9 @@
 pub mod Answer
-pub mod Colours
 pub mod Dates
 pub mod Faults
 pub mod Github
-pub mod Options
 pub mod Run
 pub mod Sarif
 pub mod Shown
-pub mod Start
 pub mod Words
 pub mod code

@@ -42,9 +42,9 @@ HasReadOrNot old new (Err words) = (bytes : List ℕ) × HasRead old new bytes
 
 -- why a file can't be read, by the kind of the error: the system's words, but for the commonest kinds
 abbrev pub IsReason : ErrorKind → List ℕ → Type 0
-IsReason kind.NotFound words = words ≡ codes "there is no such file"
-IsReason kind.PermissionDenied words = words ≡ codes "it may not be read"
-IsReason kind.IsADirectory words = words ≡ codes "it is a folder with no *.toml file"
+IsReason kind.NotFound words = words ≡ codes "no such file"
+IsReason kind.PermissionDenied words = words ≡ codes "permission denied"
+IsReason kind.IsADirectory words = words ≡ codes "no `*.toml` file in this directory"
 IsReason _ words = ⊤
 
 -- one more search, where they are known
@@ -66,7 +66,7 @@ Logs (Some asked) new more = new ≡ Some (record asked { readings = asked.readi
 
 -- what is told of a file that can't be read
 abbrev pub complaint : List ℕ → List ℕ → List ℕ
-complaint name reason = codes "toml_span_check: " ++ visible name ++ codes ": " ++ reason ++ codes "\n"
+complaint name reason = codes "error: cannot read `" ++ visible name ++ codes "`: " ++ reason ++ codes "\n"
 
 -- What is told of files, one after another: what their bytes give, what is told of those that can't be read, and the
 -- greatest of their statuses, which is 2 for one that can't be read; and how many have a fault, which is status 1, or
@@ -91,16 +91,16 @@ pub record Tells (format : Format) (task : Task) (pointer : List ℕ) (names : L
   pub logged : Logs old new readings
   pub told : Gathered format task pointer readings out errors status wrong
 
--- the last line where faults are told in lines and there are some: `3 files, 1 with errors`
+-- the last line of a check whose errors are reported in lines, if there are some: `3 files checked, 1 with errors`
 abbrev pub file_word : ℕ → List ℕ
-file_word files = if files == 1 then codes " file, " else codes " files, "
+file_word files = if files == 1 then codes " file checked, " else codes " files checked, "
 
 unfoldable pub counts : ℕ → ℕ → List ℕ
 counts files wrong = decimal files ++ file_word files ++ decimal wrong ++ codes " with errors\n"
 
-abbrev pub summary : Format → ℕ → ℕ → List ℕ
-summary (Text style) files wrong = if nat_lt 0 wrong then counts files wrong else []
-summary _ files wrong = []
+abbrev pub summary : Format → Task → ℕ → ℕ → List ℕ
+summary (Text style) Check files wrong = if nat_lt 0 wrong then counts files wrong else []
+summary _ _ files wrong = []
 
 -- what is told of all files together: where faults are told, a document in the format SARIF
 abbrev pub together : Format → List ℕ → List ℕ
@@ -126,7 +126,7 @@ pub record Told (format : Format) (task : Task) (pointer : List ℕ) (names : Li
   pub wrong : ℕ
   pub tells : Tells format task pointer files mid new all complaints status wrong
   pub shown : out ≡ said is_quiet (whole format task all)
-  pub warned : errors ≡ said is_quiet (complaints ++ summary format (length files) wrong)
+  pub warned : errors ≡ said is_quiet (complaints ++ summary format task (length files) wrong)
 
 -- documents are shown
 abbrev pub Shows : Task → Type 0

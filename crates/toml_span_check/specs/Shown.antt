@@ -61,3 +61,13 @@ abbrev mutual
   members_shown is_tagged later no_members = codes "}"
   members_shown is_tagged later (member name key n ms) =
       comma_if later ++ quoted name ++ codes ":" ++ shown is_tagged n ++ members_shown is_tagged true ms
+
+-- the text of a string, a float or a date as it is, and all else as JSON
+abbrev pub raw_inner : Inner → List ℕ
+raw_inner (scalar (text s)) = s
+raw_inner (scalar (float x)) = float_text x
+raw_inner (scalar (datetime d)) = d
+raw_inner i = inner_shown false i
+
+abbrev pub raw : Node → List ℕ
+raw (node i span) = raw_inner i

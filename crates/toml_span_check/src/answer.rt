@@ -12,21 +12,25 @@ use toml_span_report::Report;
 
 /// How a document is shown.
 #[derive(Clone, Copy, PartialEq, Eq)]
-pub(crate) enum Form {
+pub enum Form {
     /// As JSON.
     Plain,
     /// As JSON with the type of each scalar.
     Tagged,
     /// As lines, one for each node.
     Items,
+    /// The text of a string, a float or a date, and all else as JSON.
+    Raw,
+    /// As TOML on one line.
+    Toml,
 }
 
-/// What is to be done with a document.
+/// What to do with a document.
 #[derive(Clone, Copy, PartialEq, Eq)]
-pub(crate) enum Task {
-    /// To tell its fault.
+pub enum Task {
+    /// Report its error.
     Check,
-    /// To show it.
+    /// Show it, or a value in it.
     Show(Form),
 }
 
@@ -67,7 +71,7 @@ pub(crate) fn nothing_there(
 ) -> Result<Vec<u8>, AllocError>
     ensures { IfOk result (λ out. (1, out.items) ≡ spec.nothing_there format pointer.now name.now) }
 {
-    let mut message = String::from_str(alloc, "nothing stands at `")?;
+    let mut message = String::from_str(alloc, "no value at `")?;
     message.push_str(pointer)?;
     message.push_str("`")?;
     plain_fault(alloc, format, "nothing-there", message.as_str(), name)
@@ -81,7 +85,7 @@ fn too_long(alloc: Global, format: Format, name: &str) -> Result<Vec<u8>, AllocE
         alloc,
         format,
         "too-long",
-        "the file has more than 16 MiB",
+        "the file is larger than 16 MiB",
         name,
     )
 }
@@ -90,7 +94,13 @@ fn too_long(alloc: Global, format: Format, name: &str) -> Result<Vec<u8>, AllocE
 fn not_utf8(alloc: Global, format: Format, name: &str) -> Result<Vec<u8>, AllocError>
     ensures { IfOk result (λ out. (1, out.items) ≡ spec.not_utf8 format name.now) }
 {
-    plain_fault(alloc, format, "not-utf-8", "the file is no UTF-8", name)
+    plain_fault(
+        alloc,
+        format,
+        "not-utf-8",
+        "the file is not valid UTF-8",
+        name,
+    )
 }
 
 /// What is told of the bytes of a file, once they are judged.

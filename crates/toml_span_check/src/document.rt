@@ -1,32 +1,26 @@
 //! A document is shown.
-ghost use Rattle.std.specs.Prelude.{◌≡◌, ◌++◌, OnOk, IfOk, codes, false};
+ghost use Rattle.std.specs.Prelude.{◌≡◌, ◌++◌, OnOk, IfOk, codes, false, string_bytes};
 ghost use Rattle.toml_span_lines.specs.Held.{Streams};
 ghost use Rattle.toml_span_tree.specs.Pointer.{pointed};
 ghost use Rattle.toml_span_tree.specs.Value.{view};
 ghost use Rattle.toml_span_check.specs.Answer.{formed, found};
-ghost use Rattle.toml_span_check.specs.Shown as spec;
 
 use crate::answer::{Form, nothing_there};
 use crate::faults::Format;
-use crate::shown::shown;
+use crate::shown::{raw, shown};
 use std::alloc::{AllocError, Global};
 use toml_span::Value;
 use toml_span_lines::held::{Unwritten, write_held};
 use toml_span_lines::lines::write_lines;
 use toml_span_lines::sink::Sink;
+use toml_span_places::to_toml;
 
-/// Adds the JSON text of a value and an end of line.
-fn push_json(
-    alloc: Global,
-    held: &mut Vec<u8>,
-    value: &Value<'_>,
-    is_tagged: bool,
-) -> Result<(), AllocError>
-    ensures { OnOk result (held.new.items ≡ held.old.items ++ (spec.shown is_tagged (view value.now) ++ codes "\n")) }
+/// Adds a text and an end of line.
+fn push_line(mut text: String, held: &mut Vec<u8>) -> Result<(), AllocError>
+    ensures { OnOk result (held.new.items ≡ held.old.items ++ (string_bytes text ++ codes "\n")) }
 {
-    let mut json = shown(alloc, value, is_tagged)?;
-    json.push_str("\n")?;
-    held.extend_from_slice(json.as_bytes())?;
+    text.push_str("\n")?;
+    held.extend_from_slice(text.as_bytes())?;
     Ok(())
 }
 
@@ -43,8 +37,10 @@ fn write_value<W: Sink>(
         (held.old.items ++ formed form (view value.now)) held.new.items }
 {
     match form {
-        Form::Plain => push_json(alloc, held, value, false)?,
-        Form::Tagged => push_json(alloc, held, value, true)?,
+        Form::Plain => push_line(shown(alloc, value, false)?, held)?,
+        Form::Tagged => push_line(shown(alloc, value, true)?, held)?,
+        Form::Raw => push_line(raw(alloc, value)?, held)?,
+        Form::Toml => push_line(to_toml(alloc, value)?, held)?,
         Form::Items => return write_lines(alloc, writer, held, value),
     }
     write_held(writer, held)

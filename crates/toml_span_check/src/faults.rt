@@ -10,7 +10,7 @@ use toml_span_report::{Report, Style, render, render_json, render_line};
 
 /// How a fault is told.
 #[derive(Clone, Copy, PartialEq, Eq)]
-pub(crate) enum Format {
+pub enum Format {
     /// In lines, with marks.
     Text(Style),
     /// In one line.

@@ -15,7 +15,7 @@ struct Below {
 }
 
 /// Whether a name is that of a folder, or of a link to one.
-pub(crate) fn is_folder(rt: &HostRuntime, name: &str) -> bool {
+pub fn is_folder(rt: &HostRuntime, name: &str) -> bool {
     match fs::metadata(rt, name) {
         Ok(found) => found.is_dir(),
         Err(_) => false,

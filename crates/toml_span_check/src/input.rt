@@ -14,7 +14,7 @@ use toml_span_lines::source::Source;
 use toml_span_lines::told::Told;
 
 /// What files are read from.
-pub(crate) trait Inputs {
+pub trait Inputs {
     /// What was found for names and what was read, where that is known.
     ghost log: { Self → Option Asked };
 
@@ -34,9 +34,9 @@ fn reason(alloc: Global, error: &io::Error) -> Result<String, AllocError>
     ensures { IfOk result (λ words. IsReason (error_kind error.now) (string_bytes words)) }
 {
     match error.kind() {
-        ErrorKind::NotFound => String::from_str(alloc, "there is no such file"),
-        ErrorKind::PermissionDenied => String::from_str(alloc, "it may not be read"),
-        ErrorKind::IsADirectory => String::from_str(alloc, "it is a folder with no *.toml file"),
+        ErrorKind::NotFound => String::from_str(alloc, "no such file"),
+        ErrorKind::PermissionDenied => String::from_str(alloc, "permission denied"),
+        ErrorKind::IsADirectory => String::from_str(alloc, "no `*.toml` file in this directory"),
         _ => error.to_string(alloc),
     }
 }
@@ -55,8 +55,8 @@ fn read_all<R: Source>(alloc: Global, reader: &mut R) -> Result<Result<Vec<u8>, 
 
 /// The files and the standard input of the system.
 #[derive(Drop)]
-pub(crate) struct Host {
-    pub(crate) rt: HostRuntime,
+pub struct Host {
+    pub rt: HostRuntime,
 }
 
 impl Inputs for Host {
@@ -78,7 +78,7 @@ impl Inputs for Host {
             return read_all(alloc, &mut Told::new(self.rt.stdin()));
         }
         if is_bytes(name) {
-            return Ok(Err(String::from_str(alloc, "its name is no UTF-8")?));
+            return Ok(Err(String::from_str(alloc, "its name is not valid UTF-8")?));
         }
         match File::open(&self.rt, name) {
             Ok(file) => read_all(alloc, &mut Told::new(file)),

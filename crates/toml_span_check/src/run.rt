@@ -44,13 +44,13 @@ impl Telling {
     }
 }
 
-/// Adds what is told of a file that can't be read.
-fn push_complaint(out: &mut String, name: &str, reason: &str) -> Result<(), AllocError>
+/// Adds the line that reports a file that can't be read.
+pub fn push_complaint(out: &mut String, name: &str, reason: &str) -> Result<(), AllocError>
     ensures { OnOk result (string_bytes out.new ≡ string_bytes out.old ++ complaint name.now reason.now) }
 {
-    out.push_str("toml_span_check: ")?;
+    out.push_str("error: cannot read `")?;
     push_visible(out, name)?;
-    out.push_str(": ")?;
+    out.push_str("`: ")?;
     out.push_str(reason)?;
     out.push_str("\n")?;
     Ok(())
@@ -184,7 +184,11 @@ fn tell<I: Inputs, O: Sink>(
 fn file_word(files: usize) -> &'static str
     ensures { result.now ≡ spec.file_word files }
 {
-    if files == 1 { " file, " } else { " files, " }
+    if files == 1 {
+        " file checked, "
+    } else {
+        " files checked, "
+    }
 }
 
 /// Adds a line with the number of files and of those with errors.
@@ -198,24 +202,19 @@ fn push_counts(out: &mut String, files: usize, wrong: usize) -> Result<(), Alloc
     out.push_str(" with errors\n")
 }
 
-/// Adds how many files there are and how many of them have errors, where some have and faults are told in lines.
+/// Adds how many files were checked and how many of them have errors, if some have and errors are reported in lines.
 fn push_summary(
     out: &mut String,
     format: Format,
+    task: Task,
     files: usize,
     wrong: usize,
 ) -> Result<(), AllocError>
-    ensures { OnOk result (string_bytes out.new ≡ string_bytes out.old ++ spec.summary format files wrong) }
+    ensures { OnOk result (string_bytes out.new ≡ string_bytes out.old ++ spec.summary format task files wrong) }
 {
-    match format {
-        Format::Text(_) => {
-            if wrong > 0 {
-                push_counts(out, files, wrong)
-            } else {
-                Ok(())
-            }
-        }
-        Format::Short | Format::Json | Format::Github | Format::Sarif => Ok(()),
+    match (format, task) {
+        (Format::Text(_), Task::Check) if wrong > 0 => push_counts(out, files, wrong),
+        _ => Ok(()),
     }
 }
 
@@ -247,7 +246,13 @@ fn tell_all<I: Inputs, O: Sink>(
     let files = found.as_slice();
     let mut telling = tell(alloc, format, task, pointer, files, inputs, out)?;
     telling.held = whole(alloc, format, task, telling.held)?;
-    push_summary(&mut telling.errors, format, files.len(), telling.wrong)?;
+    push_summary(
+        &mut telling.errors,
+        format,
+        task,
+        files.len(),
+        telling.wrong,
+    )?;
     Ok(telling)
 }
 
@@ -303,7 +308,7 @@ fn run_quiet<I: Inputs>(
 }
 
 /// Runs on the files that these names are for (see `run_aloud`). A quiet run writes nothing.
-pub(crate) fn run<I: Inputs, O: Sink, E: Sink>(
+pub fn run<I: Inputs, O: Sink, E: Sink>(
     alloc: Global,
     format: Format,
     task: Task,

@@ -16,7 +16,7 @@ use toml_span_report::{Report, Severity, line_column};
 const HEAD: &str = r#"{
 "$schema":"https://docs.oasis-open.org/sarif/sarif/v2.1.0/errata01/os/schemas/sarif-schema-2.1.0.json",
 "version":"2.1.0",
-"runs":[{"tool":{"driver":{"name":"toml_span_check","version":"0.7.2","rules":[
+"runs":[{"tool":{"driver":{"name":"toml-span","version":"0.7.2","rules":[
 {"id":"unexpected","shortDescription":{"text":"A character that begins no token."}},
 {"id":"unterminated-string","shortDescription":{"text":"A string that the text ends in."}},
 {"id":"invalid-char-in-string","shortDescription":{"text":"A character that a string does not hold."}},
@@ -34,8 +34,8 @@ const HEAD: &str = r#"{
 {"id":"duplicate-key","shortDescription":{"text":"A key that is there already."}},
 {"id":"duplicate-table","shortDescription":{"text":"A table that is there already."}},
 {"id":"redefine-as-array","shortDescription":{"text":"An array of tables where a table is already."}},
-{"id":"not-utf-8","shortDescription":{"text":"A file that is no UTF-8."}},
-{"id":"too-long","shortDescription":{"text":"A file that has more than 16 MiB."}}
+{"id":"not-utf-8","shortDescription":{"text":"A file that is not valid UTF-8."}},
+{"id":"too-long","shortDescription":{"text":"A file that is larger than 16 MiB."}}
 ]}},"columnKind":"unicodeCodePoints","results":["#;
 
 /// What stands behind them.

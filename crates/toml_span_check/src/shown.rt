@@ -155,3 +155,18 @@ pub(crate) fn shown(alloc: Global, value: &Value<'_>, is_tagged: bool) -> Result
     push_value(Shape { alloc, is_tagged }, &mut out, value)?;
     Ok(out)
 }
+
+/// Returns the text of a string, a float or a date as it is, and of all else the JSON text.
+pub(crate) fn raw(alloc: Global, value: &Value<'_>) -> Result<String, AllocError>
+    ensures { IfOk result (λ out. string_bytes out ≡ spec.raw (view value.now)) }
+{
+    if value.is_taken() {
+        return String::from_str(alloc, "null");
+    }
+    match value.as_ref() {
+        ValueInner::String(text) => String::from_str(alloc, text.as_ref()),
+        ValueInner::Float(float) => String::from_str(alloc, float.text()),
+        ValueInner::Datetime(date) => String::from_str(alloc, date.text()),
+        _ => shown(alloc, value, false),
+    }
+}

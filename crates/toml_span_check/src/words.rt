@@ -38,7 +38,7 @@ fn bytes_text(alloc: Global, word: &[u8]) -> Result<String, AllocError>
 
 /// A word as a text. One that is no UTF-8 has a NUL before the number of each byte that is no ASCII: no other word has
 /// a NUL, and no file's name.
-pub(crate) fn word_text(alloc: Global, word: &[u8]) -> Result<String, AllocError>
+pub fn word_text(alloc: Global, word: &[u8]) -> Result<String, AllocError>
     ensures { IfOk result (λ text. string_bytes text ≡ spec.word_text word.now) }
 {
     match str::from_utf8(word) {
@@ -48,14 +48,14 @@ pub(crate) fn word_text(alloc: Global, word: &[u8]) -> Result<String, AllocError
 }
 
 /// Whether a text is that of a word that is no UTF-8.
-pub(crate) fn is_bytes(text: &str) -> bool
+pub fn is_bytes(text: &str) -> bool
     ensures { result ≡ spec.is_bytes text.now }
 {
     text.as_bytes().contains(&0)
 }
 
 /// The text of a word as people see it, with a backslash for each NUL, as `\xe9`.
-pub(crate) fn shown_word(alloc: Global, text: &str) -> Result<String, AllocError>
+pub fn shown_word(alloc: Global, text: &str) -> Result<String, AllocError>
     ensures { IfOk result (λ shown. string_bytes shown ≡ spec.shown_word text.now) }
 {
     let mut shown = String::new(alloc);

@@ -1,60 +1,62 @@
-//! Why nothing is written.
+//! Why an edit is refused.
 
-/// Why a task is refused. The file is as it was.
+/// Why an edit is refused.
 #[derive(Drop)]
-pub(crate) enum Reason {
-    /// The file is longer than 16 MiB.
+pub enum Reason {
+    /// The document is larger than 16 MiB.
     TooLong,
+    /// The document is not valid UTF-8.
     NotUtf8,
-    /// The file is no document: where, and why.
+    /// The document is not valid TOML: where, and why.
     NoDocument(String),
-    /// The path names nothing.
+    /// There is no value at the path.
     Nothing,
-    /// The value that is given is no value of TOML.
+    /// The given value is not one TOML value.
     NoValue,
-    /// What the path names was made by headers or dotted keys.
+    /// Headers or dotted keys define what the path names.
     NotSpelled,
-    /// The path names no key.
+    /// The path does not name a key.
     NoKey,
-    /// What the path names is given by a dotted key in an inline table.
+    /// A dotted key inside an inline table defines what the path names.
     Enclosed,
-    /// The path names no table.
+    /// The path does not name a table.
     NoTable,
     /// The table has no lines of its own.
     NoBody,
-    /// The new text would be no document: where, and why.
+    /// The result would not be valid TOML: where, and why.
     WouldBeNone(String),
-    /// The new text would be read as another tree than the one that is meant.
+    /// The edit would change more than the path names.
     WouldDiffer,
 }
 
 impl Reason {
-    /// In words.
-    pub(crate) fn text(&self) -> &'static str {
+    /// The reason in words.
+    pub fn text(&self) -> &'static str {
         match self {
-            Reason::TooLong => "it is longer than 16 MiB",
-            Reason::NotUtf8 => "it is no UTF-8",
-            Reason::NoDocument(_) => "it is no TOML document: ",
-            Reason::Nothing => "the path names nothing in it",
-            Reason::NoValue => "what is given is no TOML value on its own",
+            Reason::TooLong => "the file is larger than 16 MiB",
+            Reason::NotUtf8 => "the file is not valid UTF-8",
+            Reason::NoDocument(_) => "the file is not valid TOML: ",
+            Reason::Nothing => "there is no value at this path",
+            Reason::NoValue =>
+                "the given value is not one TOML value (strings need quotes: `'\"b\"'`)",
             Reason::NotSpelled => {
-                "the path names a table or an array that headers or dotted keys make: set what is in it"
+                "headers or dotted keys define this table or array; set the values in it instead"
             }
-            Reason::NoKey => "the path names no key",
+            Reason::NoKey => "the path does not name a key",
             Reason::Enclosed => {
-                "a dotted key in an inline table gives it: set that table as a whole"
+                "a dotted key in an inline table defines this value; set that inline table instead"
             }
-            Reason::NoTable => "the path names no table",
+            Reason::NoTable => "the path does not name a table",
             Reason::NoBody => {
-                "the table has no header and no lines of its own: add the header, or set what is in it"
+                "this table has no header and no lines of its own; add its header first"
             }
-            Reason::WouldBeNone(_) => "it would be no TOML document any more: ",
-            Reason::WouldDiffer => "more would change than what the path names",
+            Reason::WouldBeNone(_) => "the result would not be valid TOML: ",
+            Reason::WouldDiffer => "this would change more than the value at the path",
         }
     }
 
-    /// What else is told.
-    pub(crate) fn detail(&self) -> &str {
+    /// The line, the column and the message of an error, which follow the reason, or nothing.
+    pub fn detail(&self) -> &str {
         match self {
             Reason::NoDocument(fault) => fault.as_str(),
             Reason::WouldBeNone(fault) => fault.as_str(),

@@ -12,31 +12,21 @@ use crate::texts::{with_line, with_name, with_value, without};
 use std::alloc::{AllocError, Global};
 use toml_span::value::{Value, Visited, nodes};
 use toml_span::{Error, Stop, parse};
-use toml_span_places::{key_places, quote_key, to_toml};
+use toml_span_lines::run::BOUND;
+use toml_span_places::{key_places, quote_key};
 use toml_span_read::{Section, read_sections};
 
-/// What the words ask for.
+/// What to do at a path.
 #[derive(Clone, Copy)]
-pub(crate) enum Task<'w> {
-    /// To show the value.
-    Get,
-    /// To put a value in the place of one.
+pub enum Task<'w> {
+    /// Replace the value by this one, which is TOML.
     Set(&'w str),
-    /// To give the key another name.
+    /// Rename the key, wherever it is written.
     Rename(&'w str),
-    /// To take out what stands there.
+    /// Remove the key with its value, or the element of an array.
     Remove,
-    /// To put a key with a value into the table.
+    /// Add a key with a value, which is TOML, to the table.
     Add(&'w str, &'w str),
-}
-
-/// What a task gives.
-#[derive(Drop)]
-pub(crate) enum Outcome {
-    /// A value, as TOML on one line.
-    Shown(String),
-    /// The new text of the file.
-    Edited(String),
 }
 
 /// A fault of a text in words, behind its line and column, counted from 1.
@@ -173,25 +163,23 @@ impl Place<'_, '_, '_> {
         checked(alloc, new, meant)
     }
 
-    fn perform(&self, alloc: Global, task: Task<'_>) -> Result<Outcome, Stop<Reason>> {
-        let new = match task {
-            Task::Get => return Ok(Outcome::Shown(to_toml(alloc, self.node.value)?)),
-            Task::Set(value) => self.set(alloc, value)?,
-            Task::Rename(name) => self.rename(alloc, name)?,
-            Task::Remove => self.remove(alloc)?,
-            Task::Add(key, value) => self.add(alloc, key, value)?,
-        };
-        Ok(Outcome::Edited(new))
+    fn perform(&self, alloc: Global, task: Task<'_>) -> Result<String, Stop<Reason>> {
+        match task {
+            Task::Set(value) => self.set(alloc, value),
+            Task::Rename(name) => self.rename(alloc, name),
+            Task::Remove => self.remove(alloc),
+            Task::Add(key, value) => self.add(alloc, key, value),
+        }
     }
 }
 
 /// Does a task at a pointer in a text.
-pub(crate) fn perform(
+fn perform(
     alloc: Global,
     text: &str,
     pointer: &str,
     task: Task<'_>,
-) -> Result<Outcome, Stop<Reason>> {
+) -> Result<String, Stop<Reason>> {
     let root = match tree(alloc, text)? {
         Ok(root) => root,
         Err(fault) => return Err(Stop::Fault(Reason::NoDocument(fault))),
@@ -208,4 +196,23 @@ pub(crate) fn perform(
         node,
     };
     place.perform(alloc, task)
+}
+
+/// Returns the document with one change, at the value that a pointer such as `/a/b/0` names. All other bytes are as
+/// they were, and the tree of the result is that of the document with this change alone; else the edit is refused.
+///
+/// Takes at most 16 MiB. An error is a reason to refuse the edit, or out of memory.
+pub fn edited(
+    alloc: Global,
+    document: &[u8],
+    pointer: &str,
+    task: Task<'_>,
+) -> Result<String, Stop<Reason>> {
+    if document.len() > BOUND {
+        return Err(Stop::Fault(Reason::TooLong));
+    }
+    match str::from_utf8(document) {
+        Ok(text) => perform(alloc, text, pointer, task),
+        Err(_) => Err(Stop::Fault(Reason::NotUtf8)),
+    }
 }

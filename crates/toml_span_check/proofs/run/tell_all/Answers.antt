@@ -26,7 +26,7 @@ returns g c =
     let t = c.in_ok-telling.telling in
     let files = c.in_ok-found.found.items in
     let told = c.in_ok-telling.ensures in
-    let counted = ap (λ n. string_bytes t.errors ++ summary c.args.format n t.wrong) (ap length c.as_slice-files.ensures.value ∙ sym (length-map files (λ file. string_bytes file))) in
+    let counted = ap (λ n. string_bytes t.errors ++ summary c.args.format c.args.task n t.wrong) (ap length c.as_slice-files.ensures.value ∙ sym (length-map files (λ file. string_bytes file))) in
     let tells = told.2.1 in (
       told.0,
       told.1,

@@ -1,0 +1,14 @@
+//! Checks TOML files: reports the errors of files that are not valid TOML, and shows documents and values.
+#![tactic(auto)]
+
+pub mod answer;
+mod dates;
+mod document;
+pub mod faults;
+pub mod folder;
+mod github;
+pub mod input;
+pub mod run;
+mod sarif;
+mod shown;
+pub mod words;

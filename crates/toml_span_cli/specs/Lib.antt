@@ -1,0 +1,5 @@
+pub mod Colours
+pub mod Commands
+pub mod Options
+pub mod Say
+pub mod Start

@@ -1,0 +1,189 @@
+-- Which options come of which words. The words are cut into options by the kit's `clap`, whose `matches_of` and
+-- `fault_of` are functions of them.
+use Rattle.std.specs.Prelude.{◌≡◌, ◌==◌, ℕ, Bool, true, false, List, [], ◌∷◌, Option, Some, None, codes}
+use Rattle.std.specs.Prelude.{unwrap_or, if◌then◌else◌, Result, Ok, Err}
+use Rattle.std.specs.Str.{bytes_eq}
+use Rattle.clap.specs.Lexer.{usize_max}
+use Rattle.clap.specs.Kinds.{Kinds, or_else}
+use Rattle.clap.specs.Faults.{fault_of}
+use Rattle.clap.specs.Words.{App, Row, Rule, all_of, first_of, matches_of, new_app, new_rule, with_rule}
+use Rattle.clap.specs.declared.builder.action.ArgAction.TheVariants.{SetTrue}
+use Rattle.clap.specs.declared.error.kind.ErrorKind.{ErrorKind}
+use Rattle.clap.specs.declared.error.kind.ErrorKind.TheVariants.{ArgumentConflict, InvalidValue}
+use Rattle.toml_span_check.specs.declared.answer.Task.{Task}
+use Rattle.toml_span_check.specs.declared.answer.Task.TheVariants.{Check, Show}
+use Rattle.toml_span_check.specs.declared.answer.Form.{Form}
+use Rattle.toml_span_check.specs.declared.answer.Form.TheVariants as form
+use Rattle.toml_span_check.specs.declared.faults.Format.{Format}
+use Rattle.toml_span_check.specs.declared.faults.Format.TheVariants.{Text, Short, Json, Github, Sarif}
+use Rattle.toml_span_cli.specs.declared.options.Mistake.{Mistake}
+use Rattle.toml_span_cli.specs.declared.options.Mistake.TheVariants as mistake
+use Rattle.toml_span_cli.specs.declared.options.Reader.{Reader}
+use Rattle.toml_span_cli.specs.declared.options.Reader.TheVariants as readers
+use Rattle.toml_span_check.specs.Words.{is_bytes}
+use Rattle.toml_span_report.specs.declared.Style.{Style}
+use Rattle.toml_span_report.specs.declared.Style.TheVariants.{Plain, Coloured}
+
+-- ---- the words that the program knows
+
+-- `--NAME`
+abbrev pub flag : List ℕ → Rule
+flag name = record (new_rule name) { long = Some name; action = Some SetTrue }
+
+-- `--NAME VALUE`, with a value where it is not given
+abbrev pub choice : List ℕ → List ℕ → Rule
+choice name default = record (new_rule name) { long = Some name; defaults = default ∷ [] }
+
+-- any number of names, and `-` where there is none
+abbrev pub files : Rule
+files = record (new_rule (codes "FILE")) {
+  range = Some (record { start_inclusive = 0; end_inclusive = usize_max });
+  defaults = codes "-" ∷ [];
+}
+
+-- one word, which must be there
+abbrev pub required : List ℕ → Rule
+required name = record (new_rule name) { required = true }
+
+-- a program that has a version, and so `--version`
+abbrev pub with_version : App → App
+with_version app = record app { top = record app.top { has_version = true } }
+
+-- `[--format FORMAT] [--color WHEN]`
+unfoldable pub common : App
+common =
+    with_rule (with_rule (with_version (new_app (codes "toml-span"))) (choice (codes "format") (codes "text")))
+    (choice (codes "color") (codes "auto"))
+
+-- `check [--format FORMAT] [--color WHEN] [--quiet] [FILE..]`
+unfoldable pub check : App
+check = with_rule (with_rule common (flag (codes "quiet"))) files
+
+-- `[--format FORMAT] [--color WHEN] [--json] [--raw] [--toml] [--tagged] [--items]`
+unfoldable pub forms : App
+forms =
+    with_rule (with_rule (with_rule (with_rule (with_rule common (flag (codes "json"))) (flag (codes "raw")))
+    (flag (codes "toml"))) (flag (codes "tagged"))) (flag (codes "items"))
+
+-- `get [--format FORMAT] [--color WHEN] [--json] [--raw] [--toml] [--tagged] [--items] FILE PATH`
+unfoldable pub get : App
+get = with_rule (with_rule forms (required (codes "FILE"))) (required (codes "PATH"))
+
+abbrev pub program : Reader → App
+program readers.Check = check
+program readers.Get = get
+
+-- ---- what they ask for
+
+-- the value of an option, and nothing where it has none
+abbrev pub value_of : List Row → List ℕ → List ℕ
+value_of rows name = unwrap_or (first_of name rows) []
+
+abbrev pub is_given : List Row → List ℕ → Bool
+is_given rows name = bytes_eq (value_of rows name) (codes "true")
+
+abbrev pub style_named : List ℕ → Bool → Option Style
+style_named name is_terminal =
+    if bytes_eq name (codes "always") then Some Coloured
+    else if bytes_eq name (codes "never") then Some Plain
+    else if bytes_eq name (codes "auto") then Some (if is_terminal then Coloured else Plain)
+    else None
+
+abbrev pub format_named : List ℕ → Style → Option Format
+format_named name style =
+    if bytes_eq name (codes "text") then Some (Text style)
+    else if bytes_eq name (codes "short") then Some Short
+    else if bytes_eq name (codes "json") then Some Json
+    else if bytes_eq name (codes "github") then Some Github
+    else if bytes_eq name (codes "sarif") then Some Sarif
+    else None
+
+-- the form that is chosen, after one more flag
+abbrev pub with_form : Result (Option Form) Mistake → Bool → Form → Result (Option Form) Mistake
+with_form chosen false form = chosen
+with_form (Ok None) true form = Ok (Some form)
+with_form (Ok (Some earlier)) true form = Err mistake.Forms
+with_form (Err mistake) true form = Err mistake
+
+-- the form of the value, if a flag chooses one
+abbrev pub form_of : List Row → Result (Option Form) Mistake
+form_of rows =
+    with_form (with_form (with_form (with_form (with_form (Ok None)
+    (is_given rows (codes "json")) form.Plain) (is_given rows (codes "raw")) form.Raw)
+    (is_given rows (codes "toml")) form.Toml) (is_given rows (codes "tagged")) form.Tagged)
+    (is_given rows (codes "items")) form.Items
+
+abbrev pub shows : Result (Option Form) Mistake → Result Task Mistake
+shows (Ok chosen) = Ok (Show (unwrap_or chosen form.Plain))
+shows (Err mistake) = Err mistake
+
+-- a path is empty or begins with a slash
+abbrev pub is_pointer : List ℕ → Bool
+is_pointer [] = true
+is_pointer (first ∷ rest) = first == 47
+
+-- what to do with documents
+abbrev pub task_of : Reader → List Row → Result Task Mistake
+task_of readers.Check rows = Ok Check
+task_of readers.Get rows =
+    if is_bytes (value_of rows (codes "PATH")) then Err mistake.Path
+    else if is_pointer (value_of rows (codes "PATH")) then shows (form_of rows)
+    else Err mistake.Slash
+
+-- where a document is shown, what is told can't be one as well
+abbrev pub with_task : Format → Task → Result (Format × Task) Mistake
+with_task Sarif (Show form) = Err mistake.Sarif
+with_task format task = Ok (format, task)
+
+abbrev pub asked_of : Format → Result Task Mistake → Result (Format × Task) Mistake
+asked_of format (Ok task) = with_task format task
+asked_of format (Err mistake) = Err mistake
+
+abbrev pub with_format : Option Format → Result Task Mistake → Result (Format × Task) Mistake
+with_format (Some format) task = asked_of format task
+with_format None task = Err mistake.Format
+
+abbrev pub with_style : Option Style → Reader → List Row → Result (Format × Task) Mistake
+with_style (Some style) reader rows =
+    with_format (format_named (value_of rows (codes "format")) style) (task_of reader rows)
+with_style None reader rows = Err mistake.Color
+
+-- how errors are reported and what to do with documents, or what is wrong
+abbrev pub asked : Reader → List Row → Bool → Result (Format × Task) Mistake
+asked reader rows is_terminal = with_style (style_named (value_of rows (codes "color")) is_terminal) reader rows
+
+-- the options that words are cut into, with their values
+unfoldable pub options : Reader → List (List ℕ) → List Row
+options reader words = matches_of (program reader) words
+
+-- What words ask of a command that takes them: the format and the task, the path of the value that is shown, the names
+-- of the files, and whether nothing is written.
+pub record Asks (reader : Reader) (words : List (List ℕ)) (is_terminal : Bool) (format : Format) (task : Task)
+    (pointer : List ℕ) (names : List (List ℕ)) (is_quiet : Bool) : Type 0 where
+  pub what : asked reader (options reader words) is_terminal ≡ Ok (format, task)
+  pub place : pointer ≡ value_of (options reader words) (codes "PATH")
+  pub files : names ≡ unwrap_or (all_of (codes "FILE") (options reader words)) []
+  pub quiet : is_quiet ≡ is_given (options reader words) (codes "quiet")
+
+-- ---- what is wrong with them
+
+abbrev pub kind_of : Mistake → ErrorKind
+kind_of mistake.Format = InvalidValue
+kind_of mistake.Color = InvalidValue
+kind_of mistake.Forms = ArgumentConflict
+kind_of mistake.Path = InvalidValue
+kind_of mistake.Slash = InvalidValue
+kind_of mistake.Sarif = ArgumentConflict
+
+abbrev pub mistake_kinds : Result (Format × Task) Mistake → Kinds
+mistake_kinds (Ok what) = []
+mistake_kinds (Err mistake) = kind_of mistake ∷ []
+
+-- the kind of the error by which clap refuses words: `DisplayHelp` where they ask for help, none where it takes them
+unfoldable pub refusals : Reader → List (List ℕ) → Kinds
+refusals reader words = fault_of (program reader) words
+
+-- the kind of the error that words give, and none where they are taken
+abbrev pub faults : Reader → List (List ℕ) → Bool → Kinds
+faults reader words is_terminal =
+    or_else (refusals reader words) (mistake_kinds (asked reader (options reader words) is_terminal))

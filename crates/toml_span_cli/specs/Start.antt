@@ -1,0 +1,42 @@
+-- What the program does on the words of its command line.
+use Rattle.std.specs.Prelude.{◌≡◌, ◌≢◌, ◌⊎◌, ℕ, Bool, true, false, List, [], Option}
+use Rattle.std.specs.Io.KnownBytes.{Keeps}
+use Rattle.clap.specs.Kinds.{IsAmong}
+use Rattle.clap.specs.declared.error.kind.ErrorKind.{ErrorKind}
+use Rattle.clap.specs.declared.error.kind.ErrorKind.TheVariants.{DisplayHelp, DisplayVersion, OutOfMemory}
+use Rattle.toml_span_cli.specs.Options.{Asks, faults}
+use Rattle.toml_span_cli.specs.Say.{Says}
+use Rattle.toml_span_report.specs.Visible.{visible_lines}
+use Rattle.toml_span_check.specs.Run.{Asked, Runs}
+use Rattle.toml_span_cli.specs.declared.help.TheConstants.{CHECK, GET, VERSION}
+use Rattle.toml_span_cli.specs.declared.options.Reader.{Reader}
+use Rattle.toml_span_cli.specs.declared.options.Reader.TheVariants as readers
+use Rattle.toml_span_check.specs.declared.answer.Task.{Task}
+use Rattle.toml_span_check.specs.declared.faults.Format.{Format}
+
+abbrev pub help_of : Reader → List ℕ
+help_of readers.Check = CHECK.now
+help_of readers.Get = GET.now
+
+-- What is written for an error of this kind: the help or the version, if the words ask for that; else what is wrong
+-- with them, or nothing without memory.
+abbrev pub Refuses : Reader → ErrorKind → Option (List ℕ) → Option (List ℕ) → Bool → Option (List ℕ) → Option (List ℕ) → Bool → ℕ
+    → Type 0
+Refuses reader kind told told' untold warned warned' unwarned status =
+    ((kind ≡ DisplayHelp) × Says told told' untold (help_of reader) 0 status × Keeps warned warned')
+    ⊎ ((kind ≡ DisplayVersion) × Says told told' untold VERSION.now 0 status × Keeps warned warned')
+    ⊎ ((kind ≢ DisplayHelp) × (kind ≢ DisplayVersion) × Keeps told told'
+    × ((message : List ℕ) × Says warned warned' unwarned (visible_lines message) 2 status))
+    ⊎ ((status ≡ 4) × Keeps told told' × Keeps warned warned')
+
+-- A command on words. Where it takes them, it is a run on what they ask for; else no file is read. Without memory,
+-- which is status 4, nothing is read or written.
+abbrev pub Starts : Reader → List (List ℕ) → Bool → Option Asked → Option Asked
+    → Option (List ℕ) → Option (List ℕ) → Bool → Option (List ℕ) → Option (List ℕ) → Bool → ℕ → Type 0
+Starts reader words is_terminal old new told told' untold warned warned' unwarned status =
+    ((format : Format) × (task : Task) × (pointer : List ℕ) × (names : List (List ℕ)) × (is_quiet : Bool)
+    × (faults reader words is_terminal ≡ [])
+    × Asks reader words is_terminal format task pointer names is_quiet
+    × Runs format task pointer names is_quiet old new told told' untold warned warned' unwarned status)
+    ⊎ ((kind : ErrorKind) × ((kind ≡ OutOfMemory) ⊎ IsAmong kind (faults reader words is_terminal)) × (new ≡ old)
+    × Refuses reader kind told told' untold warned warned' unwarned status)

@@ -1,0 +1,49 @@
+//! The command line of toml-span: checks, shows and edits TOML files.
+#![tactic(auto)]
+
+mod colours;
+mod commands;
+mod dispatch;
+mod edit;
+mod files;
+mod help;
+mod options;
+mod say;
+mod show;
+mod start;
+mod words;
+
+use crate::colours::wants_colours;
+use crate::dispatch::dispatch;
+use crate::words::given_words;
+use std::alloc::AllocError;
+use std::io::IsTerminal;
+use std::process::ExitCode;
+use toml_span_check::input::Host;
+use toml_span_lines::told::Told;
+
+/// Runs the program, and returns its exit status.
+fn status_of(rt: HostRuntime) -> Result<u8, AllocError> {
+    let alloc = rt.alloc();
+    let words = given_words(&rt)?;
+    let out = rt.stdout();
+    let is_coloured = wants_colours(&rt, out.is_terminal())?;
+    let mut out = Told::new(out);
+    let mut errors = Told::new(rt.stderr());
+    let mut host = Host { rt };
+    dispatch(
+        alloc,
+        words.as_slice(),
+        is_coloured,
+        &mut host,
+        &mut out,
+        &mut errors,
+    )
+}
+
+fn main(rt: HostRuntime) -> ExitCode {
+    match status_of(rt) {
+        Ok(status) => ExitCode::from(status),
+        Err(_) => ExitCode::from(4),
+    }
+}

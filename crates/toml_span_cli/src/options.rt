@@ -1,0 +1,311 @@
+//! The options of the commands that read documents.
+ghost use Rattle.std.specs.Prelude.{◌≡◌, IfOk, false, map, string_bytes};
+ghost use Rattle.clap.specs.Kinds.{FailsBy};
+ghost use Rattle.clap.specs.Words.{app_of, found_of, rows_of, rule_of};
+ghost use Rattle.toml_span_cli.specs.Options as spec;
+
+use crate::help::{CHECK, GET, VERSION};
+use clap::error::ErrorKind;
+use clap::{Arg, ArgAction, ArgMatches, Command, Error};
+use std::alloc::{AllocError, Global};
+use toml_span_check::answer::{Form, Task};
+use toml_span_check::faults::Format;
+use toml_span_check::words::is_bytes;
+use toml_span_report::Style;
+
+/// A command that reads documents.
+#[derive(Clone, Copy, PartialEq, Eq)]
+pub(crate) enum Reader {
+    /// `check`
+    Check,
+    /// `get`
+    Get,
+}
+
+/// What is wrong with a path that is no pointer.
+pub(crate) const NO_POINTER: &str = "PATH must begin with `/`, as in /package/name";
+
+/// What arguments ask for.
+#[derive(Drop)]
+pub(crate) struct Options<'w> {
+    pub(crate) format: Format,
+    pub(crate) task: Task,
+    /// The path of the value to show: empty for the whole document.
+    pub(crate) pointer: &'w str,
+    pub(crate) names: Vec<&'w str>,
+    /// Write nothing.
+    pub(crate) is_quiet: bool,
+}
+
+/// What is wrong with arguments that clap takes.
+#[derive(Clone, Copy, PartialEq, Eq)]
+enum Mistake {
+    /// No such format.
+    Format,
+    /// No such time for colors.
+    Color,
+    /// Two forms of the value.
+    Forms,
+    /// The path is not valid UTF-8.
+    Path,
+    /// The path does not begin with a slash.
+    Slash,
+    /// Errors as SARIF, which is one document, where a value is shown.
+    Sarif,
+}
+
+/// A flag, which has no value.
+fn flag<'w>(alloc: Global, name: &'w str) -> Arg<'w>
+    ensures rule { rule_of result ≡ spec.flag name.entry.now }
+    ensures own { result.global ≡ false }
+{
+    Arg::new(alloc, name).long(name).action(ArgAction::SetTrue)
+}
+
+/// An option with a value where it is not given.
+fn choice<'w>(alloc: Global, name: &'w str, default: &'w str) -> Arg<'w>
+    ensures rule { rule_of result ≡ spec.choice name.entry.now default.entry.now }
+    ensures own { result.global ≡ false }
+{
+    Arg::new(alloc, name).long(name).default_value(default)
+}
+
+/// The names of files.
+fn files<'w>(alloc: Global) -> Arg<'w>
+    ensures rule { rule_of result ≡ spec.files }
+    ensures own { result.global ≡ false }
+{
+    Arg::new(alloc, "FILE").num_args(0..).default_value("-")
+}
+
+/// An argument that has to be given.
+fn required<'w>(alloc: Global, name: &'w str) -> Arg<'w>
+    ensures rule { rule_of result ≡ spec.required name.entry.now }
+    ensures own { result.global ≡ false }
+{
+    Arg::new(alloc, name).required(true)
+}
+
+/// The options that both commands take.
+fn common<'w>(alloc: Global, name: &'w str, help: &'w str) -> Result<Command<'w>, AllocError>
+    ensures { IfOk result (λ c. app_of c ≡ spec.common) }
+{
+    Command::new(alloc, "toml-span")
+        .bin_name(name)?
+        .override_help(help)
+        .version(VERSION)
+        .arg(choice(alloc, "format", "text"))?
+        .arg(choice(alloc, "color", "auto"))
+}
+
+/// The arguments of `check`.
+fn check_command<'w>(alloc: Global) -> Result<Command<'w>, AllocError>
+    ensures { IfOk result (λ c. app_of c ≡ spec.check) }
+{
+    common(alloc, "toml-span check", CHECK)?
+        .arg(flag(alloc, "quiet"))?
+        .arg(files(alloc))
+}
+
+/// The options of `get` for the form of the value.
+fn forms_command<'w>(alloc: Global) -> Result<Command<'w>, AllocError>
+    ensures { IfOk result (λ c. app_of c ≡ spec.forms) }
+{
+    common(alloc, "toml-span get", GET)?
+        .arg(flag(alloc, "json"))?
+        .arg(flag(alloc, "raw"))?
+        .arg(flag(alloc, "toml"))?
+        .arg(flag(alloc, "tagged"))?
+        .arg(flag(alloc, "items"))
+}
+
+/// The arguments of `get`.
+fn get_command<'w>(alloc: Global) -> Result<Command<'w>, AllocError>
+    ensures { IfOk result (λ c. app_of c ≡ spec.get) }
+{
+    forms_command(alloc)?
+        .arg(required(alloc, "FILE"))?
+        .arg(required(alloc, "PATH"))
+}
+
+/// The arguments of a command.
+fn command<'w>(alloc: Global, reader: Reader) -> Result<Command<'w>, AllocError>
+    ensures { IfOk result (λ c. app_of c ≡ spec.program reader) }
+{
+    match reader {
+        Reader::Check => check_command(alloc),
+        Reader::Get => get_command(alloc),
+    }
+}
+
+/// The format of this name.
+fn format_named(name: &str, style: Style) -> Option<Format>
+    ensures { result ≡ spec.format_named name.now style }
+{
+    match name {
+        "text" => Some(Format::Text(style)),
+        "short" => Some(Format::Short),
+        "json" => Some(Format::Json),
+        "github" => Some(Format::Github),
+        "sarif" => Some(Format::Sarif),
+        _ => None,
+    }
+}
+
+/// The style of this name.
+fn style_named(name: &str, is_terminal: bool) -> Option<Style>
+    ensures { result ≡ spec.style_named name.now is_terminal }
+{
+    match name {
+        "always" => Some(Style::Coloured),
+        "never" => Some(Style::Plain),
+        "auto" if is_terminal => Some(Style::Coloured),
+        "auto" => Some(Style::Plain),
+        _ => None,
+    }
+}
+
+/// The value of an option, and nothing where it has none.
+fn value_of<'w>(matches: &ArgMatches<'w>, name: &str) -> &'w str
+    ensures { result.now ≡ spec.value_of (rows_of (found_of matches.now)) name.now }
+{
+    matches.get_str(name).unwrap_or("")
+}
+
+/// Whether a flag is given.
+fn is_given(matches: &ArgMatches<'_>, name: &str) -> bool
+    ensures { result ≡ spec.is_given (rows_of (found_of matches.now)) name.now }
+{
+    value_of(matches, name) == "true"
+}
+
+/// The form that is chosen, after one more flag.
+fn with_form(
+    chosen: Result<Option<Form>, Mistake>,
+    is_given: bool,
+    form: Form,
+) -> Result<Option<Form>, Mistake>
+    ensures { result ≡ spec.with_form chosen is_given form }
+{
+    match (chosen, is_given) {
+        (Ok(None), true) => Ok(Some(form)),
+        (Ok(Some(_)), true) => Err(Mistake::Forms),
+        (chosen, _) => chosen,
+    }
+}
+
+/// The form of the value, if a flag chooses one.
+fn form_of(matches: &ArgMatches<'_>) -> Result<Option<Form>, Mistake>
+    ensures { result ≡ spec.form_of (rows_of (found_of matches.now)) }
+{
+    let json = with_form(Ok(None), is_given(matches, "json"), Form::Plain);
+    let raw = with_form(json, is_given(matches, "raw"), Form::Raw);
+    let toml = with_form(raw, is_given(matches, "toml"), Form::Toml);
+    let tagged = with_form(toml, is_given(matches, "tagged"), Form::Tagged);
+    with_form(tagged, is_given(matches, "items"), Form::Items)
+}
+
+/// Whether a path is empty or begins with a slash.
+pub(crate) fn is_pointer(path: &str) -> bool
+    ensures { result ≡ spec.is_pointer path.now }
+{
+    match path.as_bytes() {
+        [] => true,
+        [first, ..] => *first == b'/',
+    }
+}
+
+/// What to do with documents.
+fn task_of(reader: Reader, matches: &ArgMatches<'_>) -> Result<Task, Mistake>
+    ensures { result ≡ spec.task_of reader (rows_of (found_of matches.now)) }
+{
+    match reader {
+        Reader::Check => Ok(Task::Check),
+        Reader::Get if is_bytes(value_of(matches, "PATH")) => Err(Mistake::Path),
+        Reader::Get if !is_pointer(value_of(matches, "PATH")) => Err(Mistake::Slash),
+        Reader::Get => match form_of(matches) {
+            Ok(form) => Ok(Task::Show(form.unwrap_or(Form::Plain))),
+            Err(mistake) => Err(mistake),
+        },
+    }
+}
+
+/// How errors are reported, and what to do with documents.
+fn with_task(format: Format, task: Task) -> Result<(Format, Task), Mistake>
+    ensures { result ≡ spec.with_task format task }
+{
+    match (format, task) {
+        (Format::Sarif, Task::Show(_)) => Err(Mistake::Sarif),
+        _ => Ok((format, task)),
+    }
+}
+
+/// How errors are reported, and what to do with documents.
+fn asked(
+    reader: Reader,
+    matches: &ArgMatches<'_>,
+    is_terminal: bool,
+) -> Result<(Format, Task), Mistake>
+    ensures { result ≡ spec.asked reader (rows_of (found_of matches.now)) is_terminal }
+{
+    let Some(style) = style_named(value_of(matches, "color"), is_terminal) else {
+        return Err(Mistake::Color);
+    };
+    let Some(format) = format_named(value_of(matches, "format"), style) else {
+        return Err(Mistake::Format);
+    };
+    match task_of(reader, matches) {
+        Ok(task) => with_task(format, task),
+        Err(mistake) => Err(mistake),
+    }
+}
+
+/// What kind of error a mistake is to clap.
+fn kind_of(mistake: Mistake) -> ErrorKind
+    ensures { result ≡ spec.kind_of mistake }
+{
+    match mistake {
+        Mistake::Format | Mistake::Color | Mistake::Path | Mistake::Slash =>
+            ErrorKind::InvalidValue,
+        Mistake::Forms | Mistake::Sarif => ErrorKind::ArgumentConflict,
+    }
+}
+
+/// A mistake in words.
+fn message_of(mistake: Mistake) -> &'static str {
+    match mistake {
+        Mistake::Format => "the value of '--format' must be text, short, json, github or sarif",
+        Mistake::Color => "the value of '--color' must be auto, always or never",
+        Mistake::Forms =>
+            "only one of '--json', '--raw', '--toml', '--tagged' and '--items' can be used",
+        Mistake::Path => "PATH is not valid UTF-8",
+        Mistake::Slash => NO_POINTER,
+        Mistake::Sarif => "'--format sarif' can only be used with `check`",
+    }
+}
+
+/// Returns what words ask of a command. The first word is the name of the command or the program. An error is a mistake
+/// in the words or a request for help, as clap reports them, or out of memory.
+pub(crate) fn options_of<'w>(
+    alloc: Global,
+    reader: Reader,
+    words: &'w [String],
+    is_terminal: bool,
+) -> Result<Options<'w>, Error>
+    ensures ok { IfOk result (λ o. spec.Asks reader (map (λ w. string_bytes w) words.entry.now) is_terminal
+        o.format o.task o.pointer.now (map (λ name. name.now) o.names.items) o.is_quiet) }
+    ensures fails { FailsBy (spec.faults reader (map (λ w. string_bytes w) words.entry.now) is_terminal) result }
+{
+    let mut command = command(alloc, reader)?;
+    let matches = command.try_get_matches_from_mut(words)?;
+    match asked(reader, &matches, is_terminal) {
+        Ok((format, task)) => Ok(Options {
+            format,
+            task,
+            pointer: value_of(&matches, "PATH"),
+            names: Vec::from_slice(alloc, matches.get_strs("FILE").unwrap_or(&[]))?,
+            is_quiet: is_given(&matches, "quiet"),
+        }),
+        Err(mistake) => Err(command.error(kind_of(mistake), message_of(mistake))?),
+    }
+}

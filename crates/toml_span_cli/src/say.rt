@@ -1,0 +1,48 @@
+//! What the program writes of itself: help, and what is wrong with its arguments.
+ghost use Rattle.std.specs.Prelude.{◌≡◌, false};
+ghost use Rattle.toml_span_cli.specs.Say.{Says};
+
+use crate::commands::{Command, arguments_of};
+use std::alloc::{AllocError, Global};
+use toml_span_check::words::shown_word;
+use toml_span_lines::run::write_bytes;
+use toml_span_lines::sink::Sink;
+use toml_span_report::visible::{push_visible, visible_lines};
+
+/// Writes a text. Returns the status, or 3 if the write fails.
+pub(crate) fn say<W: Sink>(writer: &mut W, text: &str, status: u8) -> u8
+    requires { W.failed writer.old ≡ false }
+    ensures { Says (W.contents writer.old) (W.contents writer.new) (W.failed writer.new) text.now status result }
+{
+    if write_bytes(writer, text.as_bytes()) {
+        status
+    } else {
+        3
+    }
+}
+
+/// Returns a word of the command line in back quotes, without hidden characters.
+pub(crate) fn quoted_word(alloc: Global, word: &str) -> Result<String, AllocError> {
+    let word = shown_word(alloc, word)?;
+    let mut out = String::from_str(alloc, "`")?;
+    push_visible(&mut out, word.as_str())?;
+    out.push('`')?;
+    Ok(out)
+}
+
+/// Reports wrong arguments of a command. Returns status 2.
+pub(crate) fn say_misuse<E: Sink>(
+    alloc: Global,
+    command: Command,
+    message: &str,
+    errors: &mut E,
+) -> Result<u8, AllocError>
+    requires { E.failed errors.old ≡ false }
+{
+    let arguments = arguments_of(command);
+    let text = format!(in alloc;
+        "error: {message}\n\nUsage: toml-span {arguments}\n\nFor more information, try '--help'.\n"
+    )?;
+    let text = visible_lines(alloc, text.as_str())?;
+    Ok(say(errors, text.as_str(), 2))
+}

@@ -1,0 +1,116 @@
+//! The commands that read documents: `check` and `get`.
+ghost use Rattle.std.specs.Prelude.{◌≡◌, IfOk, List, ℕ, false, map, string_bytes};
+ghost use Rattle.clap.specs.Values.{kind_of};
+ghost use Rattle.toml_span_report.specs.Visible.{visible_lines};
+ghost use Rattle.toml_span_cli.specs.Start.{Refuses, Starts};
+ghost use Rattle.toml_span_cli.specs.Start as spec;
+
+use crate::help::{CHECK, GET, VERSION};
+use crate::options::{Reader, options_of};
+use crate::say::say;
+use clap::Error;
+use clap::error::ErrorKind;
+use std::alloc::{AllocError, Global};
+use toml_span_check::input::Inputs;
+use toml_span_check::run::run;
+use toml_span_check::words::shown_word;
+use toml_span_lines::sink::Sink;
+use toml_span_report::visible::{visible, visible_lines};
+
+/// Returns the help of a command.
+fn help_of(reader: Reader) -> &'static str
+    ensures { result.now ≡ spec.help_of reader }
+{
+    match reader {
+        Reader::Check => CHECK,
+        Reader::Get => GET,
+    }
+}
+
+/// What clap says of words that it refuses. Those that it takes as they are shown have a path that is not valid UTF-8.
+fn message_of(alloc: Global, reader: Reader, words: &[String]) -> Result<String, AllocError> {
+    match options_of(alloc, reader, words, false) {
+        Ok(options) => {
+            let path = options.pointer;
+            format!(in alloc; "error: the path `{path}` is not valid UTF-8\n")
+        }
+        Err(error) => {
+            if error.kind() == ErrorKind::OutOfMemory {
+                return Err(AllocError);
+            }
+            error.to_string(alloc)
+        }
+    }
+}
+
+/// What is wrong with words, in lines without hidden characters.
+fn mistake(alloc: Global, reader: Reader, words: &[String]) -> Result<String, AllocError>
+    ensures { IfOk result (λ out. (message : List ℕ) × (string_bytes out ≡ visible_lines message)) }
+{
+    let mut shown = Vec::new(alloc);
+    for word in words {
+        let word = shown_word(alloc, word.as_str())?;
+        shown.push(visible(alloc, word.as_str())?)?;
+    }
+    let message = message_of(alloc, reader, shown.as_slice())?;
+    visible_lines(alloc, message.as_str())
+}
+
+/// Writes the help or the version, if the words ask for it, and else what is wrong with them.
+fn refuse<O: Sink, E: Sink>(
+    alloc: Global,
+    reader: Reader,
+    words: &[String],
+    error: &Error,
+    out: &mut O,
+    errors: &mut E,
+) -> u8
+    requires out { O.failed out.old ≡ false }
+    requires errors { E.failed errors.old ≡ false }
+    ensures { Refuses reader (kind_of error.now) (O.contents out.old) (O.contents out.new) (O.failed out.new)
+        (E.contents errors.old) (E.contents errors.new) (E.failed errors.new) result }
+{
+    match error.kind() {
+        ErrorKind::OutOfMemory => 4,
+        ErrorKind::DisplayHelp => say(out, help_of(reader), 0),
+        ErrorKind::DisplayVersion => say(out, VERSION, 0),
+        _ => match mistake(alloc, reader, words) {
+            Ok(message) => say(errors, message.as_str(), 2),
+            Err(_) => 4,
+        },
+    }
+}
+
+/// Does what words ask of a command: runs on files (see `run`), or writes the help or the version, with status 0, or
+/// what is wrong with the words, with status 2. The first word is the name of the command or the program. Returns the
+/// status: 3 if a write fails, 4 without memory.
+pub(crate) fn start<I: Inputs, O: Sink, E: Sink>(
+    alloc: Global,
+    reader: Reader,
+    words: &[String],
+    is_terminal: bool,
+    inputs: &mut I,
+    out: &mut O,
+    errors: &mut E,
+) -> u8
+    requires out { O.failed out.old ≡ false }
+    requires errors { E.failed errors.old ≡ false }
+    ensures { Starts reader (map (λ w. string_bytes w) words.now) is_terminal (I.log inputs.old) (I.log inputs.new)
+        (O.contents out.old) (O.contents out.new) (O.failed out.new)
+        (E.contents errors.old) (E.contents errors.new) (E.failed errors.new) result }
+{
+    match options_of(alloc, reader, words, is_terminal) {
+        Ok(options) => run(
+            alloc,
+            options.format,
+            options.task,
+            options.pointer,
+            options.names.as_slice(),
+            options.is_quiet,
+            inputs,
+            out,
+            errors,
+        ),
+        Err(error) => refuse(alloc, reader, words, &error, out, errors),
+    }
+}
