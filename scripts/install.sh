@@ -208,7 +208,7 @@ PYTHON
 
 mkdir -p -- "$prefix" && stage=$(mktemp -d -- "$prefix/.toml-span-XXXXXX") || fail 3 "${prefix@Q} can't be written"
 status=0
-program=$(bash "${script%/*}/native.sh" toml_span_cli </dev/null) || status=$?
+program=$(bash "${script%/*}/native.sh" --static toml_span_cli </dev/null) || status=$?
 case $status in
 0) ;;
 129 | 130 | 143) exit "$status" ;;

@@ -111,8 +111,8 @@ the next one does not|2|!building|cli a 'b c'
 its arguments are the program's|2|^\[a\]\[b c\]$|cli a 'b c' && tries 1
 a link, from another folder, with CDPATH|1|^\[x\]$|mkdir -p b && cd b && ln -sf "$repository/scripts/toml-span.sh" l && CDPATH=/:.. bash l x
 standard error is closed|1|^\[x\]$|fresh; cli x 2>&-
-the program is statically linked|0|statically|file "$(native toml_span_cli)"
-or dynamically, without another build|0|dynamically|file "$(native --dynamic toml_span_cli)" && tries 1
+the program is statically linked|0|statically|file "$(native --static toml_span_cli)"
+or dynamically, without another build|0|dynamically|file "$(native toml_span_cli)" && tries 1
 other sources make another build|0||echo 'int main(void) { return 0; }' >"$crate/src/main.rt"; cli && tries 2
 without the toolchain a build that is kept serves|0||PATH=$work/bare cli
 another version of the toolchain makes another build|0||echo kit 2 >kit/KIT-ID; cli && tries 3
@@ -122,9 +122,9 @@ sources that are refused|5|correct what `rt try` reports above|FAULT=refused cli
 and their error|5|^error: a type is wrong$|FAULT=refused cli
 a compiler that fails|5|^clang: out of luck$|FAULT=clang cli
 a toolchain that works differently|5|make the proved build with `rt run`|FAULT=nothing cli
-a linker that fails|5|^ld: out of luck$|FAULT=link native --dynamic toml_span_cli
+a linker that fails|5|^ld: out of luck$|FAULT=link native toml_span_cli
 nothing is left of these|0||is_clean
-no static C library|0|dynamically|file "$(CC=false native toml_span_cli)"
+no static C library|0|dynamically|file "$(CC=false native --static toml_span_cli)"
 a checkout that can't be written|0|^/.*/home/.cache/toml_span/toml_span_cli/|fresh; : >"$crate/out"; native toml_span_cli
 nor the cache|5|name another one in XDG_CACHE_HOME|fresh; : >"$crate/out"; : >"$HOME/.cache"; cli
 sources that change while they are built|1|^\[x\]$|fresh; FAULT=edit EDITED=$crate/src/main.rt cli x

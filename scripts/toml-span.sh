@@ -10,7 +10,7 @@ shopt -s execfail
 # (where standard error is closed, bash has opened this file in its place)
 if [ /dev/fd/2 -ef "${BASH_SOURCE[0]}" ]; then exec 2>/dev/null; fi
 script=$(readlink -f -- "${BASH_SOURCE[0]}")
-program=$(bash "${script%/*}/native.sh" toml_span_cli </dev/null)
+program=$(bash "${script%/*}/native.sh" --static toml_span_cli </dev/null)
 status=$?
 case $status in
 0) exec -a toml-span "$program" "$@" ;;

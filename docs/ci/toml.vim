@@ -1,3 +1,3 @@
-:set makeprg=toml_span_check\ --format\ short\ %
+:set makeprg=toml-span\ check\ --format\ short\ %
 :set errorformat=%f:%l:%c:\ %m
 :make
