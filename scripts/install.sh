@@ -1,16 +1,17 @@
 #!/usr/bin/env bash
 # Installs toml-span: bash scripts/install.sh [--uninstall] [PREFIX]
 #
-# PREFIX, by default ~/.local, gets bin/toml-span, its man pages (toml-span.1, and one for each command), and completions
-# for bash, zsh and fish. The program is statically linked, the proved build if that is no older than the sources, else
-# one without proofs (scripts/native.sh). The man pages and completions are made from the help that it prints. What was
-# installed is listed.
+# PREFIX, by default ~/.local, gets bin/toml-span, man pages (toml-span.1, and one for each command), and completions
+# for bash, zsh and fish. The program is statically linked, and the proved build if that is no older than the sources,
+# else one without proofs (scripts/native.sh). The man pages and completions are made from the help that it prints. What
+# was installed is listed.
 #
 # All files are made first, in a folder below PREFIX, and the program is tried there. Then each is moved to its place.
 # So if something fails, each file is the one from before or the new one. --uninstall removes these files, and the
 # folders below PREFIX that are empty then.
 #
-# Status: 0 done, 2 wrong arguments, 3 PREFIX can't be written, or has nothing to uninstall, 5 the program can't be built.
+# Status: 0 done, 2 wrong arguments, 3 PREFIX can't be written or has nothing to uninstall, 5 the program can't be
+# built, 130 interrupted.
 set -euo pipefail
 shopt -s inherit_errexit nullglob
 unset CDPATH
@@ -101,7 +102,7 @@ class Help:
         for term, text, below in dict(self.blocks).get("Options", []):
             names, value = re.findall("--?[A-Za-z][a-z-]*", term), re.search("[A-Z]+$", term)
             listed = re.search(r"((?:\w+, )+)(\w+) or (\w+)", text)
-            values = [it[0] for it in below] or (re.findall(r"\w+", listed[1]) + [*listed.groups()[1:]] if listed else [])
+            values = [it[0] for it in below] or re.findall(r"\w+", " ".join(listed.groups()) if listed else "")
             if names:
                 self.options.append((names, value and value[0].lower(), " ".join(values), re.split(r" *\[|;", text)[0]))
 
@@ -163,8 +164,9 @@ for name, it in helps.items():
             fish.append(f"{name}' -F")
         elif "PATH" in argument:
             action = f'{{compadd -- ${{(f)"$(toml-span show ${{(Q)words[2]}} {paths})"}}}}'
-            bash.append(f"    '{at + 2} {name} '*) words=$(\"${{COMP_WORDS[0]}}\" show \"${{COMP_WORDS[2]}}\" {paths}) ;;")
-            fish.append(f"{name}; and test (count (commandline -opc)) -eq {at + 2}' -a '(toml-span show (commandline -opc)[3] {paths})'")
+            bash.append(f"    '{at + 2} {name} '*) words=$(toml-span show \"${{COMP_WORDS[2]}}\" {paths}) ;;")
+            here = f"and test (count (commandline -opc)) -eq {at + 2}"
+            fish.append(f"{name}; {here}' -a '(toml-span show (commandline -opc)[3] {paths})'")
         elif "COMMAND" in argument:
             action = f"({' '.join(commands)})"
             bash.append(f"    '{at + 2} {name} '*) words='{' '.join(commands)}' ;;")
@@ -211,7 +213,7 @@ status=0
 program=$(bash "${script%/*}/native.sh" --static toml_span_cli </dev/null) || status=$?
 case $status in
 0) ;;
-129 | 130 | 143) exit "$status" ;;
+130) exit 130 ;;
 *) fail 5 "the program can't be built, so nothing is installed: see above" ;;
 esac
 mkdir -- "$stage/bin" && cp -- "$program" "$stage/bin/toml-span" || fail 3 "${prefix@Q} can't be written"
@@ -221,7 +223,8 @@ chmod -R u=rwX,go=rX -- "$stage"
 
 mapfile -t files < <(cd -- "$stage" && find . -type f -printf '%P\n' | LC_ALL=C sort)
 for file in "${files[@]}"; do
-    mkdir -p -- "$prefix/${file%/*}" && [ -w "$prefix/${file%/*}" ] || fail 3 "${file%/*} in ${prefix@Q} can't be written"
+    folder=${file%/*}
+    mkdir -p -- "$prefix/$folder" && [ -w "$prefix/$folder" ] || fail 3 "$folder in ${prefix@Q} can't be written"
     if [ -d "$prefix/$file" ]; then fail 3 "$file in ${prefix@Q} is a folder: remove it, or name another PREFIX"; fi
 done
 for file in "${files[@]}"; do

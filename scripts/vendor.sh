@@ -78,9 +78,9 @@ while IFS= read -r line; do
     copied+=("$name")
     mkdir -- "$work/$name" && cp -- "$top"/LICENSE-* "$work/$name" || cannot "$work"
     for part in src specs proofs; do
-        if [ -d "$top/crates/$name/$part" ]; then cp -RL -- "$top/crates/$name/$part" "$work/$name" || cannot "$work"; fi
+        [ ! -d "$top/crates/$name/$part" ] || cp -RL -- "$top/crates/$name/$part" "$work/$name" || cannot "$work"
     done
-    if [ -e "$crates/$name" ] && [ -z "$replace" ] && ! diff -rq -x out -- "$work/$name" "$crates/$name" >/dev/null; then
+    if [ -z "$replace" ] && [ -e "$crates/$name" ] && ! diff -rqx out -- "$work/$name" "$crates/$name" >/dev/null; then
         fail 1 "${crates@Q} has $name in another version, so nothing was copied: --replace replaces it"
     fi
     if ! grep -qxF -- "$line" "$work/crates.txt"; then
