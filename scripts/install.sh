@@ -111,6 +111,7 @@ version = re.match("toml-span [0-9.]+", ask("--version"))[0]
 main = Help()
 commands = {term: text for term, text, _ in dict(main.blocks)["Commands"]}
 helps = {name: Help(name) for name in commands}
+helps["help"].arguments = ["[COMMAND]"]
 
 
 def roff(text):

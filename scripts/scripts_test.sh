@@ -53,10 +53,10 @@ fresh() {
 #include <stdio.h>
 #include <string.h>
 int main(int count, char **words) {
-    const char *help[] = {"Checks.\n\nUsage: toml-span COMMAND\n\nCommands:\n  check  report errors\n  rename  rename it",
+    const char *help[] = {"Checks.\n\nUsage: toml-span COMMAND\n\nCommands:\n  check  report errors\n  help  help",
                           "Does it.\n\nUsage: toml-span check FILE\n\nOptions:\n  --format FORMAT  a, b or c"};
     if (count > 1 && !strcmp(words[1], "--version")) return puts("toml-span 1.2.3") < 0;
-    if (count > 1 && !strcmp(words[1], "help")) return puts(help[count - 2]) < 0;
+    if (count > 1 && !strcmp(words[1], "help")) return puts(help[count > 2]) < 0;
     for (int at = 1; at < count; at++) printf("[%s]", words[at]);
     return count - 1;
 }
@@ -128,7 +128,7 @@ install.sh in a relative folder with a blank|1|built without proofs, statically 
 --uninstall leaves nothing|0|removed .*/a b/share/man/man1/toml-span-check.1|install --uninstall 'a b' && [ -z "$(ls -A 'a b')" ]
 by default in HOME/.local, which is not on PATH|0|/.local/bin is not on PATH|install
 the program's help makes a man page|0|^ *toml-span check FILE|install prefix && man -l prefix/share/man/man1/toml-span-check.1
-and completions: of a command|0|^rename$|offers ren
+and completions: of a command|0|^help$|offers he
 of its value|0|^a b c$|offers check --format ''
 a build that fails leaves what was there|0|so nothing is installed|echo >>"$crate/src/main.rt"; FAULT=clang stays install prefix
 as does a help without commands|0|no man pages can be made|sed -i 's/Commands:/Words/' "$crate/src/main.rt"; stays install prefix
