@@ -218,7 +218,7 @@ case $status in
 *) fail 5 "the program can't be built, so nothing is installed: see above" ;;
 esac
 mkdir -- "$stage/bin" && cp -- "$program" "$stage/bin/toml-span" || fail 3 "${prefix@Q} can't be written"
-"$stage/bin/toml-span" --version >/dev/null || fail 3 "programs can't run in ${prefix@Q}: name another folder"
+"$stage/bin/toml-span" --version >/dev/null 2>&1 || fail 3 "programs can't run in ${prefix@Q}: name another folder"
 write_texts "$stage/bin/toml-span" "$stage" || fail 5 "no man pages can be made from the program's help: see above"
 chmod -R u=rwX,go=rX -- "$stage"
 

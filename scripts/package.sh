@@ -24,7 +24,7 @@ if [ $# -gt 1 ] || [[ ${1-} == -* ]]; then fail 2 "usage: bash scripts/package.s
 for tool in dpkg-deb gzip tar; do
     command -v "$tool" >/dev/null || fail 5 "the command $tool is missing (Debian: dpkg, gzip, tar)"
 done
-SOURCE_DATE_EPOCH=${SOURCE_DATE_EPOCH-$(git -C "$top" log -1 --format=%ct 2>/dev/null)} ||
+SOURCE_DATE_EPOCH=${SOURCE_DATE_EPOCH-$(git -C "$top" log -1 --format=%ct)} ||
     fail 5 "there is no commit to take the time from: set SOURCE_DATE_EPOCH (seconds since 1970)"
 export SOURCE_DATE_EPOCH
 destination=${1-$top/out}

@@ -78,7 +78,8 @@ while IFS= read -r line; do
     copied+=("$name")
     mkdir -- "$work/$name" && cp -- "$top"/LICENSE-* "$work/$name" || cannot "$work"
     for part in src specs proofs; do
-        [ ! -d "$top/crates/$name/$part" ] || cp -RL -- "$top/crates/$name/$part" "$work/$name" || cannot "$work"
+        [ ! -d "$top/crates/$name/$part" ] || cp -RL -- "$top/crates/$name/$part" "$work/$name" 2>&1 | head -n 1 >&2 ||
+            cannot "$crates"
     done
     if [ -z "$replace" ] && [ -e "$crates/$name" ] && ! diff -rqx out -- "$work/$name" "$crates/$name" >/dev/null; then
         fail 1 "${crates@Q} has $name in another version, so nothing was copied: --replace replaces it"
