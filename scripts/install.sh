@@ -1,143 +1,242 @@
 #!/usr/bin/env bash
-# Installs the checker, the editor and the lister: bash scripts/install.sh [PREFIX]
+# Installs toml-span: bash scripts/install.sh [--uninstall] [PREFIX]
 #
-# PREFIX, by default ~/.local, gets bin/toml_span_check, bin/toml_span_edit, bin/toml_span_show, and a man page for each
-# in share/man/man1.
-# The programs are native builds (scripts/native.sh): the proved ones where they are no older than the sources, else
-# ones without the proofs. The man pages are docs/man; what they say of words and statuses is the program's own usage.
+# PREFIX, by default ~/.local, gets bin/toml-span, man pages (toml-span.1, and one for each command), and completions
+# for bash, zsh and fish. The program is statically linked, and the proved build if that is no older than the sources,
+# else one without proofs (scripts/native.sh). The man pages and completions are made from the help that it prints. What
+# was installed is listed.
 #
-# All files are written whole beside their places, and the programs are tried there; only then does each take its place,
-# by a rename. So where something fails, what was installed before is as it was, or new, and never half of it. To take
-# it away, delete the six files.
+# All files are made first, in a folder below PREFIX, and the program is tried there. Then each is moved to its place.
+# So if something fails, each file is the one from before or the new one. --uninstall removes these files, and the
+# folders below PREFIX that are empty then.
 #
-# Status: 0 installed, 2 the words are wrong, 3 PREFIX can't be written or programs in it run, 5 the programs can't be
-# built.
+# Status: 0 done, 2 wrong arguments, 3 PREFIX can't be written or has nothing to uninstall, 5 the program can't be
+# built, 130 interrupted.
 set -euo pipefail
-shopt -s inherit_errexit
+shopt -s inherit_errexit nullglob
 unset CDPATH
 script=$(readlink -f -- "${BASH_SOURCE[0]}")
-top=${script%/scripts/*}
-# shellcheck source=scripts/plain.sh
-source "$top/scripts/plain.sh"
-places=()
-staged=()
-lines=()
+stage=
 
-# fail STATUS LINE..: ends where nothing is installed
+# fail STATUS LINE..: ends with a message
 fail() {
-    printf 'install: %s\n' "${@:2}" >&2
+    printf 'install.sh: %s\n' "${@:2}" >&2
     exit "$1"
 }
+trap 'if [ -n "$stage" ]; then rm -rf -- "$stage"; fi' EXIT
 
-# At the end nothing is left that has not taken its place.
-finish() {
-    local status=$?
-    trap - EXIT
-    if [ ${#staged[@]} -gt 0 ]; then rm -f -- "${staged[@]}" || true; fi
-    case $status in
-    0 | 2 | 3 | 5 | 129 | 130 | 143) exit "$status" ;;
-    esac
-    echo "install: a command of this script failed (status $status): mend what it says above" >&2
-    exit 3
-}
-trap finish EXIT
-trap 'exit 129' HUP
-trap 'exit 130' INT
-trap 'exit 143' TERM
-
-if [ "${1-}" = --help ] && [ $# -eq 1 ]; then
-    echo "usage: bash scripts/install.sh [PREFIX]    (by default ~/.local)"
-    exit 0
-fi
-if [ $# -gt 1 ] || [[ ${1-} == -* ]]; then fail 2 "usage: bash scripts/install.sh [PREFIX]"; fi
+uninstall=
+if [ "${1-}" = --uninstall ]; then uninstall=1 && shift; fi
+if [ $# -gt 1 ] || [[ ${1-} == -* ]]; then fail 2 "usage: bash scripts/install.sh [--uninstall] [PREFIX]"; fi
 prefix=${1-${HOME:+$HOME/.local}}
-if [ -z "$prefix" ]; then fail 2 "there is no folder to install in: name one, bash scripts/install.sh PREFIX"; fi
+if [ -z "$prefix" ]; then fail 2 "HOME is not set: name a folder, bash scripts/install.sh PREFIX"; fi
 if [[ $prefix != /* ]]; then prefix=$PWD/$prefix; fi
-shown=$(plain "$prefix")
 
-# stage PLACE MODE: a new file beside its place, in $new, with what standard input has
-stage() {
-    local place=$prefix/$1
-    if ! mkdir -p -- "${place%/*}"; then fail 3 "$shown can't be written: name another PREFIX"; fi
-    if [ -d "$place" ]; then fail 3 "$shown/$1 is a folder: take it away, or name another PREFIX"; fi
-    if ! new=$(mktemp -- "${place%/*}/.${place##*/}.XXXXXX"); then
-        fail 3 "$shown can't be written: name another PREFIX"
-    fi
-    places+=("$place")
-    staged+=("$new")
-    if ! cat >"$new" || ! chmod "$2" -- "$new"; then fail 3 "$shown/$1 can't be written: is there room left?"; fi
+if [ -n "$uninstall" ]; then
+    cd -- "$prefix" 2>/dev/null || fail 3 "there is no folder ${prefix@Q}"
+    installed=(bin/toml-spa[n] share/man/man1/toml-span{,-*}.[1] share/bash-completion/completions/toml-spa[n]
+        share/zsh/site-functions/_toml-spa[n] share/fish/vendor_completions.d/toml-span.fis[h])
+    if [ ${#installed[@]} -eq 0 ]; then fail 3 "toml-span is not installed in ${prefix@Q}"; fi
+    for file in "${installed[@]}"; do
+        rm -f -- "$file" || fail 3 "$file in ${prefix@Q} can't be removed"
+        rmdir -p --ignore-fail-on-non-empty -- "${file%/*}" || true
+        echo "removed $prefix/$file"
+    done
+    exit
+fi
+
+# write_texts PROGRAM FOLDER: writes man pages and completions
+write_texts() {
+    python3 - "$1" "$2" <<'PYTHON'
+"""PROGRAM FOLDER: writes man pages and completions below FOLDER, made from the help that PROGRAM prints."""
+import os
+import re
+import subprocess
+import sys
+
+PROGRAM, FOLDER = sys.argv[1:]
+
+
+def ask(*words):
+    return subprocess.run([PROGRAM, *words], stdout=subprocess.PIPE, check=True).stdout.decode()
+
+
+def write(place, *lines):
+    os.makedirs(os.path.dirname(f"{FOLDER}/{place}"), exist_ok=True)
+    with open(f"{FOLDER}/{place}", "w", encoding="utf-8") as file:
+        file.write("\n".join(lines) + "\n")
+
+
+def rows(lines):
+    """The rows of a list: a term, its text, which begins in a column of its own, and the rows further right."""
+    found, column = [], 0
+    for line in lines:
+        indent = len(line) - len(line.lstrip())
+        term, *text = re.split("  +", line.strip(), maxsplit=1)
+        if indent == 2:
+            found.append([term, "".join(text), []])
+            column = len(line) - len(found[-1][1])
+        elif indent > column and text:
+            found[-1][2].append([term, text[0], []])
+        else:
+            found[-1][1] += " " + line.strip()
+    return found
+
+
+class Help:
+    """A help text: its usage, its arguments, its options, and its blocks: `text`, `example` or the title of a list."""
+
+    def __init__(self, *words):
+        self.blocks, self.options = [], []
+        for block in ask("help", *words).strip("\n").split("\n\n"):
+            first, *rest = block.split("\n")
+            if first.startswith("Usage: "):
+                self.usage = [line.strip() for line in [first[7:], *rest]]
+            elif re.fullmatch("[A-Z][a-z ]+:", first) and rest:
+                self.blocks.append((first[:-1], rows(rest)))
+            else:
+                self.blocks.append(("example" if first.startswith("  ") else "text", [first, *rest]))
+        self.summary = self.blocks.pop(0)[1][0]
+        self.arguments = [it for it in self.usage[0].split()[2:] if "OPTION" not in it]
+        # an option: its names, the name of its value if it has one, what is known of the values, and what it does
+        for term, text, below in dict(self.blocks).get("Options", []):
+            names, value = re.findall("--?[A-Za-z][a-z-]*", term), re.search("[A-Z]+$", term)
+            listed = re.search(r"((?:\w+, )+)(\w+) or (\w+)", text)
+            values = [it[0] for it in below] or re.findall(r"\w+", " ".join(listed.groups()) if listed else "")
+            if names:
+                self.options.append((names, value and value[0].lower(), " ".join(values), re.split(r" *\[|;", text)[0]))
+
+
+version = re.match("toml-span [0-9.]+", ask("--version"))[0]
+main = Help()
+commands = {term: text for term, text, _ in dict(main.blocks)["Commands"]}
+helps = {name: Help(name) for name in commands}
+helps["help"].arguments = ["[COMMAND]"]
+
+
+def roff(text):
+    text = text.replace("\\", "\\e").replace("-", "\\-").replace("'", "\\(aq")
+    return re.sub("`(.*?)`", r"\\fB\1\\fR", "\\&" + text if text.startswith(".") else text)
+
+
+def listed(items):
+    for term, text, below in items:
+        yield from (".TP", f"\\fB{roff(term)}\\fR", roff(text))
+        if below:
+            yield from (".RS", *listed(below), ".RE")
+
+
+pages = {"toml-span": main, **{f"toml-span-{name}": it for name, it in helps.items() if name != "help"}}
+for name, it in pages.items():
+    lines = [f'.TH {name.upper()} 1 "" "{version}" "User Commands"', ".SH NAME"]
+    lines += [roff(f"{name} - {it.summary[0].lower()}{it.summary[1:].rstrip('.')}"), ".SH SYNOPSIS", ".nf"]
+    lines += [*map(roff, it.usage), ".fi", ".SH DESCRIPTION", roff(it.summary)]
+    for kind, block in it.blocks:
+        if kind in ("text", "example"):
+            fill = [".nf"] * (kind == "example"), [".fi"] * (kind == "example")
+            lines += [".PP", *fill[0], *map(roff, block), *fill[1]]
+        else:
+            lines += [f".SH {kind.upper()}", *listed(block)]
+    others = ", ".join(f"\\fB{roff(other)}\\fR(1)" for other in pages if other != name)
+    write(f"share/man/man1/{name}.1", *lines, ".SH SEE ALSO", others)
+
+
+# Completions. PATH is one that `toml-span show FILE` prints, without special characters, if FILE comes right before it.
+def quoted(text):
+    return "'" + text.replace("'", "'\\''") + "'"
+
+
+paths = r'2>/dev/null | sed -n "s,^\(/[A-Za-z0-9_/-]*\) .*,\1,p"'
+bash, zsh, fish = [], [], []
+for name, it in helps.items():
+    words = []
+    for names, value, values, says in it.options:
+        if value:
+            bash.append(f"    *' {name} {names[-1]} '*) words='{values}' ;;")
+        together = f"{quoted('(' + ' '.join(names) + ')')}{{{','.join(names)}}}" if names[1:] else names[0]
+        words.append(together + quoted(f"[{says}]" + (f":{value}:({values})" if value else "")))
+        names = " ".join(f"-l {it[2:]}" if it.startswith("--") else f"-s {it[1:]}" for it in names)
+        fish.append(f"{name}' {names} -d {quoted(says)}" + (f" -x -a '{values}'" if value else ""))
+    bash.append(f"    *' {name} '*' -'*) words='{' '.join(' '.join(names) for names, *_ in it.options)}' ;;")
+    for at, argument in enumerate(it.arguments):
+        action = " "
+        if "FILE" in argument:
+            action = "_files"
+            fish.append(f"{name}' -F")
+        elif "PATH" in argument:
+            action = f'{{compadd -- ${{(f)"$(toml-span show ${{(Q)words[2]}} {paths})"}}}}'
+            bash.append(f"    '{at + 2} {name} '*) words=$(toml-span show \"${{COMP_WORDS[2]}}\" {paths}) ;;")
+            here = f"and test (count (commandline -opc)) -eq {at + 2}"
+            fish.append(f"{name}; {here}' -a '(toml-span show (commandline -opc)[3] {paths})'")
+        elif "COMMAND" in argument:
+            action = f"({' '.join(commands)})"
+            bash.append(f"    '{at + 2} {name} '*) words='{' '.join(commands)}' ;;")
+            fish.append(f"{name}' -a '{' '.join(commands)}'")
+        words.append(quoted(f"{'*' if argument.endswith('..') else at + 1}:{argument.strip('[].').lower()}:{action}"))
+    zsh.append(f"{name}) _arguments {' '.join(words)} ;;")
+write(
+    "share/bash-completion/completions/toml-span",
+    "_toml_span() {",
+    "    local current=${COMP_WORDS[COMP_CWORD]} words=",
+    '    case "$COMP_CWORD ${COMP_WORDS[1]} ${COMP_WORDS[COMP_CWORD - 1]} $current" in',
+    f"    '1 '*) words='{' '.join(commands)}' ;;",
+    *bash,
+    "    esac",
+    '    mapfile -t COMPREPLY < <(compgen -W "$words" -- "$current")',
+    "}",
+    "complete -o default -F _toml_span toml-span",
+)
+write(
+    "share/zsh/site-functions/_toml-span",
+    "#compdef toml-span",
+    f"local -a commands=({' '.join(quoted(f'{name}:{text}') for name, text in commands.items())})",
+    "if (( CURRENT == 2 )); then",
+    "    _describe -t commands command commands || _files",
+    "    return",
+    "fi",
+    "shift words",
+    "(( CURRENT-- ))",
+    "case $words[1] in",
+    *zsh,
+    "esac",
+)
+write(
+    "share/fish/vendor_completions.d/toml-span.fish",
+    "complete -c toml-span -f",
+    *(f"complete -c toml-span -n __fish_use_subcommand -a {it} -d {quoted(text)}" for it, text in commands.items()),
+    *(f"complete -c toml-span -n '__fish_seen_subcommand_from {line}" for line in fish),
+)
+PYTHON
 }
 
-# page NAME USAGE: the man page docs/man/NAME.1, where lines `@synopsis@`, `@description@`, `@options@` and `@status@`
-# stand for those parts of a usage text
-page() {
-    USAGE=$2 awk '
-        function escaped(text) {
-            gsub(/\\/, "\\e", text)
-            gsub(/-/, "\\-", text)
-            return text ~ /^[.'\'']/ ? "\\&" text : text
-        }
-        BEGIN {
-            count = split(ENVIRON["USAGE"], lines, "\n")
-            for (at = 1; at <= count; at++) {
-                line = lines[at]
-                if (line == "") in_usage = 0
-                else if (sub(/^usage: /, "", line) || in_usage) {
-                    in_usage = 1
-                    sub(/^ +/, at > 1 ? "    " : "", line)
-                    parts["synopsis"] = parts["synopsis"] escaped(line) "\n"
-                } else if (sub(/^Status: /, "", line)) parts["status"] = escaped(line) "\n"
-                else if (line ~ /^  [-a-z]/) {
-                    sub(/^ +/, "", line)
-                    end = match(line, /   *[^ ]/) ? RSTART : match(line, / [^ ]/)
-                    words = end ? substr(line, 1, end - 1) : line
-                    rest = end ? substr(line, end + RLENGTH - 1) : ""
-                    parts["options"] = parts["options"] ".TP\n.B " escaped(words) "\n" escaped(rest) "\n"
-                } else {
-                    sub(/^ +/, "", line)
-                    part = parts["options"] == "" ? "description" : "options"
-                    parts[part] = parts[part] escaped(line) "\n"
-                }
-            }
-        }
-        /^@[a-z]+@$/ {
-            part = substr($0, 2, length($0) - 2)
-            if (parts[part] == "") { print "install: the usage text has no " part >"/dev/stderr"; exit 1 }
-            printf "%s", parts[part]
-            next
-        }
-        { print }' "$top/docs/man/$1.1"
-}
+mkdir -p -- "$prefix" && stage=$(mktemp -d -- "$prefix/.toml-span-XXXXXX") || fail 3 "${prefix@Q} can't be written"
+status=0
+program=$(bash "${script%/*}/native.sh" --static toml_span_cli </dev/null) || status=$?
+case $status in
+0) ;;
+130) exit 130 ;;
+*) fail 5 "the program can't be built, so nothing is installed: see above" ;;
+esac
+mkdir -- "$stage/bin" && cp -- "$program" "$stage/bin/toml-span" || fail 3 "${prefix@Q} can't be written"
+"$stage/bin/toml-span" --version >/dev/null 2>&1 || fail 3 "programs can't run in ${prefix@Q}: name another folder"
+write_texts "$stage/bin/toml-span" "$stage" || fail 5 "no man pages can be made from the program's help: see above"
+chmod -R u=rwX,go=rX -- "$stage"
 
-for name in toml_span_check toml_span_edit toml_span_show; do
-    status=0
-    program=$(bash "$top/scripts/native.sh" "$name" </dev/null) || status=$?
-    case $status in
-    0) ;;
-    130 | 143) exit "$status" ;;
-    *) fail 5 "$name could not be built, so nothing is installed: see above" ;;
-    esac
-    kind="a build without its proofs"
-    if [ "$program" = "$top/crates/$name/out/$name" ]; then kind="the proved build"; fi
-    stage "bin/$name" 755 <"$program"
-    words=()
-    if [ "$name" = toml_span_edit ]; then words=(--version); fi
-    if ! "$new" "${words[@]}" </dev/null >/dev/null 2>&1; then
-        fail 3 "$shown/bin/$name does not run: if programs may not run there, name another PREFIX"
-    fi
-    usage=
-    if grep -q '^@' "$top/docs/man/$name.1"; then usage=$("$new" --help </dev/null); fi
-    text=$(page "$name" "$usage") || fail 5 "the man page of $name can't be made: mend docs/man/$name.1"
-    stage "share/man/man1/$name.1" 644 <<<"$text"
-    lines+=("$shown/bin/$name: $kind" "$shown/share/man/man1/$name.1")
+mapfile -t files < <(cd -- "$stage" && find . -type f -printf '%P\n' | LC_ALL=C sort)
+for file in "${files[@]}"; do
+    folder=${file%/*}
+    mkdir -p -- "$prefix/$folder" && [ -w "$prefix/$folder" ] || fail 3 "$folder in ${prefix@Q} can't be written"
+    if [ -d "$prefix/$file" ]; then fail 3 "$file in ${prefix@Q} is a folder: remove it, or name another PREFIX"; fi
 done
-
-for index in "${!places[@]}"; do
-    mv -f -T -- "${staged[index]}" "${places[index]}" || fail 3 "$shown can't be written: what is there is whole"
+for file in "${files[@]}"; do
+    mv -fT -- "$stage/$file" "$prefix/$file" || fail 3 "$file in ${prefix@Q} can't be written"
+    echo "$prefix/$file"
 done
-staged=()
-printf '%s\n' "${lines[@]}"
+kind="built without proofs"
+case $program in */out/toml_span_cli | */proved-*) kind="the proved build" ;; esac
+case $program in */static/*) kind+=", statically linked" ;; *) kind+=", dynamically linked" ;; esac
+echo "$("$prefix/bin/toml-span" --version) ($kind)"
 case :${PATH-}: in
 *":$prefix/bin:"*) ;;
-*) echo "install: $shown/bin is not on PATH: add it, to start the programs by their names" >&2 ;;
+*) echo "install.sh: $prefix/bin is not on PATH: add it to run toml-span by its name" >&2 ;;
 esac

@@ -1,0 +1,80 @@
+#!/usr/bin/env bash
+# Makes packages of toml-span: bash scripts/package.sh [DEST]
+#
+# DEST, by default the folder out of the repository, gets toml-span-VERSION-x86_64-linux.tar.gz and the Debian package
+# toml-span_VERSION_amd64.deb. Both have what scripts/install.sh installs, and the licenses. The program is statically
+# linked, so neither needs anything else. Packages of one commit that one toolchain makes are equal byte for byte: their
+# files have the time of the last commit, or SOURCE_DATE_EPOCH. The packages are listed with their SHA-256.
+#
+# Status: 0 done, 2 wrong arguments, 3 DEST can't be written, 5 a package can't be made.
+set -euo pipefail
+shopt -s inherit_errexit
+unset CDPATH
+script=$(readlink -f -- "${BASH_SOURCE[0]}")
+top=${script%/scripts/*}
+umask 022
+
+# fail STATUS LINE..: ends with a message
+fail() {
+    printf 'package.sh: %s\n' "${@:2}" >&2
+    exit "$1"
+}
+
+if [ $# -gt 1 ] || [[ ${1-} == -* ]]; then fail 2 "usage: bash scripts/package.sh [DEST]"; fi
+for tool in dpkg-deb gzip tar; do
+    command -v "$tool" >/dev/null || fail 5 "the command $tool is missing (Debian: dpkg, gzip, tar)"
+done
+SOURCE_DATE_EPOCH=${SOURCE_DATE_EPOCH-$(git -C "$top" log -1 --format=%ct)} ||
+    fail 5 "there is no commit to take the time from: set SOURCE_DATE_EPOCH (seconds since 1970)"
+export SOURCE_DATE_EPOCH
+destination=${1-$top/out}
+if [[ $destination != /* ]]; then destination=$PWD/$destination; fi
+mkdir -p -- "$destination" && work=$(mktemp -d -- "$destination/.package-XXXXXX") ||
+    fail 3 "${destination@Q} can't be written"
+trap 'rm -rf -- "$work"' EXIT
+
+root=$work/root
+status=0
+said=$(PATH=$root/usr/bin:$PATH bash "$top/scripts/install.sh" "$root/usr") || status=$?
+if [ "$status" -ne 0 ]; then exit "$status"; fi
+if [[ $said != *"statically linked)" ]]; then
+    fail 5 "the program can't be packaged, since it is dynamically linked: a package needs a C compiler with a static" \
+        "C library (Debian: gcc, libc6-dev) and, for the proved build, \`rt run\` in crates/toml_span_cli"
+fi
+version=$("$root/usr/bin/toml-span" --version | grep -oE '[0-9]+(\.[0-9]+)+' | head -n 1)
+name=toml-span-$version-x86_64-linux
+cp -R -- "$root/usr" "$work/$name"
+cp -- "$top"/LICENSE-* "$work/$name"
+tar --sort=name --format=gnu --owner=0 --group=0 --numeric-owner --mtime="@$SOURCE_DATE_EPOCH" -C "$work" -c "$name" |
+    gzip -9n >"$work/$name.tar.gz"
+
+mv -- "$root/usr/share/zsh/site-functions" "$root/usr/share/zsh/vendor-completions"
+gzip -9n "$root"/usr/share/man/man1/*
+mkdir -p -- "$root/DEBIAN" "$root/usr/share/doc/toml-span"
+{
+    echo "Licensed under MIT OR Apache-2.0; the latter is in /usr/share/common-licenses/Apache-2.0."
+    echo "The program contains parts of the GNU C Library, which is licensed under LGPL-2.1-or-later."
+    echo
+    cat -- "$top/LICENSE-MIT"
+} >"$root/usr/share/doc/toml-span/copyright"
+size=$(find "$root/usr" -type f -printf '%s\n' | awk '{ bytes += $1 } END { print int((bytes + 1023) / 1024) }')
+cat >"$root/DEBIAN/control" <<END
+Package: toml-span
+Version: $version
+Architecture: amd64
+Section: utils
+Priority: optional
+Maintainer: The toml_span contributors <toml-span@localhost>
+Installed-Size: $size
+Description: check, query and edit TOML files
+ Reports the errors of TOML 1.1 files with the lines that they are in, prints
+ single values, and changes them without touching any other byte of the file.
+END
+find "$root" -exec touch -h -d "@$SOURCE_DATE_EPOCH" {} +
+dpkg-deb --root-owner-group -Zxz --build "$root" "$work/toml-span_${version}_amd64.deb" >/dev/null ||
+    fail 5 "dpkg-deb made no package: see above"
+cd -- "$work"
+for package in *.tar.gz *.deb; do
+    mv -f -- "$package" "$destination/$package" || fail 3 "$package in ${destination@Q} can't be written"
+    (cd -- "$destination" && sha256sum -- "$PWD/$package")
+done

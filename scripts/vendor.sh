@@ -1,0 +1,98 @@
+#!/usr/bin/env bash
+# Copies the crates that a caller of the library needs: bash scripts/vendor.sh [--replace] DEST [NAME]..
+#
+# NAME is a library of this repository, in full or without `toml_span_` (report, serde, load, places); the default is
+# toml_span. Each is copied with the libraries of this repository below it, as their sources, definitions, proofs and
+# licenses, to DEST/crates, or to DEST if the crates there are in no folder crates. Their lines are added to
+# DEST/crates.txt. What was copied is printed, and then what to write in the caller's own line of crates.txt.
+#
+# A crate that is there already in another version is an error, and nothing is copied. With --replace it is replaced
+# (its out/ stays). `vendor.sh --list CRATE..` copies nothing: it prints the lines of crates.txt for these crates and
+# those below them.
+#
+# Status: 0 copied, 1 DEST has another version of a crate, 2 wrong arguments, 3 DEST can't be written.
+set -euo pipefail
+shopt -s inherit_errexit
+unset CDPATH
+script=$(readlink -f -- "${BASH_SOURCE[0]}")
+top=${script%/scripts/*}
+
+# fail STATUS LINE..: ends with a message
+fail() {
+    printf 'vendor.sh: %s\n' "${@:2}" >&2
+    exit "$1"
+}
+
+# lines_of CRATE..: the lines of crates.txt for these crates and those below them
+lines_of() {
+    awk -v names="$*" '
+        /^[a-z]/ { name = $1; sub(":", "", name); line[name] = $0 }
+        END {
+            for (count = split(names, left, " "); ++at <= count;) {
+                if (!(left[at] in line) || seen[left[at]]++) continue
+                print line[left[at]]
+                parts = split(line[left[at]], words, " ")
+                for (part = 2; part <= parts; part++) left[++count] = words[part]
+            }
+        }' "$top/crates.txt"
+}
+
+replace=
+case ${1-} in
+--list) lines_of "${@:2}" && exit ;;
+--replace) replace=1 && shift ;;
+esac
+if [[ ${1--} == -* ]]; then fail 2 "usage: bash scripts/vendor.sh [--replace] DEST [NAME].."; fi
+destination=$1
+libraries=()
+for name in $(sed -n 's/^\([a-z_]*\):.*/\1/p' "$top/crates.txt"); do
+    if [ -f "$top/crates/$name/src/lib.rt" ]; then libraries+=("$name"); fi
+done
+names=()
+for name in "${@:2}"; do
+    case " ${libraries[*]} " in
+    *" toml_span_$name "*) names+=("toml_span_$name") ;;
+    *" $name "*) names+=("$name") ;;
+    *) fail 2 "no library is named $(printf %q "$name"); these are:" "${libraries[*]}" ;;
+    esac
+done
+if [ ${#names[@]} -eq 0 ]; then names=(toml_span); fi
+
+# cannot FILE: ends where a file or folder of DEST can't be written
+cannot() { fail 3 "${1@Q} can't be written"; }
+mkdir -p -- "$destination" || cannot "$destination"
+destination=$(cd -- "$destination" && pwd -P)
+if [ "$destination" = "$top" ]; then fail 2 "DEST is this repository: name the one that calls the library"; fi
+crates=$destination/crates
+if [ ! -d "$crates" ] && compgen -G "$destination/*/src/*.rt" >/dev/null; then crates=$destination; fi
+mkdir -p -- "$crates" || cannot "$crates"
+work=$(mktemp -d -- "$crates/.vendor-XXXXXX") || cannot "$crates"
+trap 'rm -rf -- "$work"' EXIT
+
+# all is prepared in $work, and only then moved
+touch -- "$destination/crates.txt" || cannot "$destination/crates.txt"
+cp -- "$destination/crates.txt" "$work/crates.txt" || cannot "$work"
+copied=()
+while IFS= read -r line; do
+    name=${line%%[ :]*}
+    copied+=("$name")
+    mkdir -- "$work/$name" && cp -- "$top"/LICENSE-* "$work/$name" || cannot "$work"
+    for part in src specs proofs; do
+        [ ! -d "$top/crates/$name/$part" ] || cp -RL -- "$top/crates/$name/$part" "$work/$name" 2>&1 | head -n 1 >&2 ||
+            cannot "$crates"
+    done
+    if [ -z "$replace" ] && [ -e "$crates/$name" ] && ! diff -rqx out -- "$work/$name" "$crates/$name" >/dev/null; then
+        fail 1 "${crates@Q} has $name in another version, so nothing was copied: --replace replaces it"
+    fi
+    if ! grep -qxF -- "$line" "$work/crates.txt"; then
+        sed -i "/^${name}[ :]/d" "$work/crates.txt" && echo "$line" >>"$work/crates.txt" || cannot "$work"
+    fi
+done < <(lines_of "${names[@]}")
+for name in "${copied[@]}"; do
+    if [ -d "$crates/$name/out" ]; then mv -- "$crates/$name/out" "$work/$name" || cannot "$crates/$name"; fi
+    if [ -e "$crates/$name" ]; then mv -T -- "$crates/$name" "$work/old-$name" || cannot "$crates/$name"; fi
+    mv -T -- "$work/$name" "$crates/$name" || cannot "$crates/$name"
+    echo "$crates/$name"
+done
+cp -- "$work/crates.txt" "$destination/crates.txt" || cannot "$destination/crates.txt"
+echo "To use them, name them in the line of your crate in $destination/crates.txt, as in \`app: ${names[*]}\`."
