@@ -297,8 +297,8 @@ def limits(named):
 
 def asked():
     """The arguments."""
-    about = __doc__.split("\n\n", 1)
-    parser = argparse.ArgumentParser(usage=about[0], description=about[1])
+    head, about = __doc__.split("\n\n", 1)
+    parser = argparse.ArgumentParser(usage="\n       ".join(head.split("\n")[1:]), description=about)
     parser.formatter_class = argparse.RawTextHelpFormatter
     parser.add_argument("--bytes", default="1000000")
     parser.add_argument("--passes", type=int, default=10)
