@@ -3,7 +3,7 @@
 #
 # A run is a file crates/toml_span_show/runs/NAME, its standard input; beside it stand NAME.stdout, what it has to
 # write, and NAME.status, how it has to end where that is not 0. PROGRAM is the proved build unless another is named.
-# Where none is named, the runs of the example and of the lint follow (crates/toml_span_example, crates/toml_span_lint).
+# Where none is named, the runs of the example follow (crates/toml_span_example).
 set -uo pipefail
 unset CDPATH
 script=$(readlink -f -- "${BASH_SOURCE[0]}")
@@ -83,10 +83,8 @@ check "a text that comes in pieces" "$work/pieces" "$work/pieces.stdout" 0
 wait
 
 if [ $# -eq 0 ]; then
-    for example in toml_span_example toml_span_lint; do
-        program=../$example/out/$example
-        stored "../$example/runs"
-    done
+    program=../toml_span_example/out/toml_span_example
+    stored ../toml_span_example/runs
 fi
 
 echo "runs: $((count - wrong)) of $count right"

@@ -1,9 +1,8 @@
-//! A field for each way in which a type is read.
-use serde::Deserialize;
-use std::fmt;
-use std::fmt::{Display, Formatter, Write};
+//! Types that are read in each way, and have each attribute.
+use serde::{Deserialize, Deserializer, Format};
+use std::alloc::Global;
 
-/// How it is reached, which the tag among the fields names.
+/// How a device is reached, which the tag among the fields names.
 #[derive(Debug, Drop, Deserialize)]
 #[serde(tag = "kind", rename_all = "lowercase")]
 pub enum Transport<'a> {
@@ -11,7 +10,7 @@ pub enum Transport<'a> {
     Unix { path: &'a str },
 }
 
-/// What it reads, with the tag beside the content.
+/// What a device reads, with the tag beside the content.
 #[derive(Debug, Drop, Deserialize)]
 #[serde(tag = "t", content = "c")]
 pub enum Reading<'a> {
@@ -27,12 +26,22 @@ pub struct Link<'a> {
     pub transport: Transport<'a>,
 }
 
-/// A number or a text, which no tag tells apart.
+/// A number, a text or numbers, which no tag distinguishes.
 #[derive(Debug, Drop, Deserialize)]
 #[serde(untagged)]
 pub enum Either<'a> {
     Number(i8),
     Text(&'a str),
+    List(Vec<i8>),
+}
+
+/// Values of several shapes.
+#[derive(Debug, Drop, Deserialize)]
+pub struct Tagged<'a> {
+    pub transport: Option<Transport<'a>>,
+    pub reading: Option<Reading<'a>>,
+    pub link: Option<Link<'a>>,
+    pub either: Option<Either<'a>>,
 }
 
 /// An even number.
@@ -40,24 +49,14 @@ pub enum Either<'a> {
 #[serde(try_from = "u8")]
 pub struct Even(pub u8);
 
-/// A number is odd.
-#[derive(Debug, Drop)]
-pub struct IsOdd;
-
-impl Display for IsOdd {
-    fn fmt<W: Write>(&self, f: &mut Formatter<W>) -> fmt::Result {
-        f.write_str("the number is odd")
-    }
-}
-
 impl TryFrom<u8> for Even {
-    type Error = IsOdd;
+    type Error = &'static str;
 
-    fn try_from(number: u8) -> Result<Even, IsOdd> {
+    fn try_from(number: u8) -> Result<Even, &'static str> {
         if number % 2 == 0 {
             Ok(Even(number))
         } else {
-            Err(IsOdd)
+            Err("the number is odd")
         }
     }
 }
@@ -73,11 +72,81 @@ pub struct Device {
     pub even: Option<Even>,
 }
 
-/// Values of several shapes.
+/// Reads the number that a string spells.
+mod spelled {
+    use serde::{Deserializer, Format};
+    use std::alloc::Global;
+
+    pub fn deserialize<F: Format>(
+        alloc: Global,
+        from: &mut Deserializer<'_, '_, F>,
+    ) -> Result<u16, F::Error> {
+        match from.string(alloc)?.as_str().parse::<u16>() {
+            Ok(number) => Ok(number),
+            Err(_) => Err(from.custom("the string spells no number")),
+        }
+    }
+}
+
+/// Reads a share in percent.
+fn percent<F: Format>(_alloc: Global, from: &mut Deserializer<'_, '_, F>) -> Result<u64, F::Error> {
+    let share = from.u64()?;
+    if share > 100 {
+        return Err(from.custom("a share is at most 100"));
+    }
+    Ok(share)
+}
+
+/// Returns the port where none is given.
+fn eighty() -> u16 {
+    80
+}
+
+/// A number in its place.
 #[derive(Debug, Drop, Deserialize)]
-pub struct Tagged<'a> {
-    pub transport: Option<Transport<'a>>,
-    pub reading: Option<Reading<'a>>,
-    pub link: Option<Link<'a>>,
-    pub either: Option<Either<'a>>,
+#[serde(transparent)]
+pub struct Seconds {
+    pub count: u32,
+}
+
+/// A number that is read as another type.
+#[derive(Debug, Drop, Deserialize)]
+#[serde(from = "u8")]
+pub struct Half(pub u8);
+
+impl From<u8> for Half {
+    fn from(number: u8) -> Half {
+        Half(number / 2)
+    }
+}
+
+/// What was sent.
+#[derive(Debug, Drop, Deserialize)]
+#[serde(rename_all = "lowercase", rename_all_fields = "kebab-case")]
+pub enum Kind {
+    Plain,
+    #[serde(alias = "tls")]
+    Secure { valid_for: Seconds },
+    #[serde(other)]
+    Unknown,
+}
+
+/// Values of single attributes, and a folder in a folder. What is left out is as in the default.
+#[derive(Debug, Drop, Default, Deserialize)]
+#[serde(default, recursive, rename_all = "kebab-case")]
+pub struct Folder {
+    pub retry_count: u8,
+    #[serde(rename = "type")]
+    pub kind: Option<Kind>,
+    #[serde(default = "eighty")]
+    pub port: u16,
+    #[serde(skip)]
+    pub uses: u8,
+    #[serde(with = "spelled")]
+    pub level: u16,
+    #[serde(deserialize_with = "percent")]
+    pub share: u64,
+    pub half: Option<Half>,
+    #[serde(recursive)]
+    pub folder: Option<Box<Folder>>,
 }
