@@ -1,13 +1,13 @@
 //! Reads by derive.
 //!
-//! - `settings`, `device`, `tagged` and `folder` read the document as the struct of that name, `limits` its tree as
+//! - `settings`, `device`, `tagged` and `attributes` read the document as the struct of that name, `limits` its tree as
 //!   numbers by their names: what is read, or the code and the place of the error, the path to it, and the reason.
 //! - `shown`: the settings, or the error with its lines. `shown_device`: the error of a device.
 //!
 //! Where there is no memory the call is made once more.
 use crate::Row;
 use crate::told::Out;
-use device::{Device, Folder, Tagged};
+use device::{Attributes, Device, Tagged};
 use serde::Deserialize;
 use settings::{Settings, shown};
 use std::alloc::{AllocError, Global};
@@ -29,7 +29,7 @@ pub fn answer(alloc: Global, row: Row<'_>, out: &mut Out) -> bool {
         "settings" => push_read::<Settings<'_>>(alloc, text, out),
         "device" => push_read::<Device>(alloc, text, out),
         "tagged" => push_read::<Tagged<'_>>(alloc, text, out),
-        "folder" => push_read::<Folder>(alloc, text, out),
+        "attributes" => push_read::<Attributes<'_>>(alloc, text, out),
         "limits" => push_limits(alloc, text, out),
         "shown" | "shown_device" => push_shown(alloc, row, out),
         _ => return false,

@@ -27,12 +27,6 @@ fn escaped(piece: &str) -> Option<(char, &str)> {
     }
 }
 
-/// How often a part stands that begins behind a brace, and its beginning.
-fn part_of(rest: &str) -> Option<(usize, &str)> {
-    let (digits, front) = rest.split_once(' ')?;
-    Some((digits.parse::<usize>().ok()?, front))
-}
-
 /// Makes of the end of a text, which stands there once, so many.
 fn repeat(alloc: Global, times: usize, start: usize, text: &mut String) -> Result<(), AllocError> {
     let part = String::from_str(alloc, text.as_str().get(start..).unwrap_or(""))?;
@@ -58,7 +52,8 @@ pub fn push_text(alloc: Global, source: &str, text: &mut String) -> Result<bool,
         if !behind {
             text.push_str(piece)?;
         } else if let Some(rest) = piece.strip_prefix('{') {
-            let Some((times, front)) = part_of(rest) else {
+            let (digits, front) = rest.split_once(' ').unwrap_or((rest, ""));
+            let Ok(times) = digits.parse::<usize>() else {
                 return Ok(false);
             };
             part = (times, text.len());

@@ -5,7 +5,7 @@
 //! read answers `no such row`, and the status is then 1.
 //!
 //! - `cuts`: see `cuts`. `span_at POINTER`, `port_of`, `port_told`: what these callers of `uses` return.
-//! - `holders`: the document as `Holders` of `typed::structs`. `load`, `warned TYPE`: see `typed`.
+//! - `holders`: the document as `Holders` of `typed::structs`. `warned TYPE`: see `typed::warned`.
 //! - `span START END`: whether a span is empty, what it becomes, and where it starts in a text that has it.
 //! - `copies START END`: clones of a key with that name and of the text at the span, each made twice.
 //! - `load_file NAME`: what is read of that file of `data`, the row that needs more than an allocator.
@@ -32,7 +32,7 @@ use std::io;
 use std::process::ExitCode;
 use told::Out;
 use toml_span::from_str;
-use typed::owned::{push_file, push_loaded};
+use typed::owned::push_file;
 use typed::structs::Holders;
 use typed::warned::push_warned;
 use uses::first::port_told;
@@ -78,7 +78,6 @@ fn push_caller(alloc: Global, row: Row<'_>, out: &mut Out) -> bool {
         "port_of" => out.told(port_of(alloc, text)),
         "port_told" => out.made(port_told(alloc, text)),
         "holders" => out.told(from_str::<Holders>(alloc, text)),
-        "load" => push_loaded(alloc, text, out),
         "warned" => return push_warned(alloc, row.word(0), text, out),
         _ => return false,
     }

@@ -1,26 +1,19 @@
 //! Places in a text, for editors.
 //!
 //! - `key_places`: of each key the steps to what it names, its role, and its span without and with its quotes.
-//! - `section_places`: of each section the steps to its table, its form, and the spans of its header and its body.
 //! - `table_places`: of each place that names a table the steps to it, the form, and the span.
 //! - `table_forms STEP ..`: the forms in which the table at these steps is named.
 //! - `insertion_point STEP ..`: where a line can be put into the table at these steps, and the text with `new = 0` there.
 //! - `node_at OFFSET`: the steps to what is at a byte, which part it is, its span and the text there.
-//! - `literals`: of each value its path, its span as it is written, and the text there. `to_toml`: each value as TOML on
-//!   one line, after its path.
 //!
 //! A word that is a number is a position, any other a key.
 use crate::Row;
 use crate::told::Out;
 use crate::trees::orders::push_steps;
-use crate::trees::shown::push_path;
 use std::alloc::{AllocError, Global};
 use toml_span::Span;
-use toml_span::value::{Step, Value, nodes};
-use toml_span_places::{
-    insertion_point, key_places, literal_span, node_at, replaced, section_places, table_forms,
-    table_places, to_toml,
-};
+use toml_span::value::{Step, Value};
+use toml_span_places::{insertion_point, key_places, node_at, replaced, table_forms, table_places};
 use toml_span_read::Section;
 
 /// Returns the steps of words.
@@ -41,16 +34,6 @@ pub fn push_keys(alloc: Global, text: &str, sections: &[Section<'_>], out: &mut 
         for place in &places {
             push_steps(place.path.as_slice(), out);
             out.told_line((place.role, place.span, place.whole));
-        }
-    }
-}
-
-/// Answers `section_places`.
-pub fn push_sections(alloc: Global, text: &str, sections: &[Section<'_>], out: &mut Out) {
-    if let Some(places) = out.kept(section_places(alloc, text, sections)) {
-        for place in &places {
-            push_steps(place.path.as_slice(), out);
-            out.told_line((place.form, place.header, place.body));
         }
     }
 }
@@ -102,11 +85,6 @@ pub fn push_point(alloc: Global, row: Row<'_>, sections: &[Section<'_>], out: &m
     }
 }
 
-/// Adds the text at a span, and a line feed.
-fn push_cut(text: &str, span: Span, out: &mut Out) {
-    out.told_line(text.get(span.start..span.end).unwrap_or("no place"));
-}
-
 /// Answers `node_at`. Returns whether the word is an offset.
 pub fn push_node_at(alloc: Global, row: Row<'_>, root: &Value<'_>, out: &mut Out) -> bool {
     let Ok(offset) = row.word(0).parse::<usize>() else {
@@ -117,29 +95,10 @@ pub fn push_node_at(alloc: Global, row: Row<'_>, root: &Value<'_>, out: &mut Out
             push_steps(place.path.as_slice(), out);
             out.told((place.part, place.span));
             out.push_str(" ");
-            push_cut(row.text, place.span, out);
+            let span = place.span;
+            out.told_line(row.text.get(span.start..span.end).unwrap_or("no place"));
         }
         _ => out.push_str("none"),
     }
     true
-}
-
-/// Answers `literals` and `to_toml`.
-pub fn push_spelled(alloc: Global, row: Row<'_>, root: &Value<'_>, out: &mut Out) {
-    let Some(list) = out.kept(nodes(alloc, root)) else {
-        return;
-    };
-    for visited in list.iter() {
-        push_path(visited.path.as_slice(), out);
-        out.push_str(" ");
-        if row.call == "literals" {
-            let span = literal_span(row.text, visited.value);
-            out.span(span);
-            out.push_str(" ");
-            push_cut(row.text, span, out);
-        } else {
-            out.made(to_toml(alloc, visited.value));
-            out.push_str("\n");
-        }
-    }
 }

@@ -18,7 +18,12 @@ const FILE: &str = "a.toml";
 /// Adds the answer of a row. Returns whether it can be read.
 pub fn answer(alloc: Global, row: Row<'_>, out: &mut Out) -> bool {
     match row.call {
-        "nearest" => push_nearest(alloc, row, out),
+        "nearest" => {
+            let made: Result<Vec<&str>, AllocError> = row.text.split(' ').collect(alloc);
+            if let Some(names) = out.kept(made) {
+                out.told(nearest(alloc, row.word(0), names.as_slice()));
+            }
+        }
         "without_labels" => push_without_labels(alloc, row, out),
         "quote_key" => out.made(quote_key(alloc, row.text)),
         "quote_string" => out.made(quote_string(alloc, row.text)),
@@ -29,14 +34,6 @@ pub fn answer(alloc: Global, row: Row<'_>, out: &mut Out) -> bool {
         _ => return false,
     }
     true
-}
-
-/// Answers `nearest`.
-fn push_nearest(alloc: Global, row: Row<'_>, out: &mut Out) {
-    let made: Result<Vec<&str>, AllocError> = row.text.split(' ').collect(alloc);
-    if let Some(names) = out.kept(made) {
-        out.told(nearest(alloc, row.word(0), names.as_slice()));
-    }
 }
 
 /// Returns the reports of `without_labels`.

@@ -4,12 +4,12 @@
 //! - `json`: the JSON value.
 //! - `again`: the values that the text spells as one piece, each parsed again.
 //! - `nodes`: the steps to each value, its kind and its key. `text_order`: the keys of the root in the order of the text.
-//! - `node_at OFFSET`, `literals`, `to_toml`: see `places`. `write OPERATION ..`: see `writes`. Typed reads: see `typed`.
+//! - `node_at OFFSET`: see `places`. `write OPERATION ..`: see `writes`. Typed reads: see `typed`.
 //! - `diagnostics`: what the error prints, and its diagnostic. `copied`: copies of it.
 ghost use Rattle.std.specs.Prelude.{◌≤◌, IfSome};
 
 use crate::faults::{push_copies, push_twice};
-use crate::places::{push_node_at, push_spelled};
+use crate::places::push_node_at;
 use crate::told::Out;
 use crate::{Row, typed};
 use shown::{push_fault, push_lines};
@@ -60,7 +60,6 @@ fn push_call<'t>(alloc: Global, row: Row<'t>, root: &mut Value<'t>, out: &mut Ou
         "parse" | "twice" => push_lines(alloc, root, out),
         "json" => push_json(alloc, root, out),
         "again" => pieces::push_again(alloc, row.text, root, out),
-        "literals" | "to_toml" => push_spelled(alloc, row, root, out),
         "text_order" => orders::push_order(alloc, root, out),
         "nodes" => orders::push_nodes(alloc, root, out),
         "node_at" => return push_node_at(alloc, row, root, out),

@@ -102,42 +102,24 @@ fn eighty() -> u16 {
     80
 }
 
-/// A number in its place.
-#[derive(Debug, Drop, Deserialize)]
-#[serde(transparent)]
-pub struct Seconds {
-    pub count: u32,
-}
-
-/// A number that is read as another type.
-#[derive(Debug, Drop, Deserialize)]
-#[serde(from = "u8")]
-pub struct Half(pub u8);
-
-impl From<u8> for Half {
-    fn from(number: u8) -> Half {
-        Half(number / 2)
-    }
-}
-
 /// What was sent.
 #[derive(Debug, Drop, Deserialize)]
 #[serde(rename_all = "lowercase", rename_all_fields = "kebab-case")]
-pub enum Kind {
+pub enum Kind<'a> {
     Plain,
     #[serde(alias = "tls")]
-    Secure { valid_for: Seconds },
+    Secure { signed_by: &'a str },
     #[serde(other)]
     Unknown,
 }
 
-/// Values of single attributes, and a folder in a folder. What is left out is as in the default.
+/// A field for each attribute that no other type here has. What is left out is as in the default.
 #[derive(Debug, Drop, Default, Deserialize)]
-#[serde(default, recursive, rename_all = "kebab-case")]
-pub struct Folder {
+#[serde(default, rename_all = "kebab-case")]
+pub struct Attributes<'a> {
     pub retry_count: u8,
     #[serde(rename = "type")]
-    pub kind: Option<Kind>,
+    pub kind: Option<Kind<'a>>,
     #[serde(default = "eighty")]
     pub port: u16,
     #[serde(skip)]
@@ -146,7 +128,4 @@ pub struct Folder {
     pub level: u16,
     #[serde(deserialize_with = "percent")]
     pub share: u64,
-    pub half: Option<Half>,
-    #[serde(recursive)]
-    pub folder: Option<Box<Folder>>,
 }

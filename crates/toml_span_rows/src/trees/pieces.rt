@@ -3,7 +3,7 @@ use crate::told::Out;
 use crate::trees::shown::push_lines;
 use std::alloc::Global;
 use toml_span::parse;
-use toml_span::value::{Value, ValueInner, nodes};
+use toml_span::value::{Value, nodes};
 
 /// Adds the lines of the value that a piece is parsed as. Blanks before it keep the place that it has in the document.
 fn push_reread(alloc: Global, piece: &str, start: usize, out: &mut Out) {
@@ -32,29 +32,17 @@ fn is_read_again(alloc: Global, piece: &str, value: &Value<'_>, out: &mut Out) -
     lines.text == again.text
 }
 
-/// Tests whether a value is in brackets or braces of its own. The table of a dotted key begins where its first value
-/// does, and an array of tables where its first table does.
-fn is_enclosed(text: &str, value: &Value<'_>) -> bool {
+/// Tests whether a value is one piece of the text. A string is not: its span leaves its quotes out. The table of a dotted
+/// key begins where its first value does, and an array of tables where its first table does.
+fn is_piece(text: &str, value: &Value<'_>) -> bool {
     let start = value.span.start;
     let (bracket, inner) = match (value.as_array(), value.as_table()) {
         (Some(array), _) => (b'[', array.first()),
         (_, Some(table)) => (b'{', table.values().next()),
-        _ => return false,
+        _ => return value.as_str().is_none() && !value.is_taken(),
     };
     text.as_bytes().get(start).copied() == Some(bracket)
         && inner.is_none_or(|inner| inner.span.start != start)
-}
-
-/// Tests whether a value is one piece of the text. A string is not: its span leaves its quotes out.
-fn is_piece(text: &str, value: &Value<'_>) -> bool {
-    if value.is_taken() {
-        return false;
-    }
-    match value.as_ref() {
-        ValueInner::String(_) => false,
-        ValueInner::Table(_) | ValueInner::Array(_) => is_enclosed(text, value),
-        _ => true,
-    }
 }
 
 /// Adds each piece of a document, and whether it is parsed as the same value.

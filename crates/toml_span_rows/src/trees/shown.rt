@@ -5,24 +5,22 @@ use std::borrow::CowStr;
 use toml_span::value::{Step, Value, ValueInner, Visited, nodes};
 use toml_span::{Error, Stop};
 
-/// Adds a name: `%` and two digits for each byte that is not printed, a slash or a percent sign.
-fn push_name(name: &str, out: &mut Out) {
-    for byte in name.bytes() {
-        let pushed = if byte.is_ascii_graphic() && byte != b'/' && byte != b'%' {
-            out.text.push(char::from(byte))
-        } else {
-            write!(out.text, "%{byte:02X}")
-        };
-        out.kept(pushed);
-    }
-}
-
-/// Adds the path of steps, which is empty at the root.
-pub fn push_path(steps: &[Step<'_>], out: &mut Out) {
+/// Adds the path of steps, which is empty at the root. In a name `%` and two digits stand for each byte that is not
+/// printed, a slash or a percent sign.
+fn push_path(steps: &[Step<'_>], out: &mut Out) {
     for step in steps {
         out.push_str("/");
         match step {
-            Step::Key(name) => push_name(name, out),
+            Step::Key(name) => {
+                for byte in name.bytes() {
+                    let pushed = if byte.is_ascii_graphic() && byte != b'/' && byte != b'%' {
+                        out.text.push(char::from(byte))
+                    } else {
+                        write!(out.text, "%{byte:02X}")
+                    };
+                    out.kept(pushed);
+                }
+            }
             Step::Position(position) => out.told(position),
         }
     }

@@ -1,4 +1,4 @@
-//! Types of a caller that state nothing of what they read, and leave their value as they like.
+//! Types of a caller that state nothing of what they read.
 use std::alloc::Global;
 use std::borrow::CowStr;
 use std::str::FromStr;
@@ -11,46 +11,30 @@ fn custom<'de>(message: &'de str, span: Span) -> DeserError<'de> {
     Error::from((kind, span)).into()
 }
 
-/// Takes its value and fails with two errors.
+/// Leaves a boolean untouched and succeeds. Of a table it reads one entry, puts the others back and fails. It takes any
+/// other value and fails with two errors.
 #[derive(Debug, Drop)]
 pub struct Odd;
 
 impl<'de> Deserialize<'de> for Odd {
+    #[tactic(auto, using(toml_span_typed::proofs::Whole::found_whole))]
     fn deserialize(alloc: Global, value: &mut Value<'de>) -> Result<Odd, Stop<DeserError<'de>>> {
+        let span = value.span;
+        if value.as_bool().is_some() {
+            return Ok(Odd);
+        }
+        if value.as_table().is_some() {
+            let mut helper = TableHelper::new(alloc, value)?;
+            let _entry: u8 = helper.require("a")?;
+            helper.finish_into(value)?;
+            return Err(custom("half", span).into());
+        }
         drop(value.take());
-        let mut errors = custom("one", value.span);
-        match errors.merge(alloc, custom("two", value.span)) {
+        let mut errors = custom("one", span);
+        match errors.merge(alloc, custom("two", span)) {
             Ok(()) => Err(errors.into()),
             Err(unmerged) => Err(unmerged.error.into()),
         }
-    }
-}
-
-/// Succeeds and leaves its value untouched.
-#[derive(Debug, Drop)]
-pub struct Untouched;
-
-impl<'de> Deserialize<'de> for Untouched {
-    fn deserialize(
-        _alloc: Global,
-        _value: &mut Value<'de>,
-    ) -> Result<Untouched, Stop<DeserError<'de>>> {
-        Ok(Untouched)
-    }
-}
-
-/// Reads one entry of a table, puts the others back and fails.
-#[derive(Debug, Drop)]
-pub struct Half;
-
-impl<'de> Deserialize<'de> for Half {
-    #[tactic(auto, using(toml_span_typed::proofs::Whole::found_whole))]
-    fn deserialize(alloc: Global, value: &mut Value<'de>) -> Result<Half, Stop<DeserError<'de>>> {
-        let span = value.span;
-        let mut helper = TableHelper::new(alloc, value)?;
-        let Untouched = helper.require("a")?;
-        helper.finish_into(value)?;
-        Err(custom("half", span).into())
     }
 }
 

@@ -1,9 +1,9 @@
 //! Types that own their text, and errors that outlive the text that is read.
 //!
-//! - `load`: what is read of the document as of a file, `a.toml`, whose text is let go: the listener, or the text of the
-//!   errors, and how many reports there are. `load_file NAME`: the same of a file of `data`.
+//! - `load_file NAME`: what is read of a file of `data`, whose text is let go: the listener, or the text of the errors,
+//!   and how many reports there are.
 use crate::told::Out;
-use std::alloc::{AllocError, Global};
+use std::alloc::Global;
 use toml_span::de_helpers::parse_with;
 use toml_span::{DeserError, Deserialize, Stop, Value, read_table};
 use toml_span_load::{LoadError, TextFile};
@@ -55,13 +55,6 @@ fn load(rt: &HostRuntime, name: &str) -> Result<Listener, LoadError> {
     file.read::<Listener>(rt.alloc())
 }
 
-/// Returns a text as a file.
-fn file_of(alloc: Global, text: &str) -> Result<TextFile, AllocError> {
-    let name = String::from_str(alloc, "a.toml")?;
-    let text = String::from_str(alloc, text)?;
-    Ok(TextFile { name, text })
-}
-
 /// Adds a listener, or why there is none.
 fn push_listener(read: Result<Listener, LoadError>, out: &mut Out) {
     match read {
@@ -75,14 +68,6 @@ fn push_listener(read: Result<Listener, LoadError>, out: &mut Out) {
             out.shown(other);
             out.push_str("\n");
         }
-    }
-}
-
-/// Answers `load`.
-pub fn push_loaded(alloc: Global, text: &str, out: &mut Out) {
-    match file_of(alloc, text) {
-        Ok(file) => push_listener(file.read::<Listener>(alloc), out),
-        Err(refused) => push_listener(Err(LoadError::Memory(refused)), out),
     }
 }
 

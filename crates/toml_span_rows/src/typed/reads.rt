@@ -1,9 +1,9 @@
 //! Reads as a type that a row names.
 use crate::told::Out;
 use crate::trees::shown::push_owned;
-use crate::typed::odd::{Half, Odd, Untouched};
+use crate::typed::odd::Odd;
 use crate::typed::owned::Name;
-use crate::typed::structs::{Config, Pair, Range, Ratio, Server, Target, Upload};
+use crate::typed::structs::{Holders, Pair, Range, Ratio, Server, Target, Upload};
 use std::alloc::Global;
 use std::borrow::CowStr;
 use std::collections::{BTreeMap, HashMap};
@@ -60,11 +60,9 @@ pub fn push_read<'de>(alloc: Global, name: &str, value: &mut Value<'de>, out: &m
 fn push_own<'de>(alloc: Global, name: &str, value: &mut Value<'de>, out: &mut Out) -> bool {
     match name {
         "Vec<Odd>" => push_as::<Vec<Odd>>(alloc, value, out),
-        "Vec<Untouched>" => push_as::<Vec<Untouched>>(alloc, value, out),
-        "Untouched" => push_as::<Untouched>(alloc, value, out),
-        "Half" => push_as::<Half>(alloc, value, out),
+        "Odd" => push_as::<Odd>(alloc, value, out),
         "Server" => push_as::<Server<'de>>(alloc, value, out),
-        "Config" => push_as::<Config<'de>>(alloc, value, out),
+        "Holders" => push_as::<Holders>(alloc, value, out),
         "Upload" => push_as::<Upload>(alloc, value, out),
         "Range" => push_as::<Range>(alloc, value, out),
         "Target" => push_as::<Target>(alloc, value, out),

@@ -27,22 +27,6 @@ impl<'de> Deserialize<'de> for Server<'de> {
     }
 }
 
-/// A configuration. The keys that it does not know stay in the value.
-#[derive(Debug, Drop)]
-pub struct Config<'de> {
-    pub name: CowStr<'de>,
-    pub server: Server<'de>,
-}
-
-impl<'de> Deserialize<'de> for Config<'de> {
-    fn deserialize(
-        alloc: Global,
-        value: &mut Value<'de>,
-    ) -> Result<Config<'de>, Stop<DeserError<'de>>> {
-        read_table!(alloc, value, Config { name: CowStr<'de>; server: Server<'de>; .. })
-    }
-}
-
 /// Fields with old names, a string with its bytes, and the keys of another struct.
 #[derive(Debug, Drop)]
 pub struct Upload {
@@ -63,7 +47,7 @@ impl<'de> Deserialize<'de> for Upload {
     }
 }
 
-/// Fields that are an `Option`, what `FromStr` makes of strings, and an array of two.
+/// Fields that are an `Option`, what `FromStr` makes of strings, and an array of two. Other keys stay in the value.
 #[derive(Debug, Drop)]
 pub struct Holders {
     some: Option<u8>,
@@ -81,6 +65,7 @@ impl<'de> Deserialize<'de> for Holders {
             parsed: char, parsed;
             maybe: Option<char>, parsed;
             pair: (u8, String);
+            ..
         })
     }
 }
