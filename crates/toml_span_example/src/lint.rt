@@ -62,22 +62,28 @@ fn package(key: &Key, package: &Value) -> [Option<Finding>; 5] {
             ..new_finding(Error, "no-version", message, (key.span, ""))
         });
     }
-    if let Some(name) = package.pointer("/name").filter(|it| !is_kebab(it)) {
-        let message = "the name is not in kebab case";
-        let place = (name.span, "small letters, digits and `-` alone");
-        found[1] = Some(new_finding(Warning, "name-case", message, place));
+    match package.pointer("/name") {
+        Some(name) if !is_kebab(name) => {
+            let message = "the name is not in kebab case";
+            let place = (name.span, "small letters, digits and `-` alone");
+            found[1] = Some(new_finding(Warning, "name-case", message, place));
+        }
+        _ => {}
     }
-    if let Some(year) = package.pointer("/edition").filter(|it| !is_edition(it)) {
-        let message = "there is no such edition";
-        let place = (year.span, "2015, 2018, 2021 or 2024");
-        found[2] = Some(new_finding(Error, "unknown-edition", message, place));
+    match package.pointer("/edition") {
+        Some(year) if !is_edition(year) => {
+            let message = "there is no such edition";
+            let place = (year.span, "2015, 2018, 2021 or 2024");
+            found[2] = Some(new_finding(Error, "unknown-edition", message, place));
+        }
+        _ => {}
     }
-    if let Some(text) = package
-        .pointer("/description")
-        .filter(|it| it.as_str() == Some(""))
-    {
-        let message = "the description is empty";
-        found[3] = Some(new_finding(Warning, "no-description", message, (text.span, "")));
+    match package.pointer("/description") {
+        Some(text) if text.as_str() == Some("") => {
+            let message = "the description is empty";
+            found[3] = Some(new_finding(Warning, "no-description", message, (text.span, "")));
+        }
+        _ => {}
     }
     let file = package.pointer("/license-file");
     if let (Some(name), Some(file)) = (package.pointer("/license"), file) {
@@ -91,9 +97,15 @@ fn package(key: &Key, package: &Value) -> [Option<Finding>; 5] {
 }
 
 fn is_kebab(name: &Value) -> bool {
-    name.as_str().is_some_and(|name| {
-        name.bytes().all(|b| b.is_ascii_lowercase() || b.is_ascii_digit() || b == b'-')
-    })
+    let Some(name) = name.as_str() else {
+        return false;
+    };
+    for byte in name.bytes() {
+        if !matches!(byte, b'a'..=b'z' | b'0'..=b'9' | b'-') {
+            return false;
+        }
+    }
+    true
 }
 
 fn is_edition(edition: &Value) -> bool {
@@ -111,12 +123,15 @@ fn dependency(value: &Value) -> [Option<Finding>; 2] {
             ..new_finding(Warning, "any-version", message, (version.span, ""))
         });
     }
-    if let Some(path) = value.pointer("/path").filter(|_| !value.has_key("version")) {
-        let message = "a registry can't read a path";
-        found[1] = Some(Finding {
-            help: Some("add a `version`"),
-            ..new_finding(Error, "path-alone", message, (path.span, ""))
-        });
+    match value.pointer("/path") {
+        Some(path) if !value.has_key("version") => {
+            let message = "a registry can't read a path";
+            found[1] = Some(Finding {
+                help: Some("add a `version`"),
+                ..new_finding(Error, "path-alone", message, (path.span, ""))
+            });
+        }
+        _ => {}
     }
     found
 }
@@ -131,53 +146,52 @@ fn push_all(found: &[Option<Finding>], list: &mut Vec<Finding>) -> Result<(), Al
     Ok(())
 }
 
-/// Tests keywords.
+/// Tests the keywords of a package.
 fn keywords(alloc: Global, words: &[Value], list: &mut Vec<Finding>) -> Result<(), AllocError> {
     if let Some(sixth) = words.get(5) {
         let message = "there are more than five keywords";
-        list.push(new_finding(Warning, "many-keywords", message, (sixth.span, "the sixth")))?;
+        let place = (sixth.span, "the sixth");
+        list.push(new_finding(Warning, "many-keywords", message, place))?;
     }
     let mut seen = BTreeMap::new(alloc);
     for word in words {
         if let Some(before) = seen.insert(word.as_str(), word.span)? {
+            let message = "a keyword stands twice";
             list.push(Finding {
                 other: Some((before, "also here")),
-                ..new_finding(
-                    Warning,
-                    "keyword-twice",
-                    "a keyword stands twice",
-                    (word.span, ""),
-                )
+                ..new_finding(Warning, "keyword-twice", message, (word.span, ""))
             })?;
         }
     }
     Ok(())
 }
 
+/// Returns the elements of a value's entry, none if it has no such array.
+fn elements<'v, 'de>(value: &'v Value<'de>, pointer: &str) -> &'v [Value<'de>] {
+    match value.pointer(pointer) {
+        Some(found) => match found.as_array() {
+            Some(array) => array.as_slice(),
+            None => &[],
+        },
+        None => &[],
+    }
+}
+
 /// Tests a manifest.
 fn lint(alloc: Global, root: &Table, list: &mut Vec<Finding>) -> Result<(), AllocError> {
     for (key, value) in root.iter() {
         push_all(&[unknown_table(alloc, key)?], list)?;
-        if key.name.as_str() == "package" {
-            push_all(&package(key, value), list)?;
-        }
-    }
-    if let Some(words) = root
-        .get(&Key::named("package"))
-        .and_then(|it| it.pointer("/keywords"))
-    {
-        keywords(
-            alloc,
-            words.as_array().map_or(&[], |it| it.as_slice()),
-            list,
-        )?;
-    }
-    if let Some(table) = root
-        .get(&Key::named("dependencies"))
-        .and_then(|it| it.as_table())
-    {
-        for value in table.values() {
-            push_all(&dependency(value), list)?;
+        match (key.name.as_str(), value.as_table()) {
+            ("package", _) => {
+                push_all(&package(key, value), list)?;
+                keywords(alloc, elements(value, "/keywords"), list)?;
+            }
+            ("dependencies", Some(table)) => {
+                for value in table.values() {
+                    push_all(&dependency(value), list)?;
+                }
+            }
+            _ => {}
         }
     }
     Ok(())
