@@ -4,7 +4,7 @@
 //!   numbers by their names: what is read, or the code and the place of the error, the path to it, and the reason.
 //! - `shown`: the settings, or the error with its lines. `shown_device`: the error of a device.
 //!
-//! Where there is no memory the call is made once more.
+//! A read for which there is no memory is made once more.
 use crate::Row;
 use crate::told::Out;
 use device::{Attributes, Device, Tagged};
@@ -30,8 +30,11 @@ pub fn answer(alloc: Global, row: Row<'_>, out: &mut Out) -> bool {
         "device" => push_read::<Device>(alloc, text, out),
         "tagged" => push_read::<Tagged<'_>>(alloc, text, out),
         "attributes" => push_read::<Attributes<'_>>(alloc, text, out),
-        "limits" => push_limits(alloc, text, out),
-        "shown" | "shown_device" => push_shown(alloc, row, out),
+        "limits" => {
+            push_answer(alloc, limits_of(alloc, text), out);
+        }
+        "shown" => out.made(shown(alloc, text)),
+        "shown_device" => out.made(device_shown(alloc, text)),
         _ => return false,
     }
     true
@@ -45,13 +48,6 @@ fn push_read<'de, T: Deserialize<'de> + Debug + Drop>(
 ) {
     if !push_answer(alloc, from_str::<T>(alloc, text), out) {
         push_answer(alloc, from_str::<T>(alloc, text), out);
-    }
-}
-
-/// Answers `limits`.
-fn push_limits(alloc: Global, text: &str, out: &mut Out) {
-    if !push_answer(alloc, limits_of(alloc, text), out) {
-        push_answer(alloc, limits_of(alloc, text), out);
     }
 }
 
@@ -87,19 +83,11 @@ fn push_answer<T: Debug + Drop>(
     true
 }
 
-/// Returns the code of an error.
-fn code_of(alloc: Global, error: &Error<'_>) -> Result<String, AllocError> {
-    Ok(error.to_diagnostic(alloc, ())?.code)
-}
-
 /// Adds the code and the place of an error, and its text.
 fn push_error(alloc: Global, error: &Error<'_>, out: &mut Out) {
-    let mut made = code_of(alloc, error);
-    if let Err(refused) = &made {
-        out.told_line(refused);
-        made = code_of(alloc, error);
+    if let Some(shown) = out.kept(error.to_diagnostic(alloc, ())) {
+        out.push_str(shown.code.as_str());
     }
-    out.made(made);
     out.push_str(" ");
     out.span(error.span());
     let (line, column) = error.line_info().unwrap_or((0, 0));
@@ -111,23 +99,10 @@ fn push_error(alloc: Global, error: &Error<'_>, out: &mut Out) {
     out.shown(error);
 }
 
-/// Returns what a row shows: the settings, or the device.
-fn row_shown(alloc: Global, row: Row<'_>) -> Result<String, AllocError> {
-    if row.call == "shown" {
-        return shown(alloc, row.text);
+/// Returns the device, or why there is none.
+fn device_shown(alloc: Global, text: &str) -> Result<String, AllocError> {
+    match from_str::<Device>(alloc, text) {
+        Ok(device) => format!(in alloc; "{device:?}"),
+        Err(stop) => render_stop(alloc, Style::Plain, stop, "device.toml", text),
     }
-    match from_str::<Device>(alloc, row.text) {
-        Ok(value) => format!(in alloc; "{value:?}"),
-        Err(stop) => render_stop(alloc, Style::Plain, stop, "device.toml", row.text),
-    }
-}
-
-/// Answers the calls that show an error with its lines.
-fn push_shown(alloc: Global, row: Row<'_>, out: &mut Out) {
-    let mut made = row_shown(alloc, row);
-    if let Err(refused) = &made {
-        out.told_line(refused);
-        made = row_shown(alloc, row);
-    }
-    out.made(made);
 }

@@ -4,13 +4,6 @@
 //! any of the others may stand.
 use std::alloc::{AllocError, Global};
 
-/// The character of a number in braces, and what stands behind them.
-fn character(rest: &str) -> Option<(char, &str)> {
-    let (digits, behind) = rest.strip_prefix('{')?.split_once('}')?;
-    let number = u32::from_str_radix(digits, 16).ok()?;
-    Some((char::from_u32(number)?, behind))
-}
-
 /// The character of the escape that begins a piece behind its backslash, and what stands behind it.
 fn escaped(piece: &str) -> Option<(char, &str)> {
     let mut chars = piece.chars();
@@ -22,7 +15,11 @@ fn escaped(piece: &str) -> Option<(char, &str)> {
         'n' => Some(('\n', rest)),
         'r' => Some(('\r', rest)),
         't' => Some(('\t', rest)),
-        'u' => character(rest),
+        'u' => {
+            let (digits, behind) = rest.strip_prefix('{')?.split_once('}')?;
+            let number = u32::from_str_radix(digits, 16).ok()?;
+            Some((char::from_u32(number)?, behind))
+        }
         _ => None,
     }
 }

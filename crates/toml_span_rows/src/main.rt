@@ -121,24 +121,20 @@ fn push_answered(
     Ok(push_answer(alloc, row, out))
 }
 
-/// Adds each line of a text after four spaces.
-fn push_indented(out: &mut Out, text: &str) {
-    for line in text.lines() {
-        out.push_str("    ");
-        out.push_str(line);
-        out.push_str("\n");
-    }
-}
-
-/// Adds the lines after a row. Returns whether it can be read.
+/// Adds the lines after a row, each after four spaces. Returns whether the row can be read.
 fn push_row(rt: &HostRuntime, alloc: Global, line: &str, out: &mut Out) -> bool {
     let mut answer = Out::new(alloc);
     let answered = push_answered(rt, alloc, line, &mut answer);
     let known = out.kept(answered).unwrap_or(false);
-    if known {
-        push_indented(out, answer.text.as_str());
+    let text = if known {
+        answer.text.as_str()
     } else {
-        push_indented(out, NO_SUCH_ROW);
+        NO_SUCH_ROW
+    };
+    for line in text.lines() {
+        out.push_str("    ");
+        out.push_str(line);
+        out.push_str("\n");
     }
     out.is_short = out.is_short || answer.is_short;
     known

@@ -5,7 +5,7 @@
 //! - `key_places`, `insertion_point`, `table_places` and `table_forms`: see `places`.
 use crate::told::Out;
 use crate::trees::limit_of;
-use crate::trees::shown::push_stop;
+use crate::trees::shown::push_fault;
 use crate::{Row, places};
 use std::alloc::Global;
 use toml_span::Span;
@@ -81,7 +81,12 @@ pub fn answer(alloc: Global, row: Row<'_>, out: &mut Out) -> bool {
     };
     match read_sections(alloc, row.text, limit) {
         Ok(sections) => push_call(alloc, row, sections.as_slice(), out),
-        Err(stop) => push_stop(stop, out),
+        Err(stop) => {
+            if let Some(fault) = out.kept(stop.fault()) {
+                push_fault(&fault, out);
+                drop(fault);
+            }
+        }
     }
     true
 }

@@ -2,7 +2,7 @@
 //!
 //! - `typed TYPE` reads the value at `/a`, `typed_root TYPE` the root: what the read gives, or its errors.
 //! - `errors TYPE` reads the value at `/a`: what each call answers on the errors of the read. `diagnostics TYPE` and
-//!   `copied TYPE`: what `faults` says of each error.
+//!   `copied TYPE`: what `faults` says of the last error.
 //! - `merge TYPE TYPE` reads `/a` and `/b`, and puts the errors of the second after those of the first.
 //! - `parse_string TYPE` parses the string at `/a`. `open` opens a helper over the value there.
 //! - `fields CALL ..` opens a helper over the root, and makes each call in turn.
@@ -77,23 +77,12 @@ fn push_errors<'de>(alloc: Global, row: Row<'de>, root: &mut Value<'de>, out: &m
         };
         push_merge(alloc, &mut errors, more, out);
     }
-    if matches!(row.call, "errors" | "merge") {
-        push_lists(&errors, out);
-    } else {
-        push_printed(alloc, row.call, &errors, out);
+    match row.call {
+        "copied" => push_copies(alloc, errors.last(), out),
+        "diagnostics" => push_twice(alloc, errors.last(), out),
+        _ => push_lists(&errors, out),
     }
     true
-}
-
-/// Adds what errors print, or copies of them.
-fn push_printed(alloc: Global, call: &str, errors: &DeserError<'_>, out: &mut Out) {
-    for error in errors.iter() {
-        if call == "copied" {
-            push_copies(alloc, error, out);
-        } else {
-            push_twice(alloc, error, out);
-        }
-    }
 }
 
 /// Puts errors after others, and adds the answer. Without memory it is done again with what came back.

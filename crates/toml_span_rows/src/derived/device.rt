@@ -44,23 +44,6 @@ pub struct Tagged<'a> {
     pub either: Option<Either<'a>>,
 }
 
-/// An even number.
-#[derive(Debug, Drop, Deserialize)]
-#[serde(try_from = "u8")]
-pub struct Even(pub u8);
-
-impl TryFrom<u8> for Even {
-    type Error = &'static str;
-
-    fn try_from(number: u8) -> Result<Even, &'static str> {
-        if number % 2 == 0 {
-            Ok(Even(number))
-        } else {
-            Err("the number is odd")
-        }
-    }
-}
-
 /// Values of single kinds.
 #[derive(Debug, Drop, Deserialize)]
 pub struct Device {
@@ -69,7 +52,6 @@ pub struct Device {
     pub pair: Option<(i8, i8)>,
     #[serde(alias = "max-body")]
     pub max_body: Option<u64>,
-    pub even: Option<Even>,
 }
 
 /// Reads the number that a string spells.

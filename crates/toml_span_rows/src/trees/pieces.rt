@@ -41,8 +41,11 @@ fn is_piece(text: &str, value: &Value<'_>) -> bool {
         (_, Some(table)) => (b'{', table.values().next()),
         _ => return value.as_str().is_none() && !value.is_taken(),
     };
-    text.as_bytes().get(start).copied() == Some(bracket)
-        && inner.is_none_or(|inner| inner.span.start != start)
+    let is_outer = match inner {
+        Some(inner) => inner.span.start != start,
+        None => true,
+    };
+    is_outer && text.as_bytes().get(start).copied() == Some(bracket)
 }
 
 /// Adds each piece of a document, and whether it is parsed as the same value.

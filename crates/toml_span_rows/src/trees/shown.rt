@@ -2,8 +2,8 @@
 use crate::told::Out;
 use std::alloc::Global;
 use std::borrow::CowStr;
-use toml_span::value::{Step, Value, ValueInner, Visited, nodes};
-use toml_span::{Error, Stop};
+use toml_span::Error;
+use toml_span::value::{Step, Value, ValueInner, nodes};
 
 /// Adds the path of steps, which is empty at the root. In a name `%` and two digits stand for each byte that is not
 /// printed, a slash or a percent sign.
@@ -73,27 +73,23 @@ fn push_scalar(value: &Value<'_>, out: &mut Out) {
     }
 }
 
-/// Adds the line of a value.
-fn push_line(visited: &Visited<'_, '_>, out: &mut Out) {
-    let path = visited.path.as_slice();
-    push_path(path, out);
-    out.push_str(if path.is_empty() { "root " } else { " " });
-    push_kind(visited.value, out);
-    if let Some(key) = visited.key {
-        out.push_str(" key ");
-        out.span(key.span);
-        push_owned(&key.name, out);
-    }
-    push_scalar(visited.value, out);
-    out.push_str("\n");
-}
-
 /// Adds the lines of a value and of all values in it.
 pub fn push_lines(alloc: Global, value: &Value<'_>, out: &mut Out) {
-    if let Some(list) = out.kept(nodes(alloc, value)) {
-        for visited in list.iter() {
-            push_line(visited, out);
+    let Some(list) = out.kept(nodes(alloc, value)) else {
+        return;
+    };
+    for visited in list.iter() {
+        let path = visited.path.as_slice();
+        push_path(path, out);
+        out.push_str(if path.is_empty() { "root " } else { " " });
+        push_kind(visited.value, out);
+        if let Some(key) = visited.key {
+            out.push_str(" key ");
+            out.span(key.span);
+            push_owned(&key.name, out);
         }
+        push_scalar(visited.value, out);
+        out.push_str("\n");
     }
 }
 
@@ -137,12 +133,4 @@ pub fn push_fault(fault: &Error<'_>, out: &mut Out) {
     push_stand(fault, out);
     out.push_str(" ");
     out.told(&fault.kind);
-}
-
-/// Adds the error for which a call gave nothing.
-pub fn push_stop(stop: Stop<Error<'_>>, out: &mut Out) {
-    if let Some(fault) = out.kept(stop.fault()) {
-        push_fault(&fault, out);
-        drop(fault);
-    }
 }

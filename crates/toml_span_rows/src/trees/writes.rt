@@ -88,7 +88,10 @@ fn push_operation<'t>(
         "find" => push_named(root.pointer(place), out),
         "look" => push_named(root.look_up(place), out),
         "at" => push_at(alloc, root, place, out),
-        "taken" => out.told(root.pointer(place).map(Value::is_taken)),
+        "taken" => match root.pointer(place) {
+            Some(value) => out.told(Some(value.is_taken())),
+            None => out.told(None::<bool>),
+        },
         "has_key" => out.told(root.has_key(place)),
         "has_keys" => out.told(root.has_keys()),
         "whole" => out.told(root.is_whole()),

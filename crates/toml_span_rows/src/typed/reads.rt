@@ -3,7 +3,7 @@ use crate::told::Out;
 use crate::trees::shown::push_owned;
 use crate::typed::odd::Odd;
 use crate::typed::owned::Name;
-use crate::typed::structs::{Holders, Pair, Range, Ratio, Server, Target, Upload};
+use crate::typed::structs::{Holders, Range, Ratio, Server, Target, Upload};
 use std::alloc::Global;
 use std::borrow::CowStr;
 use std::collections::{BTreeMap, HashMap};
@@ -116,7 +116,7 @@ pub fn errors_at<'de>(
         "bool" => errors_as::<bool>(alloc, value, out),
         "Vec<u8>" => errors_as::<Vec<u8>>(alloc, value, out),
         "Vec<Odd>" => errors_as::<Vec<Odd>>(alloc, value, out),
-        "Pair" => errors_as::<Pair>(alloc, value, out),
+        "Range" => errors_as::<Range>(alloc, value, out),
         "Target" => errors_as::<Target>(alloc, value, out),
         "Name" => errors_as::<Name>(alloc, value, out),
         _ => None,

@@ -33,7 +33,7 @@ pub struct Upload {
     pub max_body: u64,
     pub limit: Option<u8>,
     pub mode: Spanned<u8>,
-    pub pair: Pair,
+    pub range: Range,
 }
 
 impl<'de> Deserialize<'de> for Upload {
@@ -42,7 +42,7 @@ impl<'de> Deserialize<'de> for Upload {
             max_body: u64 = "max-body", alias("max_body");
             limit: Option<u8> = "limit", alias("max");
             mode: Spanned<u8>, parsed;
-            pair: Pair, flatten;
+            range: Range, flatten;
         })
     }
 }
@@ -107,7 +107,7 @@ fn range_of<'s>(
 #[derive(Debug, Drop)]
 pub enum Target {
     File { path: String, append: bool },
-    Pair(Pair),
+    Range(Range),
     Nothing,
 }
 
@@ -115,22 +115,9 @@ impl<'de> Deserialize<'de> for Target {
     fn deserialize(alloc: Global, value: &mut Value<'de>) -> Result<Target, Stop<DeserError<'de>>> {
         read_tagged!(alloc, value, "kind", {
             "file" => Target::File { path: String; append: bool, or(false); },
-            "pair" => Target::Pair(Pair),
+            "range" => Target::Range(Range),
             "nothing" => Target::Nothing,
         })
-    }
-}
-
-/// A struct whose keys are among those of another one, or beside a tag.
-#[derive(Debug, Drop)]
-pub struct Pair {
-    pub low: u8,
-    pub high: u8,
-}
-
-impl<'de> Deserialize<'de> for Pair {
-    fn deserialize(alloc: Global, value: &mut Value<'de>) -> Result<Pair, Stop<DeserError<'de>>> {
-        read_table!(alloc, value, Pair { low: u8; high: u8; })
     }
 }
 
