@@ -57,7 +57,7 @@ if [ "$status" -ne 0 ] || [ "$passed" -eq 0 ]; then failed=$((failed > 0 ? faile
 start "no handles" grep -qx 'Handles allowed: none.' HANDLES
 start "stored runs of toml-span" bash scripts/runs.sh toml_span_cli
 start "stored runs of toml_span_show" bash scripts/runs.sh toml_span_show
-start "stored runs of the example" bash scripts/quick.sh toml_span_example
+start "stored runs of the example" bash scripts/runs.sh toml_span_example
 start "refused requests for memory" bash scripts/refuse.sh
 start "scripts that people start" bash scripts/scripts_test.sh
 start "pages, edits and public items" python3 scripts/pages.py

@@ -9,29 +9,23 @@ use std::alloc::Global;
 use std::process::ExitCode;
 use std::time::Instant;
 use std::{env, fs, io};
-use toml_span::de::parse;
-use toml_span_lex::tokenizer::Tokenizer;
+use toml_span::parse;
+use toml_span::tokens::Tokenizer;
 
 /// About how long to measure where no number of passes is asked for, in nanoseconds.
 const SECOND: u128 = 1_000_000_000;
 
-/// What is done with a document.
-#[derive(Clone, Copy)]
-enum Work {
-    Parse,
-    Tokens,
-}
+/// How the program is called.
+const USAGE: &str = "usage: toml_span_bench FILE N
+       toml_span_bench tokens FILE N
+Parses FILE N times, or for about a second where N is 0, and prints the best and the mean
+time of a pass in nanoseconds. The second form goes through the tokens alone.";
 
-/// How long the passes over a document took, in nanoseconds.
-#[derive(Clone, Copy)]
-struct Times {
-    best: u128,
-    sum: u128,
-    passes: u64,
-}
-
-/// Goes through the tokens of a text. Whether no fault stands in it.
-fn read_tokens(alloc: Global, text: &str) -> bool {
+/// Goes over a text once. Returns whether it has no error.
+fn is_read(alloc: Global, text: &str, in_tokens: bool) -> bool {
+    if !in_tokens {
+        return parse(alloc, text).is_ok();
+    }
     let mut tokenizer = Tokenizer::new(text);
     for _ in 0..=text.len() {
         match tokenizer.step(alloc) {
@@ -43,69 +37,49 @@ fn read_tokens(alloc: Global, text: &str) -> bool {
     false
 }
 
-/// Goes over a text once. Whether it is read.
-fn pass(alloc: Global, text: &str, work: Work) -> bool {
-    match work {
-        Work::Parse => parse(alloc, text).is_ok(),
-        Work::Tokens => read_tokens(alloc, text),
-    }
-}
-
-/// Goes over a text so many times, or for about a second.
-fn measure(rt: &HostRuntime, text: &str, work: Work, passes: u64) -> io::Result<(Times, bool)> {
-    let mut times = Times {
-        best: u128::MAX,
-        sum: 0,
-        passes: 0,
-    };
-    let mut is_read = true;
+/// Goes over a text this many times, or for about a second where that is 0, and prints the line for its file.
+fn measure(
+    rt: &HostRuntime,
+    file: &str,
+    text: &str,
+    in_tokens: bool,
+    passes: u64,
+) -> io::Result<()> {
+    let (mut best, mut sum, mut count) = (u128::MAX, 0, 0);
+    let mut outcome = "ok";
     let most = if passes == 0 { u64::MAX } else { passes };
     for _ in 0..most {
         let start = Instant::now(rt)?;
-        is_read = pass(rt.alloc(), text, work);
+        if !is_read(rt.alloc(), text, in_tokens) {
+            outcome = "error";
+        }
         let took = start.elapsed(rt)?.as_nanos();
-        times.best = times.best.min(took);
-        times.sum = times.sum.saturating_add(took);
-        times.passes = times.passes.saturating_add(1);
-        if passes == 0 && times.sum >= SECOND {
+        best = took.min(best);
+        sum = took.saturating_add(sum);
+        count = 1u64.saturating_add(count);
+        if passes == 0 && sum >= SECOND {
             break;
         }
     }
-    Ok((times, is_read))
-}
-
-/// The line for a file.
-fn report(rt: &HostRuntime, file: &str, work: Work, passes: u64) -> io::Result<()> {
-    let text = fs::read_to_string(rt, file)?;
-    let (times, is_read) = measure(rt, text.as_str(), work, passes)?;
-    let best = times.best;
-    let mean = times.sum / u128::from(times.passes.max(1));
+    let mean = sum / u128::from(count.max(1));
     let bytes = text.len();
-    let outcome = if is_read { "ok" } else { "error" };
     println!(rt; "best_ns={best} mean_ns={mean} bytes={bytes} {outcome} {file}")
 }
 
 fn main(rt: HostRuntime) -> io::Result<ExitCode> {
     let words: Vec<String> = env::args(&rt)?.skip(1).collect(rt.alloc())?;
-    let (work, file, count) = match words.as_slice() {
-        [file, count] => (Work::Parse, file, count),
-        [what, file, count] if what.as_str() == "tokens" => (Work::Tokens, file, count),
-        _ => return usage(&rt),
+    let (in_tokens, file, count) = match words.as_slice() {
+        [file, count] => (false, file.as_str(), count.as_str().parse::<u64>()),
+        [what, file, count] if what.as_str() == "tokens" => {
+            (true, file.as_str(), count.as_str().parse::<u64>())
+        }
+        _ => (false, "", "".parse::<u64>()),
     };
-    let Ok(passes) = count.as_str().parse::<u64>() else {
-        return usage(&rt);
+    let Ok(passes) = count else {
+        println!(rt; "{USAGE}")?;
+        return Ok(ExitCode::from(2));
     };
-    report(&rt, file.as_str(), work, passes)?;
+    let text = fs::read_to_string(&rt, file)?;
+    measure(&rt, file, text.as_str(), in_tokens, passes)?;
     Ok(ExitCode::SUCCESS)
-}
-
-/// How the program is called.
-fn usage(rt: &HostRuntime) -> io::Result<ExitCode> {
-    println!(rt; "usage: toml_span_bench FILE N")?;
-    println!(rt; "       toml_span_bench tokens FILE N")?;
-    println!(rt;
-        "Parses FILE N times, or for about a second where N is 0, and prints the best and the mean"
-    )?;
-    println!(rt; "time of a pass in nanoseconds. The second form goes through the tokens alone.")?;
-    Ok(ExitCode::from(2))
 }

@@ -1,83 +1,28 @@
-//! Reads the settings of a server from standard input. Prints what is to be said of them, and the settings.
+//! Reads a document from standard input: a package's manifest, which begins with a header of one, or else the settings
+//! of a server. Prints what is wrong with it, and the settings. The status is 1 where there is an error, or anything to
+//! say of a manifest.
 #![tactic(auto)]
 
-use std::alloc::Global;
+mod lint;
+mod settings;
+
+use std::alloc::{AllocError, Global};
 use std::io;
 use std::process::ExitCode;
-use toml_span::{
-    DeserError, Deserialize, DeserializeWithWarnings, Error, Spanned, Stop, Value,
-    from_str_with_warnings, read_table, read_tagged,
-};
-use toml_span_report::{Style, render_all, reports_of};
 
-/// The settings. Other keys are refused.
-#[derive(Debug, Drop)]
-struct Settings {
-    max_body: u32,
-    log: Log,
-    mirrors: Vec<Mirror>,
-}
-
-/// Where the log goes.
-#[derive(Debug, Drop)]
-enum Log {
-    Terminal,
-    File { path: String, append: bool },
-}
-
-/// Where else the files are. No two have one name.
-#[derive(Debug, Drop)]
-struct Mirror {
-    name: Spanned<String>,
-    url: String,
-}
-
-impl<'de> DeserializeWithWarnings<'de> for Settings {
-    fn deserialize_with_warnings(
-        alloc: Global,
-        value: &mut Value<'de>,
-        warnings: &mut Vec<Error<'de>>,
-    ) -> Result<Self, Stop<DeserError<'de>>> {
-        read_table!(alloc, value, warnings, Settings {
-            max_body: u32 = "max-body", deprecated("max_body"), or(65536);
-            log: Log, or(Log::Terminal);
-            mirrors: Vec<Mirror>, unique(name);
-        })
+/// Returns what is to be printed of a text, and whether there is nothing wrong with it.
+fn shown(alloc: Global, text: &str) -> Result<(String, bool), AllocError> {
+    if !text.starts_with("[package]") && !text.starts_with("[dependencies]") {
+        return settings::shown(alloc, text);
     }
-}
-
-impl<'de> Deserialize<'de> for Log {
-    fn deserialize(alloc: Global, value: &mut Value<'de>) -> Result<Self, Stop<DeserError<'de>>> {
-        read_tagged!(alloc, value, "to", {
-            "terminal" => Log::Terminal,
-            "file" => Log::File { path: String; append: bool, or(false); },
-        })
-    }
-}
-
-impl<'de> Deserialize<'de> for Mirror {
-    fn deserialize(alloc: Global, value: &mut Value<'de>) -> Result<Self, Stop<DeserError<'de>>> {
-        read_table!(alloc, value, Mirror { name: Spanned<String>; url: String; })
-    }
+    let shown = lint::shown(alloc, text)?;
+    let is_right = shown.is_empty();
+    Ok((shown, is_right))
 }
 
 fn main(rt: HostRuntime) -> io::Result<ExitCode> {
-    let alloc = rt.alloc();
-    let input = io::read_to_string(alloc, rt.stdin())?;
-    let text = input.as_str();
-    let mut warnings = Vec::new(alloc);
-    let read = from_str_with_warnings::<Settings>(alloc, text, &mut warnings);
-    let reports = reports_of(alloc, &read, warnings.as_slice(), text)?;
-    let shown = render_all(
-        alloc,
-        Style::Plain,
-        reports.as_slice(),
-        "settings.toml",
-        text,
-    )?;
+    let input = io::read_to_string(rt.alloc(), rt.stdin())?;
+    let (shown, is_right) = shown(rt.alloc(), input.as_str())?;
     print!(rt; "{shown}")?;
-    match read {
-        Ok(settings) => println!(rt; "{settings:#?}").map(|()| ExitCode::SUCCESS),
-        Err(_stop) => Ok(ExitCode::FAILURE),
-    }
+    Ok(ExitCode::from(u8::from(!is_right)))
 }

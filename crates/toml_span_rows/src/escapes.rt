@@ -4,13 +4,6 @@
 //! any of the others may stand.
 use std::alloc::{AllocError, Global};
 
-/// The character of a number in braces, and what stands behind them.
-fn character(rest: &str) -> Option<(char, &str)> {
-    let (digits, behind) = rest.strip_prefix('{')?.split_once('}')?;
-    let number = u32::from_str_radix(digits, 16).ok()?;
-    Some((char::from_u32(number)?, behind))
-}
-
 /// The character of the escape that begins a piece behind its backslash, and what stands behind it.
 fn escaped(piece: &str) -> Option<(char, &str)> {
     let mut chars = piece.chars();
@@ -22,15 +15,13 @@ fn escaped(piece: &str) -> Option<(char, &str)> {
         'n' => Some(('\n', rest)),
         'r' => Some(('\r', rest)),
         't' => Some(('\t', rest)),
-        'u' => character(rest),
+        'u' => {
+            let (digits, behind) = rest.strip_prefix('{')?.split_once('}')?;
+            let number = u32::from_str_radix(digits, 16).ok()?;
+            Some((char::from_u32(number)?, behind))
+        }
         _ => None,
     }
-}
-
-/// How often a part stands that begins behind a brace, and its beginning.
-fn part_of(rest: &str) -> Option<(usize, &str)> {
-    let (digits, front) = rest.split_once(' ')?;
-    Some((digits.parse::<usize>().ok()?, front))
 }
 
 /// Makes of the end of a text, which stands there once, so many.
@@ -58,7 +49,8 @@ pub fn push_text(alloc: Global, source: &str, text: &mut String) -> Result<bool,
         if !behind {
             text.push_str(piece)?;
         } else if let Some(rest) = piece.strip_prefix('{') {
-            let Some((times, front)) = part_of(rest) else {
+            let (digits, front) = rest.split_once(' ').unwrap_or((rest, ""));
+            let Ok(times) = digits.parse::<usize>() else {
                 return Ok(false);
             };
             part = (times, text.len());

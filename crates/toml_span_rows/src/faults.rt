@@ -1,13 +1,15 @@
-//! What errors print: `diagnostics` of a text's fault, and `diagnostic KIND` of an error of a kind that only typed
-//! reads make, at 4..6 in line 2, whose names the text gives. `error_copies KIND`: what clones of its kind and of such
-//! an error are, and its diagnostic, each made twice, and then the error.
+//! What errors print.
+//!
+//! - `diagnostic KIND`: an error of a kind that typed reads make, at 4..6 in line 2, whose names are those of the text.
+//! - `diagnostics` of a text, and of a typed read: what each error prints, and its diagnostic.
+//! - `copied` of a text, and of a typed read: clones of each error and of its kind, and its diagnostic, each made twice,
+//!   and then the error.
 use crate::Row;
 use crate::told::Out;
 use crate::trees::shown::push_stand;
 use std::alloc::Global;
-use toml_span::{Error, Span};
-
-mod made;
+use std::borrow::CowStr;
+use toml_span::{Error, ErrorKind, Span};
 
 /// The number by which a diagnostic names its file.
 const FILE: u8 = 7;
@@ -15,9 +17,9 @@ const FILE: u8 = 7;
 /// Adds an error's code, place and text, and its diagnostic.
 fn push_error(alloc: Global, error: &Error<'_>, out: &mut Out) {
     push_stand(error, out);
-    out.push(' ');
+    out.push_str(" ");
     out.shown(error);
-    out.push('\n');
+    out.push_str("\n");
     out.told(error.to_diagnostic(alloc, FILE));
 }
 
@@ -35,8 +37,8 @@ pub fn push_twice(alloc: Global, error: &Error<'_>, out: &mut Out) {
     out.is_short = out.is_short || again.is_short;
 }
 
-/// Adds what clones of an error are and its diagnostic, each made twice, and then the error.
-fn push_copies(alloc: Global, error: &Error<'_>, out: &mut Out) {
+/// Adds clones of an error and of its kind, and its diagnostic, each made twice, and then the error.
+pub fn push_copies(alloc: Global, error: &Error<'_>, out: &mut Out) {
     for _ in 0..2 {
         out.told_line(error.kind.clone(alloc));
         out.told_line(error.clone(alloc));
@@ -45,25 +47,36 @@ fn push_copies(alloc: Global, error: &Error<'_>, out: &mut Out) {
     out.told(error);
 }
 
-/// Writes the answer of a row, or says that there is no such call.
+/// Returns the kind of a word, with the names of a text: two have ` | ` between them.
+fn kind_of<'s>(word: &str, text: &'s str) -> Option<ErrorKind<'s>> {
+    let (first, second) = text.split_once(" | ").unwrap_or((text, ""));
+    Some(match word {
+        "out-of-range" => ErrorKind::OutOfRange(text),
+        "wanted" => ErrorKind::Wanted {
+            expected: first,
+            found: second,
+        },
+        "missing-field" => ErrorKind::MissingField(text),
+        "deprecated" => ErrorKind::Deprecated {
+            old: first,
+            new: second,
+        },
+        "custom" => ErrorKind::Custom(CowStr::Borrowed(text)),
+        _ => return None,
+    })
+}
+
+/// Adds the answer of a row. Returns whether it can be read.
 pub fn answer(alloc: Global, row: Row<'_>, out: &mut Out) -> bool {
-    let copies = row.call == "error_copies";
-    if row.call != "diagnostic" && !copies {
+    if row.call != "diagnostic" {
         return false;
     }
-    let Some(names) = out.kept(made::names_of(alloc, row.text)) else {
-        return true;
-    };
-    let made = made::kind_of(alloc, row.word(0), row.text, names.as_slice());
-    let Some(Some(kind)) = out.kept(made) else {
-        return out.is_short;
+    let Some(kind) = kind_of(row.word(0), row.text) else {
+        return false;
     };
     let mut error = Error::from((kind, Span::new(4, 6)));
     error.line_info = Some((2, 3));
-    if copies {
-        push_copies(alloc, &error, out);
-    } else {
-        push_twice(alloc, &error, out);
-    }
+    push_twice(alloc, &error, out);
+    drop(error);
     true
 }

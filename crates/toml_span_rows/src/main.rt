@@ -1,24 +1,25 @@
 //! Calls of the public interface, as rows of data.
 //!
-//! Each line of standard input is a row: `CALL WORDS: TEXT`. The program writes each line as it is, and
-//! under a row its answer, each line of it behind four spaces. Empty lines and lines that begin with `#`
-//! are titles. A row that can't be read answers `no such row`, and the status is then 1.
+//! Each line of standard input is a row: `CALL WORDS: TEXT`. The program writes each line as it is, and after a row its
+//! answer, each line of it after four spaces. Empty lines and lines that begin with `#` are titles. A row that can't be
+//! read answers `no such row`, and the status is then 1.
 //!
-//! `load_file NAME` is the row that needs more than an allocator: what is read of that file of `data`.
+//! - `cuts`: see `cuts`. `span_at POINTER`, `port_of`, `port_told`: what these callers of `uses` return.
+//! - `holders`: the document as `Holders` of `typed::structs`. `warned TYPE`: see `typed::warned`.
+//! - `span START END`: whether a span is empty, what it becomes, and where it starts in a text that has it.
+//! - `copies START END`: clones of a key with that name and of the text at the span, each made twice.
+//! - `load_file NAME`: what is read of that file of `data`, the row that needs more than an allocator.
 #![tactic(auto)]
 
-mod callers;
+mod cuts;
 mod derived;
-mod edits;
 mod escapes;
 mod faults;
-mod holders;
 mod places;
 mod reports;
 mod runs;
 mod sections;
-mod spots;
-mod texts;
+mod spans;
 mod tokens;
 mod told;
 mod trees;
@@ -30,7 +31,12 @@ use std::alloc::{AllocError, Global};
 use std::io;
 use std::process::ExitCode;
 use told::Out;
+use toml_span::from_str;
 use typed::owned::push_file;
+use typed::structs::Holders;
+use typed::warned::push_warned;
+use uses::first::port_told;
+use uses::{port_of, span_at};
 
 /// The answer to a row that can't be read.
 const NO_SUCH_ROW: &str = "no such row";
@@ -44,7 +50,7 @@ pub(crate) struct Row<'r> {
 }
 
 impl<'r> Row<'r> {
-    /// A word by its place, or none, which is empty.
+    /// Returns the word at an index, or an empty one.
     pub(crate) fn word(self, index: usize) -> &'r str {
         match self.words.get(index) {
             Some(word) => word.as_str(),
@@ -53,8 +59,7 @@ impl<'r> Row<'r> {
     }
 }
 
-/// The call, the words and the text of a line, with the escapes still in them. The text is empty where
-/// nothing stands behind the colon.
+/// Returns the call, the words and the text of a line, with the escapes still in them.
 fn parts_of(line: &str) -> Option<(&str, &str, &str)> {
     let (front, text) = match line.split_once(": ") {
         Some(parts) => parts,
@@ -64,22 +69,35 @@ fn parts_of(line: &str) -> Option<(&str, &str, &str)> {
     Some((call, words, text))
 }
 
-/// Adds the answer of the family that has the row's call. Whether one has it.
+/// Adds the answer of a caller. Returns whether there is such a caller.
+fn push_caller(alloc: Global, row: Row<'_>, out: &mut Out) -> bool {
+    let text = row.text;
+    match row.call {
+        "cuts" => cuts::push_cuts(alloc, text, out),
+        "span_at" => out.told(span_at(alloc, text, row.word(0))),
+        "port_of" => out.told(port_of(alloc, text)),
+        "port_told" => out.made(port_told(alloc, text)),
+        "holders" => out.told(from_str::<Holders>(alloc, text)),
+        "warned" => return push_warned(alloc, row.word(0), text, out),
+        _ => return false,
+    }
+    true
+}
+
+/// Adds the answer of the module that has the row's call. Returns whether one has it.
 fn push_answer(alloc: Global, row: Row<'_>, out: &mut Out) -> bool {
-    tokens::answer(alloc, row, out)
-        || places::answer(alloc, row, out)
+    push_caller(alloc, row, out)
+        || tokens::answer(alloc, row, out)
+        || spans::answer(alloc, row, out)
         || faults::answer(alloc, row, out)
         || sections::answer(alloc, row, out)
-        || texts::answer(alloc, row, out)
-        || edits::answer(alloc, row, out)
         || reports::answer(alloc, row, out)
         || runs::answer(alloc, row, out)
-        || callers::answer(alloc, row, out)
         || derived::answer(alloc, row, out)
         || trees::answer(alloc, row, out)
 }
 
-/// Adds the answer to a row. Whether it can be read.
+/// Adds the answer of a row. Returns whether it can be read.
 fn push_answered(
     rt: &HostRuntime,
     alloc: Global,
@@ -103,35 +121,31 @@ fn push_answered(
     Ok(push_answer(alloc, row, out))
 }
 
-/// Adds each line of a text, behind four spaces.
-fn push_indented(out: &mut Out, text: &str) {
-    for line in text.lines() {
-        out.push_str("    ");
-        out.push_str(line);
-        out.push('\n');
-    }
-}
-
-/// Adds what is said to a row. Whether it can be read.
+/// Adds the lines after a row, each after four spaces. Returns whether the row can be read.
 fn push_row(rt: &HostRuntime, alloc: Global, line: &str, out: &mut Out) -> bool {
     let mut answer = Out::new(alloc);
     let answered = push_answered(rt, alloc, line, &mut answer);
     let known = out.kept(answered).unwrap_or(false);
-    if known {
-        push_indented(out, answer.text.as_str());
+    let text = if known {
+        answer.text.as_str()
     } else {
-        push_indented(out, NO_SUCH_ROW);
+        NO_SUCH_ROW
+    };
+    for line in text.lines() {
+        out.push_str("    ");
+        out.push_str(line);
+        out.push_str("\n");
     }
     out.is_short = out.is_short || answer.is_short;
     known
 }
 
-/// Adds all lines with what is said to them. Whether each row of them can be read.
+/// Adds all lines with their answers. Returns whether each row can be read.
 fn push_lines(rt: &HostRuntime, alloc: Global, input: &str, out: &mut Out) -> bool {
     let mut readable = true;
     for line in input.lines() {
         out.push_str(line);
-        out.push('\n');
+        out.push_str("\n");
         if !line.is_empty() && !line.starts_with('#') {
             readable = push_row(rt, alloc, line, out) && readable;
         }

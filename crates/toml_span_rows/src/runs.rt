@@ -1,12 +1,8 @@
-//! The program's run over a reader and a writer in memory, and the calls that write lines.
+//! The run of `toml_span_show` over a reader and a writer in memory.
 //!
-//! - `run LIMIT WORD ..` is `run` for the limit 128, else `run_with_limit`: the status, and what was written. Where a
-//!   word says `each`, a line follows for each call that can fail, and one for a call too late to be made: the status,
-//!   and how many bytes were read and how many of the whole output written, in how many calls.
-//! - `ends WORD ..` reads and writes the text three times: what each call answers, and `has_failed` then.
-//! - `write_lines HELD WORD ..` is that of the document's tree behind so many bytes that are held already, and
-//!   `write_held HELD WORD ..` that of these: what it answers, how many bytes were written in how many calls, and how
-//!   many are held then.
+//! `run LIMIT WORD ..` is `run` for the limit 128, else `run_with_limit`: the status, and what was written. Where a word
+//! ends in `each`, a line follows for each call that can fail, and one for a call that is not made: the status, how many
+//! bytes were read in how many calls, and how many of the whole output written in how many.
 //!
 //! | Word | What it says |
 //! |---|---|
@@ -19,15 +15,10 @@ ghost use Rattle.std.specs.Prelude.{◌≤◌};
 use crate::Row;
 use crate::told::Out;
 use crate::trees::limit_of;
-use std::alloc::{AllocError, Global};
+use std::alloc::Global;
 use std::io;
 use std::io::{ErrorKind, Read, Write};
-use toml_span::{Value, parse};
-use toml_span_lines::held::{Unwritten, write_held};
-use toml_span_lines::lines::write_lines;
 use toml_span_lines::run::{run, run_with_limit};
-use toml_span_lines::sink::Sink;
-use toml_span_lines::source::Source;
 use toml_span_lines::told::Told;
 
 /// What words say of a reader and a writer. Calls are counted from 1, and none is 0.
@@ -41,34 +32,28 @@ struct Ends {
     again: bool,
 }
 
-/// A number, or that for `each`.
-fn number_of(word: &str, each: usize) -> Option<usize> {
-    if word == "each" {
-        return Some(each);
-    }
-    word.parse::<usize>().ok()
-}
-
 impl Ends {
-    /// The same, but for what a word says, with a number for `each`.
-    fn with(self, word: &str, each: usize) -> Option<Ends> {
-        let mut ends = self;
-        let (name, number) = word.split_once('=').unwrap_or((word, "0"));
-        let number = number_of(number, each)?;
+    /// Sets what a word says, with a number for `each`.
+    fn set(&mut self, word: &str, each: usize) -> Option<()> {
+        let (name, number) = word.split_once('=')?;
+        let number = match number {
+            "each" => each,
+            digits => digits.parse::<usize>().ok()?,
+        };
         match name {
-            "read" => ends.read = number,
-            "write" => ends.write = number,
-            "fail_read" => ends.fail_read = number,
-            "fail_write" => ends.fail_write = number,
-            "take_nothing" => ends.take_nothing = number,
-            "again" => ends.again = true,
+            "read" => self.read = number,
+            "write" => self.write = number,
+            "fail_read" => self.fail_read = number,
+            "fail_write" => self.fail_write = number,
+            "take_nothing" => self.take_nothing = number,
+            "again" => self.again = true,
             _ => return None,
         }
-        Some(ends)
+        Some(())
     }
 }
 
-/// What words say of the ends, with a number for `each`.
+/// Returns what words say of the ends, with a number for `each`.
 fn ends_of(words: &[String], each: usize) -> Option<Ends> {
     let mut ends = Ends {
         read: usize::MAX,
@@ -79,19 +64,9 @@ fn ends_of(words: &[String], each: usize) -> Option<Ends> {
         again: false,
     };
     for word in words {
-        ends = ends.with(word.as_str(), each)?;
+        ends.set(word.as_str(), each)?;
     }
     Some(ends)
-}
-
-/// Whether a word says `each`.
-fn says_each(words: &[String]) -> bool {
-    for word in words {
-        if word.ends_with("=each") {
-            return true;
-        }
-    }
-    false
 }
 
 /// A reader of bytes.
@@ -103,18 +78,6 @@ struct Given<'b> {
     calls: usize,
     /// How many bytes were read.
     given: usize,
-}
-
-impl<'b> Given<'b> {
-    fn new(bytes: &'b [u8], ends: Ends) -> Self {
-        Given {
-            bytes,
-            left: bytes,
-            ends,
-            calls: 0,
-            given: 0,
-        }
-    }
 }
 
 impl Read for Given<'_> {
@@ -139,16 +102,6 @@ struct Taken {
     bytes: Vec<u8>,
     ends: Ends,
     calls: usize,
-}
-
-impl Taken {
-    fn new(alloc: Global, ends: Ends) -> Self {
-        Taken {
-            bytes: Vec::new(alloc),
-            ends,
-            calls: 0,
-        }
-    }
 }
 
 impl Write for Taken {
@@ -182,8 +135,18 @@ fn run_on(alloc: Global, limit: usize, bytes: &[u8], ends: Ends) -> Ended<'_>
     requires some { 1 ≤ limit }
     requires small { limit ≤ 128 }
 {
-    let mut reader = Told::new(Given::new(bytes, ends));
-    let mut writer = Told::new(Taken::new(alloc, ends));
+    let mut reader = Told::new(Given {
+        bytes,
+        left: bytes,
+        ends,
+        calls: 0,
+        given: 0,
+    });
+    let mut writer = Told::new(Taken {
+        bytes: Vec::new(alloc),
+        ends,
+        calls: 0,
+    });
     let status = if limit == 128 {
         run(alloc, &mut reader, &mut writer)
     } else {
@@ -196,32 +159,24 @@ fn run_on(alloc: Global, limit: usize, bytes: &[u8], ends: Ends) -> Ended<'_>
     }
 }
 
-/// Adds the status of a run, and what it wrote.
-fn push_ended(ended: &Ended<'_>, out: &mut Out) {
-    out.push_str("status ");
-    out.told_line(ended.status);
-    out.push_str(str::from_utf8(ended.writer.bytes.as_slice()).unwrap_or("no text"));
-}
-
-/// Adds a number, and what it is of.
-fn push_count(count: usize, of: &str, out: &mut Out) {
-    out.told(count);
-    out.push_str(of);
-}
-
 /// Adds the status of a run, its calls, and how many bytes it read and, of an output, wrote; or others that it wrote.
 fn push_front(ended: &Ended<'_>, whole: &[u8], out: &mut Out) {
     let bytes = ended.writer.bytes.as_slice();
     if !whole.starts_with(bytes) {
         return out.told_line(bytes);
     }
+    let counts = [
+        (usize::from(ended.status), ", "),
+        (ended.reader.given, " bytes in "),
+        (ended.reader.calls, " reads, "),
+        (bytes.len(), " bytes in "),
+        (ended.writer.calls, " writes\n"),
+    ];
     out.push_str("status ");
-    out.told(ended.status);
-    out.push_str(", ");
-    push_count(ended.reader.given, " bytes in ", out);
-    push_count(ended.reader.calls, " reads, ", out);
-    push_count(bytes.len(), " bytes in ", out);
-    push_count(ended.writer.calls, " writes\n", out);
+    for (count, of) in counts {
+        out.told(count);
+        out.push_str(of);
+    }
 }
 
 /// Adds a line for each call that can fail, and one for a call that is not made.
@@ -241,118 +196,24 @@ fn push_each(alloc: Global, limit: usize, words: &[String], whole: &Ended<'_>, o
     }
 }
 
-/// Adds what three reads and three writes answer.
-fn push_calls(reader: &mut Told<Given<'_>>, writer: &mut Told<Taken>, bytes: &[u8], out: &mut Out) {
-    let mut buf = [0u8; 8];
-    for _ in 0..3 {
-        let read = reader.read(&mut buf).ok();
-        let written = writer.write(bytes).ok();
-        out.told_line((read, reader.has_failed(), written, writer.has_failed()));
-    }
-}
-
-/// Answers `run`.
-fn push_run(alloc: Global, limit: usize, words: &[String], ends: Ends, bytes: &[u8], out: &mut Out)
-    requires some { 1 ≤ limit }
-    requires small { limit ≤ 128 }
-{
-    let whole = run_on(alloc, limit, bytes, ends);
-    push_ended(&whole, out);
-    if says_each(words) {
-        push_each(alloc, limit, words, &whole, out);
-    }
-}
-
-/// Answers `ends`.
-fn push_ends(alloc: Global, ends: Ends, bytes: &[u8], out: &mut Out) {
-    let mut reader = Told::new(Given::new(bytes, ends));
-    let mut writer = Told::new(Taken::new(alloc, ends));
-    push_calls(&mut reader, &mut writer, bytes, out);
-}
-
-/// So many bytes.
-fn held_bytes(alloc: Global, count: usize) -> Result<Vec<u8>, AllocError> {
-    let mut held = Vec::new(alloc);
-    held.resize(count, b'x')?;
-    Ok(held)
-}
-
-/// Adds what a call answered, what it wrote, and how many bytes it left held.
-fn push_written(answer: Result<(), Unwritten>, writer: &Taken, held: usize, out: &mut Out) {
-    out.push_str(match answer {
-        Ok(()) => "Ok, ",
-        Err(Unwritten::Failed) => "Failed, ",
-        Err(Unwritten::Memory) => "AllocError, ",
-    });
-    out.told(writer.bytes.len());
-    out.push_str(" bytes in ");
-    out.told(writer.calls);
-    out.push_str(" writes, ");
-    out.told(held);
-    out.push_str(" held\n");
-}
-
-/// Answers `write_lines` for a tree.
-fn push_tree(alloc: Global, root: &Value<'_>, count: usize, ends: Ends, out: &mut Out) {
-    let Some(mut held) = out.kept(held_bytes(alloc, count)) else {
-        return;
-    };
-    let mut writer = Told::new(Taken::new(alloc, ends));
-    let answer = write_lines(alloc, &mut writer, &mut held, root);
-    push_written(answer, &writer.into_inner(), held.len(), out);
-}
-
-/// Answers `write_lines`.
-fn push_lines(alloc: Global, text: &str, count: usize, ends: Ends, out: &mut Out) {
-    match parse(alloc, text) {
-        Ok(root) => push_tree(alloc, &root, count, ends, out),
-        Err(stop) => match stop.fault() {
-            Ok(_fault) => out.push_str("no document"),
-            Err(refused) => out.told_line(refused),
-        },
-    }
-}
-
-/// Answers `write_held`.
-fn push_held(alloc: Global, count: usize, ends: Ends, out: &mut Out) {
-    let Some(mut held) = out.kept(held_bytes(alloc, count)) else {
-        return;
-    };
-    let mut writer = Told::new(Taken::new(alloc, ends));
-    let answer = write_held(&mut writer, &mut held);
-    push_written(answer, &writer.into_inner(), held.len(), out);
-}
-
-/// Answers `write_lines` and `write_held`.
-fn push_lined(alloc: Global, row: Row<'_>, out: &mut Out) -> bool {
-    let words = row.words.get(1..).unwrap_or(&[]);
-    let (Ok(count), Some(ends)) = (row.word(0).parse::<usize>(), ends_of(words, 0)) else {
-        return false;
-    };
-    if row.call == "write_held" {
-        push_held(alloc, count, ends, out);
-    } else {
-        push_lines(alloc, row.text, count, ends, out);
-    }
-    true
-}
-
-/// Writes the answer of a row, or says that there is no such call.
+/// Adds the answer of a row. Returns whether it can be read.
 pub fn answer(alloc: Global, row: Row<'_>, out: &mut Out) -> bool {
-    let words = match row.call {
-        "run" => row.words.get(1..).unwrap_or(&[]),
-        "ends" => row.words,
-        "write_lines" | "write_held" => return push_lined(alloc, row, out),
-        _ => return false,
-    };
+    if row.call != "run" {
+        return false;
+    }
+    let words = row.words.get(1..).unwrap_or(&[]);
     let (Some(limit), Some(ends)) = (limit_of(row), ends_of(words, 0)) else {
         return false;
     };
-    let bytes = row.text.as_bytes();
-    if row.call == "ends" {
-        push_ends(alloc, ends, bytes, out);
-    } else {
-        push_run(alloc, limit, words, ends, bytes, out);
+    let whole = run_on(alloc, limit, row.text.as_bytes(), ends);
+    out.push_str("status ");
+    out.told_line(whole.status);
+    out.push_str(str::from_utf8(whole.writer.bytes.as_slice()).unwrap_or("no text"));
+    if row
+        .word(row.words.len().saturating_sub(1))
+        .ends_with("=each")
+    {
+        push_each(alloc, limit, words, &whole, out);
     }
     true
 }

@@ -1,104 +1,79 @@
-//! Calls on the sections of a text, which answer with its first fault where it has one.
+//! Calls on the sections of a text. A text that can't be read answers with its error.
 //!
-//! - `read LIMIT`: the sections of a document, a line each. A key, a value, a header and a section have their places
-//!   behind `@`, an assignment its extent.
-//! - `reads LIMIT`: whether a document is read.
-//! - `key_places` and `lines`, of `edits`; `section_places`, `insertion_point`, `table_places` and `table_forms`, of
-//!   `spots`.
-use crate::tokens::push_span;
+//! - `read LIMIT`: the sections of a document, a line each. A key, a value, a header and a section have their spans
+//!   after `@`, an assignment its extent.
+//! - `key_places`, `insertion_point`, `table_places` and `table_forms`: see `places`.
 use crate::told::Out;
 use crate::trees::limit_of;
-use crate::trees::shown::push_stop;
-use crate::{Row, edits, spots};
+use crate::trees::shown::push_fault;
+use crate::{Row, places};
 use std::alloc::Global;
 use toml_span::Span;
-use toml_span_lex::key::Key;
+use toml_span::value::Key;
 use toml_span_read::{Assignment, Section, read_sections};
 
-/// Whether this is a call on the sections of a text.
-fn is_call(name: &str) -> bool {
-    matches!(
-        name,
-        "read"
-            | "reads"
-            | "lines"
-            | "key_places"
-            | "section_places"
-            | "insertion_point"
-            | "table_places"
-            | "table_forms"
-    )
+/// Adds a span after `@`.
+fn push_place(span: Span, out: &mut Out) {
+    out.push_str("@");
+    out.span(span);
 }
 
-/// Adds the place of what stands before it.
-fn push_place(out: &mut Out, span: Span) {
-    out.push('@');
-    push_span(out, span);
-}
-
-fn push_key(out: &mut Out, key: &Key<'_>) {
+/// Adds a key, and what comes after it.
+fn push_key(key: &Key<'_>, after: &str, out: &mut Out) {
     out.push_str(key.name.as_ref());
-    push_place(out, key.span);
+    push_place(key.span, out);
+    out.push_str(after);
 }
 
-/// Adds keys with a dot behind each.
-fn push_keys(out: &mut Out, keys: &[Key<'_>]) {
-    for key in keys {
-        push_key(out, key);
-        out.push('.');
+/// Adds an assignment after a space.
+fn push_assignment(assignment: &Assignment<'_>, out: &mut Out) {
+    out.push_str(" ");
+    for key in &assignment.parts.inner {
+        push_key(key, ".", out);
     }
-}
-
-fn push_assignment(out: &mut Out, assignment: &Assignment<'_>) {
-    push_keys(out, assignment.parts.inner.as_slice());
-    push_key(out, &assignment.parts.last);
-    out.push('=');
+    push_key(&assignment.parts.last, "=", out);
     out.told(&assignment.value.kind);
-    push_place(out, assignment.value.span);
-    push_place(out, assignment.extent);
-}
-
-/// Adds a section and a line end.
-fn push_section(out: &mut Out, section: &Section<'_>) {
-    out.push_str(if section.array { "[[" } else { "[" });
-    push_keys(out, section.header.as_slice());
-    out.push(']');
-    push_place(out, section.header_span);
-    push_place(out, section.extent);
-    for assignment in &section.assignments {
-        out.push(' ');
-        push_assignment(out, assignment);
-    }
-    out.push('\n');
+    push_place(assignment.value.span, out);
+    push_place(assignment.extent, out);
 }
 
 /// Adds a line for each section, or that there are none.
-fn push_sections(out: &mut Out, sections: &[Section<'_>]) {
+fn push_sections(sections: &[Section<'_>], out: &mut Out) {
     if sections.is_empty() {
         out.push_str("no sections");
     }
     for section in sections {
-        push_section(out, section);
+        out.push_str(if section.array { "[[" } else { "[" });
+        for key in section.header.as_slice() {
+            push_key(key, ".", out);
+        }
+        out.push_str("]");
+        push_place(section.header_span, out);
+        push_place(section.extent, out);
+        for assignment in &section.assignments {
+            push_assignment(assignment, out);
+        }
+        out.push_str("\n");
     }
 }
 
-/// Adds what a call answers on the sections of a text.
+/// Adds the answer of a call on the sections of a text.
 fn push_call(alloc: Global, row: Row<'_>, sections: &[Section<'_>], out: &mut Out) {
     match row.call {
-        "read" => push_sections(out, sections),
-        "reads" => out.push_str("read"),
-        "lines" => edits::push_lines(row.text, sections, out),
-        "key_places" => edits::push_places(alloc, row.text, sections, out),
-        "section_places" => spots::push_sections(alloc, row.text, sections, out),
-        "insertion_point" => spots::push_point(alloc, row, sections, out),
-        "table_places" => spots::push_tables(alloc, sections, out),
-        _ => spots::push_forms(alloc, row, sections, out),
+        "read" => push_sections(sections, out),
+        "key_places" => places::push_keys(alloc, row.text, sections, out),
+        "table_places" => places::push_tables(alloc, sections, out),
+        "insertion_point" => places::push_point(alloc, row, sections, out),
+        _ => places::push_forms(alloc, row, sections, out),
     }
 }
 
-/// Writes the answer of a row, or says that there is no such call.
+/// Adds the answer of a row. Returns whether it can be read.
 pub fn answer(alloc: Global, row: Row<'_>, out: &mut Out) -> bool {
-    if !is_call(row.call) {
+    if !matches!(
+        row.call,
+        "read" | "key_places" | "table_places" | "insertion_point" | "table_forms"
+    ) {
         return false;
     }
     let Some(limit) = limit_of(row) else {
@@ -106,7 +81,12 @@ pub fn answer(alloc: Global, row: Row<'_>, out: &mut Out) -> bool {
     };
     match read_sections(alloc, row.text, limit) {
         Ok(sections) => push_call(alloc, row, sections.as_slice(), out),
-        Err(stop) => push_stop(stop, out),
+        Err(stop) => {
+            if let Some(fault) = out.kept(stop.fault()) {
+                push_fault(&fault, out);
+                drop(fault);
+            }
+        }
     }
     true
 }

@@ -1,9 +1,10 @@
-//! What is written: answers, as they are printed for programmers.
+//! The text that the program writes: answers, as they print for programmers.
 use std::alloc::{AllocError, Global};
 use std::fmt::{Debug, Display};
+use toml_span::Span;
 
-/// A text that is written, of which no part is read before its end. So that nobody has to look at each part, it
-/// keeps in mind whether there was memory for all of them.
+/// A text that nothing reads before its end. It remembers whether there was memory for each part, so that callers
+/// don't have to look.
 #[derive(Drop)]
 pub struct Out {
     pub text: String,
@@ -12,7 +13,7 @@ pub struct Out {
 }
 
 impl Out {
-    /// An empty text.
+    /// Returns an empty text.
     pub fn new(alloc: Global) -> Out {
         Out {
             text: String::new(alloc),
@@ -20,7 +21,7 @@ impl Out {
         }
     }
 
-    /// The text, if there was memory for all of it.
+    /// Returns the text, if there was memory for all of it.
     pub fn whole(self) -> Result<String, AllocError> {
         if self.is_short {
             return Err(AllocError);
@@ -28,7 +29,7 @@ impl Out {
         Ok(self.text)
     }
 
-    /// What was made to be written, if there was memory for it.
+    /// Returns what a call made, if there was memory for it.
     pub fn kept<T: Drop>(&mut self, made: Result<T, AllocError>) -> Option<T> {
         match made {
             Ok(value) => Some(value),
@@ -46,14 +47,7 @@ impl Out {
         }
     }
 
-    /// Adds a character.
-    pub fn push(&mut self, c: char) {
-        if self.text.push(c).is_err() {
-            self.is_short = true;
-        }
-    }
-
-    /// Adds a text that was made to be written.
+    /// Adds a text that a call made.
     pub fn made(&mut self, made: Result<String, AllocError>) {
         if let Some(text) = self.kept(made) {
             self.push_str(text.as_str());
@@ -67,10 +61,10 @@ impl Out {
         }
     }
 
-    /// Adds an answer and a line end.
+    /// Adds an answer and a line feed.
     pub fn told_line<T: Debug + Drop>(&mut self, told: T) {
         self.told(told);
-        self.push('\n');
+        self.push_str("\n");
     }
 
     /// Adds the text of an answer.
@@ -78,5 +72,12 @@ impl Out {
         if write!(self.text, "{shown}").is_err() {
             self.is_short = true;
         }
+    }
+
+    /// Adds a span, as `start..end`.
+    pub fn span(&mut self, span: Span) {
+        self.told(span.start);
+        self.push_str("..");
+        self.told(span.end);
     }
 }

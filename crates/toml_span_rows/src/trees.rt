@@ -1,37 +1,34 @@
-//! Trees of documents: `parse LIMIT`, `twice`, `write OPERATION ..`, `json`, `kinds`, `again`, `text_order`, `nodes`,
-//! `diagnostics` and typed reads. A text that is no document answers with its fault, of which `diagnostics` has all
-//! that it prints. `twice` parses twice: what the first answers in a word, and the second whole.
+//! Calls on the tree of a document. A text that is not valid TOML answers with its error.
 //!
-//! - `refused_at`: the place of a refusal, with its line and its column.
-//! - `integer_at POINTER`: the integer there, if there is one.
-//! - `with_value POINTER`: the tree with the number 7 where the pointer leads, if it leads anywhere.
-//! - `write_second`: whether the number 7 is put at `/b/x`, and the tree then.
+//! - `parse LIMIT`: the lines of the tree. `twice` parses twice: what the first parse gives in a word, the second whole.
+//! - `json`: the JSON value.
+//! - `again`: the values that the text spells as one piece, each parsed again.
+//! - `nodes`: the steps to each value, its kind and its key. `text_order`: the keys of the root in the order of the text.
+//! - `node_at OFFSET`: see `places`. `write OPERATION ..`: see `writes`. Typed reads: see `typed`.
+//! - `diagnostics`: what the error prints, and its diagnostic. `copied`: copies of it.
 ghost use Rattle.std.specs.Prelude.{◌≤◌, IfSome};
 
-use crate::edits::{push_literals, push_spelled};
-use crate::faults::push_twice;
-use crate::spots::push_node_at;
+use crate::faults::{push_copies, push_twice};
+use crate::places::push_node_at;
 use crate::told::Out;
 use crate::{Row, typed};
 use shown::{push_fault, push_lines};
-use std::alloc::{AllocError, Global};
+use std::alloc::Global;
 use toml_span::de::parse_with_limit;
 use toml_span::value::Value;
-use toml_span::{Error, Span, Stop, parse};
+use toml_span::{Error, Stop, parse};
 
-mod kinds;
 pub mod orders;
 mod pieces;
-pub mod places;
 pub mod shown;
 mod writes;
 
-/// The limit of a row, which `parse`, `read`, `reads` and `run` name.
+/// Returns the limit of a row, which `parse`, `read` and `run` name.
 pub(crate) fn limit_of(row: Row<'_>) -> Option<usize>
     ensures some { IfSome result (λ limit. 1 ≤ limit) }
     ensures small { IfSome result (λ limit. limit ≤ 128) }
 {
-    if !matches!(row.call, "parse" | "read" | "reads" | "run") {
+    if !matches!(row.call, "parse" | "read" | "run") {
         return Some(128);
     }
     let limit = row.word(0).parse::<usize>().ok()?;
@@ -57,21 +54,14 @@ fn push_json(alloc: Global, root: &Value<'_>, out: &mut Out) {
     }
 }
 
-/// Adds what a call answers on a tree. Whether there is such a call.
+/// Adds the answer of a call on a tree. Returns whether there is such a call.
 fn push_call<'t>(alloc: Global, row: Row<'t>, root: &mut Value<'t>, out: &mut Out) -> bool {
     match row.call {
-        "parse" | "twice" => push_lines(alloc, root, 0, out),
+        "parse" | "twice" => push_lines(alloc, root, out),
         "json" => push_json(alloc, root, out),
-        "kinds" => kinds::push_kinds(alloc, root, out),
         "again" => pieces::push_again(alloc, row.text, root, out),
-        "literals" => push_literals(alloc, row.text, root, out),
-        "to_toml" => push_spelled(alloc, root, out),
         "text_order" => orders::push_order(alloc, root, out),
         "nodes" => orders::push_nodes(alloc, root, out),
-        "diagnostics" => out.push_str("no fault"),
-        "refused_at" => out.push_str("Ok(None)"),
-        "integer_at" => out.told(integer_at(root, row.word(0))),
-        "with_value" | "write_second" => writes::push_changed(alloc, row, root, out),
         "node_at" => return push_node_at(alloc, row, root, out),
         "write" => return writes::push_writes(alloc, row.words, root, out),
         _ => return typed::answer(alloc, row, root, out),
@@ -79,30 +69,16 @@ fn push_call<'t>(alloc: Global, row: Row<'t>, root: &mut Value<'t>, out: &mut Ou
     true
 }
 
-/// The integer to which a pointer leads, if it leads to one.
-fn integer_at<'t>(root: &Value<'t>, pointer: &'t str) -> Result<Option<i64>, AllocError> {
-    match root.pointer(pointer) {
-        Some(value) => Ok(value.as_integer()),
-        None => Ok(None),
-    }
-}
-
-/// The place at which a text is refused, with its line and its column.
-fn refused_at(fault: &Error<'_>) -> Result<Option<(Span, usize, usize)>, AllocError> {
-    let (line, column) = fault.line_info.unwrap_or((0, 0));
-    Ok(Some((fault.span, line, column)))
-}
-
-/// Adds what is told of the fault of a text.
+/// Adds the error of a text.
 fn push_refused(alloc: Global, call: &str, fault: &Error<'_>, out: &mut Out) {
     match call {
         "diagnostics" => push_twice(alloc, fault, out),
-        "refused_at" => out.told(refused_at(fault)),
+        "copied" => push_copies(alloc, fault, out),
         _ => push_fault(fault, out),
     }
 }
 
-/// Adds what a first `parse` answers: `tree`, `fault`, or that there is no memory.
+/// Adds what a first `parse` gives: `tree`, `fault`, or that there is no memory.
 fn push_first(alloc: Global, text: &str, out: &mut Out) {
     let word = match parse(alloc, text) {
         Ok(root) => {
@@ -118,7 +94,7 @@ fn push_first(alloc: Global, text: &str, out: &mut Out) {
     out.push_str(word);
 }
 
-/// Writes the answer of a row, one line each, or says that there is no such call.
+/// Adds the answer of a row. Returns whether it can be read.
 pub fn answer(alloc: Global, row: Row<'_>, out: &mut Out) -> bool {
     let Some(limit) = limit_of(row) else {
         return false;

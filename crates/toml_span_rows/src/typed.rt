@@ -1,85 +1,72 @@
-//! Rows of typed reads. Behind what a call answers stand the lines of the tree that it leaves.
+//! Typed reads. After the answer of a call come the lines of the tree that it leaves.
 //!
-//! - `typed TYPE` reads the value at `/a`, and `typed_root TYPE` the root: what the read gives, or its errors.
-//! - `errors TYPE` reads the value at `/a`: what each call answers on the errors of the read.
-//! - `merge TYPE TYPE` reads `/a` and `/b`, and puts the errors of the second behind those of the first.
-//! - `expected WANTED`: the error that something else than the value at `/a` was expected.
-//! - `parse_string TYPE` parses the string at `/a`.
-//! - `open` opens a helper over the value at `/a`.
-//! - `from_table NAME` makes a helper of the table at `/a`: whether it holds the name.
+//! - `typed TYPE` reads the value at `/a`, `typed_root TYPE` the root: what the read gives, or its errors.
+//! - `errors TYPE` reads the value at `/a`: what each call answers on the errors of the read. `diagnostics TYPE` and
+//!   `copied TYPE`: what `faults` says of the last error.
+//! - `merge TYPE TYPE` reads `/a` and `/b`, and puts the errors of the second after those of the first.
+//! - `parse_string TYPE` parses the string at `/a`. `open` opens a helper over the value there.
 //! - `fields CALL ..` opens a helper over the root, and makes each call in turn.
-ghost use Rattle.std.specs.Prelude.{◌≡◌, false};
-ghost use Rattle.toml_span_tree.specs.Value.{is_taken, view};
-
 mod fields;
-mod lists;
-mod marked;
 mod odd;
 pub mod owned;
-pub mod ported;
 mod reads;
-mod structs;
+pub mod structs;
 pub mod warned;
 
 use crate::Row;
+use crate::faults::{push_copies, push_twice};
 use crate::told::Out;
 use crate::trees::shown::push_lines;
-use crate::typed::lists::push_lists;
 use crate::typed::odd::Never;
 use crate::typed::reads::{errors_at, push_read};
 use std::alloc::Global;
 use toml_span::DeserError;
-use toml_span::de_helpers::{TableHelper, expected, parse};
-use toml_span::value::{Value, ValueInner};
+use toml_span::de_helpers::{TableHelper, parse};
+use toml_span::value::Value;
 
-/// Writes the answer of a row to a tree, or says that there is no such call.
+/// Adds the answer of a row to a tree. Returns whether it can be read.
 pub fn answer<'de>(alloc: Global, row: Row<'de>, root: &mut Value<'de>, out: &mut Out) -> bool {
     let known = match row.call {
         "typed_root" => push_read(alloc, row.word(0), root, out),
         "fields" => fields::push_fields(alloc, row.words, root, out),
-        "errors" | "merge" => push_errors(alloc, row, root, out),
+        "errors" | "merge" | "diagnostics" | "copied" => push_errors(alloc, row, root, out),
         _ => push_at(alloc, row, root, out),
     };
-    out.push('\n');
-    push_lines(alloc, root, 0, out);
+    out.push_str("\n");
+    push_lines(alloc, root, out);
     known
 }
 
-/// Adds what a call answers of the value at `/a`. Whether there is such a call.
+/// Adds the answer of a call on the value at `/a`. Returns whether there is such a call.
 fn push_at<'de>(alloc: Global, row: Row<'de>, root: &mut Value<'de>, out: &mut Out) -> bool {
-    let Some(value) = root.pointer_mut("/a") else {
-        return false;
-    };
-    let word = row.word(0);
-    if row.call == "typed" {
-        return push_read(alloc, word, value, out);
+    match root.pointer_mut("/a") {
+        Some(value) if row.call == "typed" => push_read(alloc, row.word(0), value, out),
+        Some(value) => push_call(alloc, row, value, out),
+        None => false,
     }
-    push_call(alloc, row.call, word, value, out)
 }
 
-/// The same of a call that takes the value.
-fn push_call<'de>(
-    alloc: Global,
-    call: &str,
-    word: &'de str,
-    value: &mut Value<'de>,
-    out: &mut Out,
-) -> bool {
+/// Adds the answer of a call that takes the value. Returns whether there is such a call.
+fn push_call<'de>(alloc: Global, row: Row<'_>, value: &mut Value<'de>, out: &mut Out) -> bool {
     if value.is_taken() {
         return false;
     }
-    match call {
-        "parse_string" if word == "u8" => out.told(parse::<u8, _>(alloc, value)),
+    match row.call {
+        "parse_string" if row.word(0) == "u8" => out.told(parse::<u8, _>(alloc, value)),
         "parse_string" => out.told(parse::<Never, _>(alloc, value)),
-        "expected" => out.told(expected(word, value.take(), value.span)),
-        "open" => push_opened(alloc, value, out),
-        "from_table" => push_from_table(alloc, word, value, out),
+        "open" => match TableHelper::new(alloc, value) {
+            Ok(helper) => {
+                drop(helper);
+                out.push_str("opened");
+            }
+            Err(errors) => out.told(errors),
+        },
         _ => return false,
     }
     true
 }
 
-/// Answers `errors` and `merge`. Whether there are errors.
+/// Adds the errors of a read. Returns whether there are any.
 fn push_errors<'de>(alloc: Global, row: Row<'de>, root: &mut Value<'de>, out: &mut Out) -> bool {
     let Some(mut errors) = errors_at(alloc, row.word(0), root, "/a", out) else {
         return false;
@@ -90,11 +77,15 @@ fn push_errors<'de>(alloc: Global, row: Row<'de>, root: &mut Value<'de>, out: &m
         };
         push_merge(alloc, &mut errors, more, out);
     }
-    push_lists(&errors, out);
+    match row.call {
+        "copied" => push_copies(alloc, errors.last(), out),
+        "diagnostics" => push_twice(alloc, errors.last(), out),
+        _ => push_lists(&errors, out),
+    }
     true
 }
 
-/// Puts errors behind others, and adds the answer. Without memory it is done again with what came back.
+/// Puts errors after others, and adds the answer. Without memory it is done again with what came back.
 fn push_merge<'de>(
     alloc: Global,
     errors: &mut DeserError<'de>,
@@ -108,31 +99,17 @@ fn push_merge<'de>(
     }
 }
 
-/// Answers `open`.
-fn push_opened(alloc: Global, value: &mut Value<'_>, out: &mut Out)
-    requires { is_taken (view value.old) ≡ false }
-{
-    match TableHelper::new(alloc, value) {
-        Ok(helper) => {
-            drop(helper);
-            out.push_str("opened");
-        }
-        Err(errors) => out.told(errors),
+/// Adds what each call answers on errors: how many there are, each by its position and the one after them, each in
+/// order, the last one, and the text of all.
+fn push_lists(errors: &DeserError<'_>, out: &mut Out) {
+    let len = errors.len();
+    out.told_line(len);
+    for index in 0..=len {
+        out.told_line(errors.get(index));
     }
-}
-
-/// Answers `from_table`.
-fn push_from_table<'de>(alloc: Global, name: &'de str, value: &mut Value<'de>, out: &mut Out)
-    requires { is_taken (view value.old) ≡ false }
-{
-    match value.take() {
-        ValueInner::Table(table) => {
-            let helper = TableHelper::from_table(alloc, table, value.span);
-            out.told(helper.contains(name));
-        }
-        other => {
-            drop(other);
-            out.push_str("no table");
-        }
+    for error in errors.iter() {
+        out.told_line(error);
     }
+    out.told_line(errors.last());
+    out.shown(errors);
 }

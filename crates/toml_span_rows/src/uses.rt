@@ -9,8 +9,6 @@ ghost use Rattle.toml_span_rows.specs.uses.Fields.{NoPort};
 ghost use Rattle.toml_span_read.specs.Data.{depth_limit};
 
 pub(crate) mod first;
-pub(crate) mod servers;
-pub(crate) mod settings;
 
 use std::alloc::Global;
 use toml_span::de_helpers::TableHelper;

@@ -1,9 +1,8 @@
-//! `text_order`: the keys of the root in the order of the text; and `nodes`: the steps to each value, its kind and
-//! its key.
+//! `text_order`: the keys of the root in the order of the text. `nodes`: the steps to each value, its kind and its key.
 use crate::told::Out;
 use crate::trees::shown::push_kind;
 use std::alloc::Global;
-use toml_span::value::{Key, Step, Value, in_text_order, nodes};
+use toml_span::value::{Step, Value, in_text_order, nodes};
 
 /// Adds the keys of the root.
 pub fn push_order(alloc: Global, root: &Value<'_>, out: &mut Out) {
@@ -18,22 +17,14 @@ pub fn push_order(alloc: Global, root: &Value<'_>, out: &mut Out) {
     }
 }
 
-/// Adds steps, with a space behind each.
+/// Adds steps, with a space after each.
 pub fn push_steps(steps: &[Step<'_>], out: &mut Out) {
     for step in steps {
         match step {
             Step::Key(name) => out.told(name),
             Step::Position(position) => out.told(position),
         }
-        out.push(' ');
-    }
-}
-
-/// Adds where a value's key stands, if it has one.
-fn push_key(key: Option<&Key<'_>>, out: &mut Out) {
-    if let Some(key) = key {
-        out.push_str(", key ");
-        out.told((key.name.as_str(), key.span));
+        out.push_str(" ");
     }
 }
 
@@ -44,8 +35,11 @@ pub fn push_nodes(alloc: Global, root: &Value<'_>, out: &mut Out) {
     };
     for visited in list.iter() {
         push_steps(visited.path.as_slice(), out);
-        push_kind(visited.value, 0, out);
-        push_key(visited.key, out);
-        out.push('\n');
+        push_kind(visited.value, out);
+        if let Some(key) = visited.key {
+            out.push_str(", key ");
+            out.told((key.name.as_str(), key.span));
+        }
+        out.push_str("\n");
     }
 }

@@ -2,20 +2,20 @@
 //!
 //! - `contains=NAME` and `take=NAME`.
 //! - `required=TYPE=NAME`, `required_s=TYPE=NAME`, `optional=TYPE=NAME`, `optional_s=TYPE=NAME`.
-//! - The last call is `finalize`, or `finalize_back`, which hands the root over.
+//! - The last call is `finalize`, or `finalize_back`, which passes the root.
 ghost use Rattle.std.specs.Prelude.{IfSome};
 ghost use Rattle.toml_span_typed.specs.TableHelper.{AllWhole, state_of};
 
 use crate::told::Out;
-use crate::trees::shown::push_told_back;
-use crate::typed::lists::push_told_lists;
+use crate::trees::shown::push_back;
+use crate::typed::push_lists;
 use std::alloc::{AllocError, Global};
 use std::fmt::Debug;
 use toml_span::de_helpers::{TableHelper, Unfinished};
 use toml_span::value::{Key, Value};
 use toml_span::{Deserialize, Error, Spanned, Stop};
 
-/// Answers `fields`.
+/// Answers `fields`. Returns whether there are such calls.
 pub fn push_fields<'de>(
     alloc: Global,
     calls: &'de [String],
@@ -31,7 +31,7 @@ pub fn push_fields<'de>(
     push_calls(&mut helper, calls, out) && push_last(helper, last.as_str(), root, out)
 }
 
-/// A helper over the root of a document.
+/// Opens a helper over the root of a document.
 fn opened<'de>(alloc: Global, root: &mut Value<'de>) -> Option<TableHelper<'de>>
     ensures { IfSome result (λ helper. AllWhole (state_of helper)) }
 {
@@ -44,7 +44,7 @@ fn opened<'de>(alloc: Global, root: &mut Value<'de>) -> Option<TableHelper<'de>>
     }
 }
 
-/// Makes each call but the last, until there is no such call.
+/// Makes each call but the last. Returns whether there are such calls.
 fn push_calls<'de>(helper: &mut TableHelper<'de>, calls: &'de [String], out: &mut Out) -> bool
     requires { AllWhole (state_of helper.old) }
 {
@@ -54,12 +54,12 @@ fn push_calls<'de>(helper: &mut TableHelper<'de>, calls: &'de [String], out: &mu
         if !push_call(helper, call.as_str(), out) {
             return false;
         }
-        out.push('\n');
+        out.push_str("\n");
     }
     true
 }
 
-/// Makes one call that leaves the helper open, and adds the answer. Whether there is such a call.
+/// Makes one call that leaves the helper open, and adds its answer. Returns whether there is such a call.
 fn push_call<'de>(helper: &mut TableHelper<'de>, call: &'de str, out: &mut Out) -> bool
     requires { AllWhole (state_of helper.old) }
     ensures { AllWhole (state_of helper.new) }
@@ -81,14 +81,14 @@ fn push_entry(entry: Result<Option<(Key<'_>, Value<'_>)>, AllocError>, out: &mut
         Ok(Some((key, value))) => {
             out.told((&key, key.span));
             drop(key);
-            push_told_back(" ", value, out);
+            push_back(" ", value, out);
         }
         Ok(None) => out.push_str("Ok(None)"),
         Err(_) => out.push_str("Err(AllocError)"),
     }
 }
 
-/// Reads a field as a type, both of which are named, and adds the answer. Whether there are such a call and type.
+/// Reads a field as a type, both named, and adds the answer. Returns whether there are such a call and type.
 fn push_field<'de>(
     helper: &mut TableHelper<'de>,
     how: &str,
@@ -111,7 +111,7 @@ fn push_field<'de>(
     }
 }
 
-/// Reads a field as a type, and adds the answer. Whether there is such a call.
+/// Reads a field as a type, and adds the answer. Returns whether there is such a call.
 #[tactic(auto, using(toml_span_typed::proofs::Whole::found_whole))]
 fn push_as<'de, T: Deserialize<'de> + Debug>(
     helper: &mut TableHelper<'de>,
@@ -143,7 +143,8 @@ fn push_spanned<T: Debug + Drop>(read: Result<Spanned<T>, Stop<Error<'_>>>, out:
     }
 }
 
-/// Makes the last call, and adds the errors that it tells. Without memory the helper comes back, and it is made again.
+/// Makes the last call, and adds the errors that it reports. Without memory the helper comes back, and the call is made
+/// again.
 fn push_last<'de>(
     helper: TableHelper<'de>,
     call: &str,
@@ -155,25 +156,24 @@ fn push_last<'de>(
         "finalize_back" => helper.finalize(Some(root)),
         _ => return false,
     };
-    match ended {
-        Ok(()) => out.push_str("no error"),
-        Err(Unfinished::Faults(errors)) => push_told_lists(errors, out),
-        Err(Unfinished::Memory(helper)) => {
-            out.told_line(AllocError);
-            push_ended(helper.finalize(None), out);
-        }
+    if let Some(helper) = push_ended(ended, out) {
+        drop(push_ended(helper.finalize(None), out));
     }
     true
 }
 
-/// Adds the errors of a call that is made again.
-fn push_ended(ended: Result<(), Unfinished<'_>>, out: &mut Out) {
+/// Adds the errors of a last call. Returns the helper that comes back without memory.
+fn push_ended<'de>(ended: Result<(), Unfinished<'de>>, out: &mut Out) -> Option<TableHelper<'de>> {
     match ended {
         Ok(()) => out.push_str("no error"),
-        Err(Unfinished::Faults(errors)) => push_told_lists(errors, out),
+        Err(Unfinished::Faults(errors)) => {
+            push_lists(&errors, out);
+            drop(errors);
+        }
         Err(Unfinished::Memory(helper)) => {
-            drop(helper);
-            out.told(AllocError);
+            out.told_line(AllocError);
+            return Some(helper);
         }
     }
+    None
 }

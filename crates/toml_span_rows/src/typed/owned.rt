@@ -1,15 +1,12 @@
 //! Types that own their text, and errors that outlive the text that is read.
 //!
-//! - `Name`: a name that a function makes of a string.
-//! - `load Listener`: what is read of the document as of a file, `a.toml`, whose text is let go: the answer, or the
-//!   text of the errors, and how many reports there are.
-//! - `load_file NAME`: the same of a file that is there.
+//! - `load_file NAME`: what is read of a file of `data`, whose text is let go: the listener, or the text of the errors,
+//!   and how many reports there are.
 use crate::told::Out;
-use std::alloc::{AllocError, Global};
+use std::alloc::Global;
 use toml_span::de_helpers::parse_with;
-use toml_span::{DeserError, Deserialize, Stop, Value};
+use toml_span::{DeserError, Deserialize, Stop, Value, read_table};
 use toml_span_load::{LoadError, TextFile};
-use toml_span_typed::read_table;
 
 /// A name.
 #[derive(Debug, Drop)]
@@ -52,16 +49,7 @@ impl<'de> Deserialize<'de> for Listener {
     }
 }
 
-/// The listener of a text, which is let go.
-fn listener_of(alloc: Global, text: &str) -> Result<Listener, LoadError> {
-    let file = TextFile {
-        name: String::from_str(alloc, "a.toml")?,
-        text: String::from_str(alloc, text)?,
-    };
-    file.read::<Listener>(alloc)
-}
-
-/// The listener of a file.
+/// Reads the listener of a file.
 fn load(rt: &HostRuntime, name: &str) -> Result<Listener, LoadError> {
     let file = TextFile::open(rt, name)?;
     file.read::<Listener>(rt.alloc())
@@ -78,17 +66,9 @@ fn push_listener(read: Result<Listener, LoadError>, out: &mut Out) {
         }
         Err(other) => {
             out.shown(other);
-            out.push('\n');
+            out.push_str("\n");
         }
     }
-}
-
-/// Answers `load`.
-pub fn push_loaded(alloc: Global, name: &str, text: &str, out: &mut Out) -> bool {
-    if name == "Listener" {
-        push_listener(listener_of(alloc, text), out);
-    }
-    name == "Listener"
 }
 
 /// Answers `load_file`.

@@ -1,18 +1,18 @@
 //! Reads as a type that a row names.
 use crate::told::Out;
-use crate::typed::marked::{Held, Placed};
-use crate::typed::odd::{Half, Odd, Untouched};
+use crate::trees::shown::push_owned;
+use crate::typed::odd::Odd;
 use crate::typed::owned::Name;
-use crate::typed::ported::push_ported;
-use crate::typed::structs::{Config, Hosts, Server};
+use crate::typed::structs::{Holders, Range, Ratio, Server, Target, Upload};
 use std::alloc::Global;
+use std::borrow::CowStr;
 use std::collections::{BTreeMap, HashMap};
 use std::fmt::Debug;
 use toml_span::value::{DateText, FloatText, Value};
-use toml_span::{DeserError, Deserialize, Parsed, Stop};
+use toml_span::{DeserError, Deserialize, Parsed, Spanned, Stop};
 
 /// Reads a value as a type, if the value is whole, and adds the answer. Without memory it is read again, if it still is
-/// whole.
+/// whole. Returns whether it was whole.
 fn push_as<'de, T: Deserialize<'de> + Debug>(
     alloc: Global,
     value: &mut Value<'de>,
@@ -25,51 +25,28 @@ fn push_as<'de, T: Deserialize<'de> + Debug>(
     let is_told = matches!(&read, Ok(_) | Err(Stop::Fault(_)));
     out.told(read);
     if !is_told && value.is_whole() {
-        out.push('\n');
+        out.push_str("\n");
         out.told(T::deserialize(alloc, value));
     }
     true
 }
 
-/// Reads a value as the type of a name, and adds the answer. Whether there is such a type, and the value is whole.
+/// Reads a value as the type of a name, and adds the answer. Returns whether there is such a type, and the value was
+/// whole.
 pub fn push_read<'de>(alloc: Global, name: &str, value: &mut Value<'de>, out: &mut Out) -> bool {
     match name {
         "u8" => push_as::<u8>(alloc, value, out),
-        "u16" => push_as::<u16>(alloc, value, out),
-        "u32" => push_as::<u32>(alloc, value, out),
-        "u64" => push_as::<u64>(alloc, value, out),
-        "usize" => push_as::<usize>(alloc, value, out),
-        "i8" => push_as::<i8>(alloc, value, out),
-        "i16" => push_as::<i16>(alloc, value, out),
-        "i32" => push_as::<i32>(alloc, value, out),
         "i64" => push_as::<i64>(alloc, value, out),
-        "isize" => push_as::<isize>(alloc, value, out),
         "bool" => push_as::<bool>(alloc, value, out),
-        _ => push_other(alloc, name, value, out),
-    }
-}
-
-/// The same for a type that is neither an integer nor a truth value.
-fn push_other<'de>(alloc: Global, name: &str, value: &mut Value<'de>, out: &mut Out) -> bool {
-    match name {
-        "String" => push_as::<String>(alloc, value, out),
-        "CowStr" => push_as::<Held<'de>>(alloc, value, out),
-        "f32" => push_as::<f32>(alloc, value, out),
         "f64" => push_as::<f64>(alloc, value, out),
+        "f32" => push_as::<f32>(alloc, value, out),
+        "String" => push_as::<String>(alloc, value, out),
+        "CowStr" => push_cow(alloc, value, out),
         "FloatText" => push_as::<FloatText>(alloc, value, out),
         "DateText" => push_as::<DateText<'de>>(alloc, value, out),
         "Vec<u8>" => push_as::<Vec<u8>>(alloc, value, out),
         "Vec<String>" => push_as::<Vec<String>>(alloc, value, out),
-        "Spanned<u8>" => push_as::<Placed<u8>>(alloc, value, out),
-        "Vec<Spanned<u8>>" => push_as::<Vec<Placed<u8>>>(alloc, value, out),
-        "Spanned<Vec<Spanned<u8>>>" => push_as::<Placed<Vec<Placed<u8>>>>(alloc, value, out),
-        _ => push_held(alloc, name, value, out),
-    }
-}
-
-/// The same for a table as a map, a value behind a box, and what `FromStr` makes of a string.
-fn push_held<'de>(alloc: Global, name: &str, value: &mut Value<'de>, out: &mut Out) -> bool {
-    match name {
+        "Vec<Spanned<u8>>" => push_as::<Vec<Spanned<u8>>>(alloc, value, out),
         "BTreeMap<String,u8>" => push_as::<BTreeMap<String, u8>>(alloc, value, out),
         "HashMap<String,u8>" => push_as::<HashMap<String, u8>>(alloc, value, out),
         "Box<u8>" => push_as::<Box<u8>>(alloc, value, out),
@@ -83,18 +60,35 @@ fn push_held<'de>(alloc: Global, name: &str, value: &mut Value<'de>, out: &mut O
 fn push_own<'de>(alloc: Global, name: &str, value: &mut Value<'de>, out: &mut Out) -> bool {
     match name {
         "Vec<Odd>" => push_as::<Vec<Odd>>(alloc, value, out),
-        "Vec<Untouched>" => push_as::<Vec<Untouched>>(alloc, value, out),
-        "Untouched" => push_as::<Untouched>(alloc, value, out),
-        "Half" => push_as::<Half>(alloc, value, out),
+        "Odd" => push_as::<Odd>(alloc, value, out),
         "Server" => push_as::<Server<'de>>(alloc, value, out),
-        "Config" => push_as::<Config<'de>>(alloc, value, out),
-        "Hosts" => push_as::<Hosts>(alloc, value, out),
+        "Holders" => push_as::<Holders>(alloc, value, out),
+        "Upload" => push_as::<Upload>(alloc, value, out),
+        "Range" => push_as::<Range>(alloc, value, out),
+        "Target" => push_as::<Target>(alloc, value, out),
+        "Ratio" => push_as::<Ratio>(alloc, value, out),
         "Name" => push_as::<Name>(alloc, value, out),
-        _ => push_ported(alloc, name, value, out),
+        _ => false,
     }
 }
 
-/// The errors of a read as a type, if it has any, and the value is whole.
+/// Reads a value as a `CowStr`, if the value is whole, and adds the string and whether it has a text of its own.
+fn push_cow(alloc: Global, value: &mut Value<'_>, out: &mut Out) -> bool {
+    if !value.is_whole() {
+        return false;
+    }
+    match CowStr::deserialize(alloc, value) {
+        Ok(text) => {
+            out.told(&text);
+            push_owned(&text, out);
+            drop(text);
+        }
+        other => out.told(other),
+    }
+    true
+}
+
+/// Returns the errors of a read as a type, if it has any, and the value is whole.
 fn errors_as<'de, T: Deserialize<'de>>(
     alloc: Global,
     value: &mut Value<'de>,
@@ -109,7 +103,7 @@ fn errors_as<'de, T: Deserialize<'de>>(
     }
 }
 
-/// The errors of a read of what stands at a place, as the type of a name, if there are such a type and place.
+/// Returns the errors of a read of the value at a place, as the type of a name, if there are such a type and place.
 pub fn errors_at<'de>(
     alloc: Global,
     name: &str,
@@ -122,6 +116,9 @@ pub fn errors_at<'de>(
         "bool" => errors_as::<bool>(alloc, value, out),
         "Vec<u8>" => errors_as::<Vec<u8>>(alloc, value, out),
         "Vec<Odd>" => errors_as::<Vec<Odd>>(alloc, value, out),
+        "Range" => errors_as::<Range>(alloc, value, out),
+        "Target" => errors_as::<Target>(alloc, value, out),
+        "Name" => errors_as::<Name>(alloc, value, out),
         _ => None,
     }
 }

@@ -1,8 +1,10 @@
-//! Structs that are read from a nested document, as a user of the crate writes them.
+//! Types of a caller that are read from tables.
 use std::alloc::Global;
 use std::borrow::CowStr;
-use toml_span::{DeserError, Deserialize, Spanned, Stop, Value};
-use toml_span_typed::read_table;
+use toml_span::de_helpers::TableHelper;
+use toml_span::{
+    DeserError, Deserialize, Error, ErrorKind, Span, Spanned, Stop, Value, read_table, read_tagged,
+};
 
 /// A server. Its table may have no other keys.
 #[derive(Debug, Drop)]
@@ -10,37 +12,6 @@ pub struct Server<'de> {
     pub host: CowStr<'de>,
     pub port: Spanned<u16>,
     pub tags: Option<Vec<String>>,
-}
-
-/// A configuration. The keys that it does not know are handed back.
-#[derive(Debug, Drop)]
-pub struct Config<'de> {
-    pub name: CowStr<'de>,
-    pub server: Server<'de>,
-}
-
-/// A host of a list in which no two have one name.
-#[derive(Debug, Drop)]
-pub struct Host {
-    pub name: Spanned<String>,
-}
-
-/// Such a list.
-#[derive(Debug, Drop)]
-pub struct Hosts {
-    pub hosts: Vec<Host>,
-}
-
-impl<'de> Deserialize<'de> for Host {
-    fn deserialize(alloc: Global, value: &mut Value<'de>) -> Result<Host, Stop<DeserError<'de>>> {
-        read_table!(alloc, value, Host { name: Spanned<String>; })
-    }
-}
-
-impl<'de> Deserialize<'de> for Hosts {
-    fn deserialize(alloc: Global, value: &mut Value<'de>) -> Result<Hosts, Stop<DeserError<'de>>> {
-        read_table!(alloc, value, Hosts { hosts: Vec<Host>, unique(name); })
-    }
 }
 
 impl<'de> Deserialize<'de> for Server<'de> {
@@ -56,11 +27,111 @@ impl<'de> Deserialize<'de> for Server<'de> {
     }
 }
 
-impl<'de> Deserialize<'de> for Config<'de> {
-    fn deserialize(
-        alloc: Global,
-        value: &mut Value<'de>,
-    ) -> Result<Config<'de>, Stop<DeserError<'de>>> {
-        read_table!(alloc, value, Config { name: CowStr<'de>; server: Server<'de>; .. })
+/// Fields with old names, a string with its bytes, and the keys of another struct.
+#[derive(Debug, Drop)]
+pub struct Upload {
+    pub max_body: u64,
+    pub limit: Option<u8>,
+    pub mode: Spanned<u8>,
+    pub range: Range,
+}
+
+impl<'de> Deserialize<'de> for Upload {
+    fn deserialize(alloc: Global, value: &mut Value<'de>) -> Result<Upload, Stop<DeserError<'de>>> {
+        read_table!(alloc, value, Upload {
+            max_body: u64 = "max-body", alias("max_body");
+            limit: Option<u8> = "limit", alias("max");
+            mode: Spanned<u8>, parsed;
+            range: Range, flatten;
+        })
+    }
+}
+
+/// Fields that are an `Option`, what `FromStr` makes of strings, and an array of two. Other keys stay in the value.
+#[derive(Debug, Drop)]
+pub struct Holders {
+    some: Option<u8>,
+    each: Vec<Option<u8>>,
+    parsed: char,
+    maybe: Option<char>,
+    pair: (u8, String),
+}
+
+impl<'de> Deserialize<'de> for Holders {
+    fn deserialize(alloc: Global, value: &mut Value<'de>) -> Result<Self, Stop<DeserError<'de>>> {
+        read_table!(alloc, value, Holders {
+            some: Option<u8>;
+            each: Vec<Option<u8>> = "all", or(Vec::new(alloc));
+            parsed: char, parsed;
+            maybe: Option<char>, parsed;
+            pair: (u8, String);
+            ..
+        })
+    }
+}
+
+/// Two bounds, the lower one first.
+#[derive(Debug, Drop)]
+pub struct Range {
+    pub low: u8,
+    pub high: u8,
+}
+
+impl<'de> Deserialize<'de> for Range {
+    fn deserialize(alloc: Global, value: &mut Value<'de>) -> Result<Range, Stop<DeserError<'de>>> {
+        let span = value.span;
+        let mut helper = TableHelper::new(alloc, value)?;
+        let low = helper.read_optional::<u8>("low")?;
+        let high = helper.read_optional::<u8>("high")?;
+        let range = helper.kept(range_of(low, high, span))?;
+        helper.finish()?;
+        Ok(range.unwrap())
+    }
+}
+
+/// Returns the range of two bounds.
+fn range_of<'s>(
+    low: Option<u8>,
+    high: Option<u8>,
+    span: Span,
+) -> Result<Range, Stop<DeserError<'s>>> {
+    let (low, high) = (low.unwrap_or(0), high.unwrap_or(255));
+    if low > high {
+        let kind = ErrorKind::Custom(CowStr::Borrowed("low above high"));
+        return Err(Error::from((kind, span)).into());
+    }
+    Ok(Range { low, high })
+}
+
+/// Where something is written.
+#[derive(Debug, Drop)]
+pub enum Target {
+    File { path: String, append: bool },
+    Range(Range),
+    Nothing,
+}
+
+impl<'de> Deserialize<'de> for Target {
+    fn deserialize(alloc: Global, value: &mut Value<'de>) -> Result<Target, Stop<DeserError<'de>>> {
+        read_tagged!(alloc, value, "kind", {
+            "file" => Target::File { path: String; append: bool, or(false); },
+            "range" => Target::Range(Range),
+            "nothing" => Target::Nothing,
+        })
+    }
+}
+
+/// A part of a whole.
+#[derive(Debug, Drop)]
+pub struct Ratio(f64);
+
+impl<'de> Deserialize<'de> for Ratio {
+    fn deserialize(alloc: Global, value: &mut Value<'de>) -> Result<Ratio, Stop<DeserError<'de>>> {
+        let ratio = f64::deserialize(alloc, value)?;
+        if 0.0 <= ratio && ratio <= 1.0 {
+            return Ok(Ratio(ratio));
+        }
+        let kind = ErrorKind::Custom(CowStr::Borrowed("a ratio is from 0 to 1"));
+        Err(Error::from((kind, value.span)).into())
     }
 }

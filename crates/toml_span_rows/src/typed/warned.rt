@@ -1,14 +1,11 @@
-//! Documents of types that warn, of enums with data and of structs within structs.
+//! Types that warn.
 //!
 //! - `warned TYPE` reads the document: what `from_str_with_warnings` gives, and each warning, a line each.
 use crate::told::Out;
-use std::alloc::{AllocError, Global};
-use std::borrow::CowStr;
+use std::alloc::Global;
 use toml_span::{
-    DeserError, Deserialize, DeserializeWithWarnings, Error, ErrorKind, Stop, Value,
-    from_str_with_warnings,
+    DeserError, DeserializeWithWarnings, Error, Stop, Value, from_str_with_warnings, read_table,
 };
-use toml_span_typed::{read_table, read_tagged};
 
 /// Fields with deprecated names.
 #[derive(Debug, Drop)]
@@ -51,65 +48,6 @@ impl<'de> DeserializeWithWarnings<'de> for Service {
             others: Option<Vec<Limits>>, with_warnings;
             mode: u8 = "mode", alias("kind"), or(0);
         })
-    }
-}
-
-/// Where something is written.
-#[derive(Debug, Drop)]
-pub enum Target {
-    File { path: String, append: bool },
-    Pair(Pair),
-    Nothing,
-}
-
-impl<'de> Deserialize<'de> for Target {
-    fn deserialize(alloc: Global, value: &mut Value<'de>) -> Result<Target, Stop<DeserError<'de>>> {
-        read_tagged!(alloc, value, "kind", {
-            "file" => Target::File { path: String; append: bool, or(false); },
-            "pair" => Target::Pair(Pair),
-            "nothing" => Target::Nothing,
-        })
-    }
-}
-
-/// A struct of which another one has the keys besides its own.
-#[derive(Debug, Drop)]
-pub struct Pair {
-    pub low: u8,
-    pub high: u8,
-}
-
-impl<'de> Deserialize<'de> for Pair {
-    fn deserialize(alloc: Global, value: &mut Value<'de>) -> Result<Pair, Stop<DeserError<'de>>> {
-        read_table!(alloc, value, Pair { low: u8; high: u8; })
-    }
-}
-
-/// That other one.
-#[derive(Debug, Drop)]
-pub struct Named {
-    pub name: String,
-    pub pair: Pair,
-}
-
-impl<'de> Deserialize<'de> for Named {
-    fn deserialize(alloc: Global, value: &mut Value<'de>) -> Result<Named, Stop<DeserError<'de>>> {
-        read_table!(alloc, value, Named { name: String; pair: Pair, flatten; })
-    }
-}
-
-/// A part of a whole.
-#[derive(Debug, Drop)]
-pub struct Ratio(f64);
-
-impl<'de> Deserialize<'de> for Ratio {
-    fn deserialize(alloc: Global, value: &mut Value<'de>) -> Result<Ratio, Stop<DeserError<'de>>> {
-        let ratio = f64::deserialize(alloc, value)?;
-        if 0.0 <= ratio && ratio <= 1.0 {
-            return Ok(Ratio(ratio));
-        }
-        let kind = ErrorKind::Custom(CowStr::Borrowed("a ratio is from 0 to 1"));
-        Err(Error::from((kind, value.span)).into())
     }
 }
 

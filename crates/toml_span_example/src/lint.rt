@@ -1,0 +1,239 @@
+//! A lint of a package's manifest by ten rules.
+use std::alloc::{AllocError, Global};
+use std::collections::BTreeMap;
+use toml_span::value::{Key, Table};
+use toml_span::{Span, Value, parse};
+use toml_span_report::Severity::{Error, Warning};
+use toml_span_report::{Report, Severity, Style, nearest, render_all, render_stop};
+
+/// The tables of a manifest.
+static TABLES: [&str; 4] = ["package", "dependencies", "features", "profile"];
+
+/// What a rule finds.
+#[derive(Clone, Copy)]
+struct Finding {
+    severity: Severity,
+    code: &'static str,
+    message: &'static str,
+    /// The place, and what is said there.
+    place: (Span, &'static str),
+    other: Option<(Span, &'static str)>,
+    help: Option<&'static str>,
+    /// The name that may be meant.
+    meant: Option<&'static str>,
+}
+
+/// Returns a finding with one place.
+fn new_finding(
+    severity: Severity,
+    code: &'static str,
+    message: &'static str,
+    place: (Span, &'static str),
+) -> Finding {
+    Finding {
+        severity,
+        code,
+        message,
+        place,
+        other: None,
+        help: None,
+        meant: None,
+    }
+}
+
+/// Tests the name of a table.
+fn unknown_table(alloc: Global, key: &Key) -> Result<Option<Finding>, AllocError> {
+    if TABLES.contains(&key.name.as_str()) {
+        return Ok(None);
+    }
+    let message = "a manifest has no such table";
+    let meant = nearest(alloc, key.name.as_str(), &TABLES)?;
+    let found = new_finding(Error, "unknown-table", message, (key.span, ""));
+    Ok(Some(Finding { meant, ..found }))
+}
+
+/// Tests a package.
+fn package(key: &Key, package: &Value) -> [Option<Finding>; 5] {
+    let mut found = [None; 5];
+    if !package.has_key("version") {
+        let message = "the package has no version";
+        found[0] = Some(Finding {
+            help: Some("add `version = \"0.1.0\"`"),
+            ..new_finding(Error, "no-version", message, (key.span, ""))
+        });
+    }
+    match package.pointer("/name") {
+        Some(name) if !is_kebab(name) => {
+            let message = "the name is not in kebab case";
+            let place = (name.span, "small letters, digits and `-` alone");
+            found[1] = Some(new_finding(Warning, "name-case", message, place));
+        }
+        _ => {}
+    }
+    match package.pointer("/edition") {
+        Some(year) if !is_edition(year) => {
+            let message = "there is no such edition";
+            let place = (year.span, "2015, 2018, 2021 or 2024");
+            found[2] = Some(new_finding(Error, "unknown-edition", message, place));
+        }
+        _ => {}
+    }
+    match package.pointer("/description") {
+        Some(text) if text.as_str() == Some("") => {
+            let message = "the description is empty";
+            found[3] = Some(new_finding(Warning, "no-description", message, (text.span, "")));
+        }
+        _ => {}
+    }
+    let file = package.pointer("/license-file");
+    if let (Some(name), Some(file)) = (package.pointer("/license"), file) {
+        let message = "the license has a name and a file";
+        found[4] = Some(Finding {
+            other: Some((name.span, "the name")),
+            ..new_finding(Error, "two-licenses", message, (file.span, "the file"))
+        });
+    }
+    found
+}
+
+fn is_kebab(name: &Value) -> bool {
+    let Some(name) = name.as_str() else {
+        return false;
+    };
+    for byte in name.bytes() {
+        if !matches!(byte, b'a'..=b'z' | b'0'..=b'9' | b'-') {
+            return false;
+        }
+    }
+    true
+}
+
+fn is_edition(edition: &Value) -> bool {
+    matches!(edition.as_str(), Some("2015" | "2018" | "2021" | "2024"))
+}
+
+/// Tests a dependency.
+fn dependency(value: &Value) -> [Option<Finding>; 2] {
+    let mut found = [None; 2];
+    let version = value.pointer("/version").unwrap_or(value);
+    if version.as_str() == Some("*") {
+        let message = "any version of it will do";
+        found[0] = Some(Finding {
+            help: Some("name the oldest that serves, as `1.2`"),
+            ..new_finding(Warning, "any-version", message, (version.span, ""))
+        });
+    }
+    match value.pointer("/path") {
+        Some(path) if !value.has_key("version") => {
+            let message = "a registry can't read a path";
+            found[1] = Some(Finding {
+                help: Some("add a `version`"),
+                ..new_finding(Error, "path-alone", message, (path.span, ""))
+            });
+        }
+        _ => {}
+    }
+    found
+}
+
+/// Adds what rules found.
+fn push_all(found: &[Option<Finding>], list: &mut Vec<Finding>) -> Result<(), AllocError> {
+    for one in found {
+        if let Some(finding) = one {
+            list.push(*finding)?;
+        }
+    }
+    Ok(())
+}
+
+/// Tests the keywords of a package.
+fn keywords(alloc: Global, words: &[Value], list: &mut Vec<Finding>) -> Result<(), AllocError> {
+    if let Some(sixth) = words.get(5) {
+        let message = "there are more than five keywords";
+        let place = (sixth.span, "the sixth");
+        list.push(new_finding(Warning, "many-keywords", message, place))?;
+    }
+    let mut seen = BTreeMap::new(alloc);
+    for word in words {
+        if let Some(before) = seen.insert(word.as_str(), word.span)? {
+            let message = "a keyword stands twice";
+            list.push(Finding {
+                other: Some((before, "also here")),
+                ..new_finding(Warning, "keyword-twice", message, (word.span, ""))
+            })?;
+        }
+    }
+    Ok(())
+}
+
+/// Returns the elements of a value's entry, none if it has no such array.
+fn elements<'v, 'de>(value: &'v Value<'de>, pointer: &str) -> &'v [Value<'de>] {
+    match value.pointer(pointer) {
+        Some(found) => match found.as_array() {
+            Some(array) => array.as_slice(),
+            None => &[],
+        },
+        None => &[],
+    }
+}
+
+/// Tests a manifest.
+fn lint(alloc: Global, root: &Table, list: &mut Vec<Finding>) -> Result<(), AllocError> {
+    for (key, value) in root.iter() {
+        push_all(&[unknown_table(alloc, key)?], list)?;
+        match (key.name.as_str(), value.as_table()) {
+            ("package", _) => {
+                push_all(&package(key, value), list)?;
+                keywords(alloc, elements(value, "/keywords"), list)?;
+            }
+            ("dependencies", Some(table)) => {
+                for value in table.values() {
+                    push_all(&dependency(value), list)?;
+                }
+            }
+            _ => {}
+        }
+    }
+    Ok(())
+}
+
+/// Returns the report of a finding.
+fn report_of(alloc: Global, found: Finding) -> Result<Report, AllocError> {
+    let (span, label) = found.place;
+    let bare = Report::new(alloc, found.severity, found.code, found.message)?;
+    let mut report = bare.primary(span, label)?;
+    if let Some((span, label)) = found.other {
+        report = report.secondary(span, label)?;
+    }
+    if let Some(text) = found.help {
+        report = report.help(text)?;
+    }
+    if let Some(meant) = found.meant {
+        report = report.help(format!(in alloc; "did you mean `{meant}`?")?.as_str())?;
+    }
+    Ok(report)
+}
+
+/// Returns the reports of a manifest.
+fn reports_of(alloc: Global, root: &Value) -> Result<Vec<Report>, AllocError> {
+    let mut list = Vec::new(alloc);
+    if let Some(root) = root.as_table() {
+        lint(alloc, root, &mut list)?;
+    }
+    let mut reports = Vec::new(alloc);
+    for found in &list {
+        reports.push(report_of(alloc, *found)?)?;
+    }
+    Ok(reports)
+}
+
+/// Returns what is wrong with a text, which is nothing where all is well.
+pub fn shown(alloc: Global, text: &str) -> Result<String, AllocError> {
+    match parse(alloc, text) {
+        Ok(root) => {
+            let reports = reports_of(alloc, &root)?;
+            render_all(alloc, Style::Plain, reports.as_slice(), "Cargo.toml", text)
+        }
+        Err(stop) => render_stop(alloc, Style::Plain, stop.convert(), "Cargo.toml", text),
+    }
+}

@@ -1,0 +1,42 @@
+//! `cuts`: parses a text cut at each character boundary. Each cut gives a tree, or an error within the cut.
+use crate::told::Out;
+use std::alloc::Global;
+use toml_span::{line_and_byte, parse};
+
+/// Tests that a text gives a tree of which nothing is taken, or an error that begins in the text, doesn't end before
+/// it begins, and has the line and the column of its start.
+fn is_right(alloc: Global, text: &str, out: &mut Out) -> bool {
+    match parse(alloc, text) {
+        Ok(root) => {
+            let is_whole = root.is_whole();
+            drop(root);
+            is_whole
+        }
+        Err(stop) => {
+            let Some(fault) = out.kept(stop.fault()) else {
+                return false;
+            };
+            let (span, line_info) = (fault.span, fault.line_info);
+            drop(fault);
+            let (line, byte) = line_and_byte(text, span);
+            let place = Some((line.wrapping_sub(1), byte.wrapping_sub(1)));
+            span.start <= text.len() && span.start <= span.end && line_info == place
+        }
+    }
+}
+
+/// Adds how many cuts there are, all of them right, or the first that is not.
+pub fn push_cuts(alloc: Global, text: &str, out: &mut Out) {
+    let mut count: usize = 0;
+    for end in 0..text.len() {
+        let Some(front) = text.get(..end) else {
+            continue;
+        };
+        if !is_right(alloc, front, out) {
+            return out.told(front);
+        }
+        count = count.saturating_add(1);
+    }
+    out.told(count);
+    out.push_str(" right");
+}

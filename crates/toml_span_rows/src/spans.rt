@@ -1,0 +1,52 @@
+//! Spans, and clones of keys and of spanned texts.
+use crate::Row;
+use crate::told::Out;
+use std::alloc::Global;
+use std::borrow::CowStr;
+use std::ops::Range;
+use toml_span::tokens::Tokenizer;
+use toml_span::value::Key;
+use toml_span::{Span, Spanned};
+
+/// Adds whether a span is empty, what it becomes, and where it starts in a text that has it.
+fn push_span(span: Span, text: &str, out: &mut Out) {
+    let pair: (usize, usize) = span.into();
+    let range: Range<usize> = span.into();
+    out.told((span.is_empty(), pair, range.start, range.end));
+    if span.start <= span.end && span.end <= text.len() {
+        out.push_str(" at ");
+        out.told(Tokenizer::new(text).substr_offset(span));
+    }
+}
+
+/// Adds clones of a key and of a text.
+fn push_copies(alloc: Global, span: Span, text: &str, out: &mut Out) {
+    let Some(name) = out.kept(String::from_str(alloc, text)) else {
+        return;
+    };
+    let name = CowStr::Owned(name);
+    let key = Key { name, span };
+    let Some(text) = out.kept(String::from_str(alloc, text)) else {
+        return;
+    };
+    let placed = Spanned::with_span(text, span);
+    for _ in 0..2 {
+        out.told_line(key.clone(alloc));
+        out.told_line(placed.clone(alloc));
+    }
+}
+
+/// Adds the answer of a row. Returns whether it can be read.
+pub fn answer(alloc: Global, row: Row<'_>, out: &mut Out) -> bool {
+    let words = (row.word(0).parse::<usize>(), row.word(1).parse::<usize>());
+    let (Ok(start), Ok(end)) = words else {
+        return false;
+    };
+    let span = Span::from(start..end);
+    match row.call {
+        "span" => push_span(span, row.text, out),
+        "copies" => push_copies(alloc, span, row.text, out),
+        _ => return false,
+    }
+    true
+}
