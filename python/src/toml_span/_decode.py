@@ -53,15 +53,21 @@ class TOMLDecodeError(ValueError):
         return type(self), (self.msg, self.doc, self.pos, self.code, self.span, self.report)
 
 
-# integers as TOML writes them
-_INTEGER = re.compile(rb"[+-]?(0|[1-9](_?\d)*)|0x[\da-fA-F](_?[\da-fA-F])*|0o[0-7](_?[0-7])*|0b[01](_?[01])*")
+def _is_too_large(data: bytes, start: int, end: int) -> bool:
+    """Whether an integer is there that has more than 64 bits. A prefix is not in the span of its digits."""
+    prefix = data[max(start - 2, 0) : start]
+    try:
+        number = int((prefix if prefix in (b"0x", b"0o", b"0b") else b"") + data[start:end], 0)
+    except ValueError:
+        return False
+    return not -(2**63) <= number < 2**63
 
 
 def _error(text: str, data: bytes, fault: bytearray, name: str) -> TOMLDecodeError:
     number, _, start, end = native.FAULT.unpack(fault)[:4]
     file = name.encode("utf-8", "replace")
     code = native.text_of(native.lib.toml_span_code, number)
-    if code == "invalid-number" and _INTEGER.fullmatch(data, start, end):
+    if code == "invalid-number" and _is_too_large(data, start, end):
         msg = "integer out of range: it must be from -2**63 to 2**63 - 1"
     else:
         msg = native.text_of(native.lib.toml_span_message, data, len(data))
