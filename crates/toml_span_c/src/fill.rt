@@ -93,6 +93,7 @@ fn put_text(
 }
 
 /// Puts a record, if there is room for it.
+#[inline(never)]
 fn put_record(nodes: &mut [Record], at: usize, added: Record)
     ensures { nodes.new ≡ laid at (added ∷ []) nodes.old }
 {
@@ -103,6 +104,7 @@ fn put_record(nodes: &mut [Record], at: usize, added: Record)
 }
 
 /// The record of a value, before anything behind it is known. Its texts are put into the strings.
+#[inline(never)]
 fn begin_record(
     document: &str,
     value: &Value<'_>,
