@@ -44,13 +44,13 @@ size_t toml_span_find(const toml_span_node *nodes, size_t count, const char *con
     while (*pointer != 0) {
         if (*pointer++ != '/') return TOML_SPAN_NONE;
         const char *end = pointer + strcspn(pointer, "/");
-        size_t position = nodes[from].kind == TOML_SPAN_ARRAY ? position_of(pointer, end) : TOML_SPAN_NONE;
+        int is_array = nodes[from].kind == TOML_SPAN_ARRAY;
+        size_t position = is_array ? position_of(pointer, end) : TOML_SPAN_NONE;
         size_t last = nodes[from].next, child = from + 1;
         for (; child < last && child < count; child = nodes[child].next) {
             const toml_span_text *key = &nodes[child].key;
-            if (nodes[from].kind == TOML_SPAN_ARRAY ? nodes[child].position == position
-                                                    : is_named(sources[key->source] + key->at, key->length, pointer, end))
-                break;
+            if (is_array && nodes[child].position == position) break;
+            if (!is_array && is_named(sources[key->source] + key->at, key->length, pointer, end)) break;
         }
         if (child >= last || child >= count) return TOML_SPAN_NONE;
         from = child;
@@ -59,8 +59,8 @@ size_t toml_span_find(const toml_span_node *nodes, size_t count, const char *con
     return from;
 }
 
-/* While records are sorted, the fields of `sorted` are scratch. Of a record's old number: `integer` has where the text names
- * it first, `position` its new number, `parent` its new position among its siblings. In the records after the one whose
+/* While records are sorted, the fields of `sorted` are scratch. At a record's old number, `integer` has where the text
+ * names it first, `position` its new number, `parent` its new position among its siblings. After the record whose
  * children are being sorted, `children` and `next` have where each child is named first, and its old number. */
 static void exchange(toml_span_node *one, toml_span_node *other) {
     size_t first = one->children, number = one->next;
@@ -86,8 +86,8 @@ static void sort_children(toml_span_node *children, size_t count) {
     }
 }
 
-/* Finds where each record is named first. That may be before its key: in `a.b = 1` LF `c = 2` LF `[a.d]` the key of `a` is
- * the last one, but its child `b` is named before `c`. */
+/* Finds where each record is named first. That may be before its key: in `a.b = 1` LF `c = 2` LF `[a.d]` the key of `a`
+ * is that of the header, but its child `b` is named before `c`. */
 static void find_first(const toml_span_node *nodes, size_t count, toml_span_node *sorted) {
     for (size_t at = 0; at < count; at++) sorted[at].integer = (int64_t)nodes[at].key_span.start;
     for (size_t at = count; --at > 0;) {

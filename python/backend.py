@@ -1,7 +1,7 @@
 """Builds the package: the hooks that `pip wheel python` and `python -m build python` call. It needs no other package.
 
-The wheel has the library in it, which is the one that TOML_SPAN_LIBRARY names, or that of the source distribution, or the
-one that scripts/c_library.sh of the repository makes. Its tag says which glibc that needs (readelf, of binutils).
+The wheel carries the library: the one that TOML_SPAN_LIBRARY names, or that of the source distribution, or the one that
+scripts/c_library.sh of the repository makes. Its tag says which glibc that needs (readelf, of binutils).
 """
 
 import base64

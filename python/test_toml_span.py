@@ -15,6 +15,7 @@ import pickle
 import re
 import sys
 import tempfile
+import threading
 import unittest
 from datetime import date, datetime, time, timedelta, timezone
 from decimal import Decimal
@@ -182,6 +183,22 @@ class Loads(unittest.TestCase):
     def test_many_short_values(self):
         text = "a = [" + "1," * 100000 + "]"
         self.assertEqual(len(toml_span.loads(text)["a"]), 100000)
+
+
+    def test_the_deepest_document_in_a_small_thread(self):
+        headers = "".join(f"[[{'.'.join('h' * parts)}]]\n" for parts in range(1, 129))
+        found = []
+        size = threading.stack_size(512 * 1024)
+        try:
+            thread = threading.Thread(target=lambda: found.append(toml_span.loads(headers + "k." * 127 + "k = 1")))
+            thread.start()
+            thread.join()
+        finally:
+            threading.stack_size(size)
+        value, depth = found[0], 0
+        while value != 1:
+            value, depth = next(iter(value.values())) if isinstance(value, dict) else value[0], depth + 1
+        self.assertEqual(depth, 3 * 128)
 
 
 class Errors(unittest.TestCase):

@@ -3,9 +3,9 @@
 #
 # It installs the library (scripts/c_library.sh), the proved one if that is there, into a folder of its own, and tries:
 # the examples with gcc and clang, pkg-config, CMake and meson; the exports and the layout of the records (abi.txt); the
-# calls under sanitizers, with each request for memory refused (hold.c), between guard pages (fuzz.c), in threads and with
-# little stack (threads.c); the wheel, installed without network into a fresh environment. Times are shown, and count only
-# with --times, since a machine that others share shakes them. The last line counts.
+# calls under sanitizers (walk.c), with each request for memory refused (hold.c), between guard pages (fuzz.c), in
+# threads and with little stack (threads.c); the wheel, installed without network into a fresh environment. Times are
+# shown, and count only with --times, since a machine that others share shakes them. The last line counts.
 set -uo pipefail
 cd "$(dirname "$0")/.." || exit
 top=$PWD
@@ -108,15 +108,16 @@ for language in c:gcc c:clang c++:g++ c++:clang++; do
 done
 for compiler in g++ clang++; do
     command -v "$compiler" >/dev/null || continue
-    told "the header with $compiler" "$compiler" -std=c++17 -pedantic -Wshadow -fno-exceptions -fno-rtti "${strict[@]}" \
-        "${sanitize[@]}" examples/c/values.cpp "$archive" -o "$work/values.$compiler"
+    told "the header with $compiler" "$compiler" -std=c++17 -pedantic -Wshadow -fno-exceptions -fno-rtti \
+        "${strict[@]}" "${sanitize[@]}" examples/c/values.cpp "$archive" -o "$work/values.$compiler"
     told "what its example writes" values "$work/values.$compiler"
     told "what its example writes of a fault" refused "$work/values.$compiler"
 done
 
 # packaged, cmade, mesoned: programs that are linked as docs/C.md says start by themselves
 packaged() {
-    eval "gcc examples/c/keys.c $(pkg-config --cflags --libs toml_span) -o '$work/keys.packaged'" && keys "$work/keys.packaged"
+    eval "gcc examples/c/keys.c $(pkg-config --cflags --libs toml_span) -o '$work/keys.packaged'" &&
+        keys "$work/keys.packaged"
 }
 cmade() {
     cmake -S examples/c -B "$work/cmade" "-DCMAKE_PREFIX_PATH=$lib/.." && cmake --build "$work/cmade" &&
@@ -151,7 +152,8 @@ build speed "$archive"
 
 # install_wheel: builds the wheel and installs it, with no network and nothing but what Python brings
 install_wheel() {
-    TOML_SPAN_LIBRARY=$shared pip wheel --no-index --no-deps -w "$work/wheel" ./python && python3 -m venv "$work/venv" &&
+    python3 -m venv "$work/venv" &&
+        TOML_SPAN_LIBRARY=$shared "$work/venv/bin/pip" wheel --no-index --no-deps -w "$work/wheel" ./python &&
         "$work/venv/bin/pip" install --no-index "$work"/wheel/toml_span-*-manylinux_*.whl
 }
 if command -v python3 >/dev/null; then

@@ -1,20 +1,19 @@
-// Prints the place of each value of a TOML file, by its names and positions: values FILE
-#include "toml_span.hpp"
-
+// Prints the place of each value of a TOML file, with the names and positions that lead to it.
 #include <fstream>
 #include <iostream>
 #include <iterator>
 #include <string>
+#include <toml_span.hpp>
 
 static void print(const std::string &path, toml_span::value value) {
-    toml_span_place place = value.place();
-    std::cout << place.line + 1 << ':' << place.column + 1 << ": " << path << ' ' << value.kind_name();
-    if (auto text = value.as_string()) std::cout << " \"" << *text << '"';
-    if (auto integer = value.as_integer()) std::cout << ' ' << *integer;
-    std::cout << '\n';
+    bool is_array = value.kind() == TOML_SPAN_ARRAY;
     for (toml_span::value held : value) {
-        bool is_table = value.kind() == TOML_SPAN_TABLE;
-        print(path + '/' + (is_table ? std::string(held.key()) : std::to_string(held.node().position)), held);
+        std::string name = path + '/' + (is_array ? std::to_string(held.node().position) : std::string(held.key()));
+        toml_span_place place = held.place();
+        std::cout << place.line + 1 << ':' << place.column + 1 << ": " << name << ": " << held.kind_name();
+        if (auto text = held.as_string()) std::cout << " \"" << *text << '"';
+        std::cout << '\n';
+        print(name, held);
     }
 }
 
@@ -25,6 +24,5 @@ int main(int argc, char **argv) {
     toml_span::document document(text);
     if (!document) return std::cerr << document.report(argv[1]), 1;
     print("", document.root());
-    if (auto port = document.find("/server/ports/1/number").as_integer()) std::cout << "the second port is " << *port << '\n';
-    return 0;
+    if (auto port = document["server"]["ports"][0].as_integer()) std::cout << "the first port is " << *port << '\n';
 }

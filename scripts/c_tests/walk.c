@@ -70,7 +70,7 @@ static void look(const char *name) {
     if (!is_read()) return;
     toml_span_sort(nodes, counts.nodes, sorted);
     for (size_t at = 1; at < counts.nodes; at++) tell(is_in_place(at), name, "record", at);
-    tell(sorted[0].parent == TOML_SPAN_NONE && sorted[0].next == counts.nodes && sorted[0].position == 0, name, "root", 0);
+    tell(sorted[0].parent == TOML_SPAN_NONE && sorted[0].next == counts.nodes && !sorted[0].position, name, "root", 0);
     tell(has_all(), name, "the set of records", counts.nodes);
     tell(has_fronts(), name, "pickle", 0);
 }
@@ -106,7 +106,8 @@ static const struct {
     const char *text;
     size_t offset, line, column;
 } places[] = {
-    {"", 0, 0, 0}, {"ab", 1, 0, 1}, {"ab", 9, 0, 2}, {"a\nb", 1, 0, 1}, {"a\nb", 2, 1, 0}, {"a\r\n\n\xc3\xa9x", 6, 2, 2},
+    {"", 0, 0, 0},        {"ab", 1, 0, 1},   {"ab", 9, 0, 2},
+    {"a\nb", 1, 0, 1}, {"a\nb", 2, 1, 0}, {"a\r\n\n\xc3\xa9x", 6, 2, 2},
 };
 
 static void take(const char *words) {
@@ -140,8 +141,9 @@ int main(int argc, char **argv) {
         toml_span_place place = toml_span_line_column(text, length, places[at].offset);
         tell(place.line == places[at].line && place.column == places[at].column, places[at].text, "place", at);
     }
-    tell(!strcmp(toml_span_kind_name(TOML_SPAN_STRING), "string") && !strcmp(toml_span_kind_name(TOML_SPAN_TABLE), "table") &&
-             !*toml_span_kind_name(0) && !*toml_span_kind_name(8), "kinds", "name", 0);
+    const char *const names[] = {"", "string", "integer", "float", "boolean", "datetime", "array", "table", ""};
+    for (uint32_t kind = 0; kind < 9; kind++)
+        tell(!strcmp(toml_span_kind_name(kind), names[kind]), "kind", "name", kind);
     printf("walk: %ld of %ld right\n", rows - wrong, rows);
     return wrong != 0 || documents == 0;
 }

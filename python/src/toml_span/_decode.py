@@ -139,7 +139,8 @@ class Document:
             return _moment(self.data[start:end].decode())
         except (ValueError, OverflowError) as error:
             pos = len(self.data[:start].decode())
-            raise TOMLDecodeError(f"not a date of Python's: {error}", self.text, pos, None, (start, end)) from None
+            msg = f"Python has no such date or time: {error}"
+            raise TOMLDecodeError(msg, self.text, pos, None, (start, end)) from None
 
     def value(self, number: int, parse_float: Callable[[str], Any] = float) -> Any:
         """The value of a record with all that it holds."""

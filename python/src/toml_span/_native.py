@@ -20,7 +20,7 @@ NAME = "libtoml_span.so.0"
 
 
 def _library() -> ctypes.CDLL:
-    """The library that TOML_SPAN_LIBRARY names, or in this folder, or in ``out/lib`` of the repository, or the system's."""
+    """The library: that of TOML_SPAN_LIBRARY, or in this folder, or in out/lib of the repository, or the system's."""
     folder = os.path.dirname(os.path.abspath(__file__))
     places = [os.path.join(folder, NAME), os.path.join(folder, "..", "..", "..", "out", "lib", NAME)]
     named = os.environ.get("TOML_SPAN_LIBRARY")

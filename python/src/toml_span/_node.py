@@ -57,8 +57,8 @@ class _Source(Document):
 
 
 class Node:
-    """A value with its place. It is looked into, compared and counted as its ``value`` is: a table as a dict, an array as
-    a list. What a table holds comes in the order of the text; ``sorted(node)`` has the names in order."""
+    """A value with its place. A table works like a dict, an array like a list; ``==``, ``in`` and truth are those of
+    the value. Iteration follows the text; ``sorted(node)`` has the names in order."""
 
     __slots__ = ("_source", "_number")
     __hash__ = None  # type: ignore[assignment]
@@ -168,7 +168,7 @@ class Node:
     def __iter__(self) -> Iterator[Any]:
         """The names of a table, the elements of an array."""
         held = self._children()
-        return iter(self.keys() if self._record[0] == TABLE else [Node(self._source, number) for number in held.values()])
+        return iter(held if self._record[0] == TABLE else [Node(self._source, number) for number in held.values()])
 
     def __contains__(self, item: object) -> bool:
         """Whether a table has this name, or an array an element with this value."""
