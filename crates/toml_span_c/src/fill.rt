@@ -93,7 +93,6 @@ fn put_text(
 }
 
 /// Puts a record, if there is room for it.
-#[inline(never)]
 fn put_record(nodes: &mut [Record], at: usize, added: Record)
     ensures { nodes.new ≡ laid at (added ∷ []) nodes.old }
 {
