@@ -55,7 +55,7 @@ archive=$lib/libtoml_span.a
 shared=$lib/libtoml_span.so.0
 export PKG_CONFIG_PATH=$lib/pkgconfig
 strict=(-Wall -Wextra -Wconversion -Werror -O2 "-I$lib/../include")
-sanitize=(-fsanitize=address,undefined -fno-sanitize-recover=all -g)
+sanitize=("-fsanitize=address,undefined" -fno-sanitize-recover=all -g)
 tests=scripts/c_tests
 documents=(crates/toml_span_check/data/*.toml crates/toml_span_check/runs/{tagged,refused}/*.toml)
 

@@ -18,7 +18,7 @@ def main(names: List[str]) -> int:
             with open(name, "rb") as file:
                 parse(file.read(), name)
         except TOMLDecodeError as error:
-            print(error.report or f"error: {error}\n --> {name}", file=sys.stderr)
+            sys.stderr.write(error.report or f"error: {error}\n --> {name}\n")
             status = max(status, 1)
         except OSError as error:
             print(f"error: {name!r}: {error.strerror}", file=sys.stderr)
