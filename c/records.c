@@ -121,7 +121,7 @@ void toml_span_sort(const toml_span_node *nodes, size_t count, toml_span_node *s
     sorted[0].position = 0;
     sorted[0].parent = 0;
     for (size_t at = 0; at < count; at++) number_children(nodes, at, sorted);
-    /* what a record needs, into the other fields of the place that has its new number */
+    /* the old number and the new place of a record go into the other fields of its place */
     for (size_t at = 0; at < count; at++) {
         toml_span_node *place = &sorted[sorted[at].position];
         place->children = at;

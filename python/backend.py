@@ -18,7 +18,7 @@ import zipfile
 HERE = os.path.dirname(os.path.abspath(__file__))
 PACKAGE = os.path.join(HERE, "src", "toml_span")
 LIBRARY = "libtoml_span.so.0"
-# what a member says of its age, so that the same sources make the same file
+# the date of each member, so that the same sources make the same file
 MOMENT = (1980, 1, 1, 0, 0, 0)
 
 

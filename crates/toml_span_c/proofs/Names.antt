@@ -1,9 +1,10 @@
 -- Numbers of kinds have the names of the kinds, and each error of a document has a number.
 use Rattle.toml_span_lex.proofs.Common.{◌≡◌, ◌≢◌, ◌∙◌, ap, arith, inl, inr, List, refl, sym, ℕ}
-use Rattle.toml_span.specs.Clashes.{Meeting, kind_of_clash}
-use Rattle.toml_span.specs.Parsing.{IsRefusal}
+use Rattle.toml_span.specs.Clashes.{kind_of_clash}
+use Rattle.toml_span.specs.Parsing.{IsRefusal, TellsClash}
 use Rattle.toml_span.specs.declared.claims.Blame.{Blame}
 use Rattle.toml_span.specs.declared.claims.Blame.TheVariants.{DuplicateTable, DuplicateKey, RedefineAsArray}
+use Rattle.toml_span.specs.declared.claims.Meeting.{Meeting}
 use Rattle.toml_span_lex.specs.declared.stop.Stop.TheVariants as stops
 use Rattle.toml_span_read.specs.Faults.{error_kind}
 use Rattle.toml_span_read.specs.declared.fault.FaultKind.{FaultKind}
@@ -63,7 +64,10 @@ clash-numbered RedefineAsArray name m h = omega (arith, h)
 
 pub refusal-numbered : (bytes : List ℕ) (limit : ℕ) (error : Error) → IsRefusal bytes limit (stops.Fault error)
     → code_number (content_of error).kind ≢ 0
-refusal-numbered bytes limit error (inl (fault, has, inside, line, column, info, is)) h =
+refusal-numbered bytes limit error (inl (fault, has, answer)) h =
+    let (inside, tells) = answer in
+    let (line, column, info, is) = tells in
     fault-numbered fault.kind (sym (ap (λ e. code_number e.kind) is) ∙ h)
-refusal-numbered bytes limit error (inr (blocks, clash, has, tells)) h =
+refusal-numbered bytes limit error (inr (blocks, clash, has, answer)) h =
+    let tells : TellsClash bytes clash error = answer in
     clash-numbered clash.meeting.blame clash.name clash.meeting (sym (ap (λ e. code_number e.kind) tells.tells) ∙ h)

@@ -24,7 +24,10 @@ def _library() -> ctypes.CDLL:
     folder = os.path.dirname(os.path.abspath(__file__))
     places = [os.path.join(folder, NAME), os.path.join(folder, "..", "..", "..", "out", "lib", NAME)]
     named = os.environ.get("TOML_SPAN_LIBRARY")
-    library = ctypes.CDLL(named or next(filter(os.path.exists, places), NAME))
+    try:
+        library = ctypes.CDLL(named or next(filter(os.path.exists, places), NAME))
+    except OSError as error:
+        raise ImportError(f"{error} (scripts/c_library.sh makes it; TOML_SPAN_LIBRARY may name it)") from None
     size, pointer, text = ctypes.c_size_t, ctypes.c_void_p, ctypes.c_char_p
     for name, result, arguments in (
         ("parse", ctypes.c_uint32, [text, size, pointer, size, pointer, size, pointer, pointer]),

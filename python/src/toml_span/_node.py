@@ -174,7 +174,8 @@ class Node:
         """Whether a table has this name, or an array an element with this value."""
         if self._record[0] == TABLE:
             return item in self._children()
-        return any(node == item for node in self)
+        self._children()
+        return (item.value if isinstance(item, Node) else item) in self.value
 
     def __eq__(self, other: object) -> bool:
         return bool(self.value == (other.value if isinstance(other, Node) else other))
