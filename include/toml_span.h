@@ -1,19 +1,19 @@
-/* toml_span: reads TOML, and knows for each value and each key the bytes at which it stands.
+/* toml_span: parses TOML 1.1 and keeps the byte range of each value and each key.
  *
- *     const char *text = ..;                     the document, UTF-8; no zero byte has to end it
  *     toml_span_counts counts;
  *     toml_span_fault fault;
- *     if (toml_span_parse(text, length, nodes, room, strings, strings_room, &counts, &fault) == TOML_SPAN_READ) ..
+ *     uint32_t status = toml_span_parse(text, length, nodes, room, strings, strings_room, &counts, &fault);
  *
- * The caller owns all memory: the library fills arrays of the caller's, keeps nothing between calls and hands out
- * nothing that has to be freed. What it allocates on the way, by malloc, it frees before it returns. So any number of
- * threads may call it at once, and the records stay good as long as the caller keeps its own arrays and the text.
+ * The caller owns all memory: a call fills the caller's arrays, keeps nothing, and returns nothing that must be freed.
+ * What it allocates with malloc, it frees before it returns. So any number of threads may call it at once, and the
+ * records stay valid as long as the arrays and the text do.
  *
- * - No pointer may be null, also where its length or room is 0, and none of the arrays may overlap.
- * - A call takes less than 512 KB of stack. It must not be made from a signal handler.
- * - Offsets are in bytes of the text and count from 0; an end is exclusive. Lines and columns count from 0 too, and a
- *   column is in bytes.
- * - It runs on x86-64 processors of the level x86-64-v2 or above (any since about 2009).
+ * - No pointer may be null, even where its length or room is 0, and the arrays must not overlap.
+ * - The text needs no zero byte at its end.
+ * - Offsets are in bytes of the text and count from 0; an end is exclusive. Lines and columns count from 0, and columns
+ *   are in bytes.
+ * - A call takes less than TOML_SPAN_STACK bytes of stack. Do not call it from a signal handler.
+ * - The library is for 64-bit Linux on x86-64 processors of level x86-64-v2 or above (any since about 2009).
  *
  * Link with libtoml_span.a or libtoml_span.so: `cc main.c $(pkg-config --cflags --libs toml_span)`. */
 #ifndef TOML_SPAN_H
@@ -26,19 +26,26 @@
 extern "C" {
 #endif
 
-/* What a call answers. Where it is not TOML_SPAN_READ (or, of the calls for texts, TOML_SPAN_REFUSED), the arrays and
- * counts are as they were. */
+#define TOML_SPAN_VERSION "0.7.2"
+
+/* The version of the binary interface, as in libtoml_span.so.0: it changes with the functions and the records. */
+#define TOML_SPAN_ABI 0
+
+/* The status that a call returns. */
 enum {
-    TOML_SPAN_READ = 0,    /* the text is a document */
-    TOML_SPAN_REFUSED = 1, /* it is none, and the fault says why */
-    TOML_SPAN_UNREAD = 2,  /* it is no UTF-8, or longer than TOML_SPAN_LONGEST */
-    TOML_SPAN_MEMORY = 4   /* malloc refused memory */
+    TOML_SPAN_READ = 0,    /* the text is valid TOML */
+    TOML_SPAN_REFUSED = 1, /* it is not */
+    TOML_SPAN_UNREAD = 2,  /* it is not UTF-8, or longer than TOML_SPAN_LONGEST */
+    TOML_SPAN_MEMORY = 4   /* out of memory: malloc failed */
 };
 
-/* The most bytes that a document may have. */
+/* The most bytes that a document may have: 16 MiB. */
 #define TOML_SPAN_LONGEST 16777216
 
-/* The kinds of values. */
+/* More stack than any document takes: at most 401 KB were measured, so 47 KB are left. */
+#define TOML_SPAN_STACK 458752
+
+/* The kinds of values. A datetime is a date, a time or both, with or without an offset. */
 enum {
     TOML_SPAN_STRING = 1,
     TOML_SPAN_INTEGER = 2,
@@ -49,7 +56,7 @@ enum {
     TOML_SPAN_TABLE = 7
 };
 
-/* The parent of the root. */
+/* The number of no record: the parent of the root, and what toml_span_find returns if it finds nothing. */
 #define TOML_SPAN_NONE SIZE_MAX
 
 /* Bytes of the text, from `start` to before `end`. */
@@ -57,30 +64,30 @@ typedef struct {
     size_t start, end;
 } toml_span_range;
 
-/* Where the bytes of a text are: with `const char *sources[] = {text, strings};` they begin at
- * `sources[source] + at`. They are in the document (source 0) where they stand there as they are, at their span, and in
- * the strings (source 1) otherwise: a string with escapes, and a float with a plus, underscores or `e` for `E`, since
- * its text has none of these. No zero byte ends them. */
+/* The bytes of a name or of a value's text: with `const char *sources[] = {text, strings};` they begin at
+ * `sources[source] + at`, and no zero byte ends them. They are in the document (source 0) if it has them at the span as
+ * they are. Otherwise they are in `strings` (source 1): a string with escapes, and a float with `+`, `_` or `E`, whose
+ * text here has none of the first two and `e` for the third. */
 typedef struct {
     size_t source, at, length;
 } toml_span_text;
 
-/* A value. The records come in the order of a walk: the root first, each value before those that it holds, an array's
- * elements in order, a table's entries in the order of the bytes of their names. */
+/* A value. Records are in the order of a walk: the root first, each value before those that it holds, the elements of
+ * an array in order, the entries of a table by the bytes of their names (toml_span_sort changes that). */
 typedef struct {
     uint32_t kind;            /* TOML_SPAN_STRING and so on */
-    uint32_t truth;           /* a boolean: 1 for true; else 0 */
-    toml_span_range span;     /* where the value stands; of a string what is between its quotes */
-    toml_span_range key_span; /* where its key stands; 0..0 of elements and of the root */
-    toml_span_text key;       /* its name in the table; empty (source 0, at 0) of elements and of the root */
-    toml_span_text text;      /* what a string, a float or a date says; else empty (source 0, at 0) */
-    size_t parent;            /* the number of the record of what holds it; TOML_SPAN_NONE of the root */
-    size_t position;          /* its place among its parent's values, counted from 0 */
-    size_t children;          /* how many values an array or a table holds; else 0 */
-    size_t next;              /* the number of the first record behind all that it holds: its next sibling, if there is
-                                 one. Its own first value, if there is one, has the next number after its own. */
-    int64_t integer;          /* an integer; else 0 */
-    double number;            /* a float: the double that is nearest to its text; else 0.0 */
+    uint32_t truth;           /* 1 for `true`; otherwise 0 */
+    toml_span_range span;     /* the bytes of the value; of a string those between its quotes */
+    toml_span_range key_span; /* the bytes of its key; 0..0 for elements and the root */
+    toml_span_text key;       /* its name in the table; empty (source 0, at 0) for elements and the root */
+    toml_span_text text;      /* the text of a string, a float or a datetime; otherwise empty (source 0, at 0) */
+    size_t parent;            /* the number of the record of what holds it; TOML_SPAN_NONE for the root */
+    size_t position;          /* its position among the values of its parent, counted from 0 */
+    size_t children;          /* how many values an array or a table holds; otherwise 0 */
+    size_t next;              /* the number of the first record after all that it holds, which is its next sibling if it
+                                 has one. Its first child, if it has one, has the number after its own. */
+    int64_t integer;          /* the value of an integer; otherwise 0 */
+    double number;            /* the value of a float, the double nearest to its text; otherwise 0.0 */
 } toml_span_node;
 
 /* How many records a document has, and how many bytes of strings. */
@@ -88,46 +95,86 @@ typedef struct {
     size_t nodes, strings;
 } toml_span_counts;
 
-/* Why a text is refused. */
+/* Why a text is not valid TOML. */
 typedef struct {
-    uint32_t code;         /* what is wrong: toml_span_code has its name */
-    uint32_t has_first;    /* 1 where there is a second place: the earlier key, table or value */
-    toml_span_range span;  /* where it is wrong */
-    toml_span_range first; /* the second place; else 0..0 */
-    size_t line, column;   /* those of span.start: line feeds before it, and bytes behind the last of them */
+    uint32_t code;         /* the kind of error, from 1 on: toml_span_code returns its name */
+    uint32_t has_first;    /* 1 if there is a second place: the earlier key, table or value; otherwise 0 */
+    toml_span_range span;  /* the bytes that are wrong */
+    toml_span_range first; /* the second place; otherwise 0..0 */
+    size_t line, column;   /* those of span.start */
 } toml_span_fault;
 
-/* Reads a text. The arrays are filled as far as there is room, as snprintf does: `nodes` with the front of the records,
- * `strings` with the front of the strings, and `counts` says how many there are, whatever room there was. So where
- * counts->nodes <= room and counts->strings <= strings_room all is there; else a second call with room for the counts
- * has all. It is proved that a text has no more than 2 * length + 1 records and no more than `length` bytes of strings, so
- * one call with arrays of that size always has all. What is behind the filled part of an array is left alone.
+/* A line and a column. */
+typedef struct {
+    size_t line, column;
+} toml_span_place;
+
+/* Parses a text. As snprintf does, it fills `nodes` and `strings` as far as there is room, and sets `counts` to the
+ * whole numbers. If counts->nodes <= room and counts->strings <= strings_room, all is there; otherwise a second call
+ * with room for the counts has all. One call is enough with room for 2 * length + 1 records and `length` bytes of
+ * strings.
  *
- * READ: nodes, strings and counts. REFUSED: fault. Nothing else is written, and on any other answer nothing at all. */
+ * READ writes nodes, strings and counts; REFUSED writes the fault. Nothing else is written, also not the rest of the
+ * arrays. */
 uint32_t toml_span_parse(const char *text, size_t length, toml_span_node *nodes, size_t room, char *strings,
                          size_t strings_room, toml_span_counts *counts, toml_span_fault *fault);
 
-/* Whether a text is a document: what toml_span_parse answers. */
+/* Checks a text: returns the status of toml_span_parse. */
 uint32_t toml_span_check(const char *text, size_t length);
 
-/* The name of a fault's code, as `duplicate-key`; of length 0 where there is no such code. Fills `out` as far as there
- * is room, with no zero byte behind it, and says in `needed` how long it is. */
+/* Writes the name of a fault's code, such as `duplicate-key`; nothing for any other number. It fills `out` as far as
+ * there is room, without a zero byte at the end, and sets `needed` to the whole length. */
 void toml_span_code(uint32_t code, char *out, size_t room, size_t *needed);
 
-/* The message of a text's fault, as "duplicate key: `port`", in the same way. Reads the text again, and answers as
- * toml_span_parse; `out` and `needed` are written where it is REFUSED. */
+/* Writes the message of a text's fault, such as "duplicate key: `port`", in the same way. It parses the text again and
+ * returns the status; `out` and `needed` are written only if that is REFUSED. */
 uint32_t toml_span_message(const char *text, size_t length, char *out, size_t room, size_t *needed);
 
-/* The report of a text's fault, with its lines and marks under them, of a file with this name, in the same way. UNREAD
- * too where the name is no UTF-8. */
+/* Writes the report of a text's fault in the same way: its lines, with marks under them, and the name of the file. Also
+ * UNREAD if the name is not UTF-8. */
 uint32_t toml_span_report(const char *text, size_t length, const char *name, size_t name_length, char *out, size_t room,
                           size_t *needed);
 
-#if defined(__STDC_VERSION__) && __STDC_VERSION__ >= 201112L
-_Static_assert(sizeof(size_t) == 8, "toml_span is built for 64 bits");
-_Static_assert(sizeof(toml_span_node) == 136, "the records have no gaps");
-_Static_assert(sizeof(toml_span_fault) == 56, "the faults have no gaps");
+/* ---- The calls below look only at the records. */
+
+/* Visits the children of a record: TOML_SPAN_EACH(nodes, 0, child) printf("%zu\n", nodes[child].span.start); */
+#define TOML_SPAN_EACH(nodes, parent, child) \
+    for (size_t child = (parent) + 1; child < (nodes)[parent].next; child = (nodes)[child].next)
+
+/* Finds a value by its JSON Pointer (RFC 6901), such as "/server/ports/0", from the record `from` on, which is 0 for
+ * the root. Returns the number of its record, or TOML_SPAN_NONE. `sources` is {text, strings}, and `count` says how
+ * many records the array has: those that had no room in it are not found. */
+size_t toml_span_find(const toml_span_node *nodes, size_t count, const char *const sources[2], size_t from,
+                      const char *pointer);
+
+/* Copies the records of a document to `sorted`, with the entries of each table in the order in which the text names
+ * them. The fields `parent`, `position` and `next` are those of the new order. The array must have all records: `count`
+ * is counts.nodes. */
+void toml_span_sort(const toml_span_node *nodes, size_t count, toml_span_node *sorted);
+
+/* Writes the value of the record `from`, with all that it holds, as a pickle of Python's (protocol 4): tables as dicts,
+ * arrays as lists. A datetime, and if `floats` is not 0 a float, is a persistent id: the number of its record. It fills
+ * `out` as toml_span_code does. The arrays must have all records and strings. */
+void toml_span_pickle(const toml_span_node *nodes, size_t from, const char *const sources[2], int floats, char *out,
+                      size_t room, size_t *needed);
+
+/* Returns the name of a kind, such as "integer"; "" for any other number. */
+const char *toml_span_kind_name(uint32_t kind);
+
+/* Returns the line and the column of an offset, in time linear in the offset. */
+toml_span_place toml_span_line_column(const char *text, size_t length, size_t offset);
+
+#if defined(__cplusplus)
+#define TOML_SPAN_ASSERT(condition, message) static_assert(condition, message);
+#elif defined(__STDC_VERSION__) && __STDC_VERSION__ >= 201112L
+#define TOML_SPAN_ASSERT(condition, message) _Static_assert(condition, message);
+#else
+#define TOML_SPAN_ASSERT(condition, message)
 #endif
+TOML_SPAN_ASSERT(sizeof(size_t) == 8, "toml_span is built for 64 bits")
+TOML_SPAN_ASSERT(sizeof(toml_span_node) == 136, "the records have no gaps")
+TOML_SPAN_ASSERT(sizeof(toml_span_fault) == 56, "the faults have no gaps")
+#undef TOML_SPAN_ASSERT
 
 #ifdef __cplusplus
 }

@@ -4,18 +4,24 @@ FOLDER has the stored runs of `toml-span`, crates/toml_span_cli/runs: a run tagg
 it says, `stdout`, each scalar with its type.
 """
 
+import ast
+import contextlib
 import glob
 import io
 import json
 import math
 import os
 import pickle
+import re
 import sys
+import tempfile
+import threading
 import unittest
 from datetime import date, datetime, time, timedelta, timezone
 from decimal import Decimal
 
 import toml_span
+from toml_span.__main__ import main
 
 try:
     import tomllib
@@ -30,12 +36,6 @@ DOCUMENTS = [os.path.join(run, "stdin") for run in RUNS if not os.path.exists(os
 def text_of(path):
     with open(path, encoding="utf-8", newline="") as file:
         return file.read()
-
-
-def sorted_by_name(value):
-    if isinstance(value, dict):
-        return {name: sorted_by_name(value[name]) for name in sorted(value)}
-    return [sorted_by_name(held) for held in value] if isinstance(value, list) else value
 
 
 def tagged(value):
@@ -57,7 +57,9 @@ def tagged(value):
 
 def moment_of(kind, text):
     """A date or time of the JSON, by Python's own reader."""
-    text = text.replace("z", "Z").replace("t", "T")
+    text = text.upper().replace("Z", "+00:00")
+    # (older versions of Python want three or six digits)
+    text = re.sub(r"\.(\d+)", lambda found: "." + found[1][:6].ljust(6, "0"), text)
     if kind == "time-local":
         return time.fromisoformat(text)
     if kind == "date-local":
@@ -101,7 +103,8 @@ class Loads(unittest.TestCase):
             for parse_float in (str, Decimal):
                 ours = toml_span.loads(text, parse_float=parse_float)
                 theirs = tomllib.loads(text, parse_float=parse_float)
-                self.assertEqual(repr(sorted_by_name(ours)), repr(sorted_by_name(theirs)), path)
+                # (a repr has the keys in their order)
+                self.assertEqual(repr(ours), repr(theirs), path)
             same += 1
         self.assertGreater(same, 10)
 
@@ -135,6 +138,38 @@ class Loads(unittest.TestCase):
             },
         )
 
+    def test_times_and_dates(self):
+        # fractions beyond microseconds are cut off
+        for text, value in (
+            ("07:32:00.1", time(7, 32, 0, 100000)),
+            ("07:32:00.12", time(7, 32, 0, 120000)),
+            ("07:32:00.9999999", time(7, 32, 0, 999999)),
+            ("07:32", time(7, 32)),
+            ("1979-05-27", date(1979, 5, 27)),
+            ("1979-05-27 07:32", datetime(1979, 5, 27, 7, 32)),
+            ("1979-05-27t07:32:00.12z", datetime(1979, 5, 27, 7, 32, 0, 120000, timezone.utc)),
+            ("1979-05-27T00:32:00.5-07:30", datetime(1979, 5, 27, 0, 32, 0, 500000, timezone(-timedelta(hours=7.5)))),
+        ):
+            self.assertEqual(toml_span.loads(f"t = {text}"), {"t": value}, text)
+
+    def test_keys_are_in_the_order_of_the_text(self):
+        for text, shown in (
+            ("b = 1\na = 2", "{'b': 1, 'a': 2}"),
+            ("[z.y]\n[b]\n[z.a]\n[z]\nx = 1", "{'z': {'y': {}, 'a': {}, 'x': 1}, 'b': {}}"),
+            # the key of `b` is that of the header, but its dotted key comes before `a`
+            ("b.z = 1\na = 2\n[b.d]\n", "{'b': {'z': 1, 'd': {}}, 'a': 2}"),
+            ("[[b]]\nz = 1\ny = 2\n[a]\n[[b]]", "{'b': [{'z': 1, 'y': 2}, {}], 'a': {}}"),
+            ("x = [{c = 1, b = 2, a.z = 3, a.y = 4}]", "{'x': [{'c': 1, 'b': 2, 'a': {'z': 3, 'y': 4}}]}"),
+            ("".join(f"k{9 * at % 13} = 0\n" for at in range(13)), repr({f"k{9 * at % 13}": 0 for at in range(13)})),
+        ):
+            self.assertEqual(repr(toml_span.loads(text)), shown)
+
+    def test_integers_and_long_strings(self):
+        numbers = [0, 255, 256, -1, 2147483647, 2147483648, -2147483648, -2147483649, 2**63 - 1, -(2**63)]
+        self.assertEqual(toml_span.loads(f"a = {numbers}"), {"a": numbers})
+        for size in (255, 256, 70000):
+            self.assertEqual(toml_span.loads(f"{'k' * size} = '{'v' * size}'"), {"k" * size: "v" * size})
+
     def test_parse_float(self):
         self.assertEqual(toml_span.loads("a = +1_0.50", parse_float=str), {"a": "+1_0.50"})
         with self.assertRaisesRegex(ValueError, "parse_float must not return dicts or lists"):
@@ -149,6 +184,22 @@ class Loads(unittest.TestCase):
     def test_many_short_values(self):
         text = "a = [" + "1," * 100000 + "]"
         self.assertEqual(len(toml_span.loads(text)["a"]), 100000)
+
+
+    def test_the_deepest_document_in_a_small_thread(self):
+        headers = "".join(f"[[{'.'.join('h' * parts)}]]\n" for parts in range(1, 129))
+        found = []
+        size = threading.stack_size(512 * 1024)
+        try:
+            thread = threading.Thread(target=lambda: found.append(toml_span.loads(headers + "k." * 127 + "k = 1")))
+            thread.start()
+            thread.join()
+        finally:
+            threading.stack_size(size)
+        value, depth = found[0], 0
+        while value != 1:
+            value, depth = next(iter(value.values())) if isinstance(value, dict) else value[0], depth + 1
+        self.assertEqual(depth, 3 * 128)
 
 
 class Errors(unittest.TestCase):
@@ -184,6 +235,28 @@ class Errors(unittest.TestCase):
     def test_what_python_has_no_date_for(self):
         self.assertEqual(self.fault("a = 1990-12-31T23:59:60Z").span, (4, 24))
         self.assertEqual(self.fault("a = 0000-01-01").lineno, 1)
+
+    def test_integers_beyond_64_bits(self):
+        for text in ("9223372036854775808", "-9_223_372_036_854_775_809", "0xffff_ffff_ffff_ffff", "0b1" + 64 * "0"):
+            error = self.fault(f"a = {text}")
+            self.assertEqual(error.msg, "integer out of range: it must be from -2**63 to 2**63 - 1")
+            self.assertIn(text[2:], "0x" + error.doc[slice(*error.char_span)])
+        self.assertEqual(self.fault("a = 01").msg, "invalid number")
+
+    def test_a_surrogate(self):
+        for read in (toml_span.loads, toml_span.parse):
+            with self.assertRaises(toml_span.TOMLDecodeError) as caught:
+                read("a = 1\n# \ud800")
+            self.assertEqual((caught.exception.lineno, caught.exception.colno), (2, 3))
+
+    def test_messages_have_no_control_characters(self):
+        for text in ('a = "\x1b[31m"', "a = 1 \x9b", "a\u202e = 1", "'\u202e' = 1\n'\u202e' = 2"):
+            self.assertTrue(str(self.fault(text)).isprintable(), text)
+
+    def test_char_span(self):
+        error = self.fault("'\u00e9' = 1\n'\u00e9' = 2")
+        self.assertEqual((error.span, error.char_span), ((10, 12), (9, 10)))
+        self.assertEqual(error.doc[slice(*error.char_span)], "\u00e9")
 
     def test_pickles(self):
         error = self.fault("a = 1\na = 2\n")
@@ -223,23 +296,147 @@ class Nodes(unittest.TestCase):
         self.assertEqual(items[1].path, ("list", 1))
         self.assertIsNone(items[1].key_span)
         self.assertEqual(items[1].key, None)
-        with self.assertRaises(IndexError):
-            items[3]
         self.assertEqual(self.root["item"][1]["n"].value, 2.5)
+        self.assertEqual([node.value for node in items[:2]], [1, "x"])
+        self.assertEqual(items[::-1][0].path, ("list", 2))
+        for wrong, error in ((3, IndexError), (-4, IndexError), ("x", TypeError)):
+            with self.assertRaises(error):
+                items[wrong]
 
     def test_mappings(self):
-        self.assertEqual(list(self.root), ["item", "list", "server"])
-        self.assertEqual(self.root.keys(), ["item", "list", "server"])
-        self.assertEqual([node.path for node in self.root.values()], [("item",), ("list",), ("server",)])
-        self.assertIn("server", self.root)
-        self.assertNotIn("port", self.root)
+        self.assertEqual(list(self.root), ["list", "server", "item"])
+        self.assertEqual(sorted(self.root), ["item", "list", "server"])
+        self.assertEqual(self.root.keys(), ["list", "server", "item"])
+        self.assertEqual([node.path for node in self.root.values()], [("list",), ("server",), ("item",)])
         self.assertIsNone(self.root.get("none"))
         self.assertEqual(self.root.get("server").kind, "table")
         with self.assertRaises(KeyError):
             self.root["none"]
-        with self.assertRaises(TypeError):
-            self.root["server"]["port"]["x"]
+        with self.assertRaises(KeyError):
+            self.root[0]
+        for call in (len, list, lambda port: port["x"], lambda port: 1 in port, lambda port: port.keys()):
+            with self.assertRaises(TypeError):
+                call(self.root["server"]["port"])
         self.assertEqual(self.root.value, toml_span.loads(self.TEXT))
+
+    def test_values_are_compared_and_contained(self):
+        items, server = self.root["list"], self.root["server"]
+        self.assertTrue(items[1] == "x" and items[1] != "y" and items == [1, "x", [True]] and items[0] == items[0])
+        self.assertTrue("x" in items and 1 in items and [True] in items and "y" not in items)
+        self.assertTrue("port" in server and "server" not in server and 8080 not in server)
+        self.assertEqual([bool(node) for node in toml_span.parse("a = 0\nb = ''\nc = [0]\nd = {}").values()],
+                         [False, False, True, False])
+
+    def test_pointers(self):
+        root = toml_span.parse("a.'x/y~' = [1, {b = 2}]\n'' = 3\n[a.0]")
+        for pointer, path in (
+            ("", ()), ("/a/x~1y~0/1/b", ("a", "x/y~", 1, "b")), ("/", ("",)), ("/a/0", ("a", "0")),
+        ):
+            self.assertEqual(root.pointer(pointer).path, path)
+        for pointer in ("/b", "/a/x~1y~0/2", "/a/x~1y~0/01", "/a/x~1y~0/-1", "/a/x~1y~0/0/c", "/a/x~1y~0/"):
+            self.assertIsNone(root.pointer(pointer))
+        self.assertEqual(root["a"].pointer("/x~1y~0/0").value, 1)
+        with self.assertRaises(ValueError):
+            root.pointer("a")
+
+    def test_characters(self):
+        text = "# \u00e9\U0001f600\r\n'\u00e9' = '\u00e9x' # \n[t]\nb = '\u00e9\u00e9'"
+        root = toml_span.parse(text)
+        for node in (root["\u00e9"], root["t"]["b"]):
+            self.assertEqual(text[slice(*node.char_span)], node.value)
+            self.assertEqual(text[slice(*node.key_char_span)], node.key)
+            self.assertEqual(text.split("\n")[node.line - 1][node.column - 1 :][: len(node.value)], node.value)
+        self.assertEqual(root.char_span, (0, len(text)))
+        self.assertIsNone(root.key_char_span)
+
+    def test_bytes(self):
+        self.assertEqual(toml_span.parse("a = '\u00e9'".encode()).value, {"a": "\u00e9"})
+        with self.assertRaises(toml_span.TOMLDecodeError) as caught:
+            toml_span.parse(b"a = 1\n\xc3\xa9\xff")
+        self.assertEqual((caught.exception.lineno, caught.exception.colno, caught.exception.span), (2, 2, (8, 9)))
+        with self.assertRaises(TypeError):
+            toml_span.parse(None)
+
+    def test_lookups_take_no_longer_in_large_documents(self):
+        count = 20000
+        root = toml_span.parse("".join(f"k{at} = {at}\n" for at in range(count)))
+        self.assertEqual(sum(root[f"k{at}"].value for at in range(count)), count * (count - 1) // 2)
+        many = toml_span.parse("a = [" + "1," * count + "]")["a"]
+        self.assertEqual(sum(many[at].value for at in range(count)), count)
+        self.assertEqual(root["k19999"].line, count)
+
+
+class Dumps(unittest.TestCase):
+    def test_documents_are_written_and_read_again(self):
+        for path in DOCUMENTS:
+            value = toml_span.loads(text_of(path))
+            text = toml_span.dumps(value)
+            self.assertEqual(repr(toml_span.loads(toml_span.dumps(toml_span.loads(text)))), repr(toml_span.loads(text)))
+            self.assertEqual(tagged(toml_span.loads(text)), tagged(value), path)
+            if tomllib is not None:
+                self.assertEqual(tagged(tomllib.loads(text)), tagged(value), path)
+
+    def test_texts(self):
+        for value, text in (
+            ({}, ""),
+            ({"a": 1, "b c": [1.5, "x\n\x7f\\"]}, 'a = 1\n"b c" = [1.5, "x\\n\\u007f\\\\"]\n'),
+            ({"t": {"a": 1, "u": {}}, "n": -0.0}, "n = -0.0\n\n[t]\na = 1\n\n[t.u]\n"),
+            ({"i": [{"a": 1}, {"a": 2}]}, "[[i]]\na = 1\n\n[[i]]\na = 2\n"),
+            ({"i": [{"a": {"b": True}}, 1, {}]}, "i = [{ a = { b = true } }, 1, {}]\n"),
+            ({"d": datetime(1979, 5, 27, 7, 32, 0, 5)}, "d = 1979-05-27T07:32:00.000005\n"),
+            ({"f": [math.inf, -math.inf, 1e22]}, "f = [inf, -inf, 1e+22]\n"),
+            ({"a": (1, 2)}, "a = [1, 2]\n"),
+        ):
+            self.assertEqual(toml_span.dumps(value), text)
+        self.assertEqual(toml_span.dumps({"a": math.nan}), "a = nan\n")
+
+    def test_what_toml_does_not_have(self):
+        loop = {}
+        loop["a"] = loop
+        for value, error in (
+            ({"a": None}, TypeError),
+            ({"a": {1: 2}}, TypeError),
+            ({"a": b"x"}, TypeError),
+            ([1], TypeError),
+            ({"a": 2**63}, ValueError),
+            ({"a": "\ud800"}, ValueError),
+            ({"a": time(7, 32, tzinfo=timezone.utc)}, ValueError),
+            ({"a": datetime(1979, 5, 27, tzinfo=timezone(timedelta(seconds=30)))}, ValueError),
+            (loop, ValueError),
+        ):
+            with self.assertRaises(error, msg=repr(value)[:50]):
+                toml_span.dumps(value)
+
+
+class Command(unittest.TestCase):
+    def test_statuses(self):
+        with tempfile.TemporaryDirectory() as folder:
+            names = {}
+            for name, data in (("good", b"a = 1"), ("bad", b"a = 1\na = 2"), ("latin", b"a = '\xe9'")):
+                names[name] = os.path.join(folder, name)
+                with open(names[name], "wb") as file:
+                    file.write(data)
+            names["none"] = os.path.join(folder, "none")
+            for words, status, said in (
+                (["good"], 0, ""),
+                (["good", "bad"], 1, "error[duplicate-key]: duplicate key: `a`\n --> "),
+                (["latin"], 1, "not UTF-8"),
+                (["bad", "none"], 2, "No such file or directory"),
+                ([], 2, "usage: python3 -m toml_span FILE..\n"),
+            ):
+                out = io.StringIO()
+                with contextlib.redirect_stderr(out):
+                    self.assertEqual(main([names[word] for word in words]), status)
+                self.assertIn(said, out.getvalue())
+                self.assertEqual(said == "", out.getvalue() == "")
+
+
+class Package(unittest.TestCase):
+    def test_the_oldest_python_can_read_it(self):
+        folder = os.path.dirname(toml_span.__file__)
+        self.assertTrue(os.path.exists(os.path.join(folder, "py.typed")))
+        for path in glob.glob(os.path.join(folder, "*.py")):
+            ast.parse(text_of(path), path, feature_version=(3, 8))
 
 
 if __name__ == "__main__":

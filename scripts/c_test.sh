@@ -1,28 +1,22 @@
 #!/usr/bin/env bash
-# The library for C and its module for Python: bash scripts/c_test.sh [--unproved] [--times]
+# The library for C, C++ and Python: bash scripts/c_test.sh [--unproved] [--times]
 #
-# It builds the library (scripts/c_library.sh), the proved one where that is there, into a folder of its own, and then:
-# the example with gcc and clang, as C and as C++, against the archive and the shared library, with all warnings as
-# errors; which names can be seen; the example and refused memory under the address sanitizer; each request for memory
-# refused, and each room (hold.c); a million changed texts between guard pages (fuzz.c); threads and stack (threads.c);
-# the tests of the module, with tomllib beside it; and times, which are shown, and count only with --times, since a
-# machine that others share shakes them. Where gcc, clang or python3 is missing it says so, and fails. The last line
-# counts. All but the build takes under a minute of a processor.
+# It installs the library (scripts/c_library.sh), the proved one if that is there, into a folder of its own, and tries:
+# the examples with gcc and clang, pkg-config, CMake and meson; the exports and the layout of the records (abi.txt); the
+# calls under sanitizers (walk.c), with each request for memory refused (hold.c), between guard pages (fuzz.c), in
+# threads and with little stack (threads.c); the wheel, installed without network into a fresh environment. Times are
+# shown, and count only with --times, since a machine that others share shakes them. The last line counts.
 set -uo pipefail
-cd "$(dirname "$0")/.."
+cd "$(dirname "$0")/.." || exit
 top=$PWD
 work=$(mktemp -d)
 trap 'rm -rf "$work"' EXIT
+unset TOML_SPAN_LIBRARY PYTHONPATH
 passed=0
 failed=0
 times=shown
 words=()
-for word; do
-    case $word in
-    --times) times=told ;;
-    *) words+=("$word") ;;
-    esac
-done
+for word; do if [ "$word" = --times ]; then times=told; else words+=("$word"); fi; done
 
 # told NAME COMMAND..: counts a check that passes or fails as a whole
 told() {
@@ -30,7 +24,7 @@ told() {
     shift
     if "$@" >"$work/said" 2>&1; then
         passed=$((passed + 1))
-        grep -E '^(hold|fuzz|threads|speed|times):' "$work/said"
+        grep -E '^(hold|fuzz|threads|walk|speed|times):' "$work/said"
     else
         failed=$((failed + 1))
         echo "c_test: failed: $name"
@@ -43,46 +37,66 @@ shown() {
     "${@:2}" 2>&1 | grep -E '^(speed|times):'
 }
 
-missing=0
-for tool in gcc g++ clang clang++ python3; do
-    if ! command -v "$tool" >/dev/null; then
-        echo "c_test: there is no $tool"
-        missing=$((missing + 1))
-    fi
-done
-if ! bash scripts/c_library.sh "${words[@]}" --prefix "$work/lib" >"$work/said"; then
+# has TOOL: whether a tool is there; says so if not
+has() { command -v "$1" >/dev/null || { echo "c_test: there is no $1" && false; }; }
+
+for tool in gcc g++ clang clang++ python3; do has "$tool" || failed=$((failed + 1)); done
+# (by a link to the script, to a folder with a blank that is relative to the caller's, with a CDPATH that misleads)
+ln -s "$top/scripts/c_library.sh" "$work/install"
+if ! (cd "$work" && CDPATH=$top bash ./install "${words[@]}" --prefix "the library") >"$work/said"; then
     cat "$work/said"
-    echo "c_test: the library can't be built"
+    echo "c_test: the library can't be installed"
     echo "0 passed, 1 failed"
     exit 1
 fi
 cat "$work/said"
-archive=$work/lib/lib/libtoml_span.a
-shared=$work/lib/lib/libtoml_span.so
-strict=(-Wall -Wextra -Werror -O2 "-I$work/lib/include")
+lib="$work/the library/lib"
+archive=$lib/libtoml_span.a
+shared=$lib/libtoml_span.so.0
+export PKG_CONFIG_PATH=$lib/pkgconfig
+strict=(-Wall -Wextra -Wconversion -Werror -O2 "-I$lib/../include")
+sanitize=("-fsanitize=address,undefined" -fno-sanitize-recover=all -g)
 tests=scripts/c_tests
 runs=crates/toml_span_cli/runs
 documents=("$runs"/data/*.toml "$runs"/tagged_*/stdin)
 
-# keys PROGRAM: the example writes what it has to
+# exits STATUS COMMAND..
+exits() {
+    local wanted=$1 status=0
+    "${@:2}" || status=$?
+    [ "$status" -eq "$wanted" ]
+}
+
+# keys PROGRAM: the example writes what it should
 keys() { "$1" examples/c/example.toml | diff - examples/c/example.keys; }
 
-# a document that is refused ends with status 1 and its report
+# values PROGRAM: so does the example for C++
+values() { "$1" examples/c/example.toml | diff - examples/c/example.values; }
+
+# refused PROGRAM: for a document that is refused it ends with status 1 and the report
 refused() {
-    local status=0
-    "$1" "$runs/data/settings.toml" >"$work/out" 2>"$work/report" || status=$?
-    [ "$status" -eq 1 ] && [ ! -s "$work/out" ] && grep -q '^error\[duplicate-key\]' "$work/report"
+    exits 1 "$1" "$runs/data/settings.toml" >"$work/out" 2>"$work/report" &&
+        [ ! -s "$work/out" ] && grep -q '^error\[duplicate-key\]' "$work/report"
 }
 
-# seen FILE WORD..: the names that nm shows are the five exports
-seen() {
-    local wanted="toml_span_check toml_span_code toml_span_message toml_span_parse toml_span_report"
-    [ "$(nm -g --defined-only "${@:2}" "$1" | awk '$2 == "T" { print $3 }' | sort | xargs)" = "$wanted" ] &&
-        [ "$(nm -g --defined-only "${@:2}" "$1" | grep -c ' [A-Z] ')" -eq 5 ]
+# exports FILE WORD..: the names that nm shows
+exports() { nm -g --defined-only "${@:2}" "$1" | awk '$2 ~ /[A-Z]/ && $3 != "" { print $2, $3 }' | sort; }
+
+# abi: the soname, the exports of both libraries and the layout of the records are those that are kept
+abi() {
+    gcc "${strict[@]}" "$tests/abi.c" -o "$work/abi" && diff <(exports "$archive") <(exports "$shared" -D) &&
+        {
+            readelf -d "$shared" | sed -n 's/.*soname: \[\(.*\)\]/\1/p'
+            exports "$shared" -D
+            "$work/abi"
+        } >"$work/abi.txt" && diff "$tests/abi.txt" "$work/abi.txt" && return
+    echo "the interface has changed: raise TOML_SPAN_ABI in include/toml_span.h, and keep the new one as $tests/abi.txt"
+    false
 }
 
-told "the archive shows its exports alone" seen "$archive"
-told "the shared library shows its exports alone" seen "$shared" -D
+told "a missing folder" exits 5 bash scripts/c_library.sh --prefix
+told "an unknown option" exits 5 bash scripts/c_library.sh --prefixes
+told "the interface" abi
 for language in c:gcc c:clang c++:g++ c++:clang++; do
     compiler=${language#*:}
     command -v "$compiler" >/dev/null || continue
@@ -91,39 +105,68 @@ for language in c:gcc c:clang c++:g++ c++:clang++; do
         -x none "$archive" -o "$program"
     told "what it writes" keys "$program"
     told "what it writes of a fault" refused "$program"
+    told "records.c with $compiler" "$compiler" -x "${language%:*}" "${strict[@]}" -c c/records.c -o "$work/records.o"
 done
-told "the example with the shared library" gcc -std=c11 "${strict[@]}" examples/c/keys.c -L"$work/lib/lib" -ltoml_span \
-    -Wl,-rpath,"$work/lib/lib" -o "$work/keys.shared"
-told "what it writes" keys "$work/keys.shared"
+for compiler in g++ clang++; do
+    command -v "$compiler" >/dev/null || continue
+    told "the header with $compiler" "$compiler" -std=c++17 -pedantic -Wshadow -fno-exceptions -fno-rtti \
+        "${strict[@]}" "${sanitize[@]}" examples/c/values.cpp "$archive" -o "$work/values.$compiler"
+    told "what its example writes" values "$work/values.$compiler"
+    told "what its example writes of a fault" refused "$work/values.$compiler"
+done
+
+# packaged, cmade, mesoned: programs that are linked as docs/C.md says start by themselves
+packaged() {
+    eval "gcc examples/c/keys.c $(pkg-config --cflags --libs toml_span) -o '$work/keys.packaged'" &&
+        keys "$work/keys.packaged"
+}
+cmade() {
+    cmake -S examples/c -B "$work/cmade" "-DCMAKE_PREFIX_PATH=$lib/.." && cmake --build "$work/cmade" &&
+        keys "$work/cmade/keys" && values "$work/cmade/values"
+}
+mesoned() {
+    meson setup "$work/mesoned" examples/c && meson compile -C "$work/mesoned" && keys "$work/mesoned/keys"
+}
+if has pkg-config; then told "pkg-config" packaged; fi
+if has cmake; then told "CMake" cmade; fi
+if has pkg-config && has meson; then told "meson" mesoned; fi
 
 # build NAME WORD..: compiles a test
-build() { told "$1.c" gcc -std=c11 "${strict[@]}" "$tests/$1.c" "$archive" -pthread -o "$work/$1" "${@:2}"; }
-wrap=-Wl,--wrap=malloc,--wrap=realloc
-sanitize=(-fsanitize=address,undefined -fno-sanitize-recover=all -g)
+build() { told "$1.c" gcc -std=c11 "${strict[@]}" "$tests/$1.c" "${@:2}" -pthread -o "$work/$1"; }
+build walk "${sanitize[@]}" c/records.c "$shared" "-Wl,-rpath,$lib"
+told "lookups and orders" "$work/walk" "${documents[@]}"
 told "the example with sanitizers" gcc -std=c11 "${strict[@]}" "${sanitize[@]}" examples/c/keys.c "$archive" \
     -o "$work/keys.asan"
 told "what it writes with sanitizers" keys "$work/keys.asan"
-told "of a fault, with sanitizers" refused "$work/keys.asan"
-build hold "$wrap"
+build hold "$archive" -Wl,--wrap=malloc,--wrap=realloc
 told "refused memory and each room" "$work/hold" "${documents[@]}"
-if command -v valgrind >/dev/null; then
+if has valgrind; then
     told "refused memory under valgrind" valgrind --quiet --error-exitcode=9 --leak-check=full \
         --errors-for-leak-kinds=all "$work/hold" "$runs"/tagged_{escapes,table_arrays}/stdin \
         "$runs/data/settings.toml"
 fi
-build fuzz
+build fuzz "$archive"
 told "changed texts" "$work/fuzz" 1000000 "${documents[@]}"
-build threads
+build threads "$archive"
 told "threads and stack" "$work/threads" "${documents[@]}"
-build speed
+build speed "$archive"
+
+# install_wheel: builds the wheel and installs it, with no network and nothing but what Python brings
+install_wheel() {
+    python3 -m venv "$work/venv" &&
+        TOML_SPAN_LIBRARY=$shared "$work/venv/bin/pip" wheel --no-index --no-deps -w "$work/wheel" ./python &&
+        "$work/venv/bin/pip" install --no-index "$work"/wheel/toml_span-*-manylinux_*.whl
+}
 if command -v python3 >/dev/null; then
     python3 "$tests/documents.py" "$work"
     $times "times of a fill" "$work/speed" 200 "$work"/*20k.toml
     $times "times of a fill of 1 MB" "$work/speed" 8 "$work"/*1m.toml
-    export TOML_SPAN_LIBRARY=$shared PYTHONDONTWRITEBYTECODE=1 PYTHONPATH=$top/python
-    told "tests of the module" python3 python/test_toml_span.py "$runs"
-    $times "times of the module" python3 "$tests/times.py" "$work"
+    told "the wheel" install_wheel
+    cp python/{test_toml_span,example}.py "$tests/times.py" "$work"
+    told "tests of the module" "$work/venv/bin/python" "$work/test_toml_span.py" "$runs"
+    told "the example in Python" "$work/venv/bin/python" "$work/example.py" examples/c/example.toml
+    told "the command in Python" exits 1 "$work/venv/bin/python" -m toml_span "$runs/data/settings.toml"
+    $times "times of the module" "$work/venv/bin/python" "$work/times.py" "$work"
 fi
-failed=$((failed + missing))
 echo "$passed passed, $failed failed"
 [ "$failed" -eq 0 ]

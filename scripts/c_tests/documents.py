@@ -1,4 +1,4 @@
-"""Writes documents of 20 KB and of 1 MB to measure with: documents.py FOLDER"""
+"""Writes documents of 1 KB, 20 KB and 1 MB to measure with: documents.py FOLDER"""
 
 import os
 import sys
@@ -36,7 +36,7 @@ def mixed(size):
 
 def main():
     for name, make in (("lock", lock), ("mixed", mixed)):
-        for label, size in (("20k", 20_000), ("1m", 1_000_000)):
+        for label, size in (("1k", 1_000), ("20k", 20_000), ("1m", 1_000_000)):
             with open(os.path.join(sys.argv[1], f"{name}{label}.toml"), "w", encoding="utf-8") as file:
                 file.write(make(size))
 

@@ -1,5 +1,16 @@
--- Numbers of kinds have the names of the kinds.
-use Rattle.toml_span_lex.proofs.Common.{◌≡◌, ◌≢◌, refl}
+-- Numbers of kinds have the names of the kinds, and each error of a document has a number.
+use Rattle.toml_span_lex.proofs.Common.{◌≡◌, ◌≢◌, ◌∙◌, ap, arith, inl, inr, List, refl, sym, ℕ}
+use Rattle.toml_span.specs.Clashes.{kind_of_clash}
+use Rattle.toml_span.specs.Parsing.{IsRefusal, TellsClash}
+use Rattle.toml_span.specs.declared.claims.Blame.{Blame}
+use Rattle.toml_span.specs.declared.claims.Blame.TheVariants.{DuplicateTable, DuplicateKey, RedefineAsArray}
+use Rattle.toml_span.specs.declared.claims.Meeting.{Meeting}
+use Rattle.toml_span_lex.specs.declared.stop.Stop.TheVariants as stops
+use Rattle.toml_span_read.specs.Faults.{error_kind}
+use Rattle.toml_span_read.specs.declared.fault.FaultKind.{FaultKind}
+use Rattle.toml_span_read.specs.declared.fault.FaultKind.TheVariants as faults
+use Rattle.toml_span_tree.specs.declared.error.Error.{Error}
+use Rattle.toml_span_tree.specs.Error.{content_of}
 use Rattle.toml_span_tree.specs.Error.{Kind, unexpected_eof, exceeded_depth_limit, invalid_char_in_string, invalid_escape, invalid_hex_escape, invalid_escape_value, unexpected, unterminated_string, invalid_number, invalid_datetime, wanted, duplicate_table, duplicate_key, redefine_as_array, multiline_string_key, dotted_key_invalid_type, unquoted_string, out_of_range, custom, unexpected_keys, missing_field, deprecated, unexpected_value, marked}
 use Rattle.toml_span_tree.specs.Message.{code_of}
 use Rattle.toml_span_c.specs.Faults.{code_name, code_number}
@@ -29,3 +40,34 @@ code-named (missing_field a) h = absurd (h refl)
 code-named (deprecated a b) h = absurd (h refl)
 code-named (unexpected_value a b) h = absurd (h refl)
 code-named (marked a b c) h = absurd (h refl)
+
+fault-numbered : (kind : FaultKind) → code_number (error_kind kind) ≢ 0
+fault-numbered faults.UnexpectedEof h = omega (arith, h)
+fault-numbered faults.ExceededDepthLimit h = omega (arith, h)
+fault-numbered (faults.InvalidCharInString c) h = omega (arith, h)
+fault-numbered (faults.InvalidEscape c) h = omega (arith, h)
+fault-numbered (faults.InvalidHexEscape c) h = omega (arith, h)
+fault-numbered (faults.InvalidEscapeValue v) h = omega (arith, h)
+fault-numbered (faults.Unexpected c) h = omega (arith, h)
+fault-numbered faults.UnterminatedString h = omega (arith, h)
+fault-numbered faults.InvalidNumber h = omega (arith, h)
+fault-numbered faults.InvalidDatetime h = omega (arith, h)
+fault-numbered faults.UnquotedString h = omega (arith, h)
+fault-numbered (faults.Wanted expected found) h = omega (arith, h)
+fault-numbered faults.MultilineStringKey h = omega (arith, h)
+fault-numbered (faults.DottedKeyInvalidType first) h = omega (arith, h)
+
+clash-numbered : (b : Blame) (name : List ℕ) (m : Meeting) → code_number (kind_of_clash b name m) ≢ 0
+clash-numbered DuplicateTable name m h = omega (arith, h)
+clash-numbered DuplicateKey name m h = omega (arith, h)
+clash-numbered RedefineAsArray name m h = omega (arith, h)
+
+pub refusal-numbered : (bytes : List ℕ) (limit : ℕ) (error : Error) → IsRefusal bytes limit (stops.Fault error)
+    → code_number (content_of error).kind ≢ 0
+refusal-numbered bytes limit error (inl (fault, has, answer)) h =
+    let (inside, tells) = answer in
+    let (line, column, info, is) = tells in
+    fault-numbered fault.kind (sym (ap (λ e. code_number e.kind) is) ∙ h)
+refusal-numbered bytes limit error (inr (blocks, clash, has, answer)) h =
+    let tells : TellsClash bytes clash error = answer in
+    clash-numbered clash.meeting.blame clash.name clash.meeting (sym (ap (λ e. code_number e.kind) tells.tells) ∙ h)

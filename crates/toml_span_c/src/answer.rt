@@ -1,4 +1,4 @@
-//! What the bytes of a document are answered.
+//! The answer to the bytes of a document.
 ghost use Rattle.toml_span_c.specs.code.Answers.{IsAnswer};
 
 use std::alloc::Global;
@@ -14,7 +14,7 @@ pub const BOUND: usize = 16_777_216;
 pub(crate) enum Answer<'de> {
     Tree(&'de str, Value<'de>),
     Fault(&'de str, Error<'de>),
-    /// No UTF-8, or more than the bound.
+    /// Not UTF-8, or longer than the bound.
     Unread,
     Memory,
 }

@@ -1,4 +1,4 @@
-//! The records of faults.
+//! The records of errors.
 ghost use Rattle.std.specs.Prelude.{◌≡◌};
 ghost use Rattle.toml_span_tree.specs.Error.{content_of, kind_of};
 ghost use Rattle.toml_span_c.specs.Faults as spec;
@@ -13,19 +13,19 @@ use toml_span_tree::{Error, ErrorKind};
 pub struct FaultRecord {
     /// The number of the kind of error.
     pub code: u32,
-    /// 1 where there is a second place.
+    /// 1 if there is a second place; otherwise 0.
     pub has_first: u32,
     /// The bytes that the error is about.
     pub span: Range,
-    /// The second place: the bytes of the earlier table, key or value; else 0..0.
+    /// The second place: the bytes of the earlier table, key or value; otherwise 0..0.
     pub first: Range,
     /// The line at which the span starts, counted from 0.
     pub line: usize,
-    /// The bytes before it in that line.
+    /// The bytes before the span in that line.
     pub column: usize,
 }
 
-/// The number of a kind of error.
+/// Returns the number of a kind of error; 0 for those that no document has.
 fn code_number(kind: &ErrorKind<'_>) -> u32
     ensures { result ≡ spec.code_number (kind_of kind.now) }
 {
@@ -86,7 +86,7 @@ pub(crate) fn fault_of(error: &Error<'_>) -> FaultRecord
     }
 }
 
-/// The name of a code; empty where there is no such code.
+/// Returns the name of a code; empty for any other number.
 pub(crate) fn code_name(code: u32) -> &'static str
     ensures { result.now ≡ spec.code_name code }
 {

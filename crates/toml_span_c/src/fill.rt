@@ -1,4 +1,4 @@
-//! Fills the caller's arrays, a value at a time.
+//! Fills the caller's arrays value by value.
 ghost use Rattle.std.specs.Prelude.{◌≡◌, ◌≤◌, ◌+◌, ◌++◌, ◌∷◌, [], ℕ, suc, false, length, option_map};
 ghost use Rattle.toml_span_lex.specs.declared.span.Span.{Span};
 ghost use Rattle.toml_span_tree.specs.Value.{view, inner_of, items_view, members_view, is_taken};
@@ -13,7 +13,7 @@ use crate::records::{
 use toml_span_lex::span::Span;
 use toml_span_tree::{Table, Value};
 
-/// Where a value stands: its name and the span of its key, if it has one, and its place in what holds it.
+/// The site of a value: its name and the span of its key, if it has one, and its position in what holds it.
 #[derive(Clone, Copy)]
 pub(crate) struct Site<'a> {
     name: Option<&'a str>,
@@ -22,7 +22,7 @@ pub(crate) struct Site<'a> {
     position: usize,
 }
 
-/// Whether the document has this text at the span.
+/// Returns whether the document has this text at the span.
 fn stands(document: &str, span: Span, text: &str) -> bool
     ensures { result ≡ spec.stands document.now span text.now }
 {
@@ -32,14 +32,14 @@ fn stands(document: &str, span: Span, text: &str) -> bool
     }
 }
 
-/// How many elements an array has room for.
+/// Returns the length of an array.
 fn room_of<T>(array: &[T]) -> usize
     ensures { result ≡ length array.now }
 {
     array.len()
 }
 
-/// Puts bytes into the strings, as far as there is room, and counts them.
+/// Writes bytes into the strings, as far as there is room, and counts all of them.
 fn put_bytes(strings: &mut [u8], count: &mut usize, bytes: &[u8])
     ensures { (m : ℕ) → count.old ≡ m → m + length bytes.now ≤ NONE
         → PutsBytes m bytes.now strings.old strings.new count.new }
@@ -53,7 +53,7 @@ fn put_bytes(strings: &mut [u8], count: &mut usize, bytes: &[u8])
     *count = at.saturating_add(bytes.len());
 }
 
-/// Where a text is. One that the document doesn't have at the span is put into the strings.
+/// Returns where a text is. One that the document does not have at the span is written into the strings.
 #[inline(always)]
 fn put_text(
     document: &str,
@@ -92,7 +92,7 @@ fn put_text(
     }
 }
 
-/// Puts a record, if there is room for it.
+/// Writes a record, if there is room for it.
 fn put_record(nodes: &mut [Record], at: usize, added: Record)
     ensures { nodes.new ≡ laid at (added ∷ []) nodes.old }
 {
@@ -102,7 +102,9 @@ fn put_record(nodes: &mut [Record], at: usize, added: Record)
     }
 }
 
-/// The record of a value, before anything behind it is known. Its texts are put into the strings.
+/// Returns the record of a value without its `next`, and writes its texts into the strings. It is a function of its
+/// own, and not inlined, since each level of a tree would need room on the stack for what it makes.
+#[inline(never)]
 fn begin_record(
     document: &str,
     value: &Value<'_>,
@@ -144,7 +146,7 @@ fn begin_record(
     }
 }
 
-/// Puts the records of a value, its own before those of what it holds.
+/// Writes the records of a value, its own before those of what it holds.
 #[cycle(put_value)]
 fn put_value(
     document: &str,
@@ -169,7 +171,7 @@ fn put_value(
     put_record(nodes, at, record);
 }
 
-/// Puts the records of what a value holds.
+/// Writes the records of what a value holds.
 #[cycle(put_value)]
 fn put_held(
     document: &str,
@@ -191,7 +193,7 @@ fn put_held(
     }
 }
 
-/// Puts the records of an array's elements.
+/// Writes the records of an array's elements.
 #[cycle(put_value)]
 fn put_elements(
     document: &str,
@@ -219,7 +221,7 @@ fn put_elements(
     }
 }
 
-/// Puts the records of a table's entries, in the order of their names.
+/// Writes the records of a table's entries, in the order of their names.
 #[cycle(put_value)]
 fn put_entries(
     document: &str,
@@ -247,7 +249,7 @@ fn put_entries(
     }
 }
 
-/// Puts the records of a document, and says how many there are.
+/// Writes the records of a document. Returns how many records and bytes of strings it has.
 pub(crate) fn put_tree(
     document: &str,
     root: &Value<'_>,

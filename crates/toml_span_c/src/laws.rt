@@ -1,12 +1,20 @@
 //! Laws of the records.
 ghost use Rattle.std.specs.Prelude.{◌≡◌, ◌≢◌, ◌≤◌, ◌+◌, ◌*◌, ℕ, List, length};
-ghost use Rattle.toml_span.specs.Parsing.{IsTree};
+ghost use Rattle.toml_span.specs.Parsing.{IsRefusal, IsTree};
 ghost use Rattle.toml_span_c.specs.Faults.{code_name, code_number};
 ghost use Rattle.toml_span_c.specs.Records.{tree_records, tree_strings};
-ghost use Rattle.toml_span_tree.specs.Error.{Kind};
+ghost use Rattle.toml_span_lex.specs.declared.stop.Stop.TheVariants as stops;
+ghost use Rattle.toml_span_tree.specs.Error.{Kind, content_of};
 ghost use Rattle.toml_span_tree.specs.Message.{code_of};
 ghost use Rattle.toml_span_tree.specs.Value.{view};
+ghost use Rattle.toml_span_tree.specs.declared.error.Error.{Error};
 ghost use Rattle.toml_span_tree.specs.declared.value.Value.{Value};
+
+/// The error of a document has a number.
+pub fn errors_are_numbered()
+    ensures { (bytes : List ℕ) (limit : ℕ) (error : Error) → IsRefusal bytes limit (stops.Fault error)
+        → code_number (content_of error).kind ≢ 0 }
+{}
 
 /// The number of a kind has the code of that kind as its name.
 pub fn numbers_are_named()

@@ -1,7 +1,7 @@
-//! The parser for C: the values of a document as records in arrays of the caller's.
+//! The parser for C: the values of a document as records in the caller's arrays.
 //!
-//! Nothing is kept between calls, and nothing that was allocated is handed out. What each call means to a C programmer
-//! stands in include/toml_span.h.
+//! A call keeps nothing and returns nothing that was allocated. include/toml_span.h describes the calls for C
+//! programmers.
 #![tactic(auto)]
 
 mod answer;

@@ -1,4 +1,4 @@
-//! The calls that read a document.
+//! The calls that parse a document.
 ghost use Rattle.std.specs.Prelude.{◌≡◌, ◌≢◌, ⊤};
 ghost use Rattle.toml_span_c.specs.Calls.{IsDocument, IsFaultOf, IsRead, IsRefused, IsStatus};
 
@@ -8,10 +8,10 @@ use crate::fill::put_tree;
 use crate::records::{Counts, Record};
 use std::alloc::Global;
 
-/// Reads a document, and fills the arrays with its records and its strings, as far as there is room.
+/// Parses a document, and fills the arrays with its records and its strings as far as there is room.
 ///
-/// 0: `counts` says how many there are. 1: the document is refused, and `fault` says why. 2: it has more than 16 MiB or
-/// is no UTF-8. 4: memory was refused. Nothing else is written.
+/// Returns 0 and sets `counts` to their whole numbers; 1 and sets `fault` to the error; 2 if the text is longer than
+/// 16 MiB or not UTF-8; 4 if an allocation fails. Nothing else is written.
 #[unsafe(no_mangle)]
 pub extern "C" fn toml_span_parse(
     alloc: Global,
@@ -41,7 +41,7 @@ pub extern "C" fn toml_span_parse(
     }
 }
 
-/// Reads a document, and says only whether it is one: the status of `toml_span_parse`.
+/// Checks a document: returns the status of `toml_span_parse`.
 #[unsafe(no_mangle)]
 pub extern "C" fn toml_span_check(alloc: Global, text: &[u8]) -> u32
     ensures status { IsStatus text.now result }

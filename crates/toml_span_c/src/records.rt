@@ -8,7 +8,7 @@ use toml_span_tree::ValueInner;
 /// The number of no record: the parent of the root.
 pub const NONE: usize = usize::MAX;
 
-/// What `Record::number` is where there is no float.
+/// The `number` of a record that is not a float.
 pub const NO_NUMBER: f64 = 0.0;
 
 /// Bytes of the document.
@@ -25,7 +25,7 @@ pub struct Range {
 pub struct Text {
     /// 0: in the document, 1: in the strings.
     pub source: usize,
-    /// From which byte on.
+    /// The first byte.
     pub at: usize,
     pub length: usize,
 }
@@ -38,21 +38,21 @@ pub struct Record {
     pub kind: u32,
     /// 1 for `true`.
     pub truth: u32,
-    /// The bytes at which the value stands.
+    /// The bytes of the value.
     pub span: Range,
-    /// Those at which its key stands; 0..0 where it has none.
+    /// The bytes of its key; 0..0 if it has none.
     pub key_span: Range,
-    /// The name in a table; of length 0 where it has none.
+    /// Its name in a table; empty if it has none.
     pub key: Text,
-    /// What a string, a float or a date says.
+    /// The text of a string, a float or a date.
     pub text: Text,
-    /// The number of the record of what holds it; `NONE` at the root.
+    /// The number of the record of what holds it; `NONE` for the root.
     pub parent: usize,
-    /// Its place among the values of its parent, counted from 0.
+    /// Its position among the values of its parent, counted from 0.
     pub position: usize,
     /// How many values an array or a table holds.
     pub children: usize,
-    /// The number of the first record behind those of all that it holds.
+    /// The number of the first record after all that it holds.
     pub next: usize,
     /// The integer.
     pub integer: i64,
@@ -68,7 +68,7 @@ pub struct Counts {
     pub strings: usize,
 }
 
-/// The number of a kind.
+/// Returns the number of a kind.
 #[inline(always)]
 pub(crate) fn kind_of(inner: &ValueInner<'_>) -> u32
     ensures { result ≡ spec.kind_number (inner_view inner.now) }
@@ -84,7 +84,7 @@ pub(crate) fn kind_of(inner: &ValueInner<'_>) -> u32
     }
 }
 
-/// 1 for `true`, else 0.
+/// Returns 1 for `true`, otherwise 0.
 pub(crate) fn truth_of(inner: &ValueInner<'_>) -> u32
     ensures { result ≡ spec.truth_of (inner_view inner.now) }
 {
@@ -94,7 +94,7 @@ pub(crate) fn truth_of(inner: &ValueInner<'_>) -> u32
     }
 }
 
-/// The integer, else 0.
+/// Returns the integer, otherwise 0.
 pub(crate) fn integer_of(inner: &ValueInner<'_>) -> i64
     ensures { result ≡ spec.integer_of (inner_view inner.now) }
 {
@@ -104,7 +104,7 @@ pub(crate) fn integer_of(inner: &ValueInner<'_>) -> i64
     }
 }
 
-/// The float that is nearest to the text of a float.
+/// Returns the double nearest to the text of a float, otherwise 0.0.
 pub(crate) fn number_of(inner: &ValueInner<'_>) -> f64
     ensures { result ≡ spec.number_of (inner_view inner.now) }
 {
@@ -117,7 +117,7 @@ pub(crate) fn number_of(inner: &ValueInner<'_>) -> f64
     }
 }
 
-/// How many values an array or a table holds.
+/// Returns how many values an array or a table holds, otherwise 0.
 pub(crate) fn children_of(inner: &ValueInner<'_>) -> usize
     ensures { result ≡ spec.children_of (inner_view inner.now) }
 {
@@ -128,7 +128,7 @@ pub(crate) fn children_of(inner: &ValueInner<'_>) -> usize
     }
 }
 
-/// What a string, a float or a date says.
+/// Returns the text of a string, a float or a date.
 pub(crate) fn text_of<'a>(inner: &'a ValueInner<'_>) -> Option<&'a str>
     ensures { option_map (λ text. text.now) result ≡ spec.text_of (inner_view inner.now) }
 {

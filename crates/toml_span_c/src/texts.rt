@@ -1,4 +1,4 @@
-//! The calls that tell what is wrong with a document.
+//! The calls that describe the error of a document.
 ghost use Rattle.std.specs.Prelude.{◌≡◌, ◌≢◌, ℕ, List, IsUtf8};
 ghost use Rattle.toml_span_tree.specs.Message.{display_text};
 ghost use Rattle.toml_span_report.specs.Errors.{IsReport};
@@ -11,7 +11,7 @@ use crate::faults::code_name;
 use std::alloc::Global;
 use toml_span_report::{Style, render_error};
 
-/// Fills an array with a text, as far as there is room, and says how long it is.
+/// Fills an array with a text as far as there is room, and sets `length` to its whole length.
 fn put_front(out: &mut [u8], length: &mut usize, text: &str)
     ensures { Fills out.old out.new length.new text.now }
 {
@@ -21,7 +21,7 @@ fn put_front(out: &mut [u8], length: &mut usize, text: &str)
     *length = bytes.len();
 }
 
-/// The name of a code, as `duplicate-key`; of length 0 where there is no such code.
+/// Writes the name of a code, such as `duplicate-key`; nothing for any other number.
 #[unsafe(no_mangle)]
 pub extern "C" fn toml_span_code(code: u32, out: &mut [u8], length: &mut usize)
     ensures { Fills out.old out.new length.new (spec.code_name code) }
@@ -29,7 +29,7 @@ pub extern "C" fn toml_span_code(code: u32, out: &mut [u8], length: &mut usize)
     put_front(out, length, code_name(code));
 }
 
-/// The message of the error of a document. The status is that of `toml_span_parse`; but for 1 nothing is written.
+/// Writes the message of a document's error. Returns the status of `toml_span_parse`; only 1 writes anything.
 #[unsafe(no_mangle)]
 pub extern "C" fn toml_span_message(
     alloc: Global,
@@ -57,8 +57,8 @@ pub extern "C" fn toml_span_message(
     }
 }
 
-/// The report of the error of a document, with the lines at which it stands and marks under them. The status is that
-/// of `toml_span_parse`, and 2 too where the name is no UTF-8; but for 1 nothing is written.
+/// Writes the report of a document's error: its lines with marks under them. Returns the status of `toml_span_parse`,
+/// and 2 also if the name is not UTF-8; only 1 writes anything.
 #[unsafe(no_mangle)]
 pub extern "C" fn toml_span_report(
     alloc: Global,

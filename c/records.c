@@ -1,0 +1,216 @@
+/* What is computed from the records of a document alone: part of libtoml_span, without allocation, and not proved. */
+#include "toml_span.h"
+
+#include <string.h>
+
+const char *toml_span_kind_name(uint32_t kind) {
+    static const char *const names[] = {"", "string", "integer", "float", "boolean", "datetime", "array", "table"};
+    return kind < sizeof names / sizeof *names ? names[kind] : "";
+}
+
+toml_span_place toml_span_line_column(const char *text, size_t length, size_t offset) {
+    const char *start = text, *end = text + (offset < length ? offset : length);
+    toml_span_place place = {0, 0};
+    for (const char *feed; (feed = (const char *)memchr(start, '\n', (size_t)(end - start))) != NULL; place.line++)
+        start = feed + 1;
+    place.column = (size_t)(end - start);
+    return place;
+}
+
+/* Whether a name equals a pointer's step, which ends at `end` and has `~1` for a slash and `~0` for a tilde. */
+static int is_named(const char *name, size_t length, const char *step, const char *end) {
+    for (; step < end && length > 0; step++, name++, length--) {
+        char byte = *step;
+        if (byte == '~' && end - step > 1 && (step[1] == '0' || step[1] == '1')) byte = *++step == '0' ? '~' : '/';
+        if (byte != *name) return 0;
+    }
+    return step == end && length == 0;
+}
+
+/* The position that a step names: decimal digits without a leading zero; TOML_SPAN_NONE of any other step. */
+static size_t position_of(const char *step, const char *end) {
+    size_t position = 0;
+    if (step == end || end - step > 18 || (*step == '0' && end - step > 1)) return TOML_SPAN_NONE;
+    for (; step < end; step++) {
+        if (*step < '0' || *step > '9') return TOML_SPAN_NONE;
+        position = 10 * position + (size_t)(*step - '0');
+    }
+    return position;
+}
+
+size_t toml_span_find(const toml_span_node *nodes, size_t count, const char *const sources[2], size_t from,
+                      const char *pointer) {
+    if (from >= count) return TOML_SPAN_NONE;
+    while (*pointer != 0) {
+        if (*pointer++ != '/') return TOML_SPAN_NONE;
+        const char *end = pointer + strcspn(pointer, "/");
+        int is_array = nodes[from].kind == TOML_SPAN_ARRAY;
+        size_t position = is_array ? position_of(pointer, end) : TOML_SPAN_NONE;
+        size_t last = nodes[from].next, child = from + 1;
+        for (; child < last && child < count; child = nodes[child].next) {
+            const toml_span_text *key = &nodes[child].key;
+            if (is_array && nodes[child].position == position) break;
+            if (!is_array && is_named(sources[key->source] + key->at, key->length, pointer, end)) break;
+        }
+        if (child >= last || child >= count) return TOML_SPAN_NONE;
+        from = child;
+        pointer = end;
+    }
+    return from;
+}
+
+/* While records are sorted, the fields of `sorted` are scratch. At a record's old number, `integer` has where the text
+ * names it first, `position` its new number, `parent` its new position among its siblings. After the record whose
+ * children are being sorted, `children` and `next` have where each child is named first, and its old number. */
+static void exchange(toml_span_node *one, toml_span_node *other) {
+    size_t first = one->children, number = one->next;
+    one->children = other->children;
+    one->next = other->next;
+    other->children = first;
+    other->next = number;
+}
+
+/* Sorts children by where they are named first: a heap sort, unless they are sorted already. */
+static void sort_children(toml_span_node *children, size_t count) {
+    size_t left = count / 2, end = count, at = 1;
+    while (at < count && children[at - 1].children < children[at].children) at++;
+    if (at >= count) return;
+    while (end > 1) {
+        if (left > 0) left--;
+        else exchange(&children[0], &children[--end]);
+        for (size_t top = left, child; (child = 2 * top + 1) < end; top = child) {
+            if (child + 1 < end && children[child].children < children[child + 1].children) child++;
+            if (children[top].children >= children[child].children) break;
+            exchange(&children[top], &children[child]);
+        }
+    }
+}
+
+/* Finds where each record is named first. That may be before its key: in `a.b = 1` LF `c = 2` LF `[a.d]` the key of `a`
+ * is that of the header, but its child `b` is named before `c`. */
+static void find_first(const toml_span_node *nodes, size_t count, toml_span_node *sorted) {
+    for (size_t at = 0; at < count; at++) sorted[at].integer = (int64_t)nodes[at].key_span.start;
+    for (size_t at = count; --at > 0;) {
+        toml_span_node *holder = &sorted[nodes[at].parent];
+        int is_element = nodes[nodes[at].parent].kind == TOML_SPAN_ARRAY;
+        int64_t first = sorted[at].integer;
+        if (!is_element && first < holder->integer) holder->integer = first;
+    }
+}
+
+/* Gives the children of a record their new numbers. */
+static void number_children(const toml_span_node *nodes, size_t at, toml_span_node *sorted) {
+    size_t held = 0, number = sorted[at].position + 1;
+    TOML_SPAN_EACH(nodes, at, child) {
+        held++;
+        sorted[at + held].children = (size_t)sorted[child].integer;
+        sorted[at + held].next = child;
+    }
+    if (nodes[at].kind == TOML_SPAN_TABLE) sort_children(&sorted[at + 1], held);
+    for (size_t position = 0; position < held; position++) {
+        size_t child = sorted[at + 1 + position].next;
+        sorted[child].position = number;
+        sorted[child].parent = position;
+        number += nodes[child].next - child;
+    }
+}
+
+void toml_span_sort(const toml_span_node *nodes, size_t count, toml_span_node *sorted) {
+    if (count == 0) return;
+    find_first(nodes, count, sorted);
+    sorted[0].position = 0;
+    sorted[0].parent = 0;
+    for (size_t at = 0; at < count; at++) number_children(nodes, at, sorted);
+    /* the old number and the new place of a record go into the other fields of its place */
+    for (size_t at = 0; at < count; at++) {
+        toml_span_node *place = &sorted[sorted[at].position];
+        place->children = at;
+        place->next = at == 0 ? TOML_SPAN_NONE : sorted[nodes[at].parent].position;
+        place->integer = (int64_t)sorted[at].parent;
+    }
+    for (size_t at = 0; at < count; at++) {
+        size_t number = sorted[at].children, parent = sorted[at].next, position = (size_t)sorted[at].integer;
+        sorted[at] = nodes[number];
+        sorted[at].parent = parent;
+        sorted[at].position = position;
+        sorted[at].next = at + (nodes[number].next - number);
+    }
+}
+
+/* Bytes that are written as far as there is room, and counted. */
+typedef struct {
+    char *bytes;
+    size_t room, length;
+} output;
+
+static void put(output *out, const void *bytes, size_t size) {
+    if (out->length + size <= out->room) memcpy(out->bytes + out->length, bytes, size);
+    else if (out->length < out->room) memcpy(out->bytes + out->length, bytes, out->room - out->length);
+    out->length += size;
+}
+
+/* Writes an opcode and a number of `size` bytes, the lowest first. */
+static void put_number(output *out, int opcode, uint64_t number, size_t size) {
+    unsigned char bytes[9] = {(unsigned char)opcode};
+    for (size_t at = 1; at <= size; at++, number >>= 8) bytes[at] = (unsigned char)number;
+    put(out, bytes, size + 1);
+}
+
+static void put_text(output *out, const toml_span_text *text, const char *const sources[2]) {
+    if (text->length < 256) put_number(out, 0x8c, text->length, 1);
+    else put_number(out, 'X', text->length, 4);
+    put(out, sources[text->source] + text->at, text->length);
+}
+
+static void put_integer(output *out, int64_t integer) {
+    if (0 <= integer && integer < 256) put_number(out, 'K', (uint64_t)integer, 1);
+    else if (INT32_MIN <= integer && integer <= INT32_MAX) put_number(out, 'J', (uint64_t)integer, 4);
+    else {
+        put(out, "\x8a\x08", 2);
+        put_number(out, (int)(integer & 0xff), (uint64_t)(integer >> 8), 7);
+    }
+}
+
+static void put_float(output *out, double number) {
+    uint64_t bits, swapped = 0;
+    memcpy(&bits, &number, sizeof bits);
+    for (int at = 0; at < 8; at++, bits >>= 8) swapped = swapped << 8 | (bits & 0xff);
+    put_number(out, 'G', swapped, 8);
+}
+
+static void put_value(output *out, const toml_span_node *nodes, size_t at, const char *const sources[2], int floats) {
+    const toml_span_node *node = &nodes[at];
+    switch (node->kind) {
+    case TOML_SPAN_STRING: put_text(out, &node->text, sources); break;
+    case TOML_SPAN_INTEGER: put_integer(out, node->integer); break;
+    case TOML_SPAN_BOOLEAN: put(out, node->truth ? "\x88" : "\x89", 1); break;
+    case TOML_SPAN_ARRAY: put(out, "](", node->children ? 2 : 1); break;
+    case TOML_SPAN_TABLE: put(out, "}(", node->children ? 2 : 1); break;
+    default:
+        if (node->kind == TOML_SPAN_FLOAT && !floats) put_float(out, node->number);
+        else {
+            put_integer(out, (int64_t)at);
+            put(out, "Q", 1);
+        }
+    }
+}
+
+void toml_span_pickle(const toml_span_node *nodes, size_t from, const char *const sources[2], int floats, char *out,
+                      size_t room, size_t *needed) {
+    output pickle = {out, room, 11}, head = {out, room, 0};
+    size_t holder = nodes[from].parent, outermost = holder, end = nodes[from].next;
+    for (size_t at = from; at < end; at++) {
+        if (at > from && nodes[holder].kind == TOML_SPAN_TABLE) put_text(&pickle, &nodes[at].key, sources);
+        put_value(&pickle, nodes, at, sources, floats);
+        if (nodes[at].children > 0) holder = at;
+        /* the end of what holds this value, and of what holds that */
+        while (holder != outermost && nodes[holder].next == at + 1) {
+            put(&pickle, nodes[holder].kind == TOML_SPAN_TABLE ? "u" : "e", 1);
+            holder = nodes[holder].parent;
+        }
+    }
+    put(&pickle, ".", 1);
+    put(&head, "\x80\x04", 2);
+    put_number(&head, 0x95, pickle.length - 11, 8);
+    *needed = pickle.length;
+}

@@ -1,0 +1,177 @@
+/* toml_span for C++17: a document and views of its values.
+ *
+ *     toml_span::document document(text);               // the text must outlive the document, and it its values
+ *     if (!document) std::cerr << document.report("settings.toml");
+ *     for (toml_span::value package : document["package"])
+ *         if (auto name = package["name"].as_string()) std::cout << *name << '\n';
+ *
+ * A value that is not there converts to false, and what is looked up in it is not there either, so steps can be
+ * chained. Nothing throws, except that std::vector and std::string may if memory runs out. Offsets, lines and columns
+ * are those of toml_span.h: in bytes, counted from 0. */
+#ifndef TOML_SPAN_HPP
+#define TOML_SPAN_HPP
+
+#include "toml_span.h"
+
+#include <iterator>
+#include <optional>
+#include <string>
+#include <string_view>
+#include <utility>
+#include <vector>
+
+namespace toml_span {
+
+class value;
+
+/* A text and, if it is valid TOML, its records in the order of the text. */
+class document {
+public:
+    explicit document(std::string_view text) : sources_{text.data() ? text.data() : "", nullptr}, length_(text.size()) {
+        std::vector<toml_span_node> nodes(length_ / 12 + 16);
+        toml_span_counts counts = {0, 0};
+        strings_.resize(length_ + 1);
+        sources_[1] = strings_.data();
+        for (;;) {
+            status_ = toml_span_parse(sources_[0], length_, nodes.data(), nodes.size(), strings_.data(), length_,
+                                      &counts, &fault_);
+            if (counts.nodes <= nodes.size()) break;
+            nodes.resize(counts.nodes);
+        }
+        nodes_.resize(counts.nodes);
+        toml_span_sort(nodes.data(), counts.nodes, nodes_.data());
+    }
+    document(const document &) = delete;
+    document &operator=(const document &) = delete;
+
+    explicit operator bool() const { return status_ == TOML_SPAN_READ; }
+    uint32_t status() const { return status_; }
+    const toml_span_fault &fault() const { return fault_; }
+    const std::vector<toml_span_node> &nodes() const { return nodes_; }
+    const char *const *sources() const { return sources_; }
+    std::string_view text(const toml_span_text &part) const { return {sources_[part.source] + part.at, part.length}; }
+    toml_span_place place(size_t offset) const { return toml_span_line_column(sources_[0], length_, offset); }
+
+    /* The fault: the name of its kind, its message, and its report, which has the lines with marks. */
+    std::string code() const {
+        return written([this](char *out, size_t room, size_t *needed) {
+            toml_span_code(fault_.code, out, room, needed);
+        });
+    }
+    std::string message() const {
+        return written([this](char *out, size_t room, size_t *needed) {
+            toml_span_message(sources_[0], length_, out, room, needed);
+        });
+    }
+    std::string report(std::string_view name) const {
+        return written([this, name](char *out, size_t room, size_t *needed) {
+            toml_span_report(sources_[0], length_, name.data() ? name.data() : "", name.size(), out, room, needed);
+        });
+    }
+
+    inline value root() const;
+    inline value operator[](std::string_view name) const;
+    inline value find(const char *pointer) const; /* by JSON Pointer, such as "/server/ports/0" */
+
+private:
+    template <typename Write> static std::string written(Write write) {
+        std::string out(512, '\0');
+        size_t needed = 0;
+        write(out.data(), out.size(), &needed);
+        size_t room = out.size();
+        out.resize(needed);
+        if (needed > room) write(out.data(), needed, &needed);
+        return out;
+    }
+
+    const char *sources_[2];
+    size_t length_;
+    uint32_t status_ = TOML_SPAN_UNREAD;
+    toml_span_fault fault_ = {};
+    std::string strings_;
+    std::vector<toml_span_node> nodes_;
+};
+
+/* A value of a document, or none. */
+class value {
+public:
+    class iterator {
+    public:
+        using iterator_category = std::input_iterator_tag;
+        using value_type = value;
+        using difference_type = std::ptrdiff_t;
+        using pointer = const value *;
+        using reference = value;
+
+        iterator(const document *of, size_t number) : of_(of), number_(number) {}
+        value operator*() const { return {of_, number_}; }
+        iterator &operator++() { return number_ = of_->nodes()[number_].next, *this; }
+        iterator operator++(int) { return std::exchange(*this, iterator(of_, of_->nodes()[number_].next)); }
+        bool operator==(const iterator &other) const { return number_ == other.number_; }
+        bool operator!=(const iterator &other) const { return number_ != other.number_; }
+
+    private:
+        const document *of_;
+        size_t number_;
+    };
+
+    value(const document *of, size_t number)
+        : of_(of), number_(number < of->nodes().size() ? number : TOML_SPAN_NONE) {}
+
+    explicit operator bool() const { return number_ != TOML_SPAN_NONE; }
+    const toml_span_node &node() const { return *this ? of_->nodes()[number_] : none(); }
+    uint32_t kind() const { return node().kind; } /* TOML_SPAN_STRING and so on; 0 for none */
+    std::string_view kind_name() const { return toml_span_kind_name(kind()); }
+    toml_span_range span() const { return node().span; }
+    toml_span_range key_span() const { return node().key_span; }
+    std::string_view key() const { return of_->text(node().key); }
+    toml_span_place place() const { return of_->place(node().span.start); }
+    value parent() const { return {of_, node().parent}; }
+
+    std::optional<std::string_view> as_string() const { return as_text(TOML_SPAN_STRING); }
+    std::optional<std::string_view> as_datetime() const { return as_text(TOML_SPAN_DATETIME); }
+    std::optional<int64_t> as_integer() const { return as(TOML_SPAN_INTEGER, node().integer); }
+    std::optional<double> as_float() const { return as(TOML_SPAN_FLOAT, node().number); }
+    std::optional<bool> as_boolean() const { return as(TOML_SPAN_BOOLEAN, node().truth == 1); }
+
+    /* What a table or an array holds, in the order of the text. */
+    size_t size() const { return node().children; }
+    iterator begin() const { return {of_, *this ? number_ + 1 : 0}; }
+    iterator end() const { return {of_, *this ? node().next : 0}; }
+    value operator[](std::string_view name) const {
+        if (kind() == TOML_SPAN_TABLE)
+            for (value held : *this)
+                if (held.key() == name) return held;
+        return {of_, TOML_SPAN_NONE};
+    }
+    value operator[](size_t position) const {
+        if (kind() == TOML_SPAN_ARRAY)
+            for (value held : *this)
+                if (held.node().position == position) return held;
+        return {of_, TOML_SPAN_NONE};
+    }
+    value find(const char *pointer) const {
+        return {of_, toml_span_find(of_->nodes().data(), of_->nodes().size(), of_->sources(), number_, pointer)};
+    }
+
+private:
+    static const toml_span_node &none() {
+        static const toml_span_node node = {0, 0, {0, 0}, {0, 0}, {0, 0, 0}, {0, 0, 0}, TOML_SPAN_NONE, 0, 0, 0, 0, 0};
+        return node;
+    }
+    template <typename T> std::optional<T> as(uint32_t wanted, T found) const {
+        return kind() == wanted ? std::optional<T>(found) : std::nullopt;
+    }
+    std::optional<std::string_view> as_text(uint32_t wanted) const { return as(wanted, of_->text(node().text)); }
+
+    const document *of_;
+    size_t number_;
+};
+
+inline value document::root() const { return {this, 0}; }
+inline value document::operator[](std::string_view name) const { return root()[name]; }
+inline value document::find(const char *pointer) const { return root().find(pointer); }
+
+} // namespace toml_span
+
+#endif

@@ -1,0 +1,18 @@
+"""Parses TOML 1.1 and keeps where each value and each key is.
+
+``loads`` and ``load`` are those of ``tomllib``. ``parse`` returns the values with their places:
+
+    >>> root = toml_span.parse('[server]\\nport = 8080\\n')
+    >>> port = root["server"]["port"]
+    >>> port.value, port.span, port.key_span, port.line
+    (8080, (16, 20), (9, 13), 2)
+
+``dumps`` writes a mapping as TOML. ``python3 -m toml_span FILE`` checks a file.
+"""
+
+from ._decode import TOMLDecodeError, load, loads
+from ._encode import dumps
+from ._node import Node, parse
+
+__all__ = ["Node", "TOMLDecodeError", "dumps", "load", "loads", "parse"]
+__version__ = "0.7.2"

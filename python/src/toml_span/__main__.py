@@ -1,0 +1,30 @@
+"""Checks TOML files: python3 -m toml_span FILE..
+
+Prints the report of each error. Status 0: all files are valid. 1: one is not. 2: one can't be read, or none is named.
+"""
+
+import sys
+from typing import List
+
+from . import TOMLDecodeError, parse
+
+
+def main(names: List[str]) -> int:
+    status = 0 if names else 2
+    if not names:
+        print("usage: python3 -m toml_span FILE..", file=sys.stderr)
+    for name in names:
+        try:
+            with open(name, "rb") as file:
+                parse(file.read(), name)
+        except TOMLDecodeError as error:
+            sys.stderr.write(error.report or f"error: {error}\n --> {name}\n")
+            status = max(status, 1)
+        except OSError as error:
+            print(f"error: {name!r}: {error.strerror}", file=sys.stderr)
+            status = 2
+    return status
+
+
+if __name__ == "__main__":
+    sys.exit(main(sys.argv[1:]))

@@ -1,0 +1,233 @@
+"""From a text to a dict, as ``tomllib`` does it."""
+
+from __future__ import annotations
+
+import ctypes
+import gc
+import io
+import pickle
+import re
+import sys
+from datetime import date, datetime, time, timedelta, timezone
+from typing import Any, BinaryIO, Callable, Dict, Optional, Tuple, Union
+
+from . import _native as native
+
+Span = Tuple[int, int]
+Moment = Union[datetime, date, time]
+
+
+class TOMLDecodeError(ValueError):
+    """The text is not valid TOML.
+
+    msg: what is wrong. doc: the text. pos: the index in it at which that is. lineno and colno: its line and its column
+    in characters, both counted from 1. For an error of the library also code: its name, such as ``duplicate-key``.
+    span: the bytes, as (start, end). report: the lines with marks under them, to print.
+    """
+
+    def __init__(
+        self,
+        msg: str,
+        doc: str,
+        pos: int,
+        code: Optional[str] = None,
+        span: Optional[Span] = None,
+        report: Optional[str] = None,
+    ) -> None:
+        lineno = doc.count("\n", 0, pos) + 1
+        colno = pos - doc.rfind("\n", 0, pos)
+        place = "end of document" if pos >= len(doc) else f"line {lineno}, column {colno}"
+        super().__init__(f"{msg} (at {place})")
+        self.msg, self.doc, self.pos, self.lineno, self.colno = msg, doc, pos, lineno, colno
+        self.code, self.span, self.report = code, span, report
+
+    @property
+    def char_span(self) -> Optional[Span]:
+        """The span in characters, so that ``doc[start:end]`` is what is wrong."""
+        if self.span is None:
+            return None
+        data = self.doc.encode("utf-8", "surrogatepass")[self.span[0] : self.span[1]]
+        return self.pos, self.pos + len(data.decode("utf-8", "replace"))
+
+    def __reduce__(self) -> Any:
+        return type(self), (self.msg, self.doc, self.pos, self.code, self.span, self.report)
+
+
+def _is_too_large(data: bytes, start: int, end: int) -> bool:
+    """Whether an integer is there that has more than 64 bits. A prefix is not in the span of its digits."""
+    prefix = data[max(start - 2, 0) : start]
+    try:
+        number = int((prefix if prefix in (b"0x", b"0o", b"0b") else b"") + data[start:end], 0)
+    except ValueError:
+        return False
+    return not -(2**63) <= number < 2**63
+
+
+def _error(text: str, data: bytes, fault: bytearray, name: str) -> TOMLDecodeError:
+    number, _, start, end = native.FAULT.unpack(fault)[:4]
+    file = name.encode("utf-8", "replace")
+    code = native.text_of(native.lib.toml_span_code, number)
+    if code == "invalid-number" and _is_too_large(data, start, end):
+        msg = "integer out of range: it must be from -2**63 to 2**63 - 1"
+    else:
+        msg = native.text_of(native.lib.toml_span_message, data, len(data))
+    return TOMLDecodeError(
+        "".join(char if char.isprintable() else char.encode("unicode_escape").decode() for char in msg),
+        text,
+        len(data[:start].decode("utf-8", "ignore")),
+        code,
+        (start, end),
+        native.text_of(native.lib.toml_span_report, data, len(data), file, len(file)),
+    )
+
+
+_Counts = ctypes.c_size_t * 2
+_Sources = ctypes.c_char_p * 2
+
+
+def _address(array: bytearray) -> int:
+    return ctypes.addressof(ctypes.c_char.from_buffer(array))
+
+
+def encoded(text: str) -> bytes:
+    """The text in UTF-8."""
+    try:
+        return text.encode()
+    except UnicodeEncodeError as error:
+        raise TOMLDecodeError("a surrogate is not a character", text, error.start) from None
+
+
+class Document:
+    """The records of a text, in the order of the text, and the bytes that they name."""
+
+    __slots__ = ("text", "data", "count", "records", "strings", "address", "sources")
+
+    def __init__(self, text: str, data: bytes, name: str) -> None:
+        size = len(data)
+        # (the strings never have more bytes than the text)
+        room, strings = size // 12 + 16, bytearray(size + 1)
+        counts, fault = _Counts(), bytearray(native.FAULT.size)
+        while True:
+            nodes = bytearray(room * native.NODE.size)
+            status = native.lib.toml_span_parse(
+                data, size, _address(nodes), room, _address(strings), size, counts, _address(fault)
+            )
+            if status == native.REFUSED:
+                raise _error(text, data, fault, name)
+            if status == native.MEMORY:
+                raise MemoryError
+            if status != native.READ:
+                raise TOMLDecodeError(f"longer than {native.LONGEST} bytes", text, len(text))
+            if counts[0] <= room:
+                break
+            room = counts[0]
+        self.text, self.data, self.count = text, data, counts[0]
+        self.strings = bytes(strings[: counts[1]])
+        self.records = bytearray(self.count * native.NODE.size)
+        self.address = _address(self.records)
+        self.sources = _Sources(data, self.strings)
+        native.lib.toml_span_sort(_address(nodes), self.count, self.address)
+
+    def record(self, number: int) -> Tuple[Any, ...]:
+        """All fields of a record."""
+        fields: Tuple[Any, ...] = native.NODE.unpack_from(self.records, number * native.NODE.size)
+        return fields
+
+    def moment(self, start: int, end: int) -> Moment:
+        """The date, the time or both at these bytes."""
+        try:
+            return _moment(self.data[start:end].decode())
+        except (ValueError, OverflowError) as error:
+            pos = len(self.data[:start].decode())
+            msg = f"Python has no such date or time: {error}"
+            raise TOMLDecodeError(msg, self.text, pos, None, (start, end)) from None
+
+    def value(self, number: int, parse_float: Callable[[str], Any] = float) -> Any:
+        """The value of a record with all that it holds."""
+        arguments = self.address, number, self.sources, parse_float is not float
+        room, needed = len(self.data) + 16 * self.count + 64, ctypes.c_size_t()
+        while True:
+            out = bytearray(room)
+            native.lib.toml_span_pickle(*arguments, _address(out), room, ctypes.byref(needed))
+            if needed.value <= room:
+                break
+            room = needed.value
+        # (the collector of cycles, of which a tree has none, would walk over it again and again as it grows)
+        collects = gc.isenabled()
+        gc.disable()
+        try:
+            return _Builder(out, self, parse_float).load()
+        finally:
+            if collects:
+                gc.enable()
+
+
+class _Builder(pickle.Unpickler):
+    """Builds what the library writes. Its pickles have no classes, so nothing is imported or called."""
+
+    def __init__(self, out: bytearray, document: Document, parse_float: Callable[[str], Any]) -> None:
+        super().__init__(io.BytesIO(out))
+        self.document, self.parse_float = document, parse_float
+
+    def find_class(self, module: str, name: str) -> Any:
+        raise pickle.UnpicklingError(name)
+
+    def persistent_load(self, number: int) -> Any:
+        kind, _, start, end = self.document.record(number)[:4]
+        if kind == native.DATETIME:
+            return self.document.moment(start, end)
+        value = self.parse_float(self.document.data[start:end].decode())
+        if isinstance(value, (dict, list)):
+            raise ValueError("parse_float must not return dicts or lists")
+        return value
+
+
+_CLOCK = r"(\d\d):(\d\d)(?::(\d\d)(?:\.(\d+))?)?"
+_DATE_TIME = re.compile(rf"(?:(\d{{4}})-(\d\d)-(\d\d)[Tt ])?{_CLOCK}([Zz]|[+-]\d\d:\d\d)?")
+# from Python 3.11 on it reads every text that TOML has
+_HAS_ISO = sys.version_info >= (3, 11)
+
+
+def _zone(offset: str) -> timezone:
+    if offset in "Zz":
+        return timezone.utc
+    sign = -1 if offset[0] == "-" else 1
+    return timezone(sign * timedelta(hours=int(offset[1:3]), minutes=int(offset[4:6])))
+
+
+def _moment(text: str) -> Moment:
+    """The date, the time or both; a ValueError where Python has none such, as with the second 60."""
+    if text[2] == ":" and _HAS_ISO:
+        return time.fromisoformat(text)
+    if len(text) == 10 and text[4] == "-":
+        return date.fromisoformat(text)
+    if _HAS_ISO:
+        return datetime.fromisoformat(text.replace("z", "Z"))
+    found = _DATE_TIME.fullmatch(text)
+    assert found is not None
+    year, month, day, hour, minute, second, fraction, offset = found.groups()
+    clock = time(int(hour), int(minute), int(second or 0), int((fraction or "")[:6].ljust(6, "0")))
+    if year is None:
+        return clock
+    return datetime.combine(date(int(year), int(month), int(day)), clock, _zone(offset) if offset else None)
+
+
+def loads(s: str, /, *, parse_float: Callable[[str], Any] = float) -> Dict[str, Any]:
+    """Parses a text into a dict, as ``tomllib.loads``. Raises TOMLDecodeError.
+
+    ``parse_float`` is called with the text of each float.
+    """
+    if not isinstance(s, str):
+        raise TypeError(f"Expected str object, not '{type(s).__qualname__}'")
+    root: Dict[str, Any] = Document(s, encoded(s), "<string>").value(0, parse_float)
+    return root
+
+
+def load(fp: BinaryIO, /, *, parse_float: Callable[[str], Any] = float) -> Dict[str, Any]:
+    """Parses a file that is open in binary mode, as ``tomllib.load``."""
+    data = fp.read()
+    try:
+        text = data.decode()
+    except AttributeError:
+        raise TypeError("File must be opened in binary mode, e.g. use `open('foo.toml', 'rb')`") from None
+    return loads(text, parse_float=parse_float)

@@ -1,0 +1,116 @@
+"""From a dict to a text."""
+
+from __future__ import annotations
+
+import re
+from datetime import date, datetime, time, timedelta
+from typing import Any, Dict, Iterator, List, Mapping, Tuple
+
+from ._decode import TOMLDecodeError, loads
+
+_BARE = re.compile(r"[A-Za-z0-9_-]+")
+_ESCAPED = re.compile(r'[\x00-\x08\x0a-\x1f"\\\x7f]')
+_SHORT = {"\n": "\\n", "\r": "\\r", "\f": "\\f", "\b": "\\b", '"': '\\"', "\\": "\\\\"}
+# no text is nested deeper
+_DEEPEST = 128
+
+
+def _string(text: str) -> str:
+    return '"' + _ESCAPED.sub(lambda found: _SHORT.get(found[0]) or f"\\u{ord(found[0]):04x}", text) + '"'
+
+
+def _key(name: str) -> str:
+    return name if _BARE.fullmatch(name) else _string(name)
+
+
+def _scalar(value: Any) -> str:
+    if isinstance(value, bool):
+        return "true" if value else "false"
+    if isinstance(value, str):
+        return _string(value)
+    if isinstance(value, int):
+        return int.__repr__(value)
+    if isinstance(value, float):
+        return float.__repr__(value)
+    if isinstance(value, (datetime, date, time)):
+        return value.isoformat()
+    raise TypeError(f"TOML has no value for an object of the type '{type(value).__qualname__}'")
+
+
+def _inline(value: Any, depth: int) -> str:
+    if depth > _DEEPEST:
+        raise ValueError(f"nested deeper than {_DEEPEST} levels")
+    if isinstance(value, dict):
+        entries = [f"{_key(name)} = {_inline(held, depth + 1)}" for name, held in value.items()]
+        return "{ " + ", ".join(entries) + " }" if entries else "{}"
+    if isinstance(value, list):
+        return "[" + ", ".join(_inline(held, depth + 1) for held in value) + "]"
+    return _scalar(value)
+
+
+def _is_tables(value: Any) -> bool:
+    """Whether a value is written as tables with headers: [[name]]."""
+    return isinstance(value, list) and bool(value) and all(isinstance(held, dict) and held for held in value)
+
+
+def _lines(table: Dict[str, Any], path: Tuple[str, ...]) -> Iterator[str]:
+    """The lines of a table whose header, if it has one, is written."""
+    if len(path) > _DEEPEST:
+        raise ValueError(f"nested deeper than {_DEEPEST} levels")
+    below: List[Tuple[str, Any]] = []
+    for name, value in table.items():
+        if isinstance(value, dict) or _is_tables(value):
+            below.append((name, value))
+        else:
+            yield f"{_key(name)} = {_inline(value, len(path) + 1)}\n"
+    for name, value in below:
+        inner = (*path, _key(name))
+        for held in value if isinstance(value, list) else [value]:
+            yield "\n[[" + ".".join(inner) + "]]\n" if isinstance(value, list) else "\n[" + ".".join(inner) + "]\n"
+            yield from _lines(held, inner)
+
+
+def _plain(value: Any, depth: int = 0) -> Any:
+    """A value with dicts for mappings and lists for tuples, as ``loads`` has them."""
+    if depth > 2 * _DEEPEST:
+        raise ValueError(f"nested deeper than {_DEEPEST} levels")
+    if isinstance(value, Mapping):
+        for name in value:
+            if not isinstance(name, str):
+                raise TypeError(f"a key must be a str, not '{type(name).__qualname__}'")
+        return {name: _plain(held, depth + 1) for name, held in value.items()}
+    if isinstance(value, (list, tuple)):
+        return [_plain(held, depth + 1) for held in value]
+    return value
+
+
+def _is_same(one: Any, other: Any) -> bool:
+    """Whether two values are equal and of one type, to which a nan equals itself."""
+    if isinstance(one, dict):
+        return isinstance(other, dict) and one.keys() == other.keys() and all(
+            _is_same(value, other[name]) for name, value in one.items()
+        )
+    if isinstance(one, list):
+        return isinstance(other, list) and len(one) == len(other) and all(map(_is_same, one, other))
+    if isinstance(one, float):
+        return isinstance(other, float) and (repr(one) == repr(other) or (one != one and other != other))
+    return isinstance(one, type(other)) and bool(one == other)
+
+
+def dumps(mapping: Mapping[str, Any], /) -> str:
+    """Writes a mapping as TOML, with a header for each table, and a tuple as an array.
+
+    Raises TypeError for a type that TOML does not have, and ValueError for a value that it does not have, such as an
+    integer of more than 64 bits. The text is parsed again, and is returned only if ``loads`` has the same in it.
+    """
+    if not isinstance(mapping, Mapping):
+        raise TypeError(f"Expected a mapping, not '{type(mapping).__qualname__}'")
+    plain = _plain(mapping)
+    text = "".join(_lines(plain, ())).lstrip("\n")
+    try:
+        same = _is_same(plain, loads(text))
+    except TOMLDecodeError as error:
+        raise ValueError(f"TOML can't hold this: {error.msg}: {text.splitlines()[error.lineno - 1]}") from None
+    if not same:
+        raise ValueError("TOML can't hold this: it would be read as another value")
+    return text

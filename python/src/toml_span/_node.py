@@ -1,0 +1,235 @@
+"""The values of a text with their places."""
+
+from __future__ import annotations
+
+from bisect import bisect_right
+from typing import Any, Dict, Iterator, List, Optional, Tuple, Union, overload
+
+from ._decode import Document, Span, TOMLDecodeError, encoded
+from ._native import ARRAY, NONE, TABLE
+
+_KINDS = ("string", "integer", "float", "boolean", "datetime", "array", "table")
+Key = Union[str, int]
+
+
+class _Source(Document):
+    """The records of a text, with what is looked up in them, each found once."""
+
+    __slots__ = ("starts", "held")
+
+    def __init__(self, text: str, data: bytes, name: str) -> None:
+        super().__init__(text, data, name)
+        # the bytes at which lines start, with the characters before each; and what each table or array holds
+        self.starts: Optional[Tuple[List[int], List[int]]] = None
+        self.held: Dict[int, Dict[Key, int]] = {}
+
+    def name(self, number: int) -> Key:
+        """The name or the position of a record in what holds it."""
+        record = self.record(number)
+        if self.record(record[12])[0] == ARRAY:
+            position: int = record[13]
+            return position
+        source, at, length = record[6:9]
+        return (self.strings if source else self.data)[at : at + length].decode()
+
+    def children(self, number: int) -> Dict[Key, int]:
+        """The numbers of the records that a table or an array holds, by names or positions."""
+        found = self.held.get(number)
+        if found is None:
+            found, child, end = {}, number + 1, self.record(number)[15]
+            while child < end:
+                found[self.name(child)] = child
+                child = self.record(child)[15]
+            self.held[number] = found
+        return found
+
+    def place(self, offset: int) -> Tuple[int, int, int]:
+        """The line and the column of a byte, both counted from 1, and the characters before it."""
+        if self.starts is None:
+            bytes_before, chars_before = [0], [0]
+            for line in self.data.split(b"\n")[:-1]:
+                bytes_before.append(bytes_before[-1] + len(line) + 1)
+                chars_before.append(chars_before[-1] + len(line.decode()) + 1)
+            self.starts = bytes_before, chars_before
+        line = bisect_right(self.starts[0], offset)
+        column = len(self.data[self.starts[0][line - 1] : offset].decode())
+        return line, column + 1, self.starts[1][line - 1] + column
+
+
+class Node:
+    """A value with its place. A table works like a dict, an array like a list; ``==``, ``in`` and truth are those of
+    the value. Iteration follows the text; ``sorted(node)`` has the names in order."""
+
+    __slots__ = ("_source", "_number")
+    __hash__ = None  # type: ignore[assignment]
+
+    def __init__(self, source: _Source, number: int) -> None:
+        self._source, self._number = source, number
+
+    @property
+    def _record(self) -> Tuple[Any, ...]:
+        return self._source.record(self._number)
+
+    @property
+    def kind(self) -> str:
+        """``string``, ``integer``, ``float``, ``boolean``, ``datetime``, ``array`` or ``table``."""
+        return _KINDS[self._record[0] - 1]
+
+    @property
+    def value(self) -> Any:
+        """What ``loads`` has here."""
+        return self._source.value(self._number)
+
+    @property
+    def key(self) -> Optional[str]:
+        """Its name in the table that holds it; None for elements and for the root."""
+        name = None if self._number == 0 else self._source.name(self._number)
+        return name if isinstance(name, str) else None
+
+    @property
+    def parent(self) -> Optional[Node]:
+        """The table or array that holds it; None for the root."""
+        number = self._record[12]
+        return None if number == NONE else Node(self._source, number)
+
+    @property
+    def path(self) -> Tuple[Key, ...]:
+        """The names and positions that lead to it from the root."""
+        steps: List[Key] = []
+        number = self._number
+        while number != 0:
+            steps.append(self._source.name(number))
+            number = self._source.record(number)[12]
+        return tuple(reversed(steps))
+
+    @property
+    def span(self) -> Span:
+        """Its bytes in the text, the end exclusive; for a string those between its quotes."""
+        return self._record[2], self._record[3]
+
+    @property
+    def key_span(self) -> Optional[Span]:
+        """The bytes of its key; None for elements and for the root."""
+        return None if self.key is None else (self._record[4], self._record[5])
+
+    def _characters(self, span: Optional[Span]) -> Optional[Span]:
+        return span and (self._source.place(span[0])[2], self._source.place(span[1])[2])
+
+    @property
+    def char_span(self) -> Span:
+        """Its span in characters, so that ``text[start:end]`` is what is there."""
+        start, end = self.span
+        return self._source.place(start)[2], self._source.place(end)[2]
+
+    @property
+    def key_char_span(self) -> Optional[Span]:
+        """The span of its key in characters."""
+        return self._characters(self.key_span)
+
+    @property
+    def line(self) -> int:
+        """The line at which it starts, counted from 1."""
+        return self._source.place(self._record[2])[0]
+
+    @property
+    def column(self) -> int:
+        """The column at which it starts, in characters counted from 1."""
+        return self._source.place(self._record[2])[1]
+
+    def pointer(self, pointer: str) -> Optional[Node]:
+        """The value at a JSON Pointer, such as ``/server/ports/0``; None if there is none."""
+        if pointer and pointer[0] != "/":
+            raise ValueError(f"a pointer that is not empty begins with a slash: {pointer!r}")
+        node = self
+        for step in pointer.split("/")[1:]:
+            name: Key = step.replace("~1", "/").replace("~0", "~")
+            if node.kind == "array":
+                if not (step.isascii() and step.isdigit()) or (step[0] == "0" and step != "0"):
+                    return None
+                name = int(step)
+            number = node._source.children(node._number).get(name)
+            if number is None:
+                return None
+            node = Node(node._source, number)
+        return node
+
+    def _children(self, *kinds: int) -> Dict[Key, int]:
+        if self._record[0] not in (kinds or (ARRAY, TABLE)):
+            expected = {(): "neither a table nor an array", (TABLE,): "not a table"}[kinds]
+            raise TypeError(f"the {self.kind} at line {self.line} is {expected}")
+        return self._source.children(self._number)
+
+    def __len__(self) -> int:
+        return len(self._children())
+
+    def __bool__(self) -> bool:
+        return bool(self._record[14] if self._record[0] in (ARRAY, TABLE) else self.value)
+
+    def __iter__(self) -> Iterator[Any]:
+        """The names of a table, the elements of an array."""
+        held = self._children()
+        return iter(held if self._record[0] == TABLE else [Node(self._source, number) for number in held.values()])
+
+    def __contains__(self, item: object) -> bool:
+        """Whether a table has this name, or an array an element with this value."""
+        if self._record[0] == TABLE:
+            return item in self._children()
+        self._children()
+        return (item.value if isinstance(item, Node) else item) in self.value
+
+    def __eq__(self, other: object) -> bool:
+        return bool(self.value == (other.value if isinstance(other, Node) else other))
+
+    @overload
+    def __getitem__(self, item: Key) -> Node: ...
+    @overload
+    def __getitem__(self, item: slice) -> List[Node]: ...
+    def __getitem__(self, item: Union[Key, slice]) -> Union[Node, List[Node]]:
+        """The value of a name; the element at a position, which may count from the end; a list for a slice."""
+        held = self._children()
+        if self._record[0] == TABLE:
+            return Node(self._source, held[item])  # type: ignore[index]
+        if isinstance(item, slice):
+            return [Node(self._source, held[at]) for at in range(len(held))[item]]
+        try:
+            return Node(self._source, held[range(len(held))[item]])  # type: ignore[index]
+        except IndexError:
+            raise IndexError(f"the array at line {self.line} has {len(held)} elements, none at {item}") from None
+
+    def get(self, name: str, default: Any = None) -> Any:
+        """The value of a name of a table, or else the default."""
+        number = self._children(TABLE).get(name)
+        return default if number is None else Node(self._source, number)
+
+    def keys(self) -> List[str]:
+        """The names of a table."""
+        return [str(name) for name in self._children(TABLE)]
+
+    def values(self) -> List[Node]:
+        """The values of a table."""
+        return [Node(self._source, number) for number in self._children(TABLE).values()]
+
+    def items(self) -> List[Tuple[str, Node]]:
+        """The names of a table with their values."""
+        return list(zip(self.keys(), self.values()))
+
+    def __repr__(self) -> str:
+        start, end = self.span
+        return f"<{self.kind} {'/'.join(map(str, self.path)) or 'root'} {start}..{end}>"
+
+
+def parse(source: Union[str, bytes], name: str = "<string>") -> Node:
+    """Parses a text, or its bytes, and returns its root, which is a table. Raises TOMLDecodeError.
+
+    ``name`` is that of the file, for the report of an error.
+    """
+    if isinstance(source, str):
+        return Node(_Source(source, encoded(source), name), 0)
+    if not isinstance(source, bytes):
+        raise TypeError(f"Expected str or bytes object, not '{type(source).__qualname__}'")
+    try:
+        return Node(_Source(source.decode(), source, name), 0)
+    except UnicodeDecodeError as error:
+        text = source.decode("utf-8", "replace")
+        pos = len(source[: error.start].decode())
+        raise TOMLDecodeError(f"not UTF-8: {error.reason}", text, pos, None, (error.start, error.end)) from None

@@ -1,0 +1,149 @@
+/* walk FILE..: the calls that look only at the records, on rows of data and on documents.
+ *
+ * It is compiled with c/records.c and sanitizers. */
+#include "toml_span.h"
+
+#include <stdio.h>
+#include <stdlib.h>
+#include <string.h>
+
+enum { ROOM = 1 << 16 };
+static toml_span_node nodes[ROOM], sorted[ROOM];
+static char text[ROOM], strings[ROOM];
+static const char *const sources[] = {text, strings};
+static toml_span_counts counts;
+static size_t length;
+static long rows, wrong;
+
+static void tell(int right, const char *of, const char *what, size_t which) {
+    rows++;
+    if (right) return;
+    wrong++;
+    printf("walk: %s: %s %zu is wrong\n", of, what, which);
+}
+
+static int is_read(void) {
+    toml_span_fault fault;
+    return toml_span_parse(text, length, nodes, ROOM, strings, ROOM, &counts, &fault) == TOML_SPAN_READ;
+}
+
+/* Whether a record of a sorted document is at its place, after its siblings and all that they hold. */
+static int is_in_place(size_t at) {
+    const toml_span_node *node = &sorted[at], *parent = &sorted[node->parent];
+    size_t before = node->parent + 1, position = 0;
+    for (; before < at && position < node->position; before = sorted[before].next) position++;
+    return before == at && position == node->position && position < parent->children && node->next > at &&
+           node->next <= parent->next;
+}
+
+/* Whether the sorted records have one with the same bytes for each of the document's. */
+static int has_all(void) {
+    static unsigned char seen[ROOM];
+    memset(seen, 0, sizeof seen);
+    for (size_t at = 0; at < counts.nodes; at++) {
+        size_t other = 0;
+        while (other < counts.nodes &&
+               (seen[other] || nodes[other].kind != sorted[at].kind ||
+                memcmp(&nodes[other].span, &sorted[at].span, offsetof(toml_span_node, parent) - 8) != 0))
+            other++;
+        if (other == counts.nodes) return 0;
+        seen[other] = 1;
+    }
+    return 1;
+}
+
+/* Each room for a pickle has its front, and nothing else is written. */
+static int has_fronts(void) {
+    static char whole[ROOM], part[ROOM + 1];
+    size_t needed = 0, again = 0;
+    toml_span_pickle(sorted, 0, sources, 1, whole, ROOM, &needed);
+    for (size_t room = 0; room < needed; room++) {
+        memset(part, 0x5A, room + 1);
+        toml_span_pickle(sorted, 0, sources, 1, part, room, &again);
+        /* (the length that the head has is written last, so a head that is cut off has none) */
+        if (again != needed || part[room] != 0x5A || (room > 11 && memcmp(part, whole, room) != 0)) return 0;
+    }
+    return needed < ROOM && whole[needed - 1] == '.';
+}
+
+static void look(const char *name) {
+    if (!is_read()) return;
+    toml_span_sort(nodes, counts.nodes, sorted);
+    for (size_t at = 1; at < counts.nodes; at++) tell(is_in_place(at), name, "record", at);
+    tell(sorted[0].parent == TOML_SPAN_NONE && sorted[0].next == counts.nodes && !sorted[0].position, name, "root", 0);
+    tell(has_all(), name, "the set of records", counts.nodes);
+    tell(has_fronts(), name, "pickle", 0);
+}
+
+/* A document, a pointer into it, and the bytes of the value there; -1 if there is none. */
+static const struct {
+    const char *text, *pointer;
+    int start, end;
+} finds[] = {
+    {"a = 1", "", 0, 5},
+    {"a = 1", "/a", 4, 5},
+    {"a = 1", "a", -1, 0},
+    {"a = 1", "/", -1, 0},
+    {"a = 1", "/ab", -1, 0},
+    {"ab = 1", "/a", -1, 0},
+    {"a = 1", "/a/b", -1, 0},
+    {"'' = 1", "/", 5, 6},
+    {"b = 1\na = 2", "/b", 4, 5},
+    {"a = [1, [2, 3]]", "/a/1/1", 12, 13},
+    {"a = [1, [2, 3]]", "/a/01", -1, 0},
+    {"a = [1, [2, 3]]", "/a/2", -1, 0},
+    {"a = [1, [2, 3]]", "/a/-1", -1, 0},
+    {"a = [1, [2, 3]]", "/a/", -1, 0},
+    {"a = [1]", "/a/18446744073709551616", -1, 0},
+    {"'a/b~c~1' = 1\n0 = 2", "/a~1b~0c~01", 12, 13},
+    {"'a/b~c~1' = 1\n0 = 2", "/0", 18, 19},
+    {"\"\\u0061\" = 1", "/a", 11, 12},
+    {"[[a]]\n[[a]]\nb = 7", "/a/1/b", 16, 17},
+};
+
+/* A text, an offset, and its line and column. */
+static const struct {
+    const char *text;
+    size_t offset, line, column;
+} places[] = {
+    {"", 0, 0, 0},        {"ab", 1, 0, 1},   {"ab", 9, 0, 2},
+    {"a\nb", 1, 0, 1}, {"a\nb", 2, 1, 0}, {"a\r\n\n\xc3\xa9x", 6, 2, 2},
+};
+
+static void take(const char *words) {
+    length = strlen(words);
+    memcpy(text, words, length);
+}
+
+int main(int argc, char **argv) {
+    for (int at = 1; at < argc; at++) {
+        FILE *file = fopen(argv[at], "rb");
+        if (!file) return 2;
+        length = fread(text, 1, sizeof text, file);
+        fclose(file);
+        look(argv[at]);
+    }
+    long documents = rows;
+    for (size_t at = 0; at < sizeof finds / sizeof *finds; at++) {
+        take(finds[at].text);
+        size_t found = is_read() ? toml_span_find(nodes, counts.nodes, sources, 0, finds[at].pointer) : 99;
+        int right = found == TOML_SPAN_NONE ? finds[at].start == -1
+                                            : found < counts.nodes && (int)nodes[found].span.start == finds[at].start &&
+                                                  (int)nodes[found].span.end == finds[at].end;
+        tell(right, finds[at].text, "find", at);
+        for (size_t count = 0; count < counts.nodes; count++) {
+            size_t other = toml_span_find(nodes, count, sources, 0, finds[at].pointer);
+            tell(other == TOML_SPAN_NONE || other == found, finds[at].text, "find in fewer records", at);
+        }
+    }
+    for (size_t at = 0; at < sizeof places / sizeof *places; at++) {
+        take(places[at].text);
+        toml_span_place place = toml_span_line_column(text, length, places[at].offset);
+        tell(place.line == places[at].line && place.column == places[at].column, places[at].text, "place", at);
+    }
+    const char *const names[] = {"", "string", "integer", "float", "boolean", "datetime", "array", "table", ""};
+    for (uint32_t kind = 0; kind < 9; kind++)
+        tell(!strcmp(toml_span_kind_name(kind), names[kind]), "kind", "name", kind);
+    printf("walk: %ld of %ld right\n", rows - wrong, rows);
+    return wrong != 0 || documents == 0;
+}
