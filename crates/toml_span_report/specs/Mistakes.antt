@@ -7,6 +7,7 @@ use Rattle.toml_span_tree.specs.Error.{invalid_number, invalid_datetime, wanted,
 use Rattle.toml_span_tree.specs.Error.{redefine_as_array, multiline_string_key, dotted_key_invalid_type}
 use Rattle.toml_span_tree.specs.Error.{unquoted_string}
 use Rattle.toml_span_report.specs.Finding.{FindingContent, marked}
+use Rattle.toml_span_report.specs.declared.finding.ClashMistake.TheVariants as of_clash
 use Rattle.toml_span_report.specs.declared.finding.Mistake.TheVariants as mistakes
 use Rattle.toml_span_report.specs.found.Clashes as clashes
 use Rattle.toml_span_report.specs.found.Dates as dates
@@ -33,5 +34,5 @@ mistake_of multiline_string_key text span = Some (strings.long_key text span.sta
 mistake_of (duplicate_table name first) text span = Some (clashes.table_twice span first)
 mistake_of (duplicate_key key first) text span = clashes.key_twice text span first
 mistake_of (dotted_key_invalid_type first) text span = clashes.through_value text span first
-mistake_of redefine_as_array text span = Some (marked mistakes.ArrayAfterTable span.start span.end)
+mistake_of redefine_as_array text span = Some (marked (mistakes.Clash of_clash.ArrayAfterTable) span.start span.end)
 mistake_of kind text span = None

@@ -32,12 +32,12 @@ inside text state at =
     if slice_index text at == 92 && state.quote == 34 then record state { skip = 1 }
     else if slice_index text at == state.quote && not state.is_long then record state { quote = 0 }
     else if slice_index text at == state.quote && is_long text at
-        && not (slice_index text (min (at + 3) (length text)) == slice_index text at)
+    && not (slice_index text (min (at + 3) (length text)) == slice_index text at)
     then record state { quote = 0; skip = 2 }
     else state
 
 -- after one more byte
-abbrev pub step : List ℕ → Open → ℕ → Open
+unfoldable pub step : List ℕ → Open → ℕ → Open
 step text state at =
     if nat_lt 0 state.skip then record state { skip = state.skip - 1 }
     else if state.quote == 0 then outside text state at

@@ -6,7 +6,7 @@ ghost use Rattle.toml_span_report.specs.Bytes as spec;
 use crate::places::place;
 
 /// A class of bytes.
-#[derive(Clone, Copy, PartialEq, Eq)]
+#[derive(Clone, Copy)]
 pub(crate) enum Class {
     /// A space or a tab.
     Blank,
@@ -200,11 +200,7 @@ pub(crate) fn byte_before(text: &str, at: usize) -> u8
     ensures { result ≡ spec.byte_before text.now at }
 {
     let end = start_of(Class::Blank, text, at);
-    if end == 0 {
-        0
-    } else {
-        byte_at(text, end - 1)
-    }
+    if end == 0 { 0 } else { byte_at(text, end - 1) }
 }
 
 /// The first byte from an offset on that is no blank, or 0 at the end of the text.

@@ -12,12 +12,12 @@ ghost use Rattle.toml_span_report.specs.Report.{report_content};
 ghost use Rattle.toml_span_report.specs.declared.report.Severity.TheVariants as severities;
 
 use crate::colours::Style;
-use crate::repairs::{finding_help, finding_labels, finding_repairs};
+use crate::finding::Finding;
 use crate::help;
 use crate::many::render_all;
-use crate::finding::Finding;
 use crate::mistakes::mistake_of;
 use crate::rendering::render;
+use crate::repairs::{finding_help, finding_labels, finding_repairs};
 use crate::report::{Report, Severity};
 use crate::tokens::marked_span;
 use crate::unknown_keys::{
@@ -63,11 +63,7 @@ fn one_label(alloc: Global, span: Span, text: &str) -> Result<Vec<Label<()>>, Al
 }
 
 /// The labels of an error's own diagnostic, at a span.
-fn own_labels(
-    alloc: Global,
-    error: &Error<'_>,
-    span: Span,
-) -> Result<Vec<Label<()>>, AllocError>
+fn own_labels(alloc: Global, error: &Error<'_>, span: Span) -> Result<Vec<Label<()>>, AllocError>
     ensures { IfOk result (λ labels. map label_content labels.items ≡ labels_of tt span (kind_of error.now.kind)) }
 {
     let mut marked = error.clone(alloc)?;
@@ -132,11 +128,7 @@ fn help(alloc: Global, kind: &ErrorKind<'_>) -> Result<Vec<String>, AllocError>
 }
 
 /// The message for a mistake: its headline, or else what the error tells.
-fn headline(
-    alloc: Global,
-    error: &Error<'_>,
-    finding: Finding<'_>,
-) -> Result<String, AllocError>
+fn headline(alloc: Global, error: &Error<'_>, finding: Finding<'_>) -> Result<String, AllocError>
     ensures { IfOk result (λ text. string_bytes text
         ≡ spec.headline (kind_of error.now.kind) (finding_content finding.entry)) }
 {

@@ -6,9 +6,9 @@ ghost use Rattle.toml_span_report.specs.Finding.{code_content, finding_content, 
 use crate::bytes::{Class, end_of, part};
 use toml_span_lex::span::Span;
 
-/// A mistake, as people make it. What is said of each is in `words`.
-#[derive(Clone, Copy, PartialEq, Eq)]
-pub(crate) enum Mistake {
+/// A mistake in values.
+#[derive(Clone, Copy)]
+pub(crate) enum ValueMistake {
     Unquoted,
     UnquotedText,
     UpperBoolean,
@@ -17,6 +17,16 @@ pub(crate) enum Mistake {
     OtherFloat,
     Prefixed,
     RawString,
+    ValueBelow,
+    HashValue,
+    NoValueBehind,
+    FloatDue,
+    StringDue,
+}
+
+/// A mistake in signs, quotes and comments of other languages.
+#[derive(Clone, Copy)]
+pub(crate) enum SymbolMistake {
     Backticks,
     CurlyQuotes,
     OtherSpace,
@@ -24,16 +34,32 @@ pub(crate) enum Mistake {
     OtherSign,
     Parentheses,
     Conflict,
-    Template,
-    TemplateLine,
+    Markup,
     Comment,
     BlockComment,
     Semicolon,
-    Markup,
     LoneReturn,
+}
+
+/// A mistake in keys.
+#[derive(Clone, Copy)]
+pub(crate) enum KeyMistake {
     BareKey,
     Equals,
     Colon,
+    NoEquals,
+    NoValue,
+    Keyword,
+    ExtraDot,
+    NoKey,
+    NoName,
+    LongKey,
+    OpenKey,
+}
+
+/// A mistake in other formats.
+#[derive(Clone, Copy)]
+pub(crate) enum FormatMistake {
     YamlTable,
     YamlList,
     YamlItem,
@@ -41,38 +67,46 @@ pub(crate) enum Mistake {
     Json,
     JsonDocument,
     BraceHeader,
-    NoEquals,
-    NoValue,
-    NoValueBehind,
-    Keyword,
-    ExtraDot,
-    NoKey,
-    NoName,
+    Template,
+    TemplateLine,
+}
+
+/// A mistake in arrays, inline tables and headers.
+#[derive(Clone, Copy)]
+pub(crate) enum ListMistake {
     ExtraComma,
-    LeadingPoint,
-    TrailingPoint,
-    ValueBelow,
-    HashValue,
-    Thousands,
-    LastComma,
-    SecondKey,
-    KeyAfterHeader,
-    ValueOfHeader,
-    HeaderBracket,
-    ExtraClosing,
-    QuoteInString,
-    Joined,
-    HalfDay,
-    ZoneName,
-    AfterValue,
     NoComma,
     NoCommaInTable,
     OpenArray,
     OpenTable,
     ClosedByBrace,
     ClosedByBracket,
-    OpenHeader,
+    ExtraClosing,
     ArrayAlone,
+    OpenHeader,
+    HeaderBracket,
+}
+
+/// A mistake in lines.
+#[derive(Clone, Copy)]
+pub(crate) enum LineMistake {
+    LastComma,
+    SecondKey,
+    KeyAfterHeader,
+    ValueOfHeader,
+    QuoteInString,
+    Joined,
+    HalfDay,
+    ZoneName,
+    AfterValue,
+}
+
+/// A mistake in numbers.
+#[derive(Clone, Copy)]
+pub(crate) enum NumberMistake {
+    LeadingPoint,
+    TrailingPoint,
+    Thousands,
     LeadingZero,
     Octal,
     UpperPrefix,
@@ -81,6 +115,11 @@ pub(crate) enum Mistake {
     Underscore,
     SignedPrefix,
     TooLarge,
+}
+
+/// A mistake in dates and times.
+#[derive(Clone, Copy)]
+pub(crate) enum DateMistake {
     SlashDate,
     ShortDate,
     NoMonth,
@@ -88,26 +127,47 @@ pub(crate) enum Mistake {
     NoTime,
     Offset,
     Datetime,
+}
+
+/// A mistake in strings.
+#[derive(Clone, Copy)]
+pub(crate) enum TextMistake {
     OpenString,
     OpenLiteral,
     OpenLong,
     OpenLongLiteral,
-    OpenKey,
     Control,
     ControlInLiteral,
     Backslash,
     ShortEscape,
     Surrogate,
     NoCharacter,
-    LongKey,
+}
+
+/// A mistake in what is defined twice.
+#[derive(Clone, Copy)]
+pub(crate) enum ClashMistake {
     TableTwice,
     ArrayAfterTable,
     ClosedTable,
     ClosedArray,
     ThroughValue,
     DottedTable,
-    FloatDue,
-    StringDue,
+}
+
+/// A mistake, as people make it. What is said of each is in `words`.
+#[derive(Clone, Copy)]
+pub(crate) enum Mistake {
+    Value(ValueMistake),
+    Symbol(SymbolMistake),
+    Key(KeyMistake),
+    Format(FormatMistake),
+    List(ListMistake),
+    Line(LineMistake),
+    Number(NumberMistake),
+    Date(DateMistake),
+    Text(TextMistake),
+    Clash(ClashMistake),
 }
 
 /// Code to write, in pieces of the source and of our own.
@@ -191,12 +251,7 @@ pub(crate) fn marked<'a>(mistake: Mistake, from: usize, to: usize) -> Finding<'a
 }
 
 /// A mistake at a place that code can replace.
-pub(crate) fn replaced<'a>(
-    mistake: Mistake,
-    from: usize,
-    to: usize,
-    code: Code<'a>,
-) -> Finding<'a>
+pub(crate) fn replaced<'a>(mistake: Mistake, from: usize, to: usize, code: Code<'a>) -> Finding<'a>
     ensures { finding_content result ≡ spec.replaced mistake from to (code_content code.entry) }
 {
     Finding {
@@ -210,12 +265,7 @@ pub(crate) fn replaced<'a>(
 }
 
 /// A mistake at a place, mended by code in another.
-pub(crate) fn mended<'a>(
-    mistake: Mistake,
-    mark: Span,
-    edit: Span,
-    code: Code<'a>,
-) -> Finding<'a>
+pub(crate) fn mended<'a>(mistake: Mistake, mark: Span, edit: Span, code: Code<'a>) -> Finding<'a>
     ensures { finding_content result ≡ spec.mended mistake mark edit (code_content code.entry) }
 {
     Finding {
@@ -228,26 +278,14 @@ pub(crate) fn mended<'a>(
     }
 }
 
-/// The quote that a text needs to be a string as it is: a single one where it has backslashes.
-pub(crate) fn quote_for(text: &str, from: usize, to: usize) -> &'static str
-    ensures { result.now ≡ spec.quote_for text.now from to }
-{
-    if end_of(Class::Unescaped, text, from) < to {
-        "'"
-    } else {
-        "\""
-    }
-}
-
-/// A part of a text that needs quotes.
+/// A part of a text that needs quotes: single ones where it has backslashes, so that they stay as they are.
 pub(crate) fn quoted<'a>(mistake: Mistake, text: &'a str, from: usize, to: usize) -> Finding<'a>
     ensures { finding_content result ≡ spec.quoted mistake text.now from to }
 {
-    let quote = quote_for(text, from, to);
-    replaced(
-        mistake,
-        from,
-        to,
-        pieces(quote, part(text, from, to), quote),
-    )
+    let word = part(text, from, to);
+    if end_of(Class::Unescaped, text, from) < to {
+        replaced(mistake, from, to, pieces("'", word, "'"))
+    } else {
+        replaced(mistake, from, to, pieces("\"", word, "\""))
+    }
 }

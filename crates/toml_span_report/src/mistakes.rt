@@ -14,16 +14,12 @@ mod symbols;
 mod values;
 mod wanted;
 
-use crate::finding::{Finding, Mistake, marked};
+use crate::finding::{ClashMistake, Finding, Mistake, marked};
 use toml_span_lex::span::Span;
 use toml_span_tree::ErrorKind;
 
 /// The mistake that an error of this kind, at this span of the text, is likely to come from.
-pub(crate) fn mistake_of<'a>(
-    kind: &ErrorKind<'_>,
-    text: &'a str,
-    span: Span,
-) -> Option<Finding<'a>>
+pub(crate) fn mistake_of<'a>(kind: &ErrorKind<'_>, text: &'a str, span: Span) -> Option<Finding<'a>>
     ensures { option_map finding_content result ≡ spec.mistake_of (kind_of kind.now) text.now span }
 {
     match kind {
@@ -45,7 +41,7 @@ pub(crate) fn mistake_of<'a>(
         ErrorKind::DuplicateKey { first, .. } => clashes::key_twice(text, span, *first),
         ErrorKind::DottedKeyInvalidType { first } => clashes::through_value(text, span, *first),
         ErrorKind::RedefineAsArray => Some(marked(
-            Mistake::ArrayAfterTable,
+            Mistake::Clash(ClashMistake::ArrayAfterTable),
             span.start,
             span.end,
         )),

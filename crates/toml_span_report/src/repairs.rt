@@ -14,6 +14,7 @@ use toml_span_lex::span::Span;
 use toml_span_tree::Label;
 
 /// The text of code.
+#[tactic(auto, unfolding(crate::specs::Repairs::code_text))]
 fn code_text(alloc: Global, code: Code<'_>) -> Result<String, AllocError>
     ensures { IfOk result (λ text. string_bytes text ≡ spec.code_text (code_content code.entry)) }
 {
@@ -57,12 +58,7 @@ pub(crate) fn finding_help(alloc: Global, finding: Finding<'_>) -> Result<Vec<St
         return Ok(help);
     }
     let code = code_text(alloc, finding.code)?;
-    help.push(help_line(
-        alloc,
-        words.help,
-        words.joint,
-        code.as_str(),
-    )?)?;
+    help.push(help_line(alloc, words.help, words.joint, code.as_str())?)?;
     Ok(help)
 }
 
@@ -96,13 +92,7 @@ pub(crate) fn finding_labels(
     let words = words_for(finding.mistake);
     let mut labels = Vec::new(alloc);
     if !words.also.is_empty() {
-        push_label(
-            alloc,
-            &mut labels,
-            false,
-            finding.also,
-            words.also,
-        )?;
+        push_label(alloc, &mut labels, false, finding.also, words.also)?;
     }
     let text = if finding.name.is_empty() {
         words.label

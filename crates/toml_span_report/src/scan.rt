@@ -71,6 +71,7 @@ fn inside(text: &str, state: Open, at: usize) -> Open
 }
 
 /// What is open after one more byte.
+#[tactic(auto, unfolding(crate::specs::Scan::step))]
 fn step(text: &str, state: Open, at: usize) -> Open
     ensures { result ≡ spec.step text.now state at }
 {
@@ -89,6 +90,7 @@ fn step(text: &str, state: Open, at: usize) -> Open
 }
 
 /// What is open before an offset. Takes time in proportion to it.
+#[tactic(auto, unfolding(crate::specs::Scan::scanned))]
 pub(crate) fn open_before(text: &str, at: usize) -> Open
     ensures { result ≡ spec.open_before text.now at }
 {

@@ -12,6 +12,10 @@ use Rattle.toml_span_report.specs.found.Values.{unquoted_value}
 use Rattle.toml_span_report.specs.declared.bytes.Class.TheVariants as class
 use Rattle.toml_span_report.specs.declared.finding.Mistake.{Mistake}
 use Rattle.toml_span_report.specs.declared.finding.Mistake.TheVariants as mistakes
+use Rattle.toml_span_report.specs.declared.finding.KeyMistake.TheVariants as of_key
+use Rattle.toml_span_report.specs.declared.finding.ListMistake.TheVariants as of_list
+use Rattle.toml_span_report.specs.declared.finding.NumberMistake.TheVariants as of_number
+use Rattle.toml_span_report.specs.declared.finding.ValueMistake.TheVariants as of_value
 
 -- The outermost bracket before an offset is not closed there.
 abbrev pub bracket_span : List ℕ → ℕ → Span
@@ -20,7 +24,7 @@ bracket_span text bracket = span_of bracket (ahead text bracket 1)
 unfoldable pub unclosed : List ℕ → ℕ → FindingContent
 unclosed text at =
     let bracket = (open_before text at).bracket in
-    record (marked (if slice_index text bracket == 123 then mistakes.OpenTable else mistakes.OpenArray) at at) {
+    record (marked (if slice_index text bracket == 123 then (mistakes.List of_list.OpenTable) else (mistakes.List of_list.OpenArray)) at at) {
       also = bracket_span text bracket;
     }
 
@@ -35,16 +39,14 @@ value_below text at =
     let equals = end_of class.Left text below in
     let is_header = slice_index text below == 91 && first_of_line text below == below in
     if nat_lt below end && (nat_le end equals && (not is_header && not (is_long text below)))
-    then
-      let start = first_of_line text at in
-      Some (mended mistakes.ValueBelow (span_of at at) (span_of start end)
-        (pieces (part text start (start_of class.Blank text at)) (codes " ") (part text below end)))
+    then Some (mended (mistakes.Value of_value.ValueBelow) (span_of at at) (span_of (first_of_line text at) end)
+    (pieces (part text (first_of_line text at) (start_of class.Blank text at)) (codes " ") (part text below end)))
     else None
 
 unfoldable pub missing_value : List ℕ → ℕ → Option FindingContent
 missing_value text at =
     if byte_before text at == 61
-    then first_found (value_below text at) (Some (marked mistakes.NoValueBehind at at))
+    then first_found (value_below text at) (Some (marked (mistakes.Value of_value.NoValueBehind) at at))
     else open_end text at
 
 -- a comment, a comma, a decimal point and an equals sign where a value is expected
@@ -52,13 +54,13 @@ unfoldable pub hash : List ℕ → ℕ → Option FindingContent
 hash text at =
     let end = end_of class.Hex text (ahead text at 1) in
     if nat_lt (ahead text at 1) end && end == end_of class.Word text at
-    then Some (replaced mistakes.HashValue at end (pieces (codes "\"") (part text at end) (codes "\"")))
+    then Some (replaced (mistakes.Value of_value.HashValue) at end (pieces (codes "\"") (part text at end) (codes "\"")))
     else missing_value text at
 
 unfoldable pub comma : List ℕ → ℕ → Option FindingContent
 comma text at =
     if byte_before text at == 61 then None
-    else Some (replaced mistakes.ExtraComma at (ahead text at 1) (pieces [] [] []))
+    else Some (replaced (mistakes.List of_list.ExtraComma) at (ahead text at 1) (pieces [] [] []))
 
 unfoldable pub point : List ℕ → ℕ → Option FindingContent
 point text at =
@@ -66,12 +68,12 @@ point text at =
     let digits = end_of class.Digit text (ahead text at 1) in
     if ahead text at 1 == digits then Some (unquoted_value text at)
     else if digits == end
-    then Some (replaced mistakes.LeadingPoint at end (pieces (codes "0") (part text at end) []))
+    then Some (replaced (mistakes.Number of_number.LeadingPoint) at end (pieces (codes "0") (part text at end) []))
     else None
 
 unfoldable pub equals : List ℕ → ℕ → Option FindingContent
 equals text at =
-    if begins text (at - 1) (codes "==") then Some (other_sign mistakes.Equals text (at - 1) (ahead text at 1))
+    if begins text (at - 1) (codes "==") then Some (other_sign (mistakes.Key of_key.Equals) text (at - 1) (ahead text at 1))
     else None
 
 -- where a value is expected
@@ -88,15 +90,15 @@ no_value found text at =
 unfoldable pub open_header : List ℕ → ℕ → FindingContent
 open_header text bracket =
     let end = start_of class.Blank text (end_of class.Left text bracket) in
-    replaced mistakes.OpenHeader bracket end
+    replaced (mistakes.List of_list.OpenHeader) bracket end
     (pieces (part text bracket end)
-      (if begins text bracket (codes "[[") && not (slice_index text (end - 1) == 93) then codes "]]" else codes "]") [])
+    (if begins text bracket (codes "[[") && not (slice_index text (end - 1) == 93) then codes "]]" else codes "]") [])
 
 unfoldable pub header : List ℕ → List ℕ → ℕ → ℕ → Option FindingContent
 header found text at bracket =
     if bytes_eq found (codes "a newline") || bytes_eq found (codes "eof") || bytes_eq found (codes "a comment")
     then Some (open_header text bracket)
-    else if bytes_eq found (codes "a comma") then Some (marked mistakes.ArrayAlone bracket (last_of_line text at))
+    else if bytes_eq found (codes "a comma") then Some (marked (mistakes.List of_list.ArrayAlone) bracket (last_of_line text at))
     else header_key text at
 
 -- An assignment begins here, at the beginning of a line.
@@ -143,9 +145,9 @@ abbrev pub in_array : List ℕ → List ℕ → ℕ → Option FindingContent
 in_array found text at =
     if bytes_eq found (codes "eof") then Some (unclosed text at)
     else if bytes_eq found (codes "a right brace")
-    then Some (wrong_closing mistakes.ClosedByBrace text at (codes "]"))
+    then Some (wrong_closing (mistakes.List of_list.ClosedByBrace) text at (codes "]"))
     else if is_glue found then glued text at
-    else Some (unseparated mistakes.NoComma text at)
+    else Some (unseparated (mistakes.List of_list.NoComma) text at)
 
 unfoldable pub no_bracket : List ℕ → List ℕ → ℕ → Option FindingContent
 no_bracket found text at =
@@ -156,6 +158,6 @@ unfoldable pub no_comma : List ℕ → List ℕ → ℕ → Option FindingConten
 no_comma found text at =
     if bytes_eq found (codes "eof") then Some (unclosed text at)
     else if bytes_eq found (codes "a right bracket")
-    then Some (wrong_closing mistakes.ClosedByBracket text at (codes "}"))
+    then Some (wrong_closing (mistakes.List of_list.ClosedByBracket) text at (codes "}"))
     else if is_glue found then glued text at
-    else Some (unseparated mistakes.NoCommaInTable text at)
+    else Some (unseparated (mistakes.List of_list.NoCommaInTable) text at)

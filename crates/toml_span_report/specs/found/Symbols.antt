@@ -10,21 +10,23 @@ use Rattle.toml_span_report.specs.found.Keys.{comment, header_key, other_key, ot
 use Rattle.toml_span_report.specs.found.Values.{unquoted_value}
 use Rattle.toml_span_report.specs.declared.bytes.Class.TheVariants as class
 use Rattle.toml_span_report.specs.declared.finding.Mistake.TheVariants as mistakes
+use Rattle.toml_span_report.specs.declared.finding.KeyMistake.TheVariants as of_key
+use Rattle.toml_span_report.specs.declared.finding.SymbolMistake.TheVariants as of_symbol
 
 -- a character that looks like another one: its Unicode name, and the other one
 unfoldable pub look_alike : ℕ → Option MeantContent
 look_alike c =
-    if c == 0xA0 then Some (as_meant mistakes.OtherSpace (codes "NO-BREAK SPACE (U+00A0)") (codes " "))
-    else if c == 0x2009 then Some (as_meant mistakes.OtherSpace (codes "THIN SPACE (U+2009)") (codes " "))
-    else if c == 0x202F then Some (as_meant mistakes.OtherSpace (codes "NARROW NO-BREAK SPACE (U+202F)") (codes " "))
-    else if c == 0x3000 then Some (as_meant mistakes.OtherSpace (codes "IDEOGRAPHIC SPACE (U+3000)") (codes " "))
-    else if c == 0x200B then Some (as_meant mistakes.Invisible (codes "ZERO WIDTH SPACE (U+200B)") [])
-    else if c == 0xFEFF then Some (as_meant mistakes.Invisible (codes "BYTE ORDER MARK (U+FEFF)") [])
-    else if c == 0x2013 then Some (as_meant mistakes.OtherSign (codes "EN DASH (U+2013)") (codes "-"))
-    else if c == 0x2014 then Some (as_meant mistakes.OtherSign (codes "EM DASH (U+2014)") (codes "-"))
-    else if c == 0x2212 then Some (as_meant mistakes.OtherSign (codes "MINUS SIGN (U+2212)") (codes "-"))
-    else if c == 0xFF1D then Some (as_meant mistakes.OtherSign (codes "FULLWIDTH EQUALS SIGN (U+FF1D)") (codes "="))
-    else if c == 0xFF0C then Some (as_meant mistakes.OtherSign (codes "FULLWIDTH COMMA (U+FF0C)") (codes ","))
+    if c == 0xA0 then Some (as_meant (mistakes.Symbol of_symbol.OtherSpace) (codes "NO-BREAK SPACE (U+00A0)") (codes " "))
+    else if c == 0x2009 then Some (as_meant (mistakes.Symbol of_symbol.OtherSpace) (codes "THIN SPACE (U+2009)") (codes " "))
+    else if c == 0x202F then Some (as_meant (mistakes.Symbol of_symbol.OtherSpace) (codes "NARROW NO-BREAK SPACE (U+202F)") (codes " "))
+    else if c == 0x3000 then Some (as_meant (mistakes.Symbol of_symbol.OtherSpace) (codes "IDEOGRAPHIC SPACE (U+3000)") (codes " "))
+    else if c == 0x200B then Some (as_meant (mistakes.Symbol of_symbol.Invisible) (codes "ZERO WIDTH SPACE (U+200B)") [])
+    else if c == 0xFEFF then Some (as_meant (mistakes.Symbol of_symbol.Invisible) (codes "BYTE ORDER MARK (U+FEFF)") [])
+    else if c == 0x2013 then Some (as_meant (mistakes.Symbol of_symbol.OtherSign) (codes "EN DASH (U+2013)") (codes "-"))
+    else if c == 0x2014 then Some (as_meant (mistakes.Symbol of_symbol.OtherSign) (codes "EM DASH (U+2014)") (codes "-"))
+    else if c == 0x2212 then Some (as_meant (mistakes.Symbol of_symbol.OtherSign) (codes "MINUS SIGN (U+2212)") (codes "-"))
+    else if c == 0xFF1D then Some (as_meant (mistakes.Symbol of_symbol.OtherSign) (codes "FULLWIDTH EQUALS SIGN (U+FF1D)") (codes "="))
+    else if c == 0xFF0C then Some (as_meant (mistakes.Symbol of_symbol.OtherSign) (codes "FULLWIDTH COMMA (U+FF0C)") (codes ","))
     else None
 
 unfoldable pub curly_name : ℕ → List ℕ
@@ -43,20 +45,23 @@ curly text at name =
     let content = ahead text at 3 in
     let close = end_of class.Straight text content in
     if begins text close (0xE2 ∷ 0x80 ∷ []) && (nat_le close (end_of class.Unquoted text content)
-        && nat_le close (end_of class.Unescaped text content))
-    then record (marked mistakes.CurlyQuotes at (ahead text at 1)) {
+    && nat_le close (end_of class.Unescaped text content))
+    then record (marked (mistakes.Symbol of_symbol.CurlyQuotes) at (ahead text at 1)) {
       name = name;
       edit = Some (span_of at (ahead text close 3));
       code = pieces (codes "\"") (part text content close) (codes "\"");
     }
-    else record (marked mistakes.CurlyQuotes at (ahead text at 1)) { name = name }
+    else record (marked (mistakes.Symbol of_symbol.CurlyQuotes) at (ahead text at 1)) { name = name }
+
+unfoldable pub other_character : List ℕ → ℕ → MeantContent → FindingContent
+other_character text at m =
+    record (replaced m.mistake at (end_of class.Continuation text (ahead text at 1)) (pieces m.code [] [])) {
+      name = m.name;
+    }
 
 abbrev pub as_alike : List ℕ → ℕ → Option MeantContent → Option FindingContent
 as_alike text at None = None
-as_alike text at (Some m) =
-    Some (record (replaced m.mistake at (end_of class.Continuation text (ahead text at 1)) (pieces m.code [] [])) {
-      name = m.name;
-    })
+as_alike text at (Some m) = Some (other_character text at m)
 
 unfoldable pub alike : List ℕ → ℕ → ℕ → Option FindingContent
 alike text at c =
@@ -66,7 +71,7 @@ alike text at c =
 unfoldable pub semicolon : List ℕ → ℕ → FindingContent
 semicolon text at =
     if is_last text (ahead text at 1) && not (first_of_line text at == at)
-    then replaced mistakes.Semicolon at (ahead text at 1) (pieces [] [] [])
+    then replaced (mistakes.Symbol of_symbol.Semicolon) at (ahead text at 1) (pieces [] [] [])
     else comment text at 1
 
 -- a string between backticks, and a list in parentheses
@@ -75,33 +80,33 @@ backticks text at =
     let content = ahead text at 1 in
     let close = end_of class.Unquoted text content in
     if not (slice_index text close == 96) || nat_lt (end_of class.Unescaped text content) close
-    then marked mistakes.Backticks at content
-    else replaced mistakes.Backticks at (ahead text close 1)
-      (pieces (codes "\"") (part text content close) (codes "\""))
+    then marked (mistakes.Symbol of_symbol.Backticks) at content
+    else replaced (mistakes.Symbol of_symbol.Backticks) at (ahead text close 1)
+    (pieces (codes "\"") (part text content close) (codes "\""))
 
 unfoldable pub parentheses : List ℕ → ℕ → FindingContent
 parentheses text at =
     let content = ahead text at 1 in
     let close = end_of class.Enclosed text content in
-    if not (slice_index text close == 41) then marked mistakes.Parentheses at content
-    else replaced mistakes.Parentheses at (ahead text close 1)
-      (pieces (codes "[") (part text content close) (codes "]"))
+    if not (slice_index text close == 41) then marked (mistakes.Symbol of_symbol.Parentheses) at content
+    else replaced (mistakes.Symbol of_symbol.Parentheses) at (ahead text close 1)
+    (pieces (codes "[") (part text content close) (codes "]"))
 
 unfoldable pub at_line_start : List ℕ → ℕ → Option FindingContent
 at_line_start text at =
     let end = last_of_line text at in
     if begins text at (codes "<<<<<<<") || begins text at (codes ">>>>>>>") || begins text at (codes "|||||||")
-    then Some (marked mistakes.Conflict at end)
-    else if begins text at (codes "<") && slice_index text (end - 1) == 62 then Some (marked mistakes.Markup at end)
+    then Some (marked (mistakes.Symbol of_symbol.Conflict) at end)
+    else if begins text at (codes "<") && slice_index text (end - 1) == 62 then Some (marked (mistakes.Symbol of_symbol.Markup) at end)
     else None
 
 -- a comment or an end of a line as other languages have them
 unfoldable pub foreign : List ℕ → ℕ → Option FindingContent
 foreign text at =
     if begins text at (codes "//") then Some (comment text at 2)
-    else if begins text at (codes "/*") then Some (marked mistakes.BlockComment at (ahead text at 2))
+    else if begins text at (codes "/*") then Some (marked (mistakes.Symbol of_symbol.BlockComment) at (ahead text at 2))
     else if begins text at (codes ";") then Some (semicolon text at)
-    else if begins text at (13 ∷ []) then Some (marked mistakes.LoneReturn at (ahead text at 1))
+    else if begins text at (13 ∷ []) then Some (marked (mistakes.Symbol of_symbol.LoneReturn) at (ahead text at 1))
     else None
 
 -- a character of a key that needs quotes, or of a value that does
@@ -110,13 +115,13 @@ unquoted text at start =
     let state = open_before text at in
     if is_in_header text state then header_key text at
     else first_found (other_key text at)
-      (if nat_lt 0 state.depth then Some (unquoted_value text start) else None)
+    (if nat_lt 0 state.depth then Some (unquoted_value text start) else None)
 
 -- a character after `=`
 abbrev pub other_value : List ℕ → ℕ → ℕ → Option FindingContent
 other_value text at start =
     let byte = slice_index text at in
-    if byte == 13 then Some (marked mistakes.LoneReturn at (ahead text at 1))
+    if byte == 13 then Some (marked (mistakes.Symbol of_symbol.LoneReturn) at (ahead text at 1))
     else if byte == 47 && (nat_lt start at && begins text at (codes "//")) then Some (comment text at 2)
     else if byte == 59 && is_last text (ahead text at 1) then Some (semicolon text at)
     else if byte == 96 then Some (backticks text at)
@@ -126,7 +131,7 @@ other_value text at start =
 unfoldable pub value : List ℕ → ℕ → ℕ → Option FindingContent
 value text at start =
     if slice_index text at == 62 && (start == at && slice_index text (at - 1) == 61)
-    then Some (other_sign mistakes.Equals text (at - 1) (ahead text at 1))
+    then Some (other_sign (mistakes.Key of_key.Equals) text (at - 1) (ahead text at 1))
     else if slice_index text at == 124 || slice_index text at == 62 then None
     else other_value text at start
 
@@ -138,5 +143,5 @@ unexpected text at c =
     let start = start_of class.Atom text at in
     first_found (alike text at c)
     (if byte_before text start == 61 then value text at start
-     else if first_of_line text at == at then first_found (at_line_start text at) (elsewhere text at start)
-     else elsewhere text at start)
+    else if first_of_line text at == at then first_found (at_line_start text at) (elsewhere text at start)
+    else elsewhere text at start)

@@ -4,7 +4,7 @@ ghost use Rattle.toml_span_report.specs.Finding.{finding_content};
 ghost use Rattle.toml_span_report.specs.found.Dates as spec;
 
 use crate::bytes::{Class, ahead, byte_at, end_of, is_in, part, start_of};
-use crate::finding::{Code, Finding, Mistake, marked, pieces, replaced};
+use crate::finding::{Code, DateMistake, Finding, Mistake, marked, pieces, replaced};
 
 /// Whether there are so many digits from one offset to another.
 fn are_digits(text: &str, from: usize, count: usize) -> bool
@@ -14,6 +14,7 @@ fn are_digits(text: &str, from: usize, count: usize) -> bool
 }
 
 /// A date with slashes, of a year that is first or last.
+#[tactic(auto, unfolding(crate::specs::found::Dates::slash_date))]
 pub(crate) fn slash_date<'a>(text: &'a str, start: usize, end: usize) -> Option<Finding<'a>>
     ensures { option_map finding_content result ≡ spec.slash_date text.now start end }
 {
@@ -33,7 +34,7 @@ pub(crate) fn slash_date<'a>(text: &'a str, start: usize, end: usize) -> Option<
             fourth: "-",
             fifth: part(text, second, ahead(text, second, 2)),
         };
-        Some(replaced(Mistake::SlashDate, start, end, code))
+        Some(replaced(Mistake::Date(DateMistake::SlashDate), start, end, code))
     } else {
         None
     }
@@ -43,7 +44,11 @@ pub(crate) fn slash_date<'a>(text: &'a str, start: usize, end: usize) -> Option<
 fn zero_for(from: usize, to: usize) -> &'static str
     ensures { result.now ≡ spec.zero_for from to }
 {
-    if to.saturating_sub(from) == 1 { "0" } else { "" }
+    if to.saturating_sub(from) == 1 {
+        "0"
+    } else {
+        ""
+    }
 }
 
 /// Whether two digits are a number past the one of two other digits.
@@ -55,23 +60,27 @@ fn is_past(text: &str, at: usize, tens: u8, ones: u8) -> bool
 }
 
 /// A date and time whose offset has no colon, or a time that does not exist.
+#[tactic(auto, unfolding(crate::specs::found::Dates::time))]
 fn time<'a>(text: &'a str, start: usize, hour: usize, end: usize) -> Finding<'a>
     ensures { finding_content result ≡ spec.time text.now start hour end }
 {
     let offset = start_of(Class::Digit, text, end);
     let colon = ahead(text, offset, 2);
-    if are_digits(text, offset, 4) && matches!(byte_at(text, offset.saturating_sub(1)), b'+' | b'-') {
+    if are_digits(text, offset, 4)
+        && matches!(byte_at(text, offset.saturating_sub(1)), b'+' | b'-')
+    {
         let code = pieces(part(text, start, colon), ":", part(text, colon, end));
-        return replaced(Mistake::Offset, start, end, code);
+        return replaced(Mistake::Date(DateMistake::Offset), start, end, code);
     }
     let is_hour = are_digits(text, hour, 2) && byte_at(text, ahead(text, hour, 2)) == b':';
     if is_hour && is_past(text, hour, b'2', b'3') {
-        return marked(Mistake::NoTime, start, end);
+        return marked(Mistake::Date(DateMistake::NoTime), start, end);
     }
-    marked(Mistake::Datetime, start, end)
+    marked(Mistake::Date(DateMistake::Datetime), start, end)
 }
 
 /// A date of four digits, whose month begins at `month` and whose day at `day`.
+#[tactic(auto, unfolding(crate::specs::found::Dates::date))]
 fn date<'a>(text: &'a str, start: usize, month: usize, day: usize, end: usize) -> Finding<'a>
     ensures { finding_content result ≡ spec.date text.now start month day end }
 {
@@ -86,17 +95,21 @@ fn date<'a>(text: &'a str, start: usize, month: usize, day: usize, end: usize) -
             fourth: zero_for(day, day_end),
             fifth: part(text, day, end),
         };
-        replaced(Mistake::ShortDate, start, end, code)
-    } else if are_digits(text, month, 2) && is_past(text, month, b'1', b'2') {
-        marked(Mistake::NoMonth, start, end)
-    } else if are_digits(text, day, 2) && day_end == end && are_digits(text, month, 2) {
-        marked(Mistake::NoDay, start, end)
-    } else {
-        time(text, start, ahead(text, day_end, 1), end)
+        return replaced(Mistake::Date(DateMistake::ShortDate), start, end, code);
     }
+    let is_month = are_digits(text, month, 2);
+    let is_day = are_digits(text, day, 2);
+    if is_month && is_past(text, month, b'1', b'2') {
+        return marked(Mistake::Date(DateMistake::NoMonth), start, end);
+    }
+    if is_day && is_month && day_end == end {
+        return marked(Mistake::Date(DateMistake::NoDay), start, end);
+    }
+    time(text, start, ahead(text, day_end, 1), end)
 }
 
 /// A date or a time that is none of TOML's.
+#[tactic(auto, unfolding(crate::specs::found::Dates::datetime))]
 pub(crate) fn datetime<'a>(text: &'a str, at: usize) -> Finding<'a>
     ensures { finding_content result ≡ spec.datetime text.now at }
 {

@@ -6,24 +6,29 @@ ghost use Rattle.toml_span_report.specs.found.Strings as spec;
 use crate::bytes::{
     Class, ahead, begins, byte_at, byte_before, end_of, first_of_line, last_of_line, part, start_of,
 };
-use crate::finding::{Finding, Mistake, marked, mended, pieces, replaced, span_of};
+use crate::finding::{
+    Finding, KeyMistake, LineMistake, Mistake, TextMistake, marked, mended, pieces, replaced,
+    span_of,
+};
 use crate::scan::{is_long, open_before};
 
 /// A string on one line, of the quote at `quote`, that is not closed before `end`.
+#[tactic(auto, unfolding(crate::specs::found::Strings::open_string))]
 fn open_string<'a>(text: &'a str, quote: usize, end: usize) -> Finding<'a>
     ensures { finding_content result ≡ spec.open_string text.now quote end }
 {
     let mistake = if first_of_line(text, quote) == quote && open_before(text, quote).depth == 0 {
-        Mistake::OpenKey
+        Mistake::Key(KeyMistake::OpenKey)
     } else if byte_at(text, quote) == b'"' {
-        Mistake::OpenString
+        Mistake::Text(TextMistake::OpenString)
     } else {
-        Mistake::OpenLiteral
+        Mistake::Text(TextMistake::OpenLiteral)
     };
     marked(mistake, quote, end)
 }
 
 /// Two hexadecimal digits of a byte below 32, or of 127.
+#[tactic(auto, unfolding(crate::specs::found::Strings::hex_of))]
 fn hex_of(byte: u8) -> &'static str
     ensures { result.now ≡ spec.hex_of byte }
 {
@@ -40,19 +45,21 @@ fn hex_of(byte: u8) -> &'static str
 }
 
 /// A control character in a string.
+#[tactic(auto, unfolding(crate::specs::found::Strings::control))]
 fn control<'a>(text: &'a str, at: usize, quote: usize) -> Finding<'a>
     ensures { finding_content result ≡ spec.control text.now at quote }
 {
     let end = ahead(text, at, 1);
     if byte_at(text, quote) == b'"' {
         let code = pieces("\\u00", hex_of(byte_at(text, at)), "");
-        replaced(Mistake::Control, at, end, code)
+        replaced(Mistake::Text(TextMistake::Control), at, end, code)
     } else {
-        marked(Mistake::ControlInLiteral, at, end)
+        marked(Mistake::Text(TextMistake::ControlInLiteral), at, end)
     }
 }
 
 /// A character that a string does not have.
+#[tactic(auto, unfolding(crate::specs::found::Strings::character))]
 pub(crate) fn character<'a>(text: &'a str, at: usize, c: char) -> Finding<'a>
     ensures { finding_content result ≡ spec.character text.now at c }
 {
@@ -66,6 +73,7 @@ pub(crate) fn character<'a>(text: &'a str, at: usize, c: char) -> Finding<'a>
 }
 
 /// A backslash that begins no escape, up to an offset.
+#[tactic(auto, unfolding(crate::specs::found::Strings::backslash))]
 fn backslash<'a>(text: &'a str, at: usize, end: usize) -> Finding<'a>
     ensures { finding_content result ≡ spec.backslash text.now at end }
 {
@@ -73,11 +81,11 @@ fn backslash<'a>(text: &'a str, at: usize, end: usize) -> Finding<'a>
     let content = ahead(text, quote, 1);
     let close = end_of(Class::Unquoted, text, content);
     if is_long(text, quote) || byte_at(text, close) != b'"' {
-        return marked(Mistake::Backslash, at, end);
+        return marked(Mistake::Text(TextMistake::Backslash), at, end);
     }
     let code = pieces("'", part(text, content, close), "'");
     mended(
-        Mistake::Backslash,
+        Mistake::Text(TextMistake::Backslash),
         span_of(at, end),
         span_of(quote, ahead(text, close, 1)),
         code,
@@ -92,6 +100,7 @@ pub(crate) fn escape<'a>(text: &'a str, at: usize) -> Finding<'a>
 }
 
 /// The zeros that an escape of some digits lacks: it has two, four or eight.
+#[tactic(auto, unfolding(crate::specs::found::Strings::zeros_of))]
 fn zeros_of<'a>(letter: u8, count: usize) -> &'a str
     ensures { result.now ≡ spec.zeros_of letter count }
 {
@@ -104,6 +113,7 @@ fn zeros_of<'a>(letter: u8, count: usize) -> &'a str
 }
 
 /// A character in the place of a hexadecimal digit.
+#[tactic(auto, unfolding(crate::specs::found::Strings::hex_escape))]
 pub(crate) fn hex_escape<'a>(text: &'a str, at: usize) -> Finding<'a>
     ensures { finding_content result ≡ spec.hex_escape text.now at }
 {
@@ -115,10 +125,11 @@ pub(crate) fn hex_escape<'a>(text: &'a str, at: usize) -> Finding<'a>
     let letter = byte_at(text, digits.saturating_sub(1));
     let zeros = zeros_of(letter, at.saturating_sub(digits));
     let code = pieces(part(text, start, digits), zeros, part(text, digits, at));
-    replaced(Mistake::ShortEscape, start, at, code)
+    replaced(Mistake::Text(TextMistake::ShortEscape), start, at, code)
 }
 
 /// Digits of an escape that are no character's.
+#[tactic(auto, unfolding(crate::specs::found::Strings::escape_value))]
 pub(crate) fn escape_value<'a>(text: &'a str, at: usize, value: u32) -> Finding<'a>
     ensures { finding_content result ≡ spec.escape_value text.now at value }
 {
@@ -129,34 +140,41 @@ pub(crate) fn escape_value<'a>(text: &'a str, at: usize, value: u32) -> Finding<
         4
     };
     let mistake = if value < 0xE000 {
-        Mistake::Surrogate
+        Mistake::Text(TextMistake::Surrogate)
     } else {
-        Mistake::NoCharacter
+        Mistake::Text(TextMistake::NoCharacter)
     };
     marked(mistake, start, ahead(text, at, length))
 }
 
 /// A string in which the text ends.
+#[tactic(auto, unfolding(crate::specs::found::Strings::unterminated))]
 pub(crate) fn unterminated<'a>(text: &'a str, at: usize) -> Finding<'a>
     ensures { finding_content result ≡ spec.unterminated text.now at }
 {
     if begins(text, at, b"\"\"\"") {
-        marked(Mistake::OpenLong, at, ahead(text, at, 3))
+        marked(Mistake::Text(TextMistake::OpenLong), at, ahead(text, at, 3))
     } else if begins(text, at, b"'''") {
-        marked(Mistake::OpenLongLiteral, at, ahead(text, at, 3))
+        marked(
+            Mistake::Text(TextMistake::OpenLongLiteral),
+            at,
+            ahead(text, at, 3),
+        )
     } else {
         open_string(text, at, end_of(Class::Line, text, at))
     }
 }
 
 /// A string of several lines as a key.
+#[tactic(auto, unfolding(crate::specs::found::Strings::long_key))]
 pub(crate) fn long_key<'a>(text: &'a str, at: usize) -> Finding<'a>
     ensures { finding_content result ≡ spec.long_key text.now at }
 {
-    marked(Mistake::LongKey, at, ahead(text, at, 3))
+    marked(Mistake::Key(KeyMistake::LongKey), at, ahead(text, at, 3))
 }
 
 /// A word right behind a string, or between two: the string has its own quote in it.
+#[tactic(auto, unfolding(crate::specs::found::Strings::quote_in_string))]
 pub(crate) fn quote_in_string<'a>(text: &'a str, at: usize) -> Option<Finding<'a>>
     ensures { option_map finding_content result ≡ spec.quote_in_string text.now at }
 {
@@ -172,7 +190,7 @@ pub(crate) fn quote_in_string<'a>(text: &'a str, at: usize) -> Option<Finding<'a
     } else if quote == b'"' && !has(text, content, close, b'\'') {
         let code = pieces("'", part(text, content, close), "'");
         Some(mended(
-            Mistake::QuoteInString,
+            Mistake::Line(LineMistake::QuoteInString),
             span_of(open, end),
             span_of(open, end),
             code,
@@ -180,7 +198,7 @@ pub(crate) fn quote_in_string<'a>(text: &'a str, at: usize) -> Option<Finding<'a
     } else if quote == b'\'' && !has(text, content, close, b'"') {
         let code = pieces("\"", part(text, content, close), "\"");
         Some(mended(
-            Mistake::QuoteInString,
+            Mistake::Line(LineMistake::QuoteInString),
             span_of(open, end),
             span_of(open, end),
             code,

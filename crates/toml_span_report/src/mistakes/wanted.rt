@@ -7,15 +7,27 @@ use crate::bytes::{
     Class, ahead, byte_at, byte_before, byte_behind, end_of, first_of_line, is_in, is_last,
     last_of_line, part, start_of,
 };
-use crate::mistakes::keys::{no_equals, no_key};
+use crate::finding::{
+    Finding, LineMistake, ListMistake, Mistake, ValueMistake, marked, mended, pieces, quoted,
+    replaced, span_of,
+};
+use crate::mistakes::keys::{extra, no_equals, no_key};
 use crate::mistakes::lists::{no_bracket, no_comma, no_value, open_end};
 use crate::mistakes::numbers::thousands;
 use crate::mistakes::strings::quote_in_string;
 use crate::mistakes::values::unquoted_value;
-use crate::finding::{Finding, Mistake, marked, mended, pieces, quoted, replaced, span_of};
 use toml_span_lex::span::Span;
 
+/// A key that needs a line of its own, in place of what is before it from an offset on.
+fn broken<'a>(mistake: Mistake, text: &'a str, from: usize, at: usize) -> Finding<'a>
+    ensures { finding_content result ≡ spec.broken mistake text.now from at }
+{
+    let mark = span_of(at, end_of(Class::Dotted, text, at));
+    mended(mistake, mark, span_of(from, at), pieces("\n", "", ""))
+}
+
 /// A comma behind a value, on its line.
+#[tactic(auto, unfolding(crate::specs::found::Wanted::comma))]
 fn comma<'a>(text: &'a str, at: usize) -> Finding<'a>
     ensures { finding_content result ≡ spec.comma text.now at }
 {
@@ -24,85 +36,107 @@ fn comma<'a>(text: &'a str, at: usize) -> Finding<'a>
         return found;
     }
     if is_last(text, end) || byte_behind(text, end) == b'#' {
-        replaced(Mistake::LastComma, at, end, pieces("", "", ""))
+        replaced(
+            Mistake::Line(LineMistake::LastComma),
+            at,
+            end,
+            pieces("", "", ""),
+        )
     } else {
-        let next = end_of(Class::Blank, text, end);
-        let mark = span_of(next, end_of(Class::Dotted, text, next));
-        mended(
-            Mistake::SecondKey,
-            mark,
-            span_of(at, next),
-            pieces("\n", "", ""),
+        broken(
+            Mistake::Line(LineMistake::SecondKey),
+            text,
+            at,
+            end_of(Class::Blank, text, end),
         )
     }
 }
 
+/// A value behind a header, whose equals sign is at `at`.
+#[tactic(auto, unfolding(crate::specs::found::Wanted::header_value))]
+fn header_value<'a>(text: &'a str, line: usize, at: usize) -> Finding<'a>
+    ensures { finding_content result ≡ spec.header_value text.now line at }
+{
+    let stop = start_of(Class::Blank, text, at).saturating_sub(1);
+    let last = last_of_line(text, at);
+    let name = part(text, ahead(text, line, 1), stop);
+    let code = pieces(name, " ", part(text, at, last));
+    replaced(Mistake::Line(LineMistake::ValueOfHeader), line, last, code)
+}
+
 /// A header behind which there is more, on its line.
-fn behind_header<'a>(found: &str, text: &'a str, line: usize, at: usize) -> Finding<'a>
-    ensures { finding_content result ≡ spec.behind_header found.now text.now line at }
+#[tactic(auto, unfolding(crate::specs::found::Wanted::behind_header))]
+fn behind_header<'a>(found: &str, text: &'a str, line: usize, at: usize) -> Option<Finding<'a>>
+    ensures { option_map finding_content result ≡ spec.behind_header found.now text.now line at }
 {
     let end = ahead(text, at, 1);
+    let from = start_of(Class::Blank, text, at);
+    let mistake = Mistake::Line(LineMistake::KeyAfterHeader);
     match found {
-        "a right bracket" => replaced(
-            Mistake::HeaderBracket,
-            at,
-            end,
-            pieces("", "", ""),
-        ),
-        "an equals" => {
-            let name = ahead(text, line, 1);
-            let stop = start_of(Class::Blank, text, at).saturating_sub(1);
-            let last = last_of_line(text, at);
-            let code = pieces(part(text, name, stop), " ", part(text, at, last));
-            replaced(Mistake::ValueOfHeader, line, last, code)
-        }
-        "an identifier" | "a string" => {
-            let from = start_of(Class::Blank, text, at);
-            let mark = span_of(at, end_of(Class::Dotted, text, at));
-            mended(
-                Mistake::KeyAfterHeader,
-                mark,
-                span_of(from, at),
-                pieces("\n", "", ""),
-            )
-        }
-        _ => marked(Mistake::AfterValue, at, end),
+        "a right bracket" => Some(extra(Mistake::List(ListMistake::HeaderBracket), text, at)),
+        "an equals" => Some(header_value(text, line, at)),
+        "an identifier" | "a string" => Some(broken(mistake, text, from, at)),
+        _ => Some(marked(Mistake::Line(LineMistake::AfterValue), at, end)),
     }
 }
 
+/// Whether a word follows a time in other notations.
+fn is_half_day(word: &str) -> bool
+    ensures { result ≡ spec.is_half_day word.now }
+{
+    matches!(word, "AM" | "PM" | "am" | "pm")
+}
+
+/// Whether a word is a name of the offset that TOML writes as `Z`.
+fn is_zone(word: &str) -> bool
+    ensures { result ≡ spec.is_zone word.now }
+{
+    matches!(word, "UTC" | "GMT")
+}
+
+/// The name of an offset behind a date and time.
+#[tactic(auto, unfolding(crate::specs::found::Wanted::zone))]
+fn zone<'a>(text: &'a str, at: usize, end: usize) -> Finding<'a>
+    ensures { finding_content result ≡ spec.zone text.now at end }
+{
+    let before = start_of(Class::Blank, text, at);
+    let start = start_of(Class::Atom, text, before);
+    let code = pieces(part(text, start, before), "Z", "");
+    mended(
+        Mistake::Line(LineMistake::ZoneName),
+        span_of(at, end),
+        span_of(start, end),
+        code,
+    )
+}
+
 /// A word behind a value, on its line.
+#[tactic(auto, unfolding(crate::specs::found::Wanted::word_behind))]
 fn word_behind<'a>(text: &'a str, at: usize) -> Finding<'a>
     ensures { finding_content result ≡ spec.word_behind text.now at }
 {
     let end = end_of(Class::Word, text, at);
-    let before = start_of(Class::Blank, text, at);
-    let start = start_of(Class::Atom, text, before);
     let is_time = is_in(Class::Digit, byte_before(text, at));
-    match part(text, at, end) {
-        "AM" | "PM" | "am" | "pm" if is_time => marked(Mistake::HalfDay, at, end),
-        "UTC" | "GMT" if is_time => {
-            let code = pieces(part(text, start, before), "Z", "");
-            mended(
-                Mistake::ZoneName,
-                span_of(at, end),
-                span_of(start, end),
-                code,
-            )
-        }
-        _ if byte_behind(text, end_of(Class::Dotted, text, at)) == b'=' => {
-            let mark = span_of(at, end_of(Class::Dotted, text, at));
-            mended(
-                Mistake::SecondKey,
-                mark,
-                span_of(before, at),
-                pieces("\n", "", ""),
-            )
-        }
-        _ => marked(Mistake::AfterValue, at, end),
+    let word = part(text, at, end);
+    if is_time && is_half_day(word) {
+        return marked(Mistake::Line(LineMistake::HalfDay), at, end);
     }
+    if is_time && is_zone(word) {
+        return zone(text, at, end);
+    }
+    if byte_behind(text, end_of(Class::Dotted, text, at)) == b'=' {
+        return broken(
+            Mistake::Line(LineMistake::SecondKey),
+            text,
+            start_of(Class::Blank, text, at),
+            at,
+        );
+    }
+    marked(Mistake::Line(LineMistake::AfterValue), at, end)
 }
 
 /// What is found behind a value, on its line.
+#[tactic(auto, unfolding(crate::specs::found::Wanted::behind_value))]
 fn behind_value<'a>(found: &str, text: &'a str, at: usize) -> Option<Finding<'a>>
     ensures { option_map finding_content result ≡ spec.behind_value found.now text.now at }
 {
@@ -111,13 +145,13 @@ fn behind_value<'a>(found: &str, text: &'a str, at: usize) -> Option<Finding<'a>
     match found {
         "a comma" => Some(comma(text, at)),
         "a right bracket" | "a right brace" => Some(replaced(
-            Mistake::ExtraClosing,
+            Mistake::List(ListMistake::ExtraClosing),
             at,
             ahead(text, at, 1),
             pieces("", "", ""),
         )),
         "a plus" if is_string => Some(marked(
-            Mistake::Joined,
+            Mistake::Line(LineMistake::Joined),
             at,
             ahead(text, at, 1),
         )),
@@ -129,18 +163,20 @@ fn behind_value<'a>(found: &str, text: &'a str, at: usize) -> Option<Finding<'a>
 }
 
 /// What is found where a line should end.
+#[tactic(auto, unfolding(crate::specs::found::Wanted::no_newline))]
 fn no_newline<'a>(found: &str, text: &'a str, at: usize) -> Option<Finding<'a>>
     ensures { option_map finding_content result ≡ spec.no_newline found.now text.now at }
 {
     let line = first_of_line(text, at);
     if byte_at(text, line) == b'[' && byte_before(text, at) == b']' {
-        Some(behind_header(found, text, line, at))
+        behind_header(found, text, line, at)
     } else {
         behind_value(found, text, at)
     }
 }
 
 /// Another token, or in a read another kind of value, than the expected one.
+#[tactic(auto, unfolding(crate::specs::found::Wanted::wanted))]
 pub(crate) fn wanted<'a>(
     expected: &str,
     found: &str,
@@ -162,6 +198,7 @@ pub(crate) fn wanted<'a>(
 }
 
 /// Another kind of value than the one that a read expects, where it is easily mended.
+#[tactic(auto, unfolding(crate::specs::found::Wanted::other_kind))]
 fn other_kind<'a>(expected: &str, found: &str, text: &'a str, span: Span) -> Option<Finding<'a>>
     ensures { option_map finding_content result ≡ spec.other_kind expected.now found.now text.now span }
 {
@@ -169,10 +206,10 @@ fn other_kind<'a>(expected: &str, found: &str, text: &'a str, span: Span) -> Opt
     match found {
         "integer" if expected == "a float" && end_of(Class::Number, text, from) == to => {
             let code = pieces(part(text, from, to), ".0", "");
-            Some(replaced(Mistake::FloatDue, from, to, code))
+            Some(replaced(Mistake::Value(ValueMistake::FloatDue), from, to, code))
         }
         "integer" | "float" | "boolean" if expected == "a string" => {
-            Some(quoted(Mistake::StringDue, text, from, to))
+            Some(quoted(Mistake::Value(ValueMistake::StringDue), text, from, to))
         }
         _ => None,
     }
