@@ -198,7 +198,8 @@ line_words of_line.HalfDay =
     said (codes "times have no AM and PM") [] [] (codes "use a 24-hour time, as `18:30:00`") [] false
 line_words of_line.ZoneName =
     said (codes "an offset is `Z` or a difference, as `+01:00`") [] [] (codes "write") (codes " ") false
-line_words of_line.AfterValue = said [] (codes "only a comment can follow here") [] [] [] false
+line_words of_line.AfterValue =
+    said (codes "expected the end of the line") (codes "only a comment can follow here") [] [] [] false
 
 abbrev pub number_words : NumberMistake → WordsContent
 number_words of_number.LeadingPoint =

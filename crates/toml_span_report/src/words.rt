@@ -582,7 +582,7 @@ fn line_words(mistake: LineMistake) -> Words
             is_safe: false,
         },
         LineMistake::AfterValue => Words {
-            headline: "",
+            headline: "expected the end of the line",
             label: "only a comment can follow here",
             also: "",
             help: "",

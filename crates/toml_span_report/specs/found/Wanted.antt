@@ -90,7 +90,7 @@ behind_value found text at =
     else if (bytes_eq found (codes "an identifier") || bytes_eq found (codes "a string")) && is_string
     then quote_in_string text at
     else if bytes_eq found (codes "an identifier") then Some (word_behind text at)
-    else None
+    else Some (marked (mistakes.Line of_line.AfterValue) at (ahead text at 1))
 
 unfoldable pub no_newline : List ℕ → List ℕ → ℕ → Option FindingContent
 no_newline found text at =

@@ -158,7 +158,11 @@ fn behind_value<'a>(found: &str, text: &'a str, at: usize) -> Option<Finding<'a>
         "a period" | "a colon" | "a plus" if start < at => Some(unquoted_value(text, start)),
         "an identifier" | "a string" if is_string => quote_in_string(text, at),
         "an identifier" => Some(word_behind(text, at)),
-        _ => None,
+        _ => Some(marked(
+            Mistake::Line(LineMistake::AfterValue),
+            at,
+            ahead(text, at, 1),
+        )),
     }
 }
 
