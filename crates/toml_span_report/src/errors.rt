@@ -198,14 +198,19 @@ fn report_of(
 }
 
 impl Report {
-    /// The report of an error of this text: its message, its labels and help for forms that are commonly mistaken.
+    /// Makes the report of an error of this source.
     ///
-    /// The span of an error of `parse` may be no more than the place of a token, as long as the words for it or as the
-    /// value of a string: there the token is marked, no further than its line, or the place alone where none stands, as
-    /// at the end of the text. Of a table that lacks a field the header is marked, up to the end of its line, or the
-    /// braces, or of the root the start of the text. Of unknown keys each is marked, a note tells the keys that are
-    /// expected, and help the nearest of them, by `nearest`; so does help of a text that is none of those expected.
-    /// Only want of memory is refused.
+    /// Where the source has a typical mistake at the error's span, the report names it, marks it whole, and says what to
+    /// write, with a replacement for it. Else the report has the message of the error, its labels, and help:
+    ///
+    /// - The span of a `Wanted` error of `parse` may be no more than the place of a token: there the token is marked, no
+    ///   further than its line, or the place alone where there is none, as at the end of the source.
+    /// - A table that lacks a key is marked at its header, up to the end of its line, or at its braces, and the root at
+    ///   the start of the source.
+    /// - Each unknown key is marked, a note lists the expected keys, and help names the nearest of them (`nearest`). Help
+    ///   does so too for a text that is none of the expected ones.
+    ///
+    /// Fails only where an allocation fails.
     pub fn from_error(alloc: Global, error: &Error<'_>, text: &str) -> Result<Report, AllocError>
         ensures { IfOk result (λ made. TellsError severities.Error text.now (content_of error.now)
             (report_content made)) }
