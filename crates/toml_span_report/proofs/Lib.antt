@@ -1,3 +1,4 @@
+pub mod ByteLemmas
 pub mod PlaceLemmas
 pub mod LineEndLemmas
 pub mod StripLemmas

@@ -1,42 +1,60 @@
 -- The reports of errors, and their text.
-use Rattle.std.specs.Prelude.{◌≡◌, ℕ, List, [], ◌∷◌, ◌++◌, Some, map}
+use Rattle.std.specs.Prelude.{◌≡◌, ℕ, ◌==◌, List, [], ◌∷◌, ◌++◌, codes, length, Option, Some, None, map}
+use Rattle.std.specs.Prelude.{if◌then◌else◌}
 use Rattle.std.specs.Option.{option_to_list}
 use Rattle.toml_span_lex.specs.declared.span.Span.{Span}
 use Rattle.toml_span_lex.specs.declared.stop.Stop.{Stop}
 use Rattle.toml_span_lex.specs.declared.stop.Stop.TheVariants as stop
-use Rattle.toml_span_tree.specs.Diagnostic.{labels_of}
-use Rattle.toml_span_tree.specs.Error.{ErrorContent, Kind, unexpected_keys, unexpected_value}
+use Rattle.toml_span_tree.specs.Diagnostic.{labels_of, primary}
+use Rattle.toml_span_tree.specs.Error.{ErrorContent, Kind, unexpected_keys, unexpected_value, unexpected, out_of_range}
+use Rattle.toml_span_tree.specs.Error.{missing_field, deprecated}
 use Rattle.toml_span_tree.specs.Message.{code_of, display_text}
 use Rattle.toml_span_typed.specs.Errors.{Errors, all}
-use Rattle.toml_span_report.specs.Help.{help_of}
+use Rattle.toml_span_report.specs.Repairs as repairs
+use Rattle.toml_span_report.specs.Help.{range_help}
 use Rattle.toml_span_report.specs.Many.{AreReportTexts}
+use Rattle.toml_span_report.specs.Finding.{FindingContent}
+use Rattle.toml_span_report.specs.Mistakes.{mistake_of}
 use Rattle.toml_span_report.specs.Rendering.{report_text}
 use Rattle.toml_span_report.specs.Report.{Place, ReportContent}
 use Rattle.toml_span_report.specs.Tokens.{IsMarked}
-use Rattle.toml_span_report.specs.UnknownKeys.{key_label, unknown_keys, what_is_expected, suggestions}
+use Rattle.toml_span_report.specs.UnknownKeys.{key_label, one_of, unknown_keys, what_is_expected, suggestions}
+use Rattle.toml_span_report.specs.UnknownKeys.{deprecated as renamed}
+use Rattle.toml_span_report.specs.Words.{words_for}
 use Rattle.toml_span_report.specs.declared.colours.Style.{Style}
 use Rattle.toml_span_report.specs.declared.report.Severity.{Severity}
 use Rattle.toml_span_report.specs.declared.report.Severity.TheVariants as severities
 
--- Keys that no field has are told by their names, and each is marked. Another error has the text that it prints, and
--- the labels of its diagnostic.
+-- Keys that no field has are told by their names, and each is marked. Names stand between back quotes. Another error
+-- has the text that it prints, and the labels of its diagnostic.
 abbrev pub message : Kind → List ℕ
 message (unexpected_keys keys expected) = unknown_keys (map (λ key. key.0) keys)
+message (unexpected_value expected value) = one_of expected
+message (out_of_range name) = codes "out of range of `" ++ name ++ codes "`"
+message (missing_field field) = codes "missing key `" ++ field ++ codes "`"
+message (deprecated old new) = renamed old new
 message kind = display_text kind
+
+abbrev pub one_label : Span → List ℕ → List Place
+one_label span text = primary tt span text ∷ []
 
 abbrev pub labels : Span → Kind → List Place
 labels span (unexpected_keys keys expected) = map key_label keys
+labels span (unexpected c) = one_label span []
+labels span (missing_field field) = one_label span (codes "this table lacks the key")
+labels span (deprecated old new) = one_label span (codes "deprecated key")
 labels span kind = labels_of tt span kind
 
 abbrev pub notes : Kind → List (List ℕ)
 notes (unexpected_keys keys expected) = what_is_expected expected ∷ []
 notes kind = []
 
--- help for an error with this message: what is near to unknown keys, or to a text that is none of the expected ones
-abbrev pub help : Kind → List ℕ → List (List ℕ)
-help (unexpected_keys keys expected) message = suggestions (map (λ key. key.0) keys) expected
-help (unexpected_value expected (Some value)) message = suggestions (value ∷ []) expected
-help kind message = option_to_list (help_of (code_of kind) message)
+-- what is near to unknown keys, or to a text that is none of the expected ones, and the range of a type
+abbrev pub help : Kind → List (List ℕ)
+help (unexpected_keys keys expected) = suggestions (map (λ key. key.0) keys) expected
+help (unexpected_value expected (Some value)) = suggestions (value ∷ []) expected
+help (out_of_range name) = option_to_list (range_help name)
+help kind = []
 
 -- the report of an error, at the token where it stands, or at its span
 abbrev pub report_of : Severity → Span → Kind → ReportContent
@@ -46,12 +64,37 @@ report_of severity span kind = record {
   message = message kind;
   labels = labels span kind;
   notes = notes kind;
-  help = help kind (message kind);
+  help = help kind;
+  replacements = [];
 }
+
+abbrev pub TellsKind : Severity → List ℕ → ErrorContent → ReportContent → Type 0
+TellsKind severity text error report =
+    (span : Span) × IsMarked text error.kind error.span span × (report ≡ report_of severity span error.kind)
+
+-- the report of an error that comes from a mistake, in the words for that
+abbrev pub headline : Kind → FindingContent → List ℕ
+headline kind f = if length (words_for f.mistake).headline == 0 then message kind else (words_for f.mistake).headline
+
+abbrev pub mistaken : Severity → Kind → FindingContent → ReportContent
+mistaken severity kind f = record {
+  severity = severity;
+  code = code_of kind;
+  message = headline kind f;
+  labels = repairs.labels f;
+  notes = [];
+  help = repairs.help f;
+  replacements = repairs.repairs f;
+}
+
+-- the report of an error: on the mistake that it comes from, if one is known
+abbrev pub TellsFinding : Severity → List ℕ → ErrorContent → Option FindingContent → ReportContent → Type 0
+TellsFinding severity text error (Some f) report = report ≡ mistaken severity error.kind f
+TellsFinding severity text error None report = TellsKind severity text error report
 
 abbrev pub TellsError : Severity → List ℕ → ErrorContent → ReportContent → Type 0
 TellsError severity text error report =
-    (span : Span) × IsMarked text error.kind error.span span × (report ≡ report_of severity span error.kind)
+    TellsFinding severity text error (mistake_of error.kind text error.span) report
 
 -- the text of an error: that of its report
 abbrev pub IsReport : Style → List ℕ → List ℕ → ErrorContent → List ℕ → Type 0

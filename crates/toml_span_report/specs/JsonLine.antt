@@ -5,7 +5,7 @@ use Rattle.std.specs.List.{join_by}
 use Rattle.toml_span_lex.specs.declared.span.Span.{Span}
 use Rattle.toml_span_report.specs.Places.{place, line_number, column}
 use Rattle.toml_span_report.specs.Rendering.{word}
-use Rattle.toml_span_report.specs.Report.{Place, ReportContent}
+use Rattle.toml_span_report.specs.Report.{Place, Repair, ReportContent}
 use Rattle.toml_span_report.specs.Visible.{quoted}
 
 -- ---- labels
@@ -50,6 +50,21 @@ labels_json text marks = codes "[" ++ join_by (label_json text) (codes ",") mark
 abbrev pub texts_json : List (List ℕ) → List ℕ
 texts_json texts = codes "[" ++ join_by quoted (codes ",") texts ++ codes "]"
 
+-- a repair, of its parts
+abbrev pub safety_json : Bool → List ℕ
+safety_json true = codes "{\"safe\":true"
+safety_json false = codes "{\"safe\":false"
+
+unfoldable pub fix_parts_json : Bool → Span → List ℕ → List ℕ
+fix_parts_json is_safe span text =
+    safety_json is_safe ++ span_json span ++ member_json (codes ",\"text\":") text ++ codes "}"
+
+unfoldable pub fix_json : Repair → List ℕ
+fix_json r = fix_parts_json r.is_safe r.span r.text
+
+abbrev pub fixes_json : List Repair → List ℕ
+fixes_json fixes = join_by fix_json (codes ",") fixes
+
 -- the name of the file, the code, the message and the labels
 abbrev pub head_json : ReportContent → List ℕ → List ℕ
 head_json r name =
@@ -65,4 +80,5 @@ remarks_json r =
 -- the whole line
 abbrev pub report_json : ReportContent → List ℕ → List ℕ → List ℕ
 report_json r name text =
-    head_json r name ++ codes ",\"labels\":" ++ labels_json text r.labels ++ remarks_json r ++ codes "}\n"
+    head_json r name ++ codes ",\"labels\":" ++ labels_json text r.labels ++ remarks_json r
+    ++ codes ",\"fixes\":[" ++ fixes_json r.replacements ++ codes "]}\n"

@@ -2,12 +2,22 @@
 use Rattle.std.specs.Prelude.{ℕ, Bool, true, false, List, [], ◌∷◌, ◌++◌, map, string_bytes}
 use Rattle.toml_span_lex.specs.declared.span.Span.{Span}
 use Rattle.toml_span_tree.specs.Diagnostic.{LabelContent, label_content}
+use Rattle.toml_span_report.specs.declared.report.Replacement.{Replacement}
 use Rattle.toml_span_report.specs.declared.report.Report.{Report}
 use Rattle.toml_span_report.specs.declared.report.Severity.{Severity}
 
 -- A label's place, whether the report stands there, and what is said of it. It names no file.
 abbrev pub Place : Type 0
 Place = LabelContent (Unit {0})
+
+-- a repair by content
+pub record Repair : Type 0 where
+  pub span : Span
+  pub text : List ℕ
+  pub is_safe : Bool
+
+abbrev pub repair_of : Replacement → Repair
+repair_of r = record { span = r.span; text = string_bytes r.text; is_safe = r.is_safe }
 
 pub record ReportContent : Type 0 where
   pub severity : Severity
@@ -16,6 +26,7 @@ pub record ReportContent : Type 0 where
   pub labels : List Place
   pub notes : List (List ℕ)
   pub help : List (List ℕ)
+  pub replacements : List Repair
 
 abbrev pub report_content : Report → ReportContent
 report_content r = record {
@@ -25,13 +36,21 @@ report_content r = record {
   labels = map label_content r.labels.items;
   notes = map string_bytes r.notes.items;
   help = map string_bytes r.help.items;
+  replacements = map repair_of r.replacements.items;
 }
 
 -- ---- how a report is made
 
 abbrev pub bare : Severity → List ℕ → List ℕ → ReportContent
-bare severity code message =
-    record { severity = severity; code = code; message = message; labels = []; notes = []; help = [] }
+bare severity code message = record {
+  severity = severity;
+  code = code;
+  message = message;
+  labels = [];
+  notes = [];
+  help = [];
+  replacements = [];
+}
 
 abbrev pub with_label : ReportContent → Bool → Span → List ℕ → ReportContent
 with_label r is_primary span text = record r {
@@ -49,3 +68,8 @@ with_note r text = record r { notes = r.notes ++ text ∷ [] }
 
 abbrev pub with_help : ReportContent → List ℕ → ReportContent
 with_help r text = record r { help = r.help ++ text ∷ [] }
+
+abbrev pub with_replacement : ReportContent → Span → List ℕ → Bool → ReportContent
+with_replacement r span text is_safe = record r {
+  replacements = r.replacements ++ record { span = span; text = text; is_safe = is_safe } ∷ [];
+}

@@ -22,6 +22,14 @@ abbrev pub what_is_expected : List (List ℕ) → List ℕ
 what_is_expected [] = codes "no key is expected"
 what_is_expected (name ∷ names) = codes "expected " ++ listed (name ∷ names)
 
+-- the message for a text that is none of these
+abbrev pub one_of : List (List ℕ) → List ℕ
+one_of names = (if length names == 1 then codes "expected " else codes "expected one of ") ++ listed names
+
+-- the message for a key that has a new name
+abbrev pub deprecated : List ℕ → List ℕ → List ℕ
+deprecated old new = named old ++ codes " is deprecated, use " ++ named new
+
 -- the label of a key
 abbrev pub key_label : List ℕ × Span → Place
 key_label key = primary tt key.1 (codes "unknown key")

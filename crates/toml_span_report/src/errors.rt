@@ -1,22 +1,30 @@
 //! The reports of errors, and their text.
 ghost use Rattle.std.specs.Prelude.{◌≡◌, [], IfOk, OnOk, map, string_bytes};
-ghost use Rattle.toml_span_tree.specs.Diagnostic.{label_content};
+ghost use Rattle.std.specs.Option.{option_to_list};
+ghost use Rattle.toml_span_tree.specs.Diagnostic.{label_content, labels_of};
 ghost use Rattle.toml_span_tree.specs.Error.{content_of, kind_of};
 ghost use Rattle.toml_span_typed.specs.Errors.{all};
 ghost use Rattle.toml_span_report.specs.Errors as spec;
 ghost use Rattle.toml_span_report.specs.Errors.{AddsReports, AreReports, AreShown, IsReport, TellsError};
+ghost use Rattle.toml_span_report.specs.Help.{range_help};
+ghost use Rattle.toml_span_report.specs.Finding.{finding_content};
 ghost use Rattle.toml_span_report.specs.Report.{report_content};
 ghost use Rattle.toml_span_report.specs.declared.report.Severity.TheVariants as severities;
 
 use crate::colours::Style;
-use crate::help::help_of;
+use crate::finding::Finding;
+use crate::help;
 use crate::many::render_all;
+use crate::mistakes::mistake_of;
 use crate::rendering::render;
+use crate::repairs::{finding_help, finding_labels, finding_repairs};
 use crate::report::{Report, Severity};
 use crate::tokens::marked_span;
 use crate::unknown_keys::{
-    key_labels, key_names, lent_names, suggestions, unknown_keys, what_is_expected,
+    deprecated, key_labels, key_names, lent_names, one_of, suggestions, unknown_keys,
+    what_is_expected,
 };
+use crate::words::words_for;
 use std::alloc::{AllocError, Global};
 use toml_span_lex::span::Span;
 use toml_span_lex::stop::Stop;
@@ -32,21 +40,49 @@ fn message(alloc: Global, error: &Error<'_>) -> Result<String, AllocError>
             let names = key_names(alloc, keys.as_slice())?;
             unknown_keys(alloc, names.as_slice())
         }
+        ErrorKind::UnexpectedValue { expected, .. } => one_of(alloc, *expected),
+        ErrorKind::OutOfRange(name) => format!(in alloc; "out of range of `{name}`"),
+        ErrorKind::MissingField(field) => format!(in alloc; "missing key `{field}`"),
+        ErrorKind::Deprecated { old, new } => deprecated(alloc, *old, *new),
         _ => error.to_string(alloc),
     }
+}
+
+/// A label at a place, as the only one.
+fn one_label(alloc: Global, span: Span, text: &str) -> Result<Vec<Label<()>>, AllocError>
+    ensures { IfOk result (λ labels. map label_content labels.items ≡ spec.one_label span text.now) }
+{
+    let mut labels = Vec::new(alloc);
+    labels.push(Label {
+        primary: true,
+        file: (),
+        span,
+        message: String::from_str(alloc, text)?,
+    })?;
+    Ok(labels)
+}
+
+/// The labels of an error's own diagnostic, at a span.
+fn own_labels(alloc: Global, error: &Error<'_>, span: Span) -> Result<Vec<Label<()>>, AllocError>
+    ensures { IfOk result (λ labels. map label_content labels.items ≡ labels_of tt span (kind_of error.now.kind)) }
+{
+    let mut marked = error.clone(alloc)?;
+    marked.span = span;
+    let diagnostic = marked.to_diagnostic(alloc, ())?;
+    Ok(diagnostic.labels)
 }
 
 /// The labels of an error that stands at a span.
 fn labels(alloc: Global, error: &Error<'_>, span: Span) -> Result<Vec<Label<()>>, AllocError>
     ensures { IfOk result (λ labels. map label_content labels.items ≡ spec.labels span (kind_of error.now.kind)) }
 {
-    if let ErrorKind::UnexpectedKeys { keys, .. } = &error.kind {
-        return key_labels(alloc, keys.as_slice());
+    match &error.kind {
+        ErrorKind::UnexpectedKeys { keys, .. } => key_labels(alloc, keys.as_slice()),
+        ErrorKind::Unexpected(_) => one_label(alloc, span, ""),
+        ErrorKind::MissingField(_) => one_label(alloc, span, "this table lacks the key"),
+        ErrorKind::Deprecated { .. } => one_label(alloc, span, "deprecated key"),
+        _ => own_labels(alloc, error, span),
     }
-    let mut marked = error.clone(alloc)?;
-    marked.span = span;
-    let diagnostic = marked.to_diagnostic(alloc, ())?;
-    Ok(diagnostic.labels)
 }
 
 /// What is said besides.
@@ -61,28 +97,89 @@ fn notes(alloc: Global, kind: &ErrorKind<'_>) -> Result<Vec<String>, AllocError>
     Ok(notes)
 }
 
-/// What can be done.
-fn help(alloc: Global, kind: &ErrorKind<'_>, message: &str) -> Result<Vec<String>, AllocError>
-    ensures { IfOk result (λ help. map string_bytes help.items ≡ spec.help (kind_of kind.now) message.now) }
+/// The range of a type, if its name is known.
+fn range(alloc: Global, name: &str) -> Result<Vec<String>, AllocError>
+    ensures { IfOk result (λ help. map string_bytes help.items ≡ option_to_list (range_help name.now)) }
 {
-    if let ErrorKind::UnexpectedKeys { keys, expected } = kind {
-        let names = key_names(alloc, keys.as_slice())?;
-        let expected = lent_names(alloc, expected.as_slice())?;
-        return suggestions(alloc, names.as_slice(), expected.as_slice());
-    }
-    if let ErrorKind::UnexpectedValue {
-        expected,
-        value: Some(value),
-    } = kind
-    {
-        return suggestions(alloc, &[value.as_str()], *expected);
-    }
     let mut help = Vec::new(alloc);
-    let code = kind.to_string(alloc)?;
-    if let Some(text) = help_of(code.as_str(), message) {
+    if let Some(text) = help::range_help(name) {
         help.push(String::from_str(alloc, text)?)?;
     }
     Ok(help)
+}
+
+/// What can be done.
+fn help(alloc: Global, kind: &ErrorKind<'_>) -> Result<Vec<String>, AllocError>
+    ensures { IfOk result (λ help. map string_bytes help.items ≡ spec.help (kind_of kind.now)) }
+{
+    match kind {
+        ErrorKind::UnexpectedKeys { keys, expected } => {
+            let names = key_names(alloc, keys.as_slice())?;
+            let expected = lent_names(alloc, expected.as_slice())?;
+            suggestions(alloc, names.as_slice(), expected.as_slice())
+        }
+        ErrorKind::UnexpectedValue {
+            expected,
+            value: Some(value),
+        } => suggestions(alloc, &[value.as_str()], *expected),
+        ErrorKind::OutOfRange(name) => range(alloc, *name),
+        _ => Ok(Vec::new(alloc)),
+    }
+}
+
+/// The message for a mistake: its headline, or else what the error tells.
+fn headline(alloc: Global, error: &Error<'_>, finding: Finding<'_>) -> Result<String, AllocError>
+    ensures { IfOk result (λ text. string_bytes text
+        ≡ spec.headline (kind_of error.now.kind) (finding_content finding.entry)) }
+{
+    let words = words_for(finding.mistake);
+    if words.headline.is_empty() {
+        message(alloc, error)
+    } else {
+        String::from_str(alloc, words.headline)
+    }
+}
+
+/// The report of an error that comes from a mistake.
+fn mistaken(
+    alloc: Global,
+    severity: Severity,
+    error: &Error<'_>,
+    finding: Finding<'_>,
+) -> Result<Report, AllocError>
+    ensures { IfOk result (λ made. report_content made
+        ≡ spec.mistaken severity (kind_of error.now.kind) (finding_content finding.entry)) }
+{
+    Ok(Report {
+        severity,
+        code: error.kind.to_string(alloc)?,
+        message: headline(alloc, error, finding)?,
+        labels: finding_labels(alloc, finding)?,
+        notes: Vec::new(alloc),
+        help: finding_help(alloc, finding)?,
+        replacements: finding_repairs(alloc, finding)?,
+    })
+}
+
+/// The report of an error that comes from no mistake that is known.
+fn told(
+    alloc: Global,
+    severity: Severity,
+    error: &Error<'_>,
+    text: &str,
+) -> Result<Report, AllocError>
+    ensures { IfOk result (λ made. spec.TellsKind severity text.now (content_of error.now) (report_content made)) }
+{
+    let span = marked_span(alloc, &error.kind, error.span, text)?;
+    Ok(Report {
+        severity,
+        code: error.kind.to_string(alloc)?,
+        message: message(alloc, error)?,
+        labels: labels(alloc, error, span)?,
+        notes: notes(alloc, &error.kind)?,
+        help: help(alloc, &error.kind)?,
+        replacements: Vec::new(alloc),
+    })
 }
 
 /// The report of an error, of this severity.
@@ -94,27 +191,26 @@ fn report_of(
 ) -> Result<Report, AllocError>
     ensures { IfOk result (λ made. TellsError severity text.now (content_of error.now) (report_content made)) }
 {
-    let span = marked_span(alloc, &error.kind, error.span, text)?;
-    let message = message(alloc, error)?;
-    Ok(Report {
-        severity,
-        code: error.kind.to_string(alloc)?,
-        labels: labels(alloc, error, span)?,
-        notes: notes(alloc, &error.kind)?,
-        help: help(alloc, &error.kind, message.as_str())?,
-        message,
-    })
+    match mistake_of(&error.kind, text, error.span) {
+        Some(finding) => mistaken(alloc, severity, error, finding),
+        None => told(alloc, severity, error, text),
+    }
 }
 
 impl Report {
-    /// The report of an error of this text: its message, its labels and help for forms that are commonly mistaken.
+    /// Makes the report of an error of this source.
     ///
-    /// The span of an error of `parse` may be no more than the place of a token, as long as the words for it or as the
-    /// value of a string: there the token is marked, no further than its line, or the place alone where none stands, as
-    /// at the end of the text. Of a table that lacks a field the header is marked, up to the end of its line, or the
-    /// braces, or of the root the start of the text. Of unknown keys each is marked, a note tells the keys that are
-    /// expected, and help the nearest of them, by `nearest`; so does help of a text that is none of those expected.
-    /// Only want of memory is refused.
+    /// Where the source has a typical mistake at the error's span, the report names it, marks it whole, and says what to
+    /// write, with a replacement for it. Else the report has the message of the error, its labels, and help:
+    ///
+    /// - The span of a `Wanted` error of `parse` may be no more than the place of a token: there the token is marked, no
+    ///   further than its line, or the place alone where there is none, as at the end of the source.
+    /// - A table that lacks a key is marked at its header, up to the end of its line, or at its braces, and the root at
+    ///   the start of the source.
+    /// - Each unknown key is marked, a note lists the expected keys, and help names the nearest of them (`nearest`). Help
+    ///   does so too for a text that is none of the expected ones.
+    ///
+    /// Fails only where an allocation fails.
     pub fn from_error(alloc: Global, error: &Error<'_>, text: &str) -> Result<Report, AllocError>
         ensures { IfOk result (λ made. TellsError severities.Error text.now (content_of error.now)
             (report_content made)) }

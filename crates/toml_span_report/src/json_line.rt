@@ -4,12 +4,12 @@ ghost use Rattle.std.specs.Fmt.{decimal};
 ghost use Rattle.std.specs.List.{flat_map, join_by};
 ghost use Rattle.toml_span_tree.specs.Diagnostic.{label_content};
 ghost use Rattle.toml_span_report.specs.JsonLine as spec;
-ghost use Rattle.toml_span_report.specs.Report.{report_content};
+ghost use Rattle.toml_span_report.specs.Report.{repair_of, report_content};
 ghost use Rattle.toml_span_report.specs.Visible.{quoted};
 
 use crate::places::line_column;
 use crate::rendering::word;
-use crate::report::Report;
+use crate::report::{Replacement, Report};
 use crate::visible::push_quoted;
 use std::alloc::{AllocError, Global};
 use std::fmt::Write;
@@ -183,6 +183,71 @@ fn push_array(
     out.push_str("]")
 }
 
+/// Adds how a repair begins.
+fn push_safety(out: &mut String, is_safe: bool) -> Result<(), AllocError>
+    ensures { OnOk result (string_bytes out.new ≡ string_bytes out.old ++ spec.safety_json is_safe) }
+{
+    if is_safe {
+        out.push_str("{\"safe\":true")
+    } else {
+        out.push_str("{\"safe\":false")
+    }
+}
+
+/// Adds a repair of these parts as a JSON object.
+#[tactic(auto, unfolding(crate::specs::JsonLine::fix_parts_json))]
+fn push_fix_parts(
+    alloc: Global,
+    out: &mut String,
+    is_safe: bool,
+    span: Span,
+    text: &str,
+) -> Result<(), AllocError>
+    ensures { OnOk result (string_bytes out.new ≡ string_bytes out.old
+        ++ spec.fix_parts_json is_safe span text.now) }
+{
+    push_safety(out, is_safe)?;
+    push_span(out, span)?;
+    push_member(alloc, out, ",\"text\":", text)?;
+    out.push_str("}")
+}
+
+/// Adds a repair as a JSON object.
+#[tactic(auto, unfolding(crate::specs::JsonLine::fix_json))]
+fn push_fix(alloc: Global, out: &mut String, fix: &Replacement) -> Result<(), AllocError>
+    ensures { OnOk result (string_bytes out.new ≡ string_bytes out.old
+        ++ spec.fix_json (repair_of fix.now)) }
+{
+    let (is_safe, span) = (fix.is_safe, fix.span);
+    push_fix_parts(alloc, out, is_safe, span, fix.text.as_str())
+}
+
+/// Adds further repairs, a comma before each.
+fn push_more_fixes(alloc: Global, out: &mut String, fixes: &[Replacement]) -> Result<(), AllocError>
+    ensures { OnOk result (string_bytes out.new ≡ string_bytes out.old
+        ++ flat_map (λ fix. codes "," ++ spec.fix_json fix) (map repair_of fixes.now)) }
+{
+    for fix in fixes {
+        out.push_str(",")?;
+        push_fix(alloc, out, fix)?;
+    }
+    Ok(())
+}
+
+/// Adds repairs with commas between them.
+fn push_fixes(alloc: Global, out: &mut String, fixes: &[Replacement]) -> Result<(), AllocError>
+    ensures { OnOk result (string_bytes out.new ≡ string_bytes out.old
+        ++ join_by spec.fix_json (codes ",") (map repair_of fixes.now)) }
+{
+    match fixes.split_first() {
+        Some((first, more)) => {
+            push_fix(alloc, out, first)?;
+            push_more_fixes(alloc, out, more)
+        }
+        None => Ok(()),
+    }
+}
+
 /// Adds the name of the file, the code and the message.
 fn push_head(alloc: Global, out: &mut String, report: &Report, name: &str) -> Result<(), AllocError>
     ensures { OnOk result (string_bytes out.new ≡ string_bytes out.old
@@ -204,11 +269,13 @@ fn push_remarks(alloc: Global, out: &mut String, report: &Report) -> Result<(), 
 }
 
 /// A report on this text, whose file has this name, as one line of JSON: an object with the members `file`, `code`,
-/// `message`, `labels`, `severity` (`error`, `warning` or `note`), `notes` and `help`, in this order, and a line feed.
+/// `message`, `labels`, `severity` (`error`, `warning` or `note`), `notes`, `help` and `fixes`, in this order, and a line
+/// feed.
 ///
 /// A label is an object with the members `primary`, `start` and `end` (bytes of the text from 0, the end exclusive),
 /// `line` and `column` of its start (both from 1, as `line_column` tells them) and `message`. Labels stand in the
-/// report's order. Nothing is cut, and strings are as `visible::push_quoted` adds them. Only want of memory is refused.
+/// report's order. A repair has the members `safe`, `start`, `end` (as of a label) and `text`, which replaces these bytes.
+/// Nothing is cut, and strings are as `visible::push_quoted` adds them. Only want of memory is refused.
 pub fn render_json(
     alloc: Global,
     report: &Report,
@@ -224,6 +291,8 @@ pub fn render_json(
     push_labels(alloc, &mut out, text, report.labels.as_slice())?;
     out.push_str("]")?;
     push_remarks(alloc, &mut out, report)?;
-    out.push_str("}\n")?;
+    out.push_str(",\"fixes\":[")?;
+    push_fixes(alloc, &mut out, report.replacements.as_slice())?;
+    out.push_str("]}\n")?;
     Ok(out)
 }

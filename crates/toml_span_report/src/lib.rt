@@ -1,30 +1,38 @@
 //! Reports on TOML documents, of errors or of a program's own, and their text: a message, lines, and marks under them.
 #![tactic(auto)]
 
+mod bytes;
 mod characters;
 mod colours;
 mod errors;
+mod explanations;
+mod finding;
 mod help;
 mod json_line;
 mod many;
+mod mistakes;
 mod names;
 mod places;
 mod reads;
 mod rendering;
+mod repairs;
 mod report;
 mod reported;
+mod scan;
 mod strips;
 mod tokens;
 mod unknown_keys;
 pub mod visible;
+mod words;
 
 pub use colours::Style;
 pub use errors::{render_error, render_errors, render_stop};
+pub use explanations::{CODES, explain};
 pub use json_line::render_json;
 pub use many::render_all;
 pub use names::nearest;
 pub use places::line_column;
 pub use reads::reports_of;
 pub use rendering::{render, render_line};
-pub use report::{Report, Severity};
+pub use report::{Replacement, Report, Severity};
 pub use reported::Reported;

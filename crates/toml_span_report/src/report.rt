@@ -1,5 +1,5 @@
 //! What a program tells of a text, and where.
-ghost use Rattle.std.specs.Prelude.{◌≡◌, IfOk};
+ghost use Rattle.std.specs.Prelude.{◌≡◌, IfOk, true, false};
 ghost use Rattle.toml_span_report.specs.Report as spec;
 ghost use Rattle.toml_span_report.specs.Report.{report_content};
 ghost use Rattle.toml_span_report.specs.declared.report.Severity.TheVariants.{Error, Warning};
@@ -19,6 +19,17 @@ pub enum Severity {
     Note,
 }
 
+/// A repair: a part of a text, and what can be written in its place.
+#[derive(Debug, Drop)]
+pub struct Replacement {
+    /// The bytes that are replaced, from 0, the end exclusive. None for a text that is put in.
+    pub span: Span,
+    /// The new text, which is empty where the old one is removed.
+    pub text: String,
+    /// Whether a program can make it without asking.
+    pub is_safe: bool,
+}
+
 /// What a program tells of a text, and where. It may come of an error (`from_error`), or be made:
 /// `Report::warning(alloc, "name-twice", "the name stands twice")?.primary(span, "here")?`.
 ///
@@ -36,6 +47,8 @@ pub struct Report {
     pub notes: Vec<String>,
     /// What can be done.
     pub help: Vec<String>,
+    /// How to repair the text. Their spans don't overlap.
+    pub replacements: Vec<Replacement>,
 }
 
 impl Report {
@@ -55,6 +68,7 @@ impl Report {
             labels: Vec::new(alloc),
             notes: Vec::new(alloc),
             help: Vec::new(alloc),
+            replacements: Vec::new(alloc),
         })
     }
 
@@ -117,6 +131,36 @@ impl Report {
     {
         let alloc = *self.code.allocator();
         self.help.push(String::from_str(alloc, text)?)?;
+        Ok(self)
+    }
+
+    /// Adds a repair that a program can make without asking: `text` in place of the bytes of `span`. Help should say
+    /// the same.
+    pub fn replace(self, span: Span, text: &str) -> Result<Report, AllocError>
+        ensures { IfOk result (λ made. report_content made
+            ≡ spec.with_replacement (report_content self) span text.now true) }
+    {
+        self.repair(span, text, true)
+    }
+
+    /// Adds a repair, as `replace` does, that somebody should look at before it is made.
+    pub fn suggest(self, span: Span, text: &str) -> Result<Report, AllocError>
+        ensures { IfOk result (λ made. report_content made
+            ≡ spec.with_replacement (report_content self) span text.now false) }
+    {
+        self.repair(span, text, false)
+    }
+
+    fn repair(mut self, span: Span, text: &str, is_safe: bool) -> Result<Report, AllocError>
+        ensures { IfOk result (λ made. report_content made
+            ≡ spec.with_replacement (report_content self) span text.now is_safe) }
+    {
+        let alloc = *self.code.allocator();
+        self.replacements.push(Replacement {
+            span,
+            text: String::from_str(alloc, text)?,
+            is_safe,
+        })?;
         Ok(self)
     }
 }

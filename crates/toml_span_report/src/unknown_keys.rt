@@ -97,6 +97,31 @@ pub(crate) fn what_is_expected(alloc: Global, names: &[&str]) -> Result<String, 
     Ok(out)
 }
 
+/// The names of which one is expected.
+pub(crate) fn one_of(alloc: Global, names: &[&str]) -> Result<String, AllocError>
+    ensures { IfOk result (λ out. string_bytes out ≡ spec.one_of (map (λ name. name.now) names.now)) }
+{
+    let title = if names.len() == 1 {
+        "expected "
+    } else {
+        "expected one of "
+    };
+    let mut out = String::from_str(alloc, title)?;
+    push_listed(&mut out, names)?;
+    Ok(out)
+}
+
+/// That a key has a new name.
+pub(crate) fn deprecated(alloc: Global, old: &str, new: &str) -> Result<String, AllocError>
+    ensures { IfOk result (λ out. string_bytes out ≡ spec.deprecated old.now new.now) }
+{
+    let mut out = String::new(alloc);
+    push_named(&mut out, old)?;
+    out.push_str(" is deprecated, use ")?;
+    push_named(&mut out, new)?;
+    Ok(out)
+}
+
 /// A label at each key.
 pub(crate) fn key_labels(
     alloc: Global,

@@ -1,0 +1,93 @@
+-- Bytes of a text at any offsets, and runs of bytes of a class.
+use Rattle.std.specs.Prelude.{ℕ, zero, suc, ◌+◌, ◌-◌, max, Bool, ◌==◌, ◌&&◌, ◌||◌, not, nat_eq, nat_lt, nat_le, List}
+use Rattle.std.specs.Prelude.{min, length, drop, slice_index, slice_range, if◌then◌else◌}
+use Rattle.std.specs.List.{position_or_len, starts_with}
+use Rattle.toml_span_report.specs.Places.{place}
+use Rattle.toml_span_report.specs.declared.bytes.Class.{Class}
+use Rattle.toml_span_report.specs.declared.bytes.Class.TheVariants as class
+
+abbrev pub is_word : ℕ → Bool
+is_word b = nat_lt 32 b && not (b == 34 || b == 39 || b == 44 || b == 93 || b == 125 || b == 127)
+
+abbrev pub is_atom : ℕ → Bool
+is_atom b = is_word b && not (b == 61 || b == 91 || b == 123)
+
+abbrev pub is_name : ℕ → Bool
+is_name b = is_atom b && not (b == 46 || b == 35 || b == 58)
+
+abbrev pub is_blank : ℕ → Bool
+is_blank b = b == 32 || b == 9
+
+abbrev pub is_line : ℕ → Bool
+is_line b = not (b == 10 || b == 13)
+
+abbrev pub is_digit : ℕ → Bool
+is_digit b = nat_le 48 b && nat_le b 57
+
+abbrev pub is_in : Class → ℕ → Bool
+is_in class.Blank b = is_blank b
+is_in class.Gap b = is_blank b || not (is_line b)
+is_in class.Line b = is_line b
+is_in class.Unquoted b = is_line b && not (b == 34 || b == 39 || b == 96)
+is_in class.Enclosed b = is_line b && not (b == 125 || b == 41)
+is_in class.Left b = is_line b && not (b == 61 || b == 35)
+is_in class.Word b = is_word b
+is_in class.Atom b = is_atom b
+is_in class.Phrase b = (is_word b || is_blank b) && not (b == 61 || b == 35)
+is_in class.Name b = is_name b
+is_in class.Dotted b = is_name b || b == 46
+is_in class.Spaced b = is_name b || is_blank b
+is_in class.Header b = is_line b && not (b == 46 || b == 91 || b == 93 || b == 34 || b == 39)
+is_in class.Digit b = is_digit b
+is_in class.Grouped b = is_digit b || b == 95
+is_in class.Decimal b = is_digit b || b == 95 || b == 46
+is_in class.Number b = is_digit b || b == 95 || b == 46 || b == 43 || b == 45 || b == 101 || b == 69
+is_in class.Hex b = is_digit b || (nat_le 97 b && nat_le b 102) || (nat_le 65 b && nat_le b 70)
+is_in class.Zero b = b == 48
+is_in class.Unescaped b = not (b == 92)
+is_in class.WithoutDouble b = not (b == 34) && is_line b
+is_in class.WithoutSingle b = not (b == 39) && is_line b
+is_in class.Continuation b = nat_le 0x80 b && nat_le b 0xBF
+is_in class.Straight b = is_line b && not (b == 0xE2)
+
+abbrev pub begins : List ℕ → ℕ → List ℕ → Bool
+begins text at front = starts_with nat_eq (drop at text) front
+
+-- the first offset, from one on, at which there is no byte of a class
+abbrev pub is_out : Class → ℕ → Bool
+is_out kind b = not (is_in kind b)
+
+unfoldable pub end_of : Class → List ℕ → ℕ → ℕ
+end_of kind text at = at + position_or_len (is_out kind) (drop at text)
+
+-- the least offset, up to one, from which on there are bytes of a class alone
+unfoldable pub start_of : Class → List ℕ → ℕ → ℕ
+start_of kind text zero = 0
+start_of kind text (suc i) = if is_in kind (slice_index text i) then start_of kind text i else suc i
+
+-- the offset some bytes ahead, or the end of the text
+abbrev pub ahead : List ℕ → ℕ → ℕ → ℕ
+ahead text at count = min (at + count) (length text)
+
+-- the nearest bytes before and behind an offset that are no blanks, or 0
+abbrev pub byte_before : List ℕ → ℕ → ℕ
+byte_before text at =
+    let end = start_of class.Blank text at in if end == 0 then 0 else slice_index text (end - 1)
+
+abbrev pub byte_behind : List ℕ → ℕ → ℕ
+byte_behind text at = slice_index text (end_of class.Blank text at)
+
+-- where a line has its first byte that is no blank, and where it ends without blanks at its end
+abbrev pub first_of_line : List ℕ → ℕ → ℕ
+first_of_line text at = end_of class.Blank text (start_of class.Line text at)
+
+abbrev pub last_of_line : List ℕ → ℕ → ℕ
+last_of_line text at = start_of class.Blank text (end_of class.Line text at)
+
+-- nothing but blanks follows on the line
+abbrev pub is_last : List ℕ → ℕ → Bool
+is_last text at = byte_behind text at == 0 || byte_behind text at == 10 || byte_behind text at == 13
+
+-- a part of a text, whose offsets are moved to the nearest places before them
+unfoldable pub part : List ℕ → ℕ → ℕ → List ℕ
+part text from to = slice_range text (place text from) (max (place text to) (place text from))

@@ -1,0 +1,10 @@
+-- Mistakes that are often made, by what is found.
+pub mod Values
+pub mod Keys
+pub mod Lists
+pub mod Dates
+pub mod Numbers
+pub mod Strings
+pub mod Symbols
+pub mod Clashes
+pub mod Wanted

@@ -1,0 +1,37 @@
+-- Keys and headers that say one thing twice.
+use Rattle.std.specs.Prelude.{ℕ, ◌-◌, ◌==◌, ◌&&◌, ◌||◌, List, codes, slice_index, Option, Some, None, if◌then◌else◌}
+use Rattle.toml_span_lex.specs.declared.span.Span.{Span}
+use Rattle.toml_span_report.specs.Bytes.{ahead, begins, byte_behind, end_of, first_of_line}
+use Rattle.toml_span_report.specs.Finding.{FindingContent, marked}
+use Rattle.toml_span_report.specs.declared.bytes.Class.TheVariants as class
+use Rattle.toml_span_report.specs.declared.finding.Mistake.{Mistake}
+use Rattle.toml_span_report.specs.declared.finding.Mistake.TheVariants as mistakes
+use Rattle.toml_span_report.specs.declared.finding.ClashMistake.TheVariants as of_clash
+
+abbrev pub with_other : Mistake → Span → Span → FindingContent
+with_other mistake span other = record (marked mistake span.start span.end) { also = other }
+
+abbrev pub table_twice : Span → Span → FindingContent
+table_twice span first = with_other (mistakes.Clash of_clash.TableTwice) span first
+
+-- the first byte of the value of a key, or of what else follows the key
+unfoldable pub value_of : List ℕ → ℕ → ℕ
+value_of text end =
+    let equals = end_of class.Blank text end in
+    if slice_index text equals == 61 then byte_behind text (ahead text equals 1) else slice_index text equals
+
+unfoldable pub through_value : List ℕ → Span → Span → Option FindingContent
+through_value text span first =
+    let byte = value_of text first.end in
+    if byte == 123 then Some (with_other (mistakes.Clash of_clash.ClosedTable) span first)
+    else if byte == 91 && begins text (first_of_line text span.start) (codes "[[")
+    then Some (with_other (mistakes.Clash of_clash.ClosedArray) span first)
+    else if byte == 46 then Some (with_other (mistakes.Clash of_clash.DottedTable) span first)
+    else if byte == 0 || byte == 93 then None
+    else Some (with_other (mistakes.Clash of_clash.ThroughValue) span first)
+
+unfoldable pub key_twice : List ℕ → Span → Span → Option FindingContent
+key_twice text span first =
+    if slice_index text (first_of_line text span.start) == 91 || byte_behind text span.end == 46
+    then through_value text span first
+    else None

@@ -1,0 +1,101 @@
+-- Strings that end too late, and characters and escapes that they do not have.
+use Rattle.std.specs.Prelude.{ℕ, ◌+◌, ◌-◌, ◌*◌, ◌==◌, ◌&&◌, ◌||◌, Bool, not, nat_lt, nat_le, List, [], ◌∷◌, codes}
+use Rattle.std.specs.Prelude.{slice_index, Option, Some, None, if◌then◌else◌}
+use Rattle.toml_span_report.specs.Bytes.{ahead, begins, end_of, first_of_line, last_of_line, part, start_of}
+use Rattle.toml_span_report.specs.Finding.{FindingContent, marked, mended, pieces, replaced, span_of}
+use Rattle.toml_span_report.specs.Scan.{is_long, open_before}
+use Rattle.toml_span_report.specs.declared.bytes.Class.TheVariants as class
+use Rattle.toml_span_report.specs.declared.finding.Mistake.TheVariants as mistakes
+use Rattle.toml_span_report.specs.declared.finding.KeyMistake.TheVariants as of_key
+use Rattle.toml_span_report.specs.declared.finding.LineMistake.TheVariants as of_line
+use Rattle.toml_span_report.specs.declared.finding.TextMistake.TheVariants as of_text
+
+-- a string on one line that is not closed
+unfoldable pub open_string : List ℕ → ℕ → ℕ → FindingContent
+open_string text quote end =
+    if first_of_line text quote == quote && (open_before text quote).depth == 0 then marked (mistakes.Key of_key.OpenKey) quote end
+    else if slice_index text quote == 34 then marked (mistakes.Text of_text.OpenString) quote end
+    else marked (mistakes.Text of_text.OpenLiteral) quote end
+
+-- two hexadecimal digits of a byte below 32, or of 127
+unfoldable pub hex_of : ℕ → List ℕ
+hex_of byte =
+    if byte == 127 then codes "7f"
+    else part (codes "000102030405060708090a0b0c0d0e0f101112131415161718191a1b1c1d1e1f") (byte * 2) (byte * 2 + 2)
+
+unfoldable pub control : List ℕ → ℕ → ℕ → FindingContent
+control text at quote =
+    if slice_index text quote == 34
+    then replaced (mistakes.Text of_text.Control) at (ahead text at 1)
+    (pieces (92 ∷ codes "u00") (hex_of (slice_index text at)) [])
+    else marked (mistakes.Text of_text.ControlInLiteral) at (ahead text at 1)
+
+unfoldable pub character : List ℕ → ℕ → ℕ → FindingContent
+character text at c =
+    let state = open_before text at in
+    if (c == 10 || (c == 13 && begins text at (13 ∷ 10 ∷ []))) && not state.is_long
+    then open_string text state.string at
+    else control text at state.string
+
+-- a backslash that begins no escape
+unfoldable pub backslash : List ℕ → ℕ → ℕ → FindingContent
+backslash text at end =
+    let quote = (open_before text at).string in
+    let content = ahead text quote 1 in
+    let close = end_of class.Unquoted text content in
+    if is_long text quote || not (slice_index text close == 34) then marked (mistakes.Text of_text.Backslash) at end
+    else mended (mistakes.Text of_text.Backslash) (span_of at end) (span_of quote (ahead text close 1))
+    (pieces (codes "'") (part text content close) (codes "'"))
+
+abbrev pub escape : List ℕ → ℕ → FindingContent
+escape text at = backslash text (at - 1) (ahead text at 1)
+
+-- the zeros that an escape lacks
+unfoldable pub zeros_of : ℕ → ℕ → List ℕ
+zeros_of letter count =
+    part (codes "00000000") 0 ((if letter == 85 then 8 else if letter == 117 then 4 else 2) - count)
+
+unfoldable pub hex_escape : List ℕ → ℕ → FindingContent
+hex_escape text at =
+    let digits = start_of class.Hex text at in
+    let start = digits - 2 in
+    if digits == at || not (slice_index text start == 92) then backslash text start (ahead text at 1)
+    else replaced (mistakes.Text of_text.ShortEscape) start at
+    (pieces (part text start digits) (zeros_of (slice_index text (digits - 1)) (at - digits)) (part text digits at))
+
+unfoldable pub escape_value : List ℕ → ℕ → ℕ → FindingContent
+escape_value text at value =
+    marked (if nat_lt value 0xE000 then (mistakes.Text of_text.Surrogate) else (mistakes.Text of_text.NoCharacter)) (at - 2)
+    (ahead text at (if slice_index text (at - 1) == 85 then 8 else 4))
+
+unfoldable pub unterminated : List ℕ → ℕ → FindingContent
+unterminated text at =
+    if begins text at (34 ∷ 34 ∷ 34 ∷ []) then marked (mistakes.Text of_text.OpenLong) at (ahead text at 3)
+    else if begins text at (39 ∷ 39 ∷ 39 ∷ []) then marked (mistakes.Text of_text.OpenLongLiteral) at (ahead text at 3)
+    else open_string text at (end_of class.Line text at)
+
+unfoldable pub long_key : List ℕ → ℕ → FindingContent
+long_key text at = marked (mistakes.Key of_key.LongKey) at (ahead text at 3)
+
+abbrev pub has : List ℕ → ℕ → ℕ → ℕ → Bool
+has text from to quote = nat_lt (end_of (if quote == 34 then class.WithoutDouble else class.WithoutSingle) text from) to
+
+abbrev pub requoted : List ℕ → ℕ → ℕ → ℕ → ℕ → List ℕ → Option FindingContent
+requoted text open_at content close end quote = Some (mended (mistakes.Line of_line.QuoteInString) (span_of open_at end)
+    (span_of open_at end) (pieces quote (part text content close) quote))
+
+-- a string with its own quote in it
+unfoldable pub quote_in_string : List ℕ → ℕ → Option FindingContent
+quote_in_string text at =
+    let equals = end_of class.Left text (first_of_line text at) in
+    let open_at = end_of class.Blank text (ahead text equals 1) in
+    let end = last_of_line text at in
+    let close = end - 1 in
+    let quote = slice_index text open_at in
+    let content = ahead text open_at 1 in
+    if not ((quote == 34 || quote == 39) && (slice_index text close == quote && nat_le at close))
+    || nat_lt (end_of class.Unescaped text content) close
+    then None
+    else if quote == 34 && not (has text content close 39) then requoted text open_at content close end (codes "'")
+    else if quote == 39 && not (has text content close 34) then requoted text open_at content close end (codes "\"")
+    else None

@@ -1,0 +1,50 @@
+//! The mistake that an error is likely to come from.
+ghost use Rattle.std.specs.Prelude.{◌≡◌, option_map};
+ghost use Rattle.toml_span_tree.specs.Error.{kind_of};
+ghost use Rattle.toml_span_report.specs.Finding.{finding_content};
+ghost use Rattle.toml_span_report.specs.Mistakes as spec;
+
+mod clashes;
+mod dates;
+mod keys;
+mod lists;
+mod numbers;
+mod strings;
+mod symbols;
+mod values;
+mod wanted;
+
+use crate::finding::{ClashMistake, Finding, Mistake, marked};
+use toml_span_lex::span::Span;
+use toml_span_tree::ErrorKind;
+
+/// The mistake that an error of this kind, at this span of the text, is likely to come from.
+pub(crate) fn mistake_of<'a>(kind: &ErrorKind<'_>, text: &'a str, span: Span) -> Option<Finding<'a>>
+    ensures { option_map finding_content result ≡ spec.mistake_of (kind_of kind.now) text.now span }
+{
+    match kind {
+        ErrorKind::UnquotedString => Some(values::unquoted(text, span.start)),
+        ErrorKind::Unexpected(c) => symbols::unexpected(text, span.start, *c),
+        ErrorKind::Wanted { expected, found } => wanted::wanted(*expected, *found, text, span),
+        ErrorKind::UnexpectedEof => lists::missing_value(text, span.start),
+        ErrorKind::InvalidNumber => numbers::number(text, span.start),
+        ErrorKind::InvalidDatetime => Some(dates::datetime(text, span.start)),
+        ErrorKind::InvalidCharInString(c) => Some(strings::character(text, span.start, *c)),
+        ErrorKind::InvalidEscape(_) => Some(strings::escape(text, span.start)),
+        ErrorKind::InvalidHexEscape(_) => Some(strings::hex_escape(text, span.start)),
+        ErrorKind::InvalidEscapeValue(value) => {
+            Some(strings::escape_value(text, span.start, *value))
+        }
+        ErrorKind::UnterminatedString => Some(strings::unterminated(text, span.start)),
+        ErrorKind::MultilineStringKey => Some(strings::long_key(text, span.start)),
+        ErrorKind::DuplicateTable { first, .. } => Some(clashes::table_twice(span, *first)),
+        ErrorKind::DuplicateKey { first, .. } => clashes::key_twice(text, span, *first),
+        ErrorKind::DottedKeyInvalidType { first } => clashes::through_value(text, span, *first),
+        ErrorKind::RedefineAsArray => Some(marked(
+            Mistake::Clash(ClashMistake::ArrayAfterTable),
+            span.start,
+            span.end,
+        )),
+        _ => None,
+    }
+}

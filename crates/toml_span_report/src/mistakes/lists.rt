@@ -1,0 +1,310 @@
+//! Values that are missing, and arrays, inline tables and headers that are not closed.
+ghost use Rattle.std.specs.Prelude.{◌≡◌, option_map};
+ghost use Rattle.toml_span_report.specs.Finding.{finding_content};
+ghost use Rattle.toml_span_report.specs.found.Lists as spec;
+
+use crate::bytes::{
+    Class, ahead, begins, byte_at, byte_before, byte_behind, end_of, first_of_line, last_of_line,
+    part, start_of,
+};
+use crate::finding::{
+    Finding, KeyMistake, ListMistake, Mistake, NumberMistake, ValueMistake, marked, mended, pieces,
+    replaced, span_of,
+};
+use crate::mistakes::keys::{header_key, other_sign};
+use crate::mistakes::values::unquoted_value;
+use crate::scan::{is_in_header, is_long, open_before};
+
+/// The outermost bracket before an offset is not closed there.
+#[tactic(auto, unfolding(crate::specs::found::Lists::unclosed))]
+pub(crate) fn unclosed<'a>(text: &'a str, at: usize) -> Finding<'a>
+    ensures { finding_content result ≡ spec.unclosed text.now at }
+{
+    let bracket = open_before(text, at).bracket;
+    let mistake = if byte_at(text, bracket) == b'{' {
+        Mistake::List(ListMistake::OpenTable)
+    } else {
+        Mistake::List(ListMistake::OpenArray)
+    };
+    let mut found = marked(mistake, at, at);
+    found.also = span_of(bracket, ahead(text, bracket, 1));
+    found
+}
+
+/// The end of the text, where a bracket or a brace may be open.
+#[tactic(auto, unfolding(crate::specs::found::Lists::open_end))]
+pub(crate) fn open_end<'a>(text: &'a str, at: usize) -> Option<Finding<'a>>
+    ensures { option_map finding_content result ≡ spec.open_end text.now at }
+{
+    if open_before(text, at).depth > 0 {
+        Some(unclosed(text, at))
+    } else {
+        None
+    }
+}
+
+/// The value of a key is on a line below.
+#[tactic(auto, unfolding(crate::specs::found::Lists::value_below))]
+fn value_below<'a>(text: &'a str, at: usize) -> Option<Finding<'a>>
+    ensures { option_map finding_content result ≡ spec.value_below text.now at }
+{
+    let below = end_of(Class::Gap, text, at);
+    let end = last_of_line(text, below);
+    let equals = end_of(Class::Left, text, below);
+    let is_header = byte_at(text, below) == b'[' && first_of_line(text, below) == below;
+    if below < end && end <= equals && !is_header && !is_long(text, below) {
+        let start = first_of_line(text, at);
+        let code = pieces(
+            part(text, start, start_of(Class::Blank, text, at)),
+            " ",
+            part(text, below, end),
+        );
+        Some(mended(
+            Mistake::Value(ValueMistake::ValueBelow),
+            span_of(at, at),
+            span_of(start, end),
+            code,
+        ))
+    } else {
+        None
+    }
+}
+
+/// The end of a line, or of the text, where a value is expected.
+#[tactic(auto, unfolding(crate::specs::found::Lists::missing_value))]
+pub(crate) fn missing_value<'a>(text: &'a str, at: usize) -> Option<Finding<'a>>
+    ensures { option_map finding_content result ≡ spec.missing_value text.now at }
+{
+    if byte_before(text, at) == b'=' {
+        match value_below(text, at) {
+            Some(found) => Some(found),
+            None => Some(marked(Mistake::Value(ValueMistake::NoValueBehind), at, at)),
+        }
+    } else {
+        open_end(text, at)
+    }
+}
+
+/// A comment where a value is expected.
+#[tactic(auto, unfolding(crate::specs::found::Lists::hash))]
+fn hash<'a>(text: &'a str, at: usize) -> Option<Finding<'a>>
+    ensures { option_map finding_content result ≡ spec.hash text.now at }
+{
+    let end = end_of(Class::Hex, text, ahead(text, at, 1));
+    if ahead(text, at, 1) < end && end == end_of(Class::Word, text, at) {
+        let quoted = pieces("\"", part(text, at, end), "\"");
+        Some(replaced(Mistake::Value(ValueMistake::HashValue), at, end, quoted))
+    } else {
+        missing_value(text, at)
+    }
+}
+
+/// A comma where a value is expected.
+#[tactic(auto, unfolding(crate::specs::found::Lists::comma))]
+fn comma<'a>(text: &'a str, at: usize) -> Option<Finding<'a>>
+    ensures { option_map finding_content result ≡ spec.comma text.now at }
+{
+    if byte_before(text, at) == b'=' {
+        None
+    } else {
+        let end = ahead(text, at, 1);
+        Some(replaced(
+            Mistake::List(ListMistake::ExtraComma),
+            at,
+            end,
+            pieces("", "", ""),
+        ))
+    }
+}
+
+/// A decimal point where a value is expected.
+#[tactic(auto, unfolding(crate::specs::found::Lists::point))]
+fn point<'a>(text: &'a str, at: usize) -> Option<Finding<'a>>
+    ensures { option_map finding_content result ≡ spec.point text.now at }
+{
+    let end = end_of(Class::Word, text, at);
+    let digits = end_of(Class::Digit, text, ahead(text, at, 1));
+    if ahead(text, at, 1) == digits {
+        Some(unquoted_value(text, at))
+    } else if digits == end {
+        let code = pieces("0", part(text, at, end), "");
+        Some(replaced(Mistake::Number(NumberMistake::LeadingPoint), at, end, code))
+    } else {
+        None
+    }
+}
+
+/// An equals sign where a value is expected.
+#[tactic(auto, unfolding(crate::specs::found::Lists::equals))]
+fn equals<'a>(text: &'a str, at: usize) -> Option<Finding<'a>>
+    ensures { option_map finding_content result ≡ spec.equals text.now at }
+{
+    let before = at.saturating_sub(1);
+    if begins(text, before, b"==") {
+        Some(other_sign(
+            Mistake::Key(KeyMistake::Equals),
+            text,
+            before,
+            ahead(text, at, 1),
+        ))
+    } else {
+        None
+    }
+}
+
+/// What is found where a value is expected.
+#[tactic(auto, unfolding(crate::specs::found::Lists::no_value))]
+pub(crate) fn no_value<'a>(found: &str, text: &'a str, at: usize) -> Option<Finding<'a>>
+    ensures { option_map finding_content result ≡ spec.no_value found.now text.now at }
+{
+    match found {
+        "a comma" => comma(text, at),
+        "an equals" => equals(text, at),
+        "a period" => point(text, at),
+        "a newline" | "eof" => missing_value(text, at),
+        "a comment" => hash(text, at),
+        _ => None,
+    }
+}
+
+/// A header that is not closed on its line.
+#[tactic(auto, unfolding(crate::specs::found::Lists::open_header))]
+fn open_header<'a>(text: &'a str, bracket: usize) -> Finding<'a>
+    ensures { finding_content result ≡ spec.open_header text.now bracket }
+{
+    let end = start_of(Class::Blank, text, end_of(Class::Left, text, bracket));
+    let last = byte_at(text, end.saturating_sub(1));
+    let closing = if begins(text, bracket, b"[[") && last != b']' {
+        "]]"
+    } else {
+        "]"
+    };
+    let code = pieces(part(text, bracket, end), closing, "");
+    replaced(Mistake::List(ListMistake::OpenHeader), bracket, end, code)
+}
+
+/// What is found where a header should end.
+#[tactic(auto, unfolding(crate::specs::found::Lists::header))]
+fn header<'a>(found: &str, text: &'a str, at: usize, bracket: usize) -> Option<Finding<'a>>
+    ensures { option_map finding_content result ≡ spec.header found.now text.now at bracket }
+{
+    match found {
+        "a newline" | "eof" | "a comment" => Some(open_header(text, bracket)),
+        "a comma" => Some(marked(
+            Mistake::List(ListMistake::ArrayAlone),
+            bracket,
+            last_of_line(text, at),
+        )),
+        _ => header_key(text, at),
+    }
+}
+
+/// Whether an assignment begins at an offset, at the beginning of a line.
+#[tactic(auto, unfolding(crate::specs::found::Lists::is_assignment))]
+fn is_assignment(text: &str, at: usize) -> bool
+    ensures { result ≡ spec.is_assignment text.now at }
+{
+    let end = end_of(Class::Dotted, text, at);
+    first_of_line(text, at) == at && at < end && byte_behind(text, end) == b'='
+}
+
+/// A comma that is missing before an offset.
+#[tactic(auto, unfolding(crate::specs::found::Lists::missing_comma))]
+fn missing_comma<'a>(mistake: Mistake, text: &'a str, at: usize) -> Finding<'a>
+    ensures { finding_content result ≡ spec.missing_comma mistake text.now at }
+{
+    let end = start_of(Class::Gap, text, at);
+    let mut found = marked(mistake, at, end_of(Class::Word, text, at));
+    if byte_at(
+        text,
+        end_of(Class::Left, text, start_of(Class::Line, text, end)),
+    ) != b'#'
+    {
+        found.edit = Some(span_of(end, end));
+        found.code = pieces(",", "", "");
+    }
+    found
+}
+
+/// Another token where an array or an inline table goes on or ends.
+#[tactic(auto, unfolding(crate::specs::found::Lists::unseparated))]
+fn unseparated<'a>(mistake: Mistake, text: &'a str, at: usize) -> Finding<'a>
+    ensures { finding_content result ≡ spec.unseparated mistake text.now at }
+{
+    let is_unindented = start_of(Class::Line, text, at) == at;
+    if is_assignment(text, at) || byte_at(text, at) == b'[' && is_unindented {
+        unclosed(text, at)
+    } else {
+        missing_comma(mistake, text, at)
+    }
+}
+
+/// A closing bracket of the wrong kind.
+#[tactic(auto, unfolding(crate::specs::found::Lists::wrong_closing))]
+fn wrong_closing<'a>(
+    mistake: Mistake,
+    text: &'a str,
+    at: usize,
+    closing: &'static str,
+) -> Finding<'a>
+    ensures { finding_content result ≡ spec.wrong_closing mistake text.now at closing.now }
+{
+    let end = ahead(text, at, 1);
+    let bracket = open_before(text, at).bracket;
+    let mut found = replaced(mistake, at, end, pieces(closing, "", ""));
+    found.also = span_of(bracket, ahead(text, bracket, 1));
+    found
+}
+
+/// A period or the like behind a value in an array or an inline table, whose word needs quotes.
+#[tactic(auto, unfolding(crate::specs::found::Lists::glued))]
+fn glued<'a>(text: &'a str, at: usize) -> Option<Finding<'a>>
+    ensures { option_map finding_content result ≡ spec.glued text.now at }
+{
+    let start = start_of(Class::Atom, text, at);
+    if start < at && matches!(byte_at(text, at), b'.' | b':' | b'+') {
+        Some(unquoted_value(text, start))
+    } else {
+        None
+    }
+}
+
+/// What is found where `]` is expected.
+#[tactic(auto, unfolding(crate::specs::found::Lists::no_bracket))]
+pub(crate) fn no_bracket<'a>(found: &str, text: &'a str, at: usize) -> Option<Finding<'a>>
+    ensures { option_map finding_content result ≡ spec.no_bracket found.now text.now at }
+{
+    let state = open_before(text, at);
+    if is_in_header(text, state) {
+        return header(found, text, at, state.bracket);
+    }
+    match found {
+        "eof" => Some(unclosed(text, at)),
+        "a right brace" => Some(wrong_closing(
+            Mistake::List(ListMistake::ClosedByBrace),
+            text,
+            at,
+            "]",
+        )),
+        "a period" | "a colon" | "a plus" => glued(text, at),
+        _ => Some(unseparated(Mistake::List(ListMistake::NoComma), text, at)),
+    }
+}
+
+/// What is found where a comma is expected, in an inline table.
+#[tactic(auto, unfolding(crate::specs::found::Lists::no_comma))]
+pub(crate) fn no_comma<'a>(found: &str, text: &'a str, at: usize) -> Option<Finding<'a>>
+    ensures { option_map finding_content result ≡ spec.no_comma found.now text.now at }
+{
+    match found {
+        "eof" => Some(unclosed(text, at)),
+        "a right bracket" => Some(wrong_closing(
+            Mistake::List(ListMistake::ClosedByBracket),
+            text,
+            at,
+            "}",
+        )),
+        "a period" | "a colon" | "a plus" => glued(text, at),
+        _ => Some(unseparated(Mistake::List(ListMistake::NoCommaInTable), text, at)),
+    }
+}

@@ -1,0 +1,216 @@
+//! Numbers that TOML does not have.
+ghost use Rattle.std.specs.Prelude.{◌≡◌, option_map};
+ghost use Rattle.toml_span_report.specs.Finding.{finding_content};
+ghost use Rattle.toml_span_report.specs.found.Numbers as spec;
+
+use crate::bytes::{Class, ahead, begins, byte_at, end_of, is_in, part, start_of};
+use crate::finding::{
+    Code, Finding, Mistake, NumberMistake, ValueMistake, marked, pieces, quoted, replaced,
+};
+use crate::mistakes::dates::slash_date;
+
+/// Where a number begins behind its sign.
+fn behind_sign(text: &str, at: usize) -> usize
+    ensures { result ≡ spec.behind_sign text.now at }
+{
+    if matches!(byte_at(text, at), b'+' | b'-') {
+        ahead(text, at, 1)
+    } else {
+        at
+    }
+}
+
+/// The digits of a number with a prefix, or nothing.
+fn digits_of(letter: u8) -> &'static str
+    ensures { result.now ≡ spec.digits_of letter }
+{
+    match letter {
+        b'x' => "hexadecimal digits are 0 to 9 and A to F",
+        b'o' => "octal digits are 0 to 7",
+        b'b' => "binary digits are 0 and 1",
+        _ => "",
+    }
+}
+
+/// The prefix that a letter in upper case is meant as, or nothing.
+fn lower_prefix(letter: u8) -> &'static str
+    ensures { result.now ≡ spec.lower_prefix letter }
+{
+    match letter {
+        b'X' => "0x",
+        b'O' => "0o",
+        b'B' => "0b",
+        _ => "",
+    }
+}
+
+/// A number with a prefix, whose `0` is at `zero`.
+#[tactic(auto, unfolding(crate::specs::found::Numbers::prefixed))]
+fn prefixed<'a>(text: &'a str, start: usize, zero: usize, end: usize) -> Option<Finding<'a>>
+    ensures { option_map finding_content result ≡ spec.prefixed text.now start zero end }
+{
+    let letter = byte_at(text, ahead(text, zero, 1));
+    let digits = digits_of(letter);
+    let lower = lower_prefix(letter);
+    if byte_at(text, zero) != b'0' || (digits.is_empty() && lower.is_empty()) {
+        None
+    } else if start != zero {
+        Some(marked(Mistake::Number(NumberMistake::SignedPrefix), start, end))
+    } else if digits.is_empty() {
+        let code = pieces(lower, part(text, ahead(text, zero, 2), end), "");
+        Some(replaced(
+            Mistake::Number(NumberMistake::UpperPrefix),
+            start,
+            end,
+            code,
+        ))
+    } else {
+        let mut found = marked(Mistake::Number(NumberMistake::OtherDigit), start, end);
+        found.name = digits;
+        Some(found)
+    }
+}
+
+/// A number with zeros before its digits, which begin at `digits`.
+#[tactic(auto, unfolding(crate::specs::found::Numbers::zeros))]
+fn zeros<'a>(text: &'a str, start: usize, digits: usize, end: usize) -> Finding<'a>
+    ensures { finding_content result ≡ spec.zeros text.now start digits end }
+{
+    let more = ahead(text, digits, 1);
+    let is_mode = ahead(text, digits, 4) == end
+        && !matches!(byte_at(text, more), b'0' | b'8' | b'9');
+    if is_mode && start == digits && end_of(Class::Digit, text, digits) == end {
+        let code = pieces("0o", part(text, more, end), "");
+        return replaced(Mistake::Number(NumberMistake::Octal), start, end, code);
+    }
+    let other = end_of(Class::Zero, text, digits);
+    let kept = if is_in(Class::Digit, byte_at(text, other)) {
+        other
+    } else {
+        other.saturating_sub(1)
+    };
+    let code = pieces(part(text, start, digits), part(text, kept, end), "");
+    replaced(
+        Mistake::Number(NumberMistake::LeadingZero),
+        start,
+        end,
+        code,
+    )
+}
+
+/// A number whose decimal point, at `point`, has no digit behind it.
+#[tactic(auto, unfolding(crate::specs::found::Numbers::trailing_point))]
+fn trailing_point<'a>(text: &'a str, start: usize, point: usize, end: usize) -> Option<Finding<'a>>
+    ensures { option_map finding_content result ≡ spec.trailing_point text.now start point end }
+{
+    let next = ahead(text, point, 1);
+    if byte_at(text, point) == b'.' && (next == end || matches!(byte_at(text, next), b'e' | b'E')) {
+        let code = pieces(part(text, start, next), "0", part(text, next, end));
+        Some(replaced(
+            Mistake::Number(NumberMistake::TrailingPoint),
+            start,
+            end,
+            code,
+        ))
+    } else {
+        None
+    }
+}
+
+/// An integer of digits and `_`, which begin at `digits`.
+#[tactic(auto, unfolding(crate::specs::found::Numbers::integer))]
+fn integer<'a>(text: &'a str, start: usize, digits: usize, end: usize) -> Finding<'a>
+    ensures { finding_content result ≡ spec.integer text.now start digits end }
+{
+    let first = end_of(Class::Digit, text, digits);
+    let second = ahead(text, first, 1);
+    if byte_at(text, end.saturating_sub(1)) == b'_' && second == end {
+        replaced(
+            Mistake::Number(NumberMistake::Underscore),
+            start,
+            end,
+            pieces(part(text, start, first), "", ""),
+        )
+    } else if begins(text, first, b"__") {
+        let code = pieces(
+            part(text, start, second),
+            part(text, ahead(text, second, 1), end),
+            "",
+        );
+        replaced(Mistake::Number(NumberMistake::Underscore), start, end, code)
+    } else {
+        marked(Mistake::Number(NumberMistake::TooLarge), start, end)
+    }
+}
+
+/// A number without a prefix, whose digits begin at `digits`.
+#[tactic(auto, unfolding(crate::specs::found::Numbers::plain))]
+fn plain<'a>(text: &'a str, start: usize, digits: usize, end: usize) -> Option<Finding<'a>>
+    ensures { option_map finding_content result ≡ spec.plain text.now start digits end }
+{
+    let point = end_of(Class::Grouped, text, digits);
+    let has_zero = byte_at(text, digits) == b'0'
+        && is_in(Class::Digit, byte_at(text, ahead(text, digits, 1)));
+    if has_zero && end <= end_of(Class::Decimal, text, digits) {
+        Some(zeros(text, start, digits, end))
+    } else if digits < point && point == end {
+        Some(integer(text, start, digits, end))
+    } else if end <= end_of(Class::Number, text, start) {
+        trailing_point(text, start, point, end)
+    } else {
+        Some(quoted(Mistake::Value(ValueMistake::Unquoted), text, start, end))
+    }
+}
+
+/// A number that is none of TOML's.
+#[tactic(auto, unfolding(crate::specs::found::Numbers::number))]
+pub(crate) fn number<'a>(text: &'a str, at: usize) -> Option<Finding<'a>>
+    ensures { option_map finding_content result ≡ spec.number text.now at }
+{
+    let start = start_of(Class::Atom, text, at);
+    let end = end_of(Class::Word, text, at);
+    let digits = behind_sign(text, start);
+    if let Some(found) = slash_date(text, start, end) {
+        return Some(found);
+    }
+    if let Some(found) = prefixed(text, start, digits, end) {
+        return Some(found);
+    }
+    if matches!(byte_at(text, digits), b'+' | b'-') {
+        let code = pieces(part(text, digits, end), "", "");
+        return Some(replaced(Mistake::Number(NumberMistake::Signs), start, end, code));
+    }
+    plain(text, start, digits, end)
+}
+
+/// Digits that commas group, up to the first comma, which is at `at`.
+#[tactic(auto, unfolding(crate::specs::found::Numbers::thousands))]
+pub(crate) fn thousands<'a>(text: &'a str, at: usize) -> Option<Finding<'a>>
+    ensures { option_map finding_content result ≡ spec.thousands text.now at }
+{
+    let start = start_of(Class::Atom, text, at);
+    let next = ahead(text, at, 1);
+    let group = end_of(Class::Digit, text, next);
+    let other = ahead(text, group, 1);
+    let last = end_of(Class::Digit, text, other);
+    if start == at || end_of(Class::Digit, text, start) != at || group != ahead(text, next, 3) {
+        None
+    } else if byte_at(text, group) == b',' && last == ahead(text, other, 3) {
+        let code = Code {
+            first: part(text, start, at),
+            second: "_",
+            third: part(text, next, group),
+            fourth: "_",
+            fifth: part(text, other, last),
+        };
+        Some(replaced(Mistake::Number(NumberMistake::Thousands), start, last, code))
+    } else {
+        let code = pieces(part(text, start, at), "_", part(text, next, group));
+        Some(replaced(
+            Mistake::Number(NumberMistake::Thousands),
+            start,
+            group,
+            code,
+        ))
+    }
+}

@@ -1,0 +1,315 @@
+//! Characters that begin no token.
+ghost use Rattle.std.specs.Prelude.{◌≡◌, option_map};
+ghost use Rattle.toml_span_report.specs.Finding.{finding_content, meant_content};
+ghost use Rattle.toml_span_report.specs.found.Symbols as spec;
+
+use crate::bytes::{
+    Class, ahead, begins, byte_at, byte_before, byte_behind, end_of, first_of_line, is_last,
+    last_of_line, part, start_of,
+};
+use crate::finding::{
+    Finding, KeyMistake, Meant, Mistake, SymbolMistake, as_meant, marked, mended, pieces, replaced,
+    span_of,
+};
+use crate::mistakes::keys::{comment, header_key, other_key, other_sign};
+use crate::mistakes::values::unquoted_value;
+use crate::scan::{is_in_header, open_before};
+
+/// A character that looks like another one of TOML's: the mistake, its Unicode name, and the other one.
+#[tactic(auto, unfolding(crate::specs::found::Symbols::look_alike))]
+fn look_alike(c: char) -> Option<Meant>
+    ensures { option_map meant_content result ≡ spec.look_alike c }
+{
+    match c as u32 {
+        0xA0 => as_meant(
+            Mistake::Symbol(SymbolMistake::OtherSpace),
+            "NO-BREAK SPACE (U+00A0)",
+            " ",
+        ),
+        0x2009 => as_meant(
+            Mistake::Symbol(SymbolMistake::OtherSpace),
+            "THIN SPACE (U+2009)",
+            " ",
+        ),
+        0x202F => as_meant(
+            Mistake::Symbol(SymbolMistake::OtherSpace),
+            "NARROW NO-BREAK SPACE (U+202F)",
+            " ",
+        ),
+        0x3000 => as_meant(
+            Mistake::Symbol(SymbolMistake::OtherSpace),
+            "IDEOGRAPHIC SPACE (U+3000)",
+            " ",
+        ),
+        0x200B => as_meant(
+            Mistake::Symbol(SymbolMistake::Invisible),
+            "ZERO WIDTH SPACE (U+200B)",
+            "",
+        ),
+        0xFEFF => as_meant(
+            Mistake::Symbol(SymbolMistake::Invisible),
+            "BYTE ORDER MARK (U+FEFF)",
+            "",
+        ),
+        0x2013 => as_meant(
+            Mistake::Symbol(SymbolMistake::OtherSign),
+            "EN DASH (U+2013)",
+            "-",
+        ),
+        0x2014 => as_meant(
+            Mistake::Symbol(SymbolMistake::OtherSign),
+            "EM DASH (U+2014)",
+            "-",
+        ),
+        0x2212 => as_meant(
+            Mistake::Symbol(SymbolMistake::OtherSign),
+            "MINUS SIGN (U+2212)",
+            "-",
+        ),
+        0xFF1D => as_meant(
+            Mistake::Symbol(SymbolMistake::OtherSign),
+            "FULLWIDTH EQUALS SIGN (U+FF1D)",
+            "=",
+        ),
+        0xFF0C => as_meant(
+            Mistake::Symbol(SymbolMistake::OtherSign),
+            "FULLWIDTH COMMA (U+FF0C)",
+            ",",
+        ),
+        _ => None,
+    }
+}
+
+/// The name of a curly quote, or nothing.
+#[tactic(auto, unfolding(crate::specs::found::Symbols::curly_name))]
+fn curly_name(c: char) -> &'static str
+    ensures { result.now ≡ spec.curly_name c }
+{
+    match c as u32 {
+        0x2018 => "LEFT SINGLE QUOTATION MARK (U+2018)",
+        0x2019 => "RIGHT SINGLE QUOTATION MARK (U+2019)",
+        0x201A => "SINGLE LOW-9 QUOTATION MARK (U+201A)",
+        0x201C => "LEFT DOUBLE QUOTATION MARK (U+201C)",
+        0x201D => "RIGHT DOUBLE QUOTATION MARK (U+201D)",
+        0x201E => "DOUBLE LOW-9 QUOTATION MARK (U+201E)",
+        _ => "",
+    }
+}
+
+/// A curly quote of this name, and the string that it begins.
+#[tactic(auto, unfolding(crate::specs::found::Symbols::curly))]
+fn curly<'a>(text: &'a str, at: usize, name: &'static str) -> Finding<'a>
+    ensures { finding_content result ≡ spec.curly text.now at name.now }
+{
+    let content = ahead(text, at, 3);
+    let close = end_of(Class::Straight, text, content);
+    let mut found = marked(
+        Mistake::Symbol(SymbolMistake::CurlyQuotes),
+        at,
+        ahead(text, at, 1),
+    );
+    found.name = name;
+    if begins(text, close, b"\xE2\x80")
+        && end_of(Class::Unquoted, text, content) >= close
+        && end_of(Class::Unescaped, text, content) >= close
+    {
+        found.edit = Some(span_of(at, ahead(text, close, 3)));
+        found.code = pieces("\"", part(text, content, close), "\"");
+    }
+    found
+}
+
+/// A character that is meant as another one.
+#[tactic(auto, unfolding(crate::specs::found::Symbols::other_character))]
+fn other_character<'a>(text: &'a str, at: usize, meant: Meant) -> Finding<'a>
+    ensures { finding_content result ≡ spec.other_character text.now at (meant_content meant) }
+{
+    let end = end_of(Class::Continuation, text, ahead(text, at, 1));
+    let code = pieces(meant.code, "", "");
+    let mut found = replaced(meant.mistake, at, end, code);
+    found.name = meant.name;
+    found
+}
+
+/// A character that looks like another one.
+#[tactic(auto, unfolding(crate::specs::found::Symbols::alike))]
+fn alike<'a>(text: &'a str, at: usize, c: char) -> Option<Finding<'a>>
+    ensures { option_map finding_content result ≡ spec.alike text.now at c }
+{
+    let name = curly_name(c);
+    if !name.is_empty() {
+        return Some(curly(text, at, name));
+    }
+    match look_alike(c) {
+        Some(meant) => Some(other_character(text, at, meant)),
+        None => None,
+    }
+}
+
+/// A semicolon: the end of a line, or a comment.
+#[tactic(auto, unfolding(crate::specs::found::Symbols::semicolon))]
+fn semicolon<'a>(text: &'a str, at: usize) -> Finding<'a>
+    ensures { finding_content result ≡ spec.semicolon text.now at }
+{
+    let end = ahead(text, at, 1);
+    if is_last(text, end) && first_of_line(text, at) != at {
+        replaced(
+            Mistake::Symbol(SymbolMistake::Semicolon),
+            at,
+            end,
+            pieces("", "", ""),
+        )
+    } else {
+        comment(text, at, 1)
+    }
+}
+
+/// A string between backticks.
+#[tactic(auto, unfolding(crate::specs::found::Symbols::backticks))]
+fn backticks<'a>(text: &'a str, at: usize) -> Finding<'a>
+    ensures { finding_content result ≡ spec.backticks text.now at }
+{
+    let content = ahead(text, at, 1);
+    let close = end_of(Class::Unquoted, text, content);
+    if byte_at(text, close) != b'`' || end_of(Class::Unescaped, text, content) < close {
+        return marked(Mistake::Symbol(SymbolMistake::Backticks), at, content);
+    }
+    let code = pieces("\"", part(text, content, close), "\"");
+    replaced(
+        Mistake::Symbol(SymbolMistake::Backticks),
+        at,
+        ahead(text, close, 1),
+        code,
+    )
+}
+
+/// A list in parentheses.
+#[tactic(auto, unfolding(crate::specs::found::Symbols::parentheses))]
+fn parentheses<'a>(text: &'a str, at: usize) -> Finding<'a>
+    ensures { finding_content result ≡ spec.parentheses text.now at }
+{
+    let content = ahead(text, at, 1);
+    let close = end_of(Class::Enclosed, text, content);
+    if byte_at(text, close) != b')' {
+        return marked(Mistake::Symbol(SymbolMistake::Parentheses), at, content);
+    }
+    let code = pieces("[", part(text, content, close), "]");
+    replaced(
+        Mistake::Symbol(SymbolMistake::Parentheses),
+        at,
+        ahead(text, close, 1),
+        code,
+    )
+}
+
+/// What is found at the beginning of a line.
+#[tactic(auto, unfolding(crate::specs::found::Symbols::at_line_start))]
+fn at_line_start<'a>(text: &'a str, at: usize) -> Option<Finding<'a>>
+    ensures { option_map finding_content result ≡ spec.at_line_start text.now at }
+{
+    let end = last_of_line(text, at);
+    if begins(text, at, b"<<<<<<<")
+        || begins(text, at, b">>>>>>>")
+        || begins(text, at, b"|||||||")
+    {
+        return Some(marked(Mistake::Symbol(SymbolMistake::Conflict), at, end));
+    }
+    if begins(text, at, b"<") && byte_at(text, end.saturating_sub(1)) == b'>' {
+        return Some(marked(Mistake::Symbol(SymbolMistake::Markup), at, end));
+    }
+    None
+}
+
+/// A comment or an end of a line as other languages have them.
+#[tactic(auto, unfolding(crate::specs::found::Symbols::foreign))]
+fn foreign<'a>(text: &'a str, at: usize) -> Option<Finding<'a>>
+    ensures { option_map finding_content result ≡ spec.foreign text.now at }
+{
+    if begins(text, at, b"//") {
+        Some(comment(text, at, 2))
+    } else if begins(text, at, b"/*") {
+        Some(marked(
+            Mistake::Symbol(SymbolMistake::BlockComment),
+            at,
+            ahead(text, at, 2),
+        ))
+    } else if begins(text, at, b";") {
+        Some(semicolon(text, at))
+    } else if begins(text, at, b"\r") {
+        Some(marked(
+            Mistake::Symbol(SymbolMistake::LoneReturn),
+            at,
+            ahead(text, at, 1),
+        ))
+    } else {
+        None
+    }
+}
+
+/// A character of a key that needs quotes, or of a value that does.
+#[tactic(auto, unfolding(crate::specs::found::Symbols::unquoted))]
+fn unquoted<'a>(text: &'a str, at: usize, start: usize) -> Option<Finding<'a>>
+    ensures { option_map finding_content result ≡ spec.unquoted text.now at start }
+{
+    let state = open_before(text, at);
+    if is_in_header(text, state) {
+        return header_key(text, at);
+    }
+    match other_key(text, at) {
+        Some(found) => Some(found),
+        None if state.depth > 0 => Some(unquoted_value(text, start)),
+        None => None,
+    }
+}
+
+/// A character after `=`, which begins or continues a value.
+#[tactic(auto, unfolding(crate::specs::found::Symbols::value))]
+fn value<'a>(text: &'a str, at: usize, start: usize) -> Option<Finding<'a>>
+    ensures { option_map finding_content result ≡ spec.value text.now at start }
+{
+    match byte_at(text, at) {
+        b'>' if start == at && byte_at(text, at.saturating_sub(1)) == b'=' => {
+            let from = at.saturating_sub(1);
+            Some(other_sign(
+                Mistake::Key(KeyMistake::Equals),
+                text,
+                from,
+                ahead(text, at, 1),
+            ))
+        }
+        b'|' | b'>' => None,
+        b'\r' => Some(marked(
+            Mistake::Symbol(SymbolMistake::LoneReturn),
+            at,
+            ahead(text, at, 1),
+        )),
+        b'/' if start < at && begins(text, at, b"//") => Some(comment(text, at, 2)),
+        b';' if is_last(text, ahead(text, at, 1)) => Some(semicolon(text, at)),
+        b'`' => Some(backticks(text, at)),
+        b'(' => Some(parentheses(text, at)),
+        _ => Some(unquoted_value(text, start)),
+    }
+}
+
+/// A character that begins no token.
+#[tactic(auto, unfolding(crate::specs::found::Symbols::unexpected))]
+pub(crate) fn unexpected<'a>(text: &'a str, at: usize, c: char) -> Option<Finding<'a>>
+    ensures { option_map finding_content result ≡ spec.unexpected text.now at c }
+{
+    if let Some(found) = alike(text, at, c) {
+        return Some(found);
+    }
+    let start = start_of(Class::Atom, text, at);
+    if byte_before(text, start) == b'=' {
+        return value(text, at, start);
+    }
+    if first_of_line(text, at) == at {
+        if let Some(found) = at_line_start(text, at) {
+            return Some(found);
+        }
+    }
+    match foreign(text, at) {
+        Some(found) => Some(found),
+        None => unquoted(text, at, start),
+    }
+}

@@ -1,0 +1,124 @@
+//! Words in the place of values.
+ghost use Rattle.std.specs.Prelude.{◌≡◌, option_map};
+ghost use Rattle.toml_span_report.specs.Finding.{finding_content, meant_content};
+ghost use Rattle.toml_span_report.specs.found.Values as spec;
+
+use crate::bytes::{Class, ahead, byte_at, byte_behind, end_of, part, start_of};
+use crate::finding::{
+    Finding, Meant, Mistake, ValueMistake, as_meant, marked, pieces, quoted, replaced,
+};
+
+/// What TOML has for a word of other languages: the mistake, and the code to write.
+#[tactic(auto, unfolding(crate::specs::found::Values::known_word))]
+fn known_word(word: &str) -> Option<Meant>
+    ensures { option_map meant_content result ≡ spec.known_word word.now }
+{
+    match word {
+        "True" | "TRUE" => as_meant(Mistake::Value(ValueMistake::UpperBoolean), "", "true"),
+        "False" | "FALSE" => as_meant(Mistake::Value(ValueMistake::UpperBoolean), "", "false"),
+        "yes" | "Yes" | "YES" | "on" | "On" | "ON" => as_meant(
+            Mistake::Value(ValueMistake::OtherBoolean),
+            "",
+            "true",
+        ),
+        "no" | "No" | "NO" | "off" | "Off" | "OFF" => as_meant(
+            Mistake::Value(ValueMistake::OtherBoolean),
+            "",
+            "false",
+        ),
+        "null" | "Null" | "NULL" | "None" | "nil" | "undefined" => as_meant(
+            Mistake::Value(ValueMistake::Null),
+            "",
+            "",
+        ),
+        "NaN" | "NAN" | "Nan" => as_meant(Mistake::Value(ValueMistake::OtherFloat), "", "nan"),
+        "Infinity" | "infinity" | "Inf" | "INF" => as_meant(
+            Mistake::Value(ValueMistake::OtherFloat),
+            "",
+            "inf",
+        ),
+        _ => None,
+    }
+}
+
+/// Where words end that may be meant as one string: with the last of them, if a comment, the line, a comma or a closing
+/// bracket is next, or else with the first, whose end is given.
+#[tactic(auto, unfolding(crate::specs::found::Values::phrase_end))]
+pub(crate) fn phrase_end(text: &str, at: usize, end: usize) -> usize
+    ensures { result ≡ spec.phrase_end text.now at end }
+{
+    let far = end_of(Class::Phrase, text, at);
+    match byte_at(text, far) {
+        0 | b'\n' | b'\r' | b'#' | b',' | b']' | b'}' => start_of(Class::Blank, text, far).max(end),
+        _ => end,
+    }
+}
+
+/// A value that needs quotes.
+#[tactic(auto, unfolding(crate::specs::found::Values::unquoted_value))]
+pub(crate) fn unquoted_value<'a>(text: &'a str, at: usize) -> Finding<'a>
+    ensures { finding_content result ≡ spec.unquoted_value text.now at }
+{
+    let end = end_of(Class::Word, text, at);
+    match byte_behind(text, end) {
+        b'"' | b'\'' => marked(Mistake::Value(ValueMistake::UnquotedText), at, end),
+        _ => quoted(
+            Mistake::Value(ValueMistake::Unquoted),
+            text,
+            at,
+            phrase_end(text, at, end),
+        ),
+    }
+}
+
+/// A string with a prefix, as other languages have them, whose quote is at `quote`.
+#[tactic(auto, unfolding(crate::specs::found::Values::prefixed))]
+fn prefixed<'a>(text: &'a str, at: usize, quote: usize) -> Finding<'a>
+    ensures { finding_content result ≡ spec.prefixed text.now at quote }
+{
+    let close = end_of(Class::Unquoted, text, ahead(text, quote, 1));
+    let content = part(text, ahead(text, quote, 1), close);
+    if byte_at(text, close) != byte_at(text, quote) || content.is_empty() {
+        marked(Mistake::Value(ValueMistake::UnquotedText), at, quote)
+    } else if matches!(byte_at(text, at), b'r' | b'R') {
+        replaced(
+            Mistake::Value(ValueMistake::RawString),
+            at,
+            ahead(text, close, 1),
+            pieces("'", content, "'"),
+        )
+    } else {
+        replaced(
+            Mistake::Value(ValueMistake::Prefixed),
+            at,
+            ahead(text, close, 1),
+            pieces(part(text, quote, ahead(text, close, 1)), "", ""),
+        )
+    }
+}
+
+/// A word of other languages in the place of a value.
+fn known_value<'a>(at: usize, end: usize, known: Meant) -> Finding<'a>
+    ensures { finding_content result ≡ spec.known_value at end (meant_content known) }
+{
+    if known.code.is_empty() {
+        marked(known.mistake, at, end)
+    } else {
+        replaced(known.mistake, at, end, pieces(known.code, "", ""))
+    }
+}
+
+/// A word in the place of a value.
+#[tactic(auto, unfolding(crate::specs::found::Values::unquoted))]
+pub(crate) fn unquoted<'a>(text: &'a str, at: usize) -> Finding<'a>
+    ensures { finding_content result ≡ spec.unquoted text.now at }
+{
+    let end = end_of(Class::Word, text, at);
+    if end <= ahead(text, at, 2) && matches!(byte_at(text, end), b'"' | b'\'') {
+        return prefixed(text, at, end);
+    }
+    match known_word(part(text, at, end)) {
+        Some(known) => known_value(at, end, known),
+        None => unquoted_value(text, at),
+    }
+}

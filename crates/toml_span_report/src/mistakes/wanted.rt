@@ -1,0 +1,220 @@
+//! Tokens, and values of a read, that are others than those expected.
+ghost use Rattle.std.specs.Prelude.{◌≡◌, option_map};
+ghost use Rattle.toml_span_report.specs.Finding.{finding_content};
+ghost use Rattle.toml_span_report.specs.found.Wanted as spec;
+
+use crate::bytes::{
+    Class, ahead, byte_at, byte_before, byte_behind, end_of, first_of_line, is_in, is_last,
+    last_of_line, part, start_of,
+};
+use crate::finding::{
+    Finding, LineMistake, ListMistake, Mistake, ValueMistake, marked, mended, pieces, quoted,
+    replaced, span_of,
+};
+use crate::mistakes::keys::{extra, no_equals, no_key};
+use crate::mistakes::lists::{no_bracket, no_comma, no_value, open_end};
+use crate::mistakes::numbers::thousands;
+use crate::mistakes::strings::quote_in_string;
+use crate::mistakes::values::unquoted_value;
+use toml_span_lex::span::Span;
+
+/// A key that needs a line of its own, in place of what is before it from an offset on.
+fn broken<'a>(mistake: Mistake, text: &'a str, from: usize, at: usize) -> Finding<'a>
+    ensures { finding_content result ≡ spec.broken mistake text.now from at }
+{
+    let mark = span_of(at, end_of(Class::Dotted, text, at));
+    mended(mistake, mark, span_of(from, at), pieces("\n", "", ""))
+}
+
+/// A comma behind a value, on its line.
+#[tactic(auto, unfolding(crate::specs::found::Wanted::comma))]
+fn comma<'a>(text: &'a str, at: usize) -> Finding<'a>
+    ensures { finding_content result ≡ spec.comma text.now at }
+{
+    let end = ahead(text, at, 1);
+    if let Some(found) = thousands(text, at) {
+        return found;
+    }
+    if is_last(text, end) || byte_behind(text, end) == b'#' {
+        replaced(
+            Mistake::Line(LineMistake::LastComma),
+            at,
+            end,
+            pieces("", "", ""),
+        )
+    } else {
+        broken(
+            Mistake::Line(LineMistake::SecondKey),
+            text,
+            at,
+            end_of(Class::Blank, text, end),
+        )
+    }
+}
+
+/// A value behind a header, whose equals sign is at `at`.
+#[tactic(auto, unfolding(crate::specs::found::Wanted::header_value))]
+fn header_value<'a>(text: &'a str, line: usize, at: usize) -> Finding<'a>
+    ensures { finding_content result ≡ spec.header_value text.now line at }
+{
+    let stop = start_of(Class::Blank, text, at).saturating_sub(1);
+    let last = last_of_line(text, at);
+    let name = part(text, ahead(text, line, 1), stop);
+    let code = pieces(name, " ", part(text, at, last));
+    replaced(Mistake::Line(LineMistake::ValueOfHeader), line, last, code)
+}
+
+/// A header behind which there is more, on its line.
+#[tactic(auto, unfolding(crate::specs::found::Wanted::behind_header))]
+fn behind_header<'a>(found: &str, text: &'a str, line: usize, at: usize) -> Option<Finding<'a>>
+    ensures { option_map finding_content result ≡ spec.behind_header found.now text.now line at }
+{
+    let end = ahead(text, at, 1);
+    let from = start_of(Class::Blank, text, at);
+    let mistake = Mistake::Line(LineMistake::KeyAfterHeader);
+    match found {
+        "a right bracket" => Some(extra(Mistake::List(ListMistake::HeaderBracket), text, at)),
+        "an equals" => Some(header_value(text, line, at)),
+        "an identifier" | "a string" => Some(broken(mistake, text, from, at)),
+        _ => Some(marked(Mistake::Line(LineMistake::AfterValue), at, end)),
+    }
+}
+
+/// Whether a word follows a time in other notations.
+fn is_half_day(word: &str) -> bool
+    ensures { result ≡ spec.is_half_day word.now }
+{
+    matches!(word, "AM" | "PM" | "am" | "pm")
+}
+
+/// Whether a word is a name of the offset that TOML writes as `Z`.
+fn is_zone(word: &str) -> bool
+    ensures { result ≡ spec.is_zone word.now }
+{
+    matches!(word, "UTC" | "GMT")
+}
+
+/// The name of an offset behind a date and time.
+#[tactic(auto, unfolding(crate::specs::found::Wanted::zone))]
+fn zone<'a>(text: &'a str, at: usize, end: usize) -> Finding<'a>
+    ensures { finding_content result ≡ spec.zone text.now at end }
+{
+    let before = start_of(Class::Blank, text, at);
+    let start = start_of(Class::Atom, text, before);
+    let code = pieces(part(text, start, before), "Z", "");
+    mended(
+        Mistake::Line(LineMistake::ZoneName),
+        span_of(at, end),
+        span_of(start, end),
+        code,
+    )
+}
+
+/// A word behind a value, on its line.
+#[tactic(auto, unfolding(crate::specs::found::Wanted::word_behind))]
+fn word_behind<'a>(text: &'a str, at: usize) -> Finding<'a>
+    ensures { finding_content result ≡ spec.word_behind text.now at }
+{
+    let end = end_of(Class::Word, text, at);
+    let is_time = is_in(Class::Digit, byte_before(text, at));
+    let word = part(text, at, end);
+    if is_time && is_half_day(word) {
+        return marked(Mistake::Line(LineMistake::HalfDay), at, end);
+    }
+    if is_time && is_zone(word) {
+        return zone(text, at, end);
+    }
+    if byte_behind(text, end_of(Class::Dotted, text, at)) == b'=' {
+        return broken(
+            Mistake::Line(LineMistake::SecondKey),
+            text,
+            start_of(Class::Blank, text, at),
+            at,
+        );
+    }
+    marked(Mistake::Line(LineMistake::AfterValue), at, end)
+}
+
+/// What is found behind a value, on its line.
+#[tactic(auto, unfolding(crate::specs::found::Wanted::behind_value))]
+fn behind_value<'a>(found: &str, text: &'a str, at: usize) -> Option<Finding<'a>>
+    ensures { option_map finding_content result ≡ spec.behind_value found.now text.now at }
+{
+    let is_string = matches!(byte_before(text, at), b'"' | b'\'');
+    let start = start_of(Class::Atom, text, at);
+    match found {
+        "a comma" => Some(comma(text, at)),
+        "a right bracket" | "a right brace" => Some(replaced(
+            Mistake::List(ListMistake::ExtraClosing),
+            at,
+            ahead(text, at, 1),
+            pieces("", "", ""),
+        )),
+        "a plus" if is_string => Some(marked(
+            Mistake::Line(LineMistake::Joined),
+            at,
+            ahead(text, at, 1),
+        )),
+        "a period" | "a colon" | "a plus" if start < at => Some(unquoted_value(text, start)),
+        "an identifier" | "a string" if is_string => quote_in_string(text, at),
+        "an identifier" => Some(word_behind(text, at)),
+        _ => Some(marked(
+            Mistake::Line(LineMistake::AfterValue),
+            at,
+            ahead(text, at, 1),
+        )),
+    }
+}
+
+/// What is found where a line should end.
+#[tactic(auto, unfolding(crate::specs::found::Wanted::no_newline))]
+fn no_newline<'a>(found: &str, text: &'a str, at: usize) -> Option<Finding<'a>>
+    ensures { option_map finding_content result ≡ spec.no_newline found.now text.now at }
+{
+    let line = first_of_line(text, at);
+    if byte_at(text, line) == b'[' && byte_before(text, at) == b']' {
+        behind_header(found, text, line, at)
+    } else {
+        behind_value(found, text, at)
+    }
+}
+
+/// Another token, or in a read another kind of value, than the expected one.
+#[tactic(auto, unfolding(crate::specs::found::Wanted::wanted))]
+pub(crate) fn wanted<'a>(
+    expected: &str,
+    found: &str,
+    text: &'a str,
+    span: Span,
+) -> Option<Finding<'a>>
+    ensures { option_map finding_content result ≡ spec.wanted expected.now found.now text.now span }
+{
+    match expected {
+        "a value" => no_value(found, text, span.start),
+        "an equals" => no_equals(found, text, span.start),
+        "a table key" if found == "eof" => open_end(text, span.start),
+        "a table key" => no_key(found, text, span.start),
+        "newline" => no_newline(found, text, span.start),
+        "a right bracket" => no_bracket(found, text, span.start),
+        "a comma" => no_comma(found, text, span.start),
+        _ => other_kind(expected, found, text, span),
+    }
+}
+
+/// Another kind of value than the one that a read expects, where it is easily mended.
+#[tactic(auto, unfolding(crate::specs::found::Wanted::other_kind))]
+fn other_kind<'a>(expected: &str, found: &str, text: &'a str, span: Span) -> Option<Finding<'a>>
+    ensures { option_map finding_content result ≡ spec.other_kind expected.now found.now text.now span }
+{
+    let (from, to) = (span.start, span.end);
+    match found {
+        "integer" if expected == "a float" && end_of(Class::Number, text, from) == to => {
+            let code = pieces(part(text, from, to), ".0", "");
+            Some(replaced(Mistake::Value(ValueMistake::FloatDue), from, to, code))
+        }
+        "integer" | "float" | "boolean" if expected == "a string" => {
+            Some(quoted(Mistake::Value(ValueMistake::StringDue), text, from, to))
+        }
+        _ => None,
+    }
+}

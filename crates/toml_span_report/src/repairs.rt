@@ -1,0 +1,123 @@
+//! The parts of a report on a mistake that was found.
+ghost use Rattle.std.specs.Prelude.{◌≡◌, ◌++◌, IfOk, OnOk, map, string_bytes};
+ghost use Rattle.toml_span_tree.specs.Diagnostic.{label_content};
+ghost use Rattle.toml_span_report.specs.Repairs as spec;
+ghost use Rattle.toml_span_report.specs.Finding.{code_content, finding_content};
+ghost use Rattle.toml_span_report.specs.Report.{repair_of};
+
+use crate::finding::{Code, Finding};
+use crate::report::Replacement;
+use crate::visible::push_visible;
+use crate::words::words_for;
+use std::alloc::{AllocError, Global};
+use toml_span_lex::span::Span;
+use toml_span_tree::Label;
+
+/// The text of code.
+#[tactic(auto, unfolding(crate::specs::Repairs::code_text))]
+fn code_text(alloc: Global, code: Code<'_>) -> Result<String, AllocError>
+    ensures { IfOk result (λ text. string_bytes text ≡ spec.code_text (code_content code.entry)) }
+{
+    let mut text = String::from_str(alloc, code.first)?;
+    text.push_str(code.second)?;
+    text.push_str(code.third)?;
+    text.push_str(code.fourth)?;
+    text.push_str(code.fifth)?;
+    Ok(text)
+}
+
+/// Adds the code to write behind a joint, if there are both.
+fn push_code(out: &mut String, joint: &str, code: &str) -> Result<(), AllocError>
+    ensures { OnOk result (string_bytes out.new ≡ string_bytes out.old ++ spec.code_shown joint.now code.now) }
+{
+    if joint.is_empty() || code.is_empty() {
+        return Ok(());
+    }
+    out.push_str(joint)?;
+    out.push_str("`")?;
+    push_visible(out, code)?;
+    out.push_str("`")
+}
+
+/// A line of help, with the code to write where there is a joint.
+fn help_line(alloc: Global, help: &str, joint: &str, code: &str) -> Result<String, AllocError>
+    ensures { IfOk result (λ line. string_bytes line ≡ spec.help_line help.now joint.now code.now) }
+{
+    let mut line = String::from_str(alloc, help)?;
+    push_code(&mut line, joint, code)?;
+    Ok(line)
+}
+
+/// How a mistake is mended.
+pub(crate) fn finding_help(alloc: Global, finding: Finding<'_>) -> Result<Vec<String>, AllocError>
+    ensures { IfOk result (λ help. map string_bytes help.items ≡ spec.help (finding_content finding.entry)) }
+{
+    let words = words_for(finding.mistake);
+    let mut help = Vec::new(alloc);
+    if words.help.is_empty() {
+        return Ok(help);
+    }
+    let code = code_text(alloc, finding.code)?;
+    help.push(help_line(alloc, words.help, words.joint, code.as_str())?)?;
+    Ok(help)
+}
+
+/// Adds a label.
+fn push_label(
+    alloc: Global,
+    labels: &mut Vec<Label<()>>,
+    primary: bool,
+    span: Span,
+    text: &str,
+) -> Result<(), AllocError>
+    ensures { OnOk result (map label_content labels.new.items
+        ≡ map label_content labels.old.items ++ spec.label primary span text.now) }
+{
+    labels.push(Label {
+        primary,
+        file: (),
+        span,
+        message: String::from_str(alloc, text)?,
+    })?;
+    Ok(())
+}
+
+/// What is marked of a mistake.
+pub(crate) fn finding_labels(
+    alloc: Global,
+    finding: Finding<'_>,
+) -> Result<Vec<Label<()>>, AllocError>
+    ensures { IfOk result (λ labels. map label_content labels.items ≡ spec.labels (finding_content finding.entry)) }
+{
+    let words = words_for(finding.mistake);
+    let mut labels = Vec::new(alloc);
+    if !words.also.is_empty() {
+        push_label(alloc, &mut labels, false, finding.also, words.also)?;
+    }
+    let text = if finding.name.is_empty() {
+        words.label
+    } else {
+        finding.name
+    };
+    push_label(alloc, &mut labels, true, finding.mark, text)?;
+    Ok(labels)
+}
+
+/// The replacement that mends a mistake, if there is one.
+pub(crate) fn finding_repairs(
+    alloc: Global,
+    finding: Finding<'_>,
+) -> Result<Vec<Replacement>, AllocError>
+    ensures { IfOk result (λ made. map repair_of made.items ≡ spec.repairs (finding_content finding.entry)) }
+{
+    let mut repairs = Vec::new(alloc);
+    let Some(span) = finding.edit else {
+        return Ok(repairs);
+    };
+    repairs.push(Replacement {
+        span,
+        text: code_text(alloc, finding.code)?,
+        is_safe: words_for(finding.mistake).is_safe,
+    })?;
+    Ok(repairs)
+}

@@ -1,0 +1,116 @@
+//! What is open before an offset of a text: brackets, and a string.
+ghost use Rattle.std.specs.Prelude.{◌≡◌};
+ghost use Rattle.toml_span_report.specs.Scan as spec;
+
+use crate::bytes::{ahead, begins, byte_at, first_of_line};
+
+/// What is open before an offset, of a text that is valid TOML up to there.
+#[derive(Clone, Copy)]
+pub(crate) struct Open {
+    /// The number of open brackets and braces.
+    pub(crate) depth: usize,
+    /// The offset of the outermost one, if there is one.
+    pub(crate) bracket: usize,
+    /// The quote of the open string, `#` in a comment, or 0.
+    pub(crate) quote: u8,
+    /// The offset of the last string's first quote.
+    pub(crate) string: usize,
+    /// Whether that has three quotes on each side.
+    pub(crate) is_long: bool,
+    /// The number of bytes that belong to the one before.
+    pub(crate) skip: usize,
+}
+
+/// Whether there are three quotes at an offset.
+pub(crate) fn is_long(text: &str, at: usize) -> bool
+    ensures { result ≡ spec.is_long text.now at }
+{
+    begins(text, at, b"\"\"\"") || begins(text, at, b"'''")
+}
+
+/// What is open after a byte outside of strings and comments.
+fn outside(text: &str, state: Open, at: usize) -> Open
+    ensures { result ≡ spec.outside text.now state at }
+{
+    let mut next = state;
+    match byte_at(text, at) {
+        b'#' => next.quote = b'#',
+        b'"' | b'\'' => {
+            next.quote = byte_at(text, at);
+            next.string = at;
+            next.is_long = is_long(text, at);
+            next.skip = if is_long(text, at) { 2 } else { 0 };
+        }
+        b'[' | b'{' => {
+            next.bracket = if state.depth == 0 { at } else { state.bracket };
+            next.depth = ahead(text, state.depth, 1);
+        }
+        b']' | b'}' => next.depth = state.depth.saturating_sub(1),
+        _ => (),
+    }
+    next
+}
+
+/// What is open after a byte of a string.
+fn inside(text: &str, state: Open, at: usize) -> Open
+    ensures { result ≡ spec.inside text.now state at }
+{
+    let mut next = state;
+    let byte = byte_at(text, at);
+    if byte == b'\\' && state.quote == b'"' {
+        next.skip = 1;
+    } else if byte == state.quote && !state.is_long {
+        next.quote = 0;
+    } else if byte == state.quote && is_long(text, at) {
+        if byte_at(text, ahead(text, at, 3)) != byte {
+            next.quote = 0;
+            next.skip = 2;
+        }
+    }
+    next
+}
+
+/// What is open after one more byte.
+#[tactic(auto, unfolding(crate::specs::Scan::step))]
+fn step(text: &str, state: Open, at: usize) -> Open
+    ensures { result ≡ spec.step text.now state at }
+{
+    let mut next = state;
+    if state.skip > 0 {
+        next.skip = state.skip - 1;
+        next
+    } else if state.quote == 0 {
+        outside(text, state, at)
+    } else if state.quote == b'#' {
+        next.quote = if byte_at(text, at) == b'\n' { 0 } else { b'#' };
+        next
+    } else {
+        inside(text, state, at)
+    }
+}
+
+/// What is open before an offset. Takes time in proportion to it.
+#[tactic(auto, unfolding(crate::specs::Scan::scanned))]
+pub(crate) fn open_before(text: &str, at: usize) -> Open
+    ensures { result ≡ spec.open_before text.now at }
+{
+    let mut state = Open {
+        depth: 0,
+        bracket: 0,
+        quote: 0,
+        string: 0,
+        is_long: false,
+        skip: 0,
+    };
+    for i in 0..at.min(text.len()) {
+        state = step(text, state, i);
+    }
+    state
+}
+
+/// Whether the outermost bracket is that of a table header, which begins its line.
+pub(crate) fn is_in_header(text: &str, state: Open) -> bool
+    ensures { result ≡ spec.is_in_header text.now state }
+{
+    state.depth > 0 && first_of_line(text, state.bracket) == state.bracket
+}
