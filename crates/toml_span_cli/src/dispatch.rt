@@ -1,7 +1,5 @@
 //! Which command the arguments ask for.
-ghost use Rattle.std.specs.Prelude.{◌≡◌, ◌∷◌, ℕ, List, None, Some, false, map, string_bytes};
-ghost use Rattle.toml_span_cli.specs.Commands as spec;
-ghost use Rattle.toml_span_cli.specs.Commands.{Dispatches, IsCommand, Performs};
+ghost use Rattle.std.specs.Prelude.{◌≡◌, false};
 
 use crate::commands::{Command, NAMES, command_named, help_of};
 use crate::edit::{edit, edit_help, is_help};
@@ -51,11 +49,7 @@ fn other_request<'w>(rt: &HostRuntime, words: &'w [String], word: &'w str) -> Re
 }
 
 /// Returns what the words of the command line ask for. The first one is the program's name.
-fn request_of<'w>(rt: &HostRuntime, words: &'w [String]) -> Request<'w>
-    ensures { (program name : List ℕ) (rest : List (List ℕ)) (command : Command)
-        → map (λ w. string_bytes w) words.entry.now ≡ program ∷ name ∷ rest → spec.command_named name ≡ Some command
-        → IsCommand command (name ∷ rest) result }
-{
+fn request_of<'w>(rt: &HostRuntime, words: &'w [String]) -> Request<'w> {
     let [_, rest @ ..] = words else {
         return Request::Nothing;
     };
@@ -127,10 +121,6 @@ fn perform<O: Sink, E: Sink>(
 ) -> Result<u8, AllocError>
     requires out { O.failed out.old ≡ false }
     requires errors { E.failed errors.old ≡ false }
-    ensures { Performs command (map (λ w. string_bytes w) words.now) is_coloured
-        None None
-        (O.contents out.old) (O.contents out.new) (O.failed out.new)
-        (E.contents errors.old) (E.contents errors.new) (E.failed errors.new) result }
 {
     match command {
         Command::Check => Ok(start(alloc, Reader::Check, words, is_coloured, host, out, errors)),
@@ -156,10 +146,6 @@ pub(crate) fn dispatch<O: Sink, E: Sink>(
 ) -> Result<u8, AllocError>
     requires out { O.failed out.old ≡ false }
     requires errors { E.failed errors.old ≡ false }
-    ensures { Dispatches (map (λ w. string_bytes w) words.now) is_coloured
-        None None
-        (O.contents out.old) (O.contents out.new) (O.failed out.new)
-        (E.contents errors.old) (E.contents errors.new) (E.failed errors.new) result }
 {
     match request_of(&host.rt, words) {
         Request::Nothing => Ok(say(errors, HELP, 2)),
