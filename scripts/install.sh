@@ -133,8 +133,7 @@ for name, it in pages.items():
     lines += [*map(roff, it.usage), ".fi", ".SH DESCRIPTION", roff(it.summary)]
     for kind, block in it.blocks:
         if kind in ("text", "example"):
-            fill = [".nf"] * (kind == "example"), [".fi"] * (kind == "example")
-            lines += [".PP", *fill[0], *map(roff, block), *fill[1]]
+            lines += [".PP", *[".nf"] * (kind == "example"), *map(roff, block), ".fi"]
         else:
             lines += [f".SH {kind.upper()}", *listed(block)]
     others = ", ".join(f"\\fB{roff(other)}\\fR(1)" for other in pages if other != name)
