@@ -75,6 +75,7 @@ offers() { # WORD..: what bash completes the last one to
 }
 debian() { # COMMAND..: installs the package in the folder root, runs the command, and removes the package
     local dpkg=(dpkg --root="$work/root" --force-not-root --force-script-chrootless --log=/dev/null)
+    if [ "$(id -u)" -ne 0 ]; then dpkg=(unshare -r "${dpkg[@]}"); fi
     mkdir -p root/var/lib/dpkg/{info,updates,triggers} && touch root/var/lib/dpkg/{status,available}
     "${dpkg[@]}" -i packages/*.deb && "$@" && "${dpkg[@]}" -P toml-span && [ ! -e root/usr/bin/toml-span ]
 }
@@ -126,7 +127,7 @@ the proved build serves|8||fresh; echo 'int main(void) { return 8; }' | object &
 but not if the sources are newer|0||touch -d '+1 hour' "$crate/src/main.rt"; cli
 no such program|5|no program of this repository is named \$'x\\E'|native $'x\e'
 install.sh in a relative folder with a blank|1|built without proofs, statically linked|fresh; install 'a b' && 'a b/bin/toml-span' x
---uninstall leaves nothing|0|removed .*/a b/share/man/man1/toml-span-check.1|install --uninstall 'a b' && [ -z "$(ls -A 'a b')" ]
+--uninstall leaves no file|0|removed .*/a b/share/man/man1/toml-span-check.1|install --uninstall 'a b' && [ -z "$(find 'a b' -type f)" ]
 by default in HOME/.local, which is not on PATH|0|/.local/bin is not on PATH|install
 the program's help makes a man page|0|^ *toml-span check FILE|install prefix && man -l prefix/share/man/man1/toml-span-check.1
 and completions: of a command|0|^help$|offers he
