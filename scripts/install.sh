@@ -7,8 +7,7 @@
 # was installed is listed.
 #
 # All files are made first, in a folder below PREFIX, and the program is tried there. Then each is moved to its place.
-# So if something fails, each file is the one from before or the new one. --uninstall removes these files, and the
-# folders below PREFIX that are empty then.
+# So if something fails, each file is the one from before or the new one. --uninstall removes these files.
 #
 # Status: 0 done, 2 wrong arguments, 3 PREFIX can't be written or has nothing to uninstall, 5 the program can't be
 # built, 130 interrupted.
@@ -39,7 +38,6 @@ if [ -n "$uninstall" ]; then
     if [ ${#installed[@]} -eq 0 ]; then fail 3 "toml-span is not installed in ${prefix@Q}"; fi
     for file in "${installed[@]}"; do
         rm -f -- "$file" || fail 3 "$file in ${prefix@Q} can't be removed"
-        rmdir -p --ignore-fail-on-non-empty -- "${file%/*}" || true
         echo "removed $prefix/$file"
     done
     exit
@@ -133,8 +131,7 @@ for name, it in pages.items():
     lines += [*map(roff, it.usage), ".fi", ".SH DESCRIPTION", roff(it.summary)]
     for kind, block in it.blocks:
         if kind in ("text", "example"):
-            fill = [".nf"] * (kind == "example"), [".fi"] * (kind == "example")
-            lines += [".PP", *fill[0], *map(roff, block), *fill[1]]
+            lines += [".PP", *[".nf"] * (kind == "example"), *map(roff, block), ".fi"]
         else:
             lines += [f".SH {kind.upper()}", *listed(block)]
     others = ", ".join(f"\\fB{roff(other)}\\fR(1)" for other in pages if other != name)

@@ -43,20 +43,18 @@ if [[ $said != *"statically linked)" ]]; then
 fi
 version=$("$root/usr/bin/toml-span" --version | grep -oE '[0-9]+(\.[0-9]+)+' | head -n 1)
 name=toml-span-$version-x86_64-linux
+mkdir -p -- "$root/DEBIAN" "$root/usr/share/doc/toml-span"
+{
+    echo "toml-span is licensed under MIT OR Apache-2.0, whose texts follow. The program contains parts of the"
+    echo "GNU C Library, which is licensed under LGPL-2.1-or-later (https://www.gnu.org/licenses)."
+    cat -- "$top/LICENSE-MIT" "$top/LICENSE-APACHE"
+} >"$root/usr/share/doc/toml-span/copyright"
 cp -R -- "$root/usr" "$work/$name"
-cp -- "$top"/LICENSE-* "$work/$name"
 tar --sort=name --format=gnu --owner=0 --group=0 --numeric-owner --mtime="@$SOURCE_DATE_EPOCH" -C "$work" -c "$name" |
     gzip -9n >"$work/$name.tar.gz"
 
 mv -- "$root/usr/share/zsh/site-functions" "$root/usr/share/zsh/vendor-completions"
 gzip -9n "$root"/usr/share/man/man1/*
-mkdir -p -- "$root/DEBIAN" "$root/usr/share/doc/toml-span"
-{
-    echo "Licensed under MIT OR Apache-2.0; the latter is in /usr/share/common-licenses/Apache-2.0."
-    echo "The program contains parts of the GNU C Library, which is licensed under LGPL-2.1-or-later."
-    echo
-    cat -- "$top/LICENSE-MIT"
-} >"$root/usr/share/doc/toml-span/copyright"
 size=$(find "$root/usr" -type f -printf '%s\n' | awk '{ bytes += $1 } END { print int((bytes + 1023) / 1024) }')
 cat >"$root/DEBIAN/control" <<END
 Package: toml-span

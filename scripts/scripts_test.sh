@@ -33,13 +33,14 @@ esac
 cp src/main.rt "$TMPDIR/module.c"
 "$(dirname "$(dirname "$0")")/toolchain/bin/clang" -c "$TMPDIR/module.c" -o "$TMPDIR/module.o" -O0 -fsanitize=address
 SCRIPT
-# shellcheck disable=SC2016 # (scripts)
-{
-    printf '%s\n' '#!/usr/bin/env bash' 'if [ "${FAULT-}" = clang ]; then echo "clang: out of luck" >&2 && exit 1; fi' \
-        'for word; do case $word in -[Xmf]*) ;; *) words+=("$word") ;; esac done' 'exec cc "${words[@]}"' >&8
-    printf '%s\n' '#!/usr/bin/env bash' 'if [ "${FAULT-}" = link ]; then echo "ld: out of luck" >&2 && exit 1; fi' \
-        'exec cc "${@:5}"' >&9
-} 8>"$work/kit/toolchain/bin/clang" 9>"$work/kit/bin/rattle-link"
+cat >"$work/kit/bin/rattle-link" <<'SCRIPT'
+#!/usr/bin/env bash
+if [ "${FAULT-}" = "${0##*/}" ]; then echo "${0##*/}: out of luck" >&2 && exit 1; fi
+if [ "$1" = --target ]; then shift 4; fi
+for word; do case $word in -[Xmf]*) ;; *) words+=("$word") ;; esac done
+exec cc "${words[@]}"
+SCRIPT
+cp "$work/kit/bin/rattle-link" "$work/kit/toolchain/bin/clang"
 chmod +x "$work"/kit/bin/* "$work/kit/toolchain/bin/clang"
 
 # fresh: a new repository with a program that prints its arguments
@@ -74,6 +75,7 @@ offers() { # WORD..: what bash completes the last one to
 }
 debian() { # COMMAND..: installs the package in the folder root, runs the command, and removes the package
     local dpkg=(dpkg --root="$work/root" --force-not-root --force-script-chrootless --log=/dev/null)
+    if [ "$(id -u)" -ne 0 ]; then dpkg=(unshare -r "${dpkg[@]}"); fi
     mkdir -p root/var/lib/dpkg/{info,updates,triggers} && touch root/var/lib/dpkg/{status,available}
     "${dpkg[@]}" -i packages/*.deb && "$@" && "${dpkg[@]}" -P toml-span && [ ! -e root/usr/bin/toml-span ]
 }
@@ -111,11 +113,11 @@ or dynamically, without another build|0|dynamically|file "$(native toml_span_cli
 other sources make another build|0||echo 'int main(void) { return 0; }' >"$crate/src/main.rt"; cli && tries 2
 without the toolchain a build that is kept serves|0||PATH=$work/bare cli
 another version of the toolchain makes another build|0||echo kit 2 >kit/KIT-ID; cli && tries 3
-no toolchain|5|toolchain's command rt is missing: add it to PATH|fresh; PATH=$work/bare cli
+no toolchain|5|command rt of Rattle's toolchain is not on PATH: add it|fresh; PATH=$work/bare cli
 sources that are refused|5|correct what `rt try` reports above|FAULT=refused cli
 a compiler that fails|5|^clang: out of luck$|FAULT=clang cli
 a toolchain that works differently|5|make the proved build with `rt run`|FAULT=nothing cli
-a linker that fails|5|^ld: out of luck$|FAULT=link native toml_span_cli
+a linker that fails|5|^rattle-link: out of luck$|FAULT=rattle-link native toml_span_cli
 nothing is left of these|0||is_clean
 a checkout that can't be written|0|/home/.cache/toml_span/toml_span_cli/|fresh; : >"$crate/out"; native toml_span_cli
 nor the cache|5|name another one in XDG_CACHE_HOME|fresh; : >"$crate/out"; : >"$HOME/.cache"; cli
@@ -125,7 +127,7 @@ the proved build serves|8||fresh; echo 'int main(void) { return 8; }' | object &
 but not if the sources are newer|0||touch -d '+1 hour' "$crate/src/main.rt"; cli
 no such program|5|no program of this repository is named \$'x\\E'|native $'x\e'
 install.sh in a relative folder with a blank|1|built without proofs, statically linked|fresh; install 'a b' && 'a b/bin/toml-span' x
---uninstall leaves nothing|0|removed .*/a b/share/man/man1/toml-span-check.1|install --uninstall 'a b' && [ -z "$(ls -A 'a b')" ]
+--uninstall leaves no file|0|removed .*/a b/share/man/man1/toml-span-check.1|install --uninstall 'a b' && [ -z "$(find 'a b' -type f)" ]
 by default in HOME/.local, which is not on PATH|0|/.local/bin is not on PATH|install
 the program's help makes a man page|0|^ *toml-span check FILE|install prefix && man -l prefix/share/man/man1/toml-span-check.1
 and completions: of a command|0|^help$|offers he
