@@ -73,9 +73,11 @@ runs() {
 
 # sum_of_runs: the checksum of the program, of its runs and of what compares them
 sum_of_runs() {
-    find "crates/$crate" scripts docs/LANGUAGE.md "$native" -type f ! -path '*/src/*' ! -path '*/specs/*' \
-        ! -path '*/proofs/*' \( ! -path '*/out/*' -o -path "$native" \) -print0 |
-        LC_ALL=C sort -z | xargs -0 sha256sum | sha256sum
+    {
+        sha256sum <"$native"
+        find "crates/$crate" scripts crates/toml_span_rows/stdout -type f ! -path "crates/$crate/src/*" \
+            ! -path '*/specs/*' ! -path '*/proofs/*' ! -path '*/out/*' -print0 | LC_ALL=C sort -z | xargs -0 sha256sum
+    } | sha256sum
 }
 
 if [ "${1-}" = --job ]; then
