@@ -12,7 +12,7 @@ use Rattle.toml_span_tree.proofs.DateTexts.{parts_of_text}
 use Rattle.toml_span_read.specs.Dates.{begins_date, is_date_byte, continues_date, IsCandidate}
 use Rattle.toml_span_read.specs.Data.{from_to}
 use Rattle.toml_span_read.specs.Grammar.{SpellsScalar}
-use Rattle.toml_span_read.proofs.DatesMove.{digit_date, this_date}
+use Rattle.toml_span_read.proofs.DatesMove.{digit_date, this_date, date_carried}
 use Rattle.toml_span_read.proofs.Parts.{Part, same_part, front, back, tail, here, byte, byte_at, behind, next, range, within}
 
 -- ---- bytes

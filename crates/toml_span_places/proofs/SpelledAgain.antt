@@ -19,7 +19,7 @@ use Rattle.toml_span_places.specs.Spelled.{scalar_text, value_text, inner_text, 
 use Rattle.toml_span_places.specs.code.Spelled.{IsHeldScalar, IsHeld, IsHeldInner, AreHeld, MembersHeld}
 use Rattle.toml_span_read.proofs.Parts.{Part, between, same_part, front, back, tail, here, next, range, within, whole}
 use Rattle.toml_span_places.proofs.QuotedAgain.{off_parts, run_again, string_again, key_again}
-use Rattle.toml_span_read.proofs.GapStarts.{no_gap, no_gap_is, value_starts, key_starts, nothing, blank_run}
+use Rattle.toml_span_read.proofs.GapStarts.{NoGap, no_gap, no_gap_is, value_starts, key_starts, nothing, blank_run}
 use Rattle.toml_span_places.proofs.NumbersAgain.{integer_again}
 use Rattle.toml_span_places.proofs.DatesAgain.{date_again}
 use Rattle.toml_span_read.proofs.Moves.{Copied}
