@@ -1,5 +1,5 @@
 -- Where the values of a tree start in the text.
-use Rattle.std.specs.Prelude.{ℕ, min, List, Option, Some, None, option_map}
+use Rattle.std.specs.Prelude.{ℕ, min, Option, Some, None, option_map}
 use Rattle.toml_span_lex.specs.declared.key.Key.{Key}
 use Rattle.toml_span_tree.specs.Value.{view, span_of}
 use Rattle.toml_span_tree.specs.declared.nodes.Visited.{Visited}

@@ -1,7 +1,7 @@
-use Rattle.toml_span_lex.proofs.Common.{◌≡◌, ◌∙◌, ap, map, sym}
+use Rattle.toml_span_lex.proofs.Common.{◌∙◌, ap, map, sym}
 use Rattle.toml_span_read.specs.Data.{block}
 use Rattle.toml_span_tree.specs.Nodes.{step_of}
-use Rattle.toml_span_places.specs.Mentions.{latest, mentioned, steps_of}
+use Rattle.toml_span_places.specs.Mentions.{latest, steps_of}
 use Rattle.toml_span_places.specs.code.Opened.{counts_of}
 use Rattle.toml_span_places.proofs.PathLemmas.{header_last, header_listed, header_more, header_none, on_ok_same, same_path_ok}
 use Rattle.toml_span_places.proofs.mentions.+push_header.Goals as goal
