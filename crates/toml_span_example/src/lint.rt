@@ -166,11 +166,11 @@ fn keywords(alloc: Global, words: &[Value], list: &mut Vec<Finding>) -> Result<(
     Ok(())
 }
 
-/// Returns the elements of a value's entry, none if it has no such array.
-fn elements<'v, 'de>(value: &'v Value<'de>, pointer: &str) -> &'v [Value<'de>] {
-    match value.pointer(pointer) {
+/// Returns the keywords of a package.
+fn keywords_of<'v, 'de>(package: &'v Value<'de>) -> &'v [Value<'de>] {
+    match package.pointer("/keywords") {
         Some(found) => match found.as_array() {
-            Some(array) => array.as_slice(),
+            Some(words) => words.as_slice(),
             None => &[],
         },
         None => &[],
@@ -184,7 +184,7 @@ fn lint(alloc: Global, root: &Table, list: &mut Vec<Finding>) -> Result<(), Allo
         match (key.name.as_str(), value.as_table()) {
             ("package", _) => {
                 push_all(&package(key, value), list)?;
-                keywords(alloc, elements(value, "/keywords"), list)?;
+                keywords(alloc, keywords_of(value), list)?;
             }
             ("dependencies", Some(table)) => {
                 for value in table.values() {

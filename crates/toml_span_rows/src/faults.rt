@@ -1,8 +1,8 @@
 //! What errors print.
 //!
 //! - `diagnostic KIND`: an error of a kind that typed reads make, at 4..6 in line 2, whose names are those of the text.
-//! - `diagnostics` of a text, and of a typed read: what each error prints, and its diagnostic.
-//! - `copied` of a text, and of a typed read: clones of each error and of its kind, and its diagnostic, each made twice,
+//! - `diagnostics` of a text, and of a typed read: what its error prints, and the diagnostic.
+//! - `copied` of a text, and of a typed read: clones of its error and of the kind, and the diagnostic, each made twice,
 //!   and then the error.
 use crate::Row;
 use crate::told::Out;

@@ -158,7 +158,10 @@ fn main(rt: HostRuntime) -> io::Result<ExitCode> {
     let input = io::read_to_string(alloc, rt.stdin())?;
     let mut out = Out::new(alloc);
     let readable = push_lines(&rt, alloc, input.as_str(), &mut out);
-    let written = out.whole()?;
+    if out.is_short {
+        return Err(AllocError.into());
+    }
+    let written = out.text.as_str();
     print!(rt; "{written}")?;
     Ok(if readable {
         ExitCode::SUCCESS

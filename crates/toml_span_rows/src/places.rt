@@ -3,7 +3,8 @@
 //! - `key_places`: of each key the steps to what it names, its role, and its span without and with its quotes.
 //! - `table_places`: of each place that names a table the steps to it, the form, and the span.
 //! - `table_forms STEP ..`: the forms in which the table at these steps is named.
-//! - `insertion_point STEP ..`: where a line can be put into the table at these steps, and the text with `new = 0` there.
+//! - `insertion_point STEP ..`: where a line can be put into the table at these steps, and the text with `new = 0`
+//!   there.
 //! - `node_at OFFSET`: the steps to what is at a byte, which part it is, its span and the text there.
 //!
 //! A word that is a number is a position, any other a key.

@@ -1,8 +1,8 @@
 //! The run of `toml_span_show` over a reader and a writer in memory.
 //!
-//! `run LIMIT WORD ..` is `run` for the limit 128, else `run_with_limit`: the status, and what was written. Where a word
-//! ends in `each`, a line follows for each call that can fail, and one for a call that is not made: the status, how many
-//! bytes were read in how many calls, and how many of the whole output written in how many.
+//! `run LIMIT WORD ..` is `run` for the limit 128, else `run_with_limit`: the status, and what was written. If the last
+//! word ends in `each`, a line follows for each call that can fail, and one for a call that is not made: the status,
+//! how many bytes were read in how many calls, and how many of the whole output written in how many.
 //!
 //! | Word | What it says |
 //! |---|---|

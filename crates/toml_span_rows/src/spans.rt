@@ -8,17 +8,6 @@ use toml_span::tokens::Tokenizer;
 use toml_span::value::Key;
 use toml_span::{Span, Spanned};
 
-/// Adds whether a span is empty, what it becomes, and where it starts in a text that has it.
-fn push_span(span: Span, text: &str, out: &mut Out) {
-    let pair: (usize, usize) = span.into();
-    let range: Range<usize> = span.into();
-    out.told((span.is_empty(), pair, range.start, range.end));
-    if span.start <= span.end && span.end <= text.len() {
-        out.push_str(" at ");
-        out.told(Tokenizer::new(text).substr_offset(span));
-    }
-}
-
 /// Adds clones of a key and of a text.
 fn push_copies(alloc: Global, span: Span, text: &str, out: &mut Out) {
     let Some(name) = out.kept(String::from_str(alloc, text)) else {
@@ -44,7 +33,15 @@ pub fn answer(alloc: Global, row: Row<'_>, out: &mut Out) -> bool {
     };
     let span = Span::from(start..end);
     match row.call {
-        "span" => push_span(span, row.text, out),
+        "span" => {
+            let pair: (usize, usize) = span.into();
+            let range: Range<usize> = span.into();
+            out.told((span.is_empty(), pair, range.start, range.end));
+            if span.start <= span.end && span.end <= row.text.len() {
+                out.push_str(" at ");
+                out.told(Tokenizer::new(row.text).substr_offset(span));
+            }
+        }
         "copies" => push_copies(alloc, span, row.text, out),
         _ => return false,
     }

@@ -21,14 +21,6 @@ impl Out {
         }
     }
 
-    /// Returns the text, if there was memory for all of it.
-    pub fn whole(self) -> Result<String, AllocError> {
-        if self.is_short {
-            return Err(AllocError);
-        }
-        Ok(self.text)
-    }
-
     /// Returns what a call made, if there was memory for it.
     pub fn kept<T: Drop>(&mut self, made: Result<T, AllocError>) -> Option<T> {
         match made {

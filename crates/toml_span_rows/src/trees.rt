@@ -1,9 +1,9 @@
 //! Calls on the tree of a document. A text that is not valid TOML answers with its error.
 //!
-//! - `parse LIMIT`: the lines of the tree. `twice` parses twice: what the first parse gives in a word, the second whole.
+//! - `parse LIMIT`: the lines of the tree. `twice` parses twice: what the first parse gives in a word, then the lines.
 //! - `json`: the JSON value.
 //! - `again`: the values that the text spells as one piece, each parsed again.
-//! - `nodes`: the steps to each value, its kind and its key. `text_order`: the keys of the root in the order of the text.
+//! - `nodes`: the steps to each value, its kind and its key. `text_order`: the keys of the root in text order.
 //! - `node_at OFFSET`: see `places`. `write OPERATION ..`: see `writes`. Typed reads: see `typed`.
 //! - `diagnostics`: what the error prints, and its diagnostic. `copied`: copies of it.
 ghost use Rattle.std.specs.Prelude.{◌≤◌, IfSome};

@@ -32,8 +32,8 @@ fn is_read_again(alloc: Global, piece: &str, value: &Value<'_>, out: &mut Out) -
     lines.text == again.text
 }
 
-/// Tests whether a value is one piece of the text. A string is not: its span leaves its quotes out. The table of a dotted
-/// key begins where its first value does, and an array of tables where its first table does.
+/// Tests whether a value is one piece of the text. A string is not: its span leaves its quotes out. The table of a
+/// dotted key begins where its first value does, and an array of tables where its first table does.
 fn is_piece(text: &str, value: &Value<'_>) -> bool {
     let start = value.span.start;
     let (bracket, inner) = match (value.as_array(), value.as_table()) {
