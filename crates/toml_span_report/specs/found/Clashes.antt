@@ -1,5 +1,5 @@
 -- Keys and headers that say one thing twice.
-use Rattle.std.specs.Prelude.{ℕ, ◌-◌, ◌==◌, ◌&&◌, ◌||◌, List, codes, slice_index, Option, Some, None, if◌then◌else◌}
+use Rattle.std.specs.Prelude.{ℕ, ◌==◌, ◌&&◌, ◌||◌, List, codes, slice_index, Option, Some, None, if◌then◌else◌}
 use Rattle.toml_span_lex.specs.declared.span.Span.{Span}
 use Rattle.toml_span_report.specs.Bytes.{ahead, begins, byte_behind, end_of, first_of_line}
 use Rattle.toml_span_report.specs.Finding.{FindingContent, marked}

@@ -1,5 +1,5 @@
 -- Words in the place of values.
-use Rattle.std.specs.Prelude.{ℕ, ◌-◌, ◌==◌, ◌&&◌, ◌||◌, max, Bool, true, false, not, nat_le, List, [], codes, length}
+use Rattle.std.specs.Prelude.{ℕ, ◌==◌, ◌&&◌, ◌||◌, max, Bool, true, false, not, nat_le, List, [], codes, length}
 use Rattle.std.specs.Prelude.{slice_index, Option, Some, None, if◌then◌else◌}
 use Rattle.std.specs.Str.{bytes_eq}
 use Rattle.toml_span_report.specs.Bytes.{ahead, byte_behind, end_of, part, start_of}

@@ -4,7 +4,7 @@ ghost use Rattle.toml_span_report.specs.Finding.{finding_content};
 ghost use Rattle.toml_span_report.specs.found.Strings as spec;
 
 use crate::bytes::{
-    Class, ahead, begins, byte_at, byte_before, end_of, first_of_line, last_of_line, part, start_of,
+    Class, ahead, begins, byte_at, end_of, first_of_line, last_of_line, part, start_of,
 };
 use crate::finding::{
     Finding, KeyMistake, LineMistake, Mistake, TextMistake, marked, mended, pieces, replaced,

@@ -4,12 +4,11 @@ ghost use Rattle.toml_span_report.specs.Finding.{finding_content, meant_content}
 ghost use Rattle.toml_span_report.specs.found.Symbols as spec;
 
 use crate::bytes::{
-    Class, ahead, begins, byte_at, byte_before, byte_behind, end_of, first_of_line, is_last,
-    last_of_line, part, start_of,
+    Class, ahead, begins, byte_at, byte_before, end_of, first_of_line, is_last, last_of_line, part,
+    start_of,
 };
 use crate::finding::{
-    Finding, KeyMistake, Meant, Mistake, SymbolMistake, as_meant, marked, mended, pieces, replaced,
-    span_of,
+    Finding, KeyMistake, Meant, Mistake, SymbolMistake, as_meant, marked, pieces, replaced, span_of,
 };
 use crate::mistakes::keys::{comment, header_key, other_key, other_sign};
 use crate::mistakes::values::unquoted_value;

@@ -1,4 +1,4 @@
-use Rattle.toml_span_lex.proofs.Common.{◌≡◌, true, arith, sym, length, nat_tests, common_steps, position_or_len_is}
+use Rattle.toml_span_lex.proofs.Common.{arith, sym, length, nat_tests, common_steps, position_or_len_is}
 use Rattle.toml_span_report.specs.Bytes.{is_out}
 use Rattle.toml_span_report.proofs.bytes.run_of.Goals as goal
 
