@@ -1,4 +1,4 @@
-"""Prints the place of each key of a TOML file: python3 example.py FILE"""
+"""Prints the place of each value of a TOML file: python3 example.py FILE"""
 
 import sys
 
