@@ -185,6 +185,7 @@ pub(crate) fn end_of(class: Class, text: &str, at: usize) -> usize
 }
 
 /// The least offset, up to one, from which on there are bytes of a class alone.
+#[tactic(auto, unfolding(crate::specs::Bytes::start_of))]
 pub(crate) fn start_of(class: Class, text: &str, at: usize) -> usize
     ensures { result ≡ spec.start_of class text.now at }
 {
