@@ -1,18 +1,19 @@
 #!/usr/bin/env bash
 # Runs a program on its stored runs: bash scripts/runs.sh CRATE [PROGRAM]
 #
-# A run is a folder crates/CRATE/runs/NAME. Its file `args` has the arguments, one a line, `stdin` is standard input, and
-# `stdout`, `stderr` and `status` are what the program must write and end with: nothing and 0 where there is no such
-# file, except that then any `stderr` is fine. It runs in a folder with the files of runs/data and of its own `data`.
-# These must be as before afterwards, with their permissions, except for the files of its folder `after`, and no other
-# file may be there. Further checks of toml_span_cli and toml_span_show follow. PROGRAM is the proved build by default.
+# A run is the folder crates/CRATE or a folder crates/CRATE/runs/NAME. Its file `args` has the arguments, one a line,
+# `stdin` is standard input, and `stdout`, `stderr` and `status` are what the program must write and end with: nothing
+# and 0 where there is no such file, except that then any `stderr` is fine. It runs in a folder with the files of
+# runs/data and of its own `data`. These must be as before afterwards, with their permissions, except for the files of
+# its folder `after`, and no other file may be there. Further checks of some programs follow, and some of their runs with
+# each request for memory refused in turn. PROGRAM is the proved build by default.
 set -uo pipefail
 unset CDPATH NO_COLOR CLICOLOR_FORCE
 script=$(readlink -f -- "${BASH_SOURCE[0]}")
 top=${script%/scripts/*}
 crate=${1?usage: bash scripts/runs.sh CRATE [PROGRAM]}
 program=$(realpath -- "${2-$top/crates/$crate/out/$crate}")
-cd -- "$top/crates/$crate/runs" || exit
+cd -- "$top/crates/$crate" || exit
 if [ ! -x "$program" ]; then
     echo "runs: there is no program $program"
     exit 1
@@ -20,7 +21,7 @@ fi
 source "$top/scripts/refuse.sh"
 work=$(mktemp -d)
 trap 'rm -rf "$work"' EXIT
-make_refusals "$work" && make_interruptions "$work" && make_failures "$work" || exit 1
+make_faults "$work" || exit 1
 count=0
 wrong=0
 with=()
@@ -33,8 +34,8 @@ holds() {
     count=$((count + 1))
     if ! "$@" >"$work/differs"; then
         wrong=$((wrong + 1))
-        echo "runs: ${name:-$crate}: wrong: $(printf '%q ' "$@") (status $status)"
-        head -n 20 "$work/differs"
+        echo "runs: $crate/${name#.}: wrong: $(printf '%q ' "$@") (status $status)"
+        cat "$work/differs" "$work/stderr" | head -n 20
     fi
 }
 
@@ -43,7 +44,7 @@ fresh() {
     local folder
     rm -rf "$work/before" "$work/folder"
     mkdir "$work/before"
-    for folder in data "${name:-none}/data"; do
+    for folder in runs/data "$name/data"; do
         if [ -d "$folder" ]; then cp -r "$folder/." "$work/before"; fi
     done
     find "$work/before" -type f -exec chmod 640 {} +
@@ -53,7 +54,7 @@ fresh() {
 # go ARGUMENT..: runs the program there, on the file $input and with the words $with before its name
 go() {
     status=0
-    (cd "$work/folder" && timeout 60 env "${with[@]}" "$program" "$@" <"$input" >"$out" 2>"$err" 9>"$work/made") ||
+    (cd "$work/folder" && timeout 120 env "${with[@]}" "$program" "$@" <"$input" >"$out" 2>"$err" 9>"$work/made") ||
         status=$?
 }
 
@@ -97,18 +98,19 @@ stored() {
     holds same "$work/before"
 }
 
-# silent: whether the program ended for want of memory, and wrote nothing
+# silent STATUS: whether the program ended so for want of memory, wrote nothing, and with status 1 complained
 silent() {
-    [ "$status" -eq 4 ] && [ ! -s "$work/stdout" ] && [ ! -s "$work/stderr" ] && same "$work/before" >"$work/differs"
+    [ "$status" -eq "$1" ] && [ ! -s "$work/stdout" ] && same "$work/before" >"$work/differs" &&
+        if [ "$1" -eq 1 ]; then grep -q OutOfMemory "$work/stderr"; else [ ! -s "$work/stderr" ]; fi
 }
 
-# refused: the run $name with each request for memory refused in turn, of which one may be a guess that costs nothing
+# refused STATUS REQUESTS GUESSES: the run of $words and $input with each request for memory refused in turn, of at least
+# this many. Each ends the program with this status, except for this many guesses, which cost nothing.
 refused() {
     local usual request made=1 spared=0
-    arguments_of
     for ((request = 0; request <= made; request++)); do
         fresh
-        with=("LD_PRELOAD=$work/refuse.so" "REFUSED=$request")
+        with=("LD_PRELOAD=$work/faults.so" "REFUSED=$request")
         go "${words[@]}"
         if [ "$request" -eq 0 ]; then
             made=$(<"$work/made")
@@ -116,7 +118,7 @@ refused() {
             rm -rf "$work/after"
             cp -rp "$work/folder" "$work/after"
             cp "$work/stdout" "$work/usual"
-        elif silent; then
+        elif silent "$1"; then
             count=$((count + 1))
         else
             spared=$((spared + 1))
@@ -126,12 +128,29 @@ refused() {
         fi
     done
     with=()
-    holds test "$made" -ge 20 -a "$spared" -le 1
+    holds test "$made" -ge "$2" -a "$spared" -eq "$3"
+}
+
+toml_span_example() {
+    refused 1 20 20
+}
+
+toml_span_rows() {
+    local calls='nodes|text_order|key_places|section_places|table_forms a|insertion_point bin|node_at 1[0-5]'
+    grep -E "^($calls|quote_key|quote_string|replaced|write[^:]*(look|at)=)" stdin >"$work/rows"
+    input=$work/rows
+    refused 1 200 0
 }
 
 toml_span_show() {
-    fresh
+    local document
     input=$work/document
+    for document in "$(printf '%40000s' '#')" '# x\n' '[[a]]\n[a.b]\nx = 1\n[[a]]\n[a.b]\nx = 2\n' \
+        'a.b.x = 1\n[a.c]\n[a]\nb.y = 2\n'; do
+        printf '%b' "$document" >"$input"
+        refused 4 4 0
+    done
+    fresh
     head -c 16777216 /dev/zero | tr '\0' ' ' >"$input"
     writes 0 'root table 0..16777216'
     out=/dev/full
@@ -147,7 +166,7 @@ toml_span_show() {
 cuts() {
     local document at format
     mkdir "$work/folder/cuts"
-    for document in data/*.toml tagged_*/stdin; do
+    for document in runs/data/*.toml runs/tagged_*/stdin; do
         for ((at = $(stat -c %s "$document"); at > 0; at -= 7)); do
             head -c "$at" "$document" >"$work/folder/cuts/${document//\//_}-$at.toml"
         done
@@ -207,7 +226,7 @@ prefixes() {
     ends 0 get --items many.toml ''
     cp "$work/stdout" "$work/whole"
     for at in 1 2; do
-        with=("LD_PRELOAD=$work/fail.so" "FAILED=$at")
+        with=("LD_PRELOAD=$work/faults.so" "FAILED=$at")
         ends 3 get --items many.toml ''
         holds test "$(stat -c %s "$work/stdout")" -gt "$least"
         least=$(stat -c %s "$work/stdout")
@@ -239,32 +258,36 @@ toml_span_cli() {
     colored '' TERM=dumb python3 -c "$terminal"
     colored '' TERM=xterm NO_COLOR=1 python3 -c "$terminal"
     holds python3 "$top/scripts/formats.py" "$program"
-    input=$PWD/data/tree.toml
+    input=$PWD/runs/data/tree.toml
     go check --format sarif - settings.toml
     cp "$work/stdout" "$work/usual"
-    with=("LD_PRELOAD=$work/interrupt.so")
+    with=("LD_PRELOAD=$work/faults.so" INTERRUPTED=1)
     go check --format sarif - settings.toml
     holds cmp "$work/usual" "$work/stdout"
     with=()
     writes 0 $'name = "x"\nlist = [1, [true], {d = 1.5}]\n\n[server]\nhost = 8' set - /server/host 8
     ends 1 set cargo.toml /package/name $'1\nother = 2'
-    holds cmp "$work/folder/cargo.toml" data/cargo.toml
+    holds cmp "$work/folder/cargo.toml" runs/data/cargo.toml
     ln -s child.toml "$work/folder/link.toml"
     ends 0 rename link.toml /dependencies/a dependencies
     holds test -L "$work/folder/link.toml"
     holds grep '^\[dependencies.dependencies\]$' "$work/folder/child.toml"
     echo other >"$work/folder/odd.toml.toml-span"
     ends 3 remove odd.toml /m/n
-    holds cmp "$work/folder/odd.toml" data/odd.toml
-    for name in colour github json sarif summary all_files get_tagged items {tagged,items}_{clashing,crossing,nested} \
-        get_root_as_toml set_odd rename_quoted remove_{dotted,inline} add_to_empty set_in_invalid; do refused; done
+    holds cmp "$work/folder/odd.toml" runs/data/odd.toml
+    for name in runs/{colour,github,json,sarif,summary,all_files,get_tagged,items,get_root_as_toml,set_odd,set_in_invalid} \
+        runs/{tagged,items}_{clashing,crossing,nested} runs/{rename_quoted,remove_dotted,remove_inline,add_to_empty}; do
+        arguments_of
+        refused 4 20 0
+    done
 }
 
-for name in */; do
+for name in . runs/*/; do
     name=${name%/}
-    if [ "$name" != data ]; then stored; fi
+    if [ -d "$name" ] && [ "$name" != runs/data ]; then stored; fi
 done
-name=
+name=.
+arguments_of
 if [ "$(type -t "$crate")" = function ]; then "$crate"; fi
 echo "runs: $((count - wrong)) of $count right"
 [ "$wrong" -eq 0 ]

@@ -1,6 +1,6 @@
 #!/usr/bin/env python3
 """Measures how fast documents are parsed, or how much stack and memory that takes:
-speed.py [--bytes N,..] [--passes N] [--rounds N] [--instructions] [--crate FOLDER] [KIND|FILE..]
+speed.py [--bytes N,..] [--instructions] [--crate FOLDER] [KIND|FILE..]
 speed.py --limits [PROGRAM..]
 
 A document of each kind, of about N bytes (1,000,000), or a file, is parsed by toml_span_bench: by the proved build if
@@ -8,11 +8,11 @@ it is no older than the sources, else by a native build (scripts/native.sh). Wit
 crate toml-span is measured beside it, by a small program that cargo builds.
 
 A line has, for each byte of the text, the nanoseconds of processor time of a parse and the drop of its tree: `user` is
-the program's own time, `all` includes the system's. It is the difference between a run of one parse and a run of N
-more (--passes, 10; more for a text shorter than a megabyte), so that start and reading are left out; the best of the
-rounds (--rounds, 3). `peak` is the most memory of one parse in MB (some 20 MB are this script's own). A ratio says how
-many times as long the Rust crate took. With --instructions a line has the instructions of a parse for each byte, as
-valgrind's callgrind counts them: they do not change with what else the machine does.
+the program's own time, `all` includes the system's. It is the difference between a run of one parse and a run of ten
+more (or of a megabyte each, for a shorter text), so that start and reading are left out; the best of three rounds.
+`peak` is the most memory of one parse in MB (some 20 MB are this script's own). A ratio says how many times as long the
+Rust crate took. With --instructions a line has the instructions of a parse for each byte, as valgrind's callgrind
+counts them: they do not change with what else the machine does.
 
 --limits runs programs that read standard input (native builds of toml-span and toml_span_show unless they are given) on
 the worst documents at the limit of 128 nested levels (a path has at most 128 keys of a header and 128 of an
@@ -31,6 +31,7 @@ import tempfile
 
 TOP = os.path.dirname(os.path.dirname(os.path.abspath(__file__)))
 
+# a program that does what toml_span_bench does, over the Rust crate
 CARGO = """[package]
 name = "measured"
 version = "0.0.0"
@@ -39,20 +40,17 @@ edition = "2021"
 [dependencies]
 toml-span = {{ path = "{crate}" }}
 """
-
-# what toml_span_bench does, over the Rust crate
 MAIN = """fn main() {
     let words: Vec<String> = std::env::args().collect();
     let text = std::fs::read_to_string(&words[1]).expect("a file");
-    let passes: usize = words[2].parse().expect("a number");
     let mut is_read = true;
-    for _ in 0..passes {
+    for _ in 0..words[2].parse().expect("a number") {
         is_read = std::hint::black_box(toml_span::parse(&text)).is_ok();
     }
     println!("{}", if is_read { "ok" } else { "error" });
 }
 """
-
+PASSES, ROUNDS = 10, 3
 WORDS = "amber basil cedar delta ember flint grove heron iris juniper karst lumen maple north onyx pearl".split()
 
 
@@ -74,8 +72,8 @@ def scalar(rng):
     return f'"{word(rng)} {word(rng)}"'
 
 
-def flat(rng, n):
-    return f"{word(rng)}_{n} = {scalar(rng)}\n"
+def words(rng, count, between=" "):
+    return between.join(word(rng) for _ in range(count))
 
 
 def lockfile(rng, n):
@@ -91,38 +89,31 @@ def lockfile(rng, n):
     return "\n".join(lines) + "\n\n"
 
 
-def headers(rng, n):
-    return f"[{word(rng)}.{word(rng)}.t{n}]\nvalue = {rng.randrange(1000)}\n"
-
-
 def arrays(rng, n):
     items = ", ".join(f"[{rng.randrange(100)}, {rng.randrange(100)}]" for _ in range(6))
     return f"points_{n} = [{items}]\nat_{n} = {{x = {rng.randrange(100)}, y = {rng.randrange(100)}}}\n"
 
 
 def strings(rng, n):
-    text = " ".join(word(rng) for _ in range(60))
-    if n % 4 == 0:
-        return f'text_{n} = """\n{text}\n{text}"""\n'
-    return f"text_{n} = '{text}'\n"
-
-
-def dotted(rng, n):
-    return f"{word(rng)}.{word(rng)}.{word(rng)}.key_{n} = {rng.randrange(1000)}\n"
+    text = words(rng, 60)
+    return f"text_{n} = '{text}'\n" if n % 4 else f'text_{n} = """\n{text}\n{text}"""\n'
 
 
 def dotted_sections(rng, n):
-    lines = [f"[[{word(rng)}_{n}]]"]
-    lines += [f"{word(rng)}.{word(rng)}.k{k} = {rng.randrange(1000)}" for k in range(8)]
+    lines = [f"[[{word(rng)}_{n}]]", *(f"{words(rng, 2, '.')}.k{k} = {rng.randrange(1000)}" for k in range(8))]
     return "\n".join(lines) + "\n"
 
 
-def comments(rng, n):
-    lines = ["# " + " ".join(word(rng) for _ in range(10)) for _ in range(5)]
-    return "\n".join(lines) + f"\n\nkey_{n} = {n}\n"
-
-
-KINDS = {it.__name__: it for it in (flat, lockfile, headers, arrays, strings, dotted, dotted_sections, comments)}
+KINDS = {
+    "flat": lambda rng, n: f"{word(rng)}_{n} = {scalar(rng)}\n",
+    "lockfile": lockfile,
+    "headers": lambda rng, n: f"[{words(rng, 2, '.')}.t{n}]\nvalue = {rng.randrange(1000)}\n",
+    "arrays": arrays,
+    "strings": strings,
+    "dotted": lambda rng, n: f"{words(rng, 3, '.')}.key_{n} = {rng.randrange(1000)}\n",
+    "dotted_sections": dotted_sections,
+    "comments": lambda rng, n: "".join(f"# {words(rng, 10)}\n" for _ in range(5)) + f"\nkey_{n} = {n}\n",
+}
 
 
 def document(kind, size):
@@ -160,28 +151,33 @@ def native(crate):
     return made.stdout.strip()
 
 
-def run(program, path, passes):
-    """The seconds of a run, the program's own and all of them, and the most memory that it held in MB."""
-    with subprocess.Popen([program, path, str(passes)], stdout=subprocess.PIPE, text=True) as ran:
-        said = ran.stdout.read()
+def ended(command, **how):
+    """What a command writes, its status, and what it used."""
+    with subprocess.Popen(command, **how) as ran:
+        said = ran.stdout.read() if ran.stdout else None
         _, status, used = os.wait4(ran.pid, 0)
         ran.returncode = os.waitstatus_to_exitcode(status)
-    if ran.returncode != 0 or "ok" not in said.split():
-        sys.exit(f"speed: {program} ended with status {ran.returncode} on {path} and said: {said.strip()}")
+    return said, ran.returncode, used
+
+
+def run(program, path, passes):
+    """The seconds of a run, the program's own and all of them, and the most memory that it held in MB."""
+    said, status, used = ended([program, path, str(passes)], stdout=subprocess.PIPE, text=True)
+    if status != 0 or "ok" not in said.split():
+        sys.exit(f"speed: {program} ended with status {status} on {path} and said: {said.strip()}")
     return used.ru_utime, used.ru_utime + used.ru_stime, used.ru_maxrss / 1000
 
 
-def timed(programs, path, given):
+def timed(programs, path):
     """The cells of a line on time: user, all and peak of each program, which run in turn, and the ratios."""
     best = [[float("inf"), float("inf"), 0.0] for _ in programs]
     size = os.path.getsize(path)
-    passes = max(given.passes, given.passes * 1_000_000 // size)
-    for _ in range(given.rounds):
-        for at, program in enumerate(programs):
-            *few, peak = run(program, path, 1)
-            *many, _ = run(program, path, 1 + passes)
-            spent = [(more - less) / passes / size * 1e9 for less, more in zip(few, many)]
-            best[at] = [*map(min, best[at], spent), max(best[at][2], peak)]
+    passes = max(PASSES, PASSES * 1_000_000 // size)
+    for at, program in [*enumerate(programs)] * ROUNDS:
+        *few, peak = run(program, path, 1)
+        *many, _ = run(program, path, 1 + passes)
+        spent = [(more - less) / passes / size * 1e9 for less, more in zip(few, many)]
+        best[at] = [*map(min, best[at], spent), max(best[at][2], peak)]
     ratios = [f"{theirs / ours:.1f}" for theirs, ours in zip(best[-1][:2], best[0])] if len(programs) > 1 else []
     return [cell for *spent, peak in best for cell in [*(f"{it:.1f}" for it in spent), f"{peak:.0f}"]] + ratios
 
@@ -196,7 +192,7 @@ def counted(program, path, passes):
     return int(found[1])
 
 
-def instructions(programs, path, _):
+def instructions(programs, path):
     """The cells of a line on instructions: those of a further parse for each byte, and the ratio."""
     size = os.path.getsize(path)
     more = max(1, 100_000 // size)
@@ -226,25 +222,23 @@ def filled(line, size=1_000_000):
     return "".join(f"{line % at}\n" for at in range(size // (len(line % 10**5) + 1)))
 
 
-def deepest():
-    """Documents that take much stack."""
-    yield "one assignment", "a = 1\n"
-    yield "127 brackets", f"a = {'[' * 127}{']' * 127}\n"
-    yield "127 inline tables", f"a = {'{a = ' * 127}1{'}' * 127}\n"
-    yield "a key of 128 parts", f"{keys(128)} = 1\n"
-    yield "a header of 128 parts, and below it a key of 128", f"[{keys(128, 'h')}]\n{keys(128)} = 1\n"
-    headers = "".join(f"[[{keys(count, 'h')}]]\n" for count in range(1, 129))
-    yield "128 arrays of tables in one another, and below them a key of 128", f"{headers}{keys(128)} = 1\n"
-
-
-def largest():
-    """Documents that take much memory."""
-    yield "headers of 128 parts", filled(f"[k%d.{keys(127, 'a')}]")
-    yield "dotted keys of 128 parts", filled(f"k%d.{keys(127, 'a')} = 1")
-    yield "headers of 2 parts", filled("[k%d.a]")
-    yield "assignments", filled("k%d = 1")
-    yield "an array of integers", f"a = [{'1,' * 499_997}]\n"
-    yield "an array of integers, its key of 1,000 bytes", f"{'k' * 1000} = [{'1,' * 499_497}]\n"
+HEADERS = "".join(f"[[{keys(count, 'h')}]]\n" for count in range(1, 129))
+DEEPEST = {
+    "one assignment": "a = 1\n",
+    "127 brackets": f"a = {'[' * 127}{']' * 127}\n",
+    "127 inline tables": f"a = {'{a = ' * 127}1{'}' * 127}\n",
+    "a key of 128 parts": f"{keys(128)} = 1\n",
+    "a header of 128 parts, and below it a key of 128": f"[{keys(128, 'h')}]\n{keys(128)} = 1\n",
+    "128 arrays of tables in one another, and below them a key of 128": f"{HEADERS}{keys(128)} = 1\n",
+}
+LARGEST = {
+    "headers of 128 parts": filled(f"[k%d.{keys(127, 'a')}]"),
+    "dotted keys of 128 parts": filled(f"k%d.{keys(127, 'a')} = 1"),
+    "headers of 2 parts": filled("[k%d.a]"),
+    "assignments": filled("k%d = 1"),
+    "an array of integers": f"a = [{'1,' * 499_997}]\n",
+    "an array of integers, its key of 1,000 bytes": f"{'k' * 1000} = [{'1,' * 499_497}]\n",
+}
 
 
 def ends(program, text, size):
@@ -275,10 +269,8 @@ def peak(program, text):
     with tempfile.TemporaryFile() as file:
         file.write(text)
         file.seek(0)
-        with subprocess.Popen(program, stdin=file, stdout=subprocess.DEVNULL, env={}) as ran:
-            _, status, used = os.wait4(ran.pid, 0)
-            ran.returncode = os.waitstatus_to_exitcode(status)
-    return f"{used.ru_maxrss * 1024 / len(text):.0f}" if status == 0 else f"(status {ran.returncode})"
+        _, status, used = ended(program, stdin=file, stdout=subprocess.DEVNULL, env={})
+    return f"(status {status})" if status else f"{used.ru_maxrss * 1024 / len(text):.0f}"
 
 
 def limits(named):
@@ -289,9 +281,9 @@ def limits(named):
         programs = [[cli, "check"], [cli, "get", "--items", "-", ""], [cli, "get", "--tagged", "-", ""], [show]]
     for program in programs:
         print(f"{' '.join([os.path.relpath(program[0], TOP), *program[1:]])}:")
-        for name, text in deepest():
+        for name, text in DEEPEST.items():
             print(f"{least(program, text.encode()):8} KB of stack: {name}", flush=True)
-        for name, text in largest():
+        for name, text in LARGEST.items():
             print(f"{peak(program, text.encode()):>8} times the text in memory: {name}", flush=True)
 
 
@@ -301,8 +293,6 @@ def asked():
     parser = argparse.ArgumentParser(usage="\n       ".join(head.split("\n")[1:]), description=about)
     parser.formatter_class = argparse.RawTextHelpFormatter
     parser.add_argument("--bytes", default="1000000")
-    parser.add_argument("--passes", type=int, default=10)
-    parser.add_argument("--rounds", type=int, default=3)
     parser.add_argument("--instructions", action="store_true")
     parser.add_argument("--crate")
     parser.add_argument("--limits", action="store_true")
@@ -319,7 +309,7 @@ def main():
     if given.limits:
         return limits(given.documents)
     programs = [native("toml_span_bench")]
-    if "/unproved/" in programs[0]:
+    if "/unproved-" in programs[0]:
         print("speed: this is a build without the proofs, not the one that the gate makes", file=sys.stderr)
     cells, heads = timed, ["user ns/byte", "all ns/byte", "peak MB"]
     theirs = ["the crate: user", "all", "peak MB", "ratio user", "ratio all"]
@@ -331,7 +321,7 @@ def main():
             programs.append(built_over(given.crate, work))
         print("| " + " | ".join(heads) + " |\n|" + "---|" * len(heads), flush=True)
         for name, path in documents(given, work):
-            row = [name, f"{os.path.getsize(path) / 1e3:.1f}", *cells(programs, path, given)]
+            row = [name, f"{os.path.getsize(path) / 1e3:.1f}", *cells(programs, path)]
             print("| " + " | ".join(row) + " |", flush=True)
 
 

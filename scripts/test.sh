@@ -55,10 +55,10 @@ fi
 if [ "$status" -ne 0 ] || [ "$passed" -eq 0 ]; then failed=$((failed > 0 ? failed : 1)); fi
 
 start "no handles" grep -qx 'Handles allowed: none.' HANDLES
-start "stored runs of toml-span" bash scripts/runs.sh toml_span_cli
-start "stored runs of toml_span_show" bash scripts/runs.sh toml_span_show
-start "stored runs of the example" bash scripts/runs.sh toml_span_example
-start "refused requests for memory" bash scripts/refuse.sh
+for program in cli show example rows; do
+    start "stored runs of toml_span_$program" bash scripts/runs.sh "toml_span_$program"
+done
+start "rows with requests for memory refused" bash scripts/refuse.sh
 start "scripts that people start" bash scripts/scripts_test.sh
 start "pages, edits and public items" python3 scripts/pages.py
 ended

@@ -13,38 +13,21 @@ import re
 import subprocess
 import sys
 import tempfile
-from datetime import datetime, timedelta
-from fractions import Fraction
 from pathlib import Path
 
 TOP = Path(__file__).resolve().parent.parent
-WHEN = re.compile(r"(?:(\d{4}-\d\d-\d\d)(?:[Tt ]|$))?(?:(\d\d:\d\d:\d\d)(\.\d+)?([Zz]|[+-]\d\d:\d\d)?)?")
 
 
 def moment(text):
-    """What a date or a time says: its day, or its second with a fraction, in UTC if it has an offset; else None."""
-    found = WHEN.fullmatch(text)
-    if not text or not found:
-        return None
-    day, clock, fraction, offset = found.groups()
-    if clock is None:
-        return day
-    leap = clock.endswith(":60")
-    at = datetime.fromisoformat(f"{day or '2000-01-01'}T{clock[:-2] + '59' if leap else clock}")
-    if offset not in (None, "Z", "z"):
-        ahead = timedelta(hours=int(offset[1:3]), minutes=int(offset[4:6]))
-        at = at - ahead if offset[0] == "+" else at + ahead
-    return (day is None, offset is None, at, leap, Fraction(fraction or 0))
+    """A date or a time in one spelling: with `T` and `Z`, and no zeros at the end of a fraction."""
+    text = re.sub(r"[+-]00:00$", "Z", text.upper().replace(" ", "T"))
+    return re.sub(r"\.(\d*?)0*(?=[Z+-]|$)", lambda it: it[1] and f".{it[1]}", text)
 
 
-def same_float(wanted, written):
-    one, other = float(wanted), float(written)
-    return one == other or (one != one and other != other)
-
-
-SAME = {"integer": lambda one, other: int(one) == int(other), "float": same_float}
+SAME = {"integer": lambda one, other: int(one) == int(other)}
+SAME["float"] = lambda one, other: float(one) == float(other) or {one, other} <= {"nan", "+nan", "-nan"}
 for kind in ("datetime", "datetime-local", "date-local", "time-local"):
-    SAME[kind] = lambda one, other: moment(one) is not None and moment(one) == moment(other)
+    SAME[kind] = lambda one, other: moment(one) == moment(other)
 
 
 def same(wanted, written):
@@ -70,27 +53,20 @@ def documents(folder):
             yield name, path.read_bytes(), answer.read_text(encoding="utf-8") if answer.exists() else None
 
 
-def passes(program, document, wanted):
-    """Whether the program answers what the suite expects of a document, and what it answers."""
-    run = subprocess.run(program, input=document, capture_output=True, timeout=60, check=False)
-    if wanted is None or run.returncode != 0:
-        return wanted is None and run.returncode == 1, f"status {run.returncode}"
-    return same(json.loads(wanted), json.loads(run.stdout)), run.stdout.decode().rstrip()
-
-
 def passes_all(program, folder):
     """Runs the documents and prints how many pass. Whether all do, and there are some of each kind."""
-    passed, count = {True: 0, False: 0}, {True: 0, False: 0}
+    passed, count = [0, 0], [0, 0]
     for name, document, wanted in documents(folder):
-        good, answer = passes(program, document, wanted)
-        count[wanted is not None] += 1
-        passed[wanted is not None] += good
+        ran = subprocess.run(program, input=document, stdout=subprocess.PIPE, timeout=60, check=False)
+        is_valid = wanted is not None
+        good = ran.returncode == 1 - is_valid and (not is_valid or same(json.loads(wanted), json.loads(ran.stdout)))
+        count[is_valid] += 1
+        passed[is_valid] += good
         if not good:
-            print(f"toml-test: {name}: {answer}")
+            print(f"toml-test: {name}: status {ran.returncode}: {ran.stdout.decode(errors='replace').rstrip()}")
     state = re.search(r"date\s*=\s*(\S+)", (folder / "version.toml").read_text())[1]
-    valid, invalid = (f"{passed[it]} of {count[it]}" for it in (True, False))
-    print(f"toml-test, state of {state}: valid {valid}, invalid {invalid}")
-    return passed == count and min(count.values()) > 0
+    print(f"toml-test, state of {state}: valid {passed[1]} of {count[1]}, invalid {passed[0]} of {count[0]}")
+    return passed == count and min(count) > 0
 
 
 def called(*words, **named):
