@@ -218,10 +218,10 @@ class Page:
         elif kind == ["text", "clause"]:
             self.clauses(at, f"crates/{name}" if name else "", lines)
         elif kind in (["text", "rows"], ["text", "in"]):
-            self.quoted(at, f"{ROWS}/stdout" if kind[1] == "rows" else name, lines, position_of)
+            self.quoted(at, f"{ROWS}/stdout" if kind[1] == "rows" else name, lines)
         elif kind == ["toml", "data"]:
             paths = [*found(f"crates/*/data/{name}"), *found(f"crates/*/runs/data/{name}"), name]
-            self.quoted(at, paths[0], lines, self.is_whole)
+            self.quoted(at, paths[0], lines, is_whole=True)
         elif kind == ["console", "run"]:
             self.run(at, name, lines)
         elif words[:1] == ["sh"]:
@@ -229,12 +229,9 @@ class Page:
         else:
             self.fault(at - 1, f"`{' '.join(words)}` is not a mark: see scripts/pages.py")
 
-    @staticmethod
-    def is_whole(text, lines):
-        return 0 if "\n".join(text).rstrip("\n") == "\n".join(lines).rstrip("\n") else None
-
-    def quoted(self, at, path, lines, place):
-        if not os.path.isfile(f"{TOP}/{path}") or place(text_of(path).split("\n"), lines) is None:
+    def quoted(self, at, path, lines, is_whole=False):
+        kept = text_of(path).rstrip("\n").split("\n") if os.path.isfile(f"{TOP}/{path}") else []
+        if position_of(kept, lines) is None or is_whole and len(kept) != len(lines):
             self.fault(at, f"{path} does not have these lines")
 
     def rust(self, at, lines):
@@ -355,8 +352,6 @@ class Page:
     def rows_of_rule(self, at, told):
         for code in codes_in(told):
             if re.match(r"(?:toml_span\w*|crates|scripts)/", code):
-                if not found(code) and not found(f"crates/{code}"):
-                    self.fault(at, f"there is no {code}")
                 continue
             row = re.compile(f"(?:parse 128: )?{re.escape(code)}".replace(r"\.\.", ".*"), re.DOTALL)
             count = sum(bool(row.fullmatch(it)) for it in self.sources.answers)
@@ -407,8 +402,12 @@ def code_of(path):
 
 
 def line_of(text):
-    text = re.sub(r"\s+", " ", text).strip().replace(", }", " }")
+    text = re.sub(r"\s+", " ", text).strip().rstrip(",").replace(", }", " }")
     return re.sub(r",? ([)\]]|>(?=[,( ]))", r"\1", re.sub(r"([(<\[]) ", r"\1", text))
+
+
+def head_of(item):
+    return line_of(HEAD.match(item)[1])
 
 
 def items_of(text):
@@ -420,28 +419,53 @@ def body_of(item):
     return re.sub(r"(?m)^    ", "", inner[1]) if inner else ""
 
 
+def calls_of(name, body, kinds):
+    """The lines of the calls in the body of an impl or a trait."""
+    calls = [it for it in items_of(re.sub(r"(?m)^#\[.*\n", "", body)) if re.match(kinds, it)]
+    return [f"{name}::{head_of(re.sub(r'^(pub )?(const )?(fn |type )?', '', it))}" for it in calls]
+
+
+def lines_of(kind, name, item, held):
+    """The lines of a public item, whose attributes are `held`."""
+    own = re.sub(r"(?m)^ *#\[.*\n", "", item)[len("pub ") :]
+    derived = ", ".join(re.findall(r"derive(?:_where)?\(([^);]*)", held))
+    if kind in (*TYPES, "fn", "type"):
+        yield head_of(own) + (f" derives {line_of(derived)}" if derived else "")
+    elif kind in ("const", "static"):
+        yield line_of(own.split("=")[0])
+    elif kind == "use":
+        base, _, group = own[len("use ") :].rstrip("};").partition("{")
+        yield from (f"use {base.strip()}{one.strip()}" for one in group.strip(" ,\n").split(","))
+    if kind == "struct":
+        yield from (f"{name}.{field}" for field in re.findall(r"(?m)^pub (\w+: .*),$", body_of(own)))
+    elif kind == "enum":
+        yield from (f"{name}::{line_of(variant)}" for variant in re.split(r",\n(?=\w)", body_of(own)))
+    elif kind == "trait":
+        yield from calls_of(name, body_of(own), r"(?:const )?fn|type")
+
+
 class Crate:
     """The public items of a library, each as a line with the module that it is in."""
 
     def __init__(self, name):
-        self.lines, self.impls, self.private, self.path = [], [], {"Model"}, name
+        self.lines, self.impls, self.private = [], [], {"Model"}
         src = f"crates/{name}/src"
         texts = "".join(code_of(it) for it in found(f"{src}/**/*.rt"))
         self.handed_on = {*re.findall(r"\w+", " ".join(re.findall(r"(?ms)^ *pub use ([^;]*);", texts)))}
         self.module(name, code_of(f"{src}/lib.rt"), src, True)
-        for self.path, item in self.impls:
-            head = line_of(HEAD.match(item)[1])
+        for path, item in self.impls:
+            head = head_of(item)
             if not self.private & {*re.findall(r"\w+", head)}:
                 name = re.sub(r"<.*>", "", re.sub(r"^impl(<[^>]*>)? ", "", head))
-                self.says(head) if " for " in head else self.calls(name, body_of(item), r"pub (?:const )?(?:fn|const)")
+                calls = calls_of(name, body_of(item), r"pub (?:const )?(?:fn|const)")
+                self.add(path, [head] if " for " in head else calls)
 
-    def says(self, what):
-        self.lines.append(f"{self.path}: {what}")
+    def add(self, path, lines):
+        self.lines += [f"{path}: {line}" for line in lines]
 
     def module(self, path, text, folder, is_open):
         held = ""
         for item in items_of(text):
-            self.path = path
             if item.startswith("#"):
                 held += item
                 continue
@@ -452,37 +476,12 @@ class Crate:
                 inner = body_of(item) if "{" in item else code_of(f"{folder}/{name}.rt")
                 self.module(f"{path}::{name}", inner, f"{folder}/{name}", is_open and is_public)
             elif kind == "macro_rules" and "#[macro_export]" in held:
-                self.says(f"macro {name}!")
-            elif kind == "use" and is_public:
-                base, _, group = item[len("pub use ") :].rstrip("};").partition("{")
-                for one in group.strip(" ,\n").split(","):
-                    self.says(f"use {base.strip()}{one.strip()}")
-            elif is_public and (is_open or name in self.handed_on):
-                self.public(kind, name, item, held)
+                self.add(path, [f"macro {name}!"])
+            elif is_public and (kind == "use" or is_open or name in self.handed_on):
+                self.add(path, lines_of(kind, name, item, held))
             elif kind in TYPES:
                 self.private.add(name)
             held = ""
-
-    def public(self, kind, name, item, held):
-        own = re.sub(r"(?m)^ *#\[.*\n", "", item)[len("pub ") :]
-        derived = ", ".join(re.findall(r"derive(?:_where)?\(([^);]*)", held))
-        if kind in (*TYPES, "fn", "type"):
-            self.says(line_of(HEAD.match(own)[1]) + (f" derives {line_of(derived)}" if derived else ""))
-        elif kind in ("const", "static"):
-            self.says(line_of(own.split("=")[0]))
-        if kind == "struct":
-            for field in re.findall(r"(?m)^pub (\w+: .*),$", body_of(own)):
-                self.says(f"{name}.{field}")
-        elif kind == "enum":
-            for variant in re.split(r",\n(?=\w)", body_of(own)):
-                self.says(f"{name}::{line_of(variant.rstrip().rstrip(','))}")
-        elif kind == "trait":
-            self.calls(name, body_of(own), r"(?:const )?fn|type")
-
-    def calls(self, name, body, kinds):
-        for call in items_of(re.sub(r"(?m)^#\[.*\n", "", body)):
-            if re.match(kinds, call):
-                self.says(f"{name}::{line_of(HEAD.match(re.sub(r'^(pub )?(const )?(fn |type )?', '', call))[1])}")
 
 
 def public_items(words):

@@ -9,37 +9,28 @@ trap 'rm -rf "$work"' EXIT
 passed=0
 failed=0
 
-# count NAME STATUS: counts a check that passes or fails as a whole
-count() {
-    if [ "$2" -eq 0 ]; then passed=$((passed + 1)); else
-        failed=$((failed + 1))
-        echo "failed: $1"
-    fi
-}
-
 # start NAME COMMAND..: begins a check beside those that have begun already
 names=()
 begun=()
 start() {
-    local name=$1
-    shift
     (
-        TIMEFORMAT="time: $name: %R s, %U + %S s of processors"
-        time "$@"
+        TIMEFORMAT="time: $1: %R s, %U + %S s of processors"
+        time "${@:2}"
     ) >"$work/${#names[@]}" 2>&1 &
     begun+=("$!")
-    names+=("$name")
+    names+=("$1")
 }
 
-# ended: waits for the checks that have begun, prints what each wrote, and counts it
+# ended: waits for the checks that have begun, counts each, and prints what it wrote
 ended() {
-    local index status
+    local index
     for index in "${!names[@]}"; do
-        wait "${begun[index]}"
-        status=$?
+        if wait "${begun[index]}"; then passed=$((passed + 1)); else
+            failed=$((failed + 1))
+            names[index]+=": failed"
+        fi
         echo "== ${names[index]}"
         cat "$work/$index"
-        count "${names[index]}" "$status"
     done
     names=()
     begun=()

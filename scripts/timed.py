@@ -13,7 +13,6 @@ import resource
 import signal
 import subprocess
 import sys
-import threading
 import time
 
 TICKS = os.sysconf("SC_CLK_TCK")
@@ -71,31 +70,22 @@ def report(seen, total):
     for (at, _, _), (spent, _) in seen.items():
         for name in [(at[0], ""), at]:
             rows[name] = rows.get(name, 0) + spent
-    unit = rows.get(UNIT)
     order = sorted(rows, key=lambda it: (PARTS.index(it[0]), it[1] != "", -rows[it]))
-    lines = [(f"  {crate}" if crate else part, rows[part, crate]) for part, crate in order]
-    for name, spent in [*lines, total]:
-        times = f", {spent / unit:.2f} times the proof of {UNIT[1]}" if unit else ""
-        print(f"time: {name:<24}{spent:8.0f} s of processors{times}")
-    sys.stdout.flush()
+    for name, spent in [*((f"  {it[1]}" if it[1] else it[0], rows[it]) for it in order), total]:
+        times = f", {spent / rows[UNIT]:.2f} times the proof of {UNIT[1]}" if UNIT in rows else ""
+        print(f"time: {name:<24}{spent:8.0f} s of processors{times}", flush=True)
 
 
 def main(words):
-    seen, ended, began = {}, threading.Event(), time.monotonic()
-    ran = subprocess.Popen(words)
-    signal.signal(signal.SIGTERM, lambda *_: ran.terminate())
-
-    def watch():
-        while not ended.wait(1):
-            look(ran.pid, seen)
-
-    watcher = threading.Thread(target=watch)
-    watcher.start()
-    try:
-        status = ran.wait()
-    finally:
-        ended.set()
-        watcher.join()
+    seen, began = {}, time.monotonic()
+    with subprocess.Popen(words) as ran:
+        signal.signal(signal.SIGTERM, lambda *_: ran.terminate())
+        while True:
+            try:
+                status = ran.wait(1)
+                break
+            except subprocess.TimeoutExpired:
+                look(ran.pid, seen)
     used = resource.getrusage(resource.RUSAGE_CHILDREN)
     name = f"{' '.join(words)}, {time.monotonic() - began:.0f} s"
     report(seen, (name, used.ru_utime + used.ru_stime))
