@@ -43,10 +43,19 @@ if [ -n "$uninstall" ]; then
     exit
 fi
 
-# write_texts PROGRAM FOLDER: writes man pages and completions
-write_texts() {
-    python3 - "$1" "$2" <<'PYTHON'
-"""PROGRAM FOLDER: writes man pages and completions below FOLDER, made from the help that PROGRAM prints."""
+mkdir -p -- "$prefix" && stage=$(mktemp -d -- "$prefix/.toml-span-XXXXXX") || fail 3 "${prefix@Q} can't be written"
+status=0
+program=$(bash "${script%/*}/native.sh" --static toml_span_cli </dev/null) || status=$?
+case $status in
+0) ;;
+130) exit 130 ;;
+*) fail 5 "the program can't be built, so nothing is installed: see above" ;;
+esac
+mkdir -- "$stage/bin" && cp -- "$program" "$stage/bin/toml-span" || fail 3 "${prefix@Q} can't be written"
+"$stage/bin/toml-span" --version >/dev/null 2>&1 || fail 3 "programs can't run in ${prefix@Q}: name another folder"
+
+# man pages and completions, made from the help that the program prints
+python3 - "$stage/bin/toml-span" "$stage" <<'PYTHON' ||
 import os
 import re
 import subprocess
@@ -204,19 +213,7 @@ write(
     *(f"complete -c toml-span -n '__fish_seen_subcommand_from {line}" for line in fish),
 )
 PYTHON
-}
-
-mkdir -p -- "$prefix" && stage=$(mktemp -d -- "$prefix/.toml-span-XXXXXX") || fail 3 "${prefix@Q} can't be written"
-status=0
-program=$(bash "${script%/*}/native.sh" --static toml_span_cli </dev/null) || status=$?
-case $status in
-0) ;;
-130) exit 130 ;;
-*) fail 5 "the program can't be built, so nothing is installed: see above" ;;
-esac
-mkdir -- "$stage/bin" && cp -- "$program" "$stage/bin/toml-span" || fail 3 "${prefix@Q} can't be written"
-"$stage/bin/toml-span" --version >/dev/null 2>&1 || fail 3 "programs can't run in ${prefix@Q}: name another folder"
-write_texts "$stage/bin/toml-span" "$stage" || fail 5 "no man pages can be made from the program's help: see above"
+    fail 5 "no man pages can be made from the program's help: see above"
 chmod -R u=rwX,go=rX -- "$stage"
 
 mapfile -t files < <(cd -- "$stage" && find . -type f -printf '%P\n' | LC_ALL=C sort)

@@ -5,8 +5,8 @@
 # `stdin` is standard input, and `stdout`, `stderr` and `status` are what the program must write and end with: nothing
 # and 0 where there is no such file, except that then any `stderr` is fine. It runs in a folder with the files of
 # runs/data and of its own `data`. These must be as before afterwards, with their permissions, except for the files of
-# its folder `after`, and no other file may be there. Further checks of some programs follow, and some of their runs with
-# each request for memory refused in turn. PROGRAM is the proved build by default.
+# its folder `after`, and no other file may be there. Further checks of some programs follow, such as runs with each
+# request for memory refused in turn. PROGRAM is the proved build by default.
 set -uo pipefail
 unset CDPATH NO_COLOR CLICOLOR_FORCE
 script=$(readlink -f -- "${BASH_SOURCE[0]}")
@@ -104,10 +104,10 @@ silent() {
         if [ "$1" -eq 1 ]; then grep -q OutOfMemory "$work/stderr"; else [ ! -s "$work/stderr" ]; fi
 }
 
-# refused STATUS REQUESTS GUESSES: the run of $words and $input with each request for memory refused in turn, of at least
-# this many. Each ends the program with this status, except for this many guesses, which cost nothing.
+# refused STATUS REQUESTS GUESSES: the run of $words and $input with each of its requests for memory refused in turn, at
+# least this many. Each ends the program with this status, except for this many guesses, which cost nothing.
 refused() {
-    local usual request made=1 spared=0
+    local usual request with made=1 spared=0
     for ((request = 0; request <= made; request++)); do
         fresh
         with=("LD_PRELOAD=$work/faults.so" "REFUSED=$request")
@@ -127,7 +127,6 @@ refused() {
             holds same "$work/after"
         fi
     done
-    with=()
     holds test "$made" -ge "$2" -a "$spared" -eq "$3"
 }
 
@@ -153,9 +152,7 @@ toml_span_show() {
     fresh
     head -c 16777216 /dev/zero | tr '\0' ' ' >"$input"
     writes 0 'root table 0..16777216'
-    out=/dev/full
-    ends 3
-    out=$work/stdout
+    out=/dev/full ends 3
     printf '\377' >>"$input"
     writes 2 'error too-long'
     input=$work
@@ -176,9 +173,8 @@ cuts() {
 
 # colored YES WORD..: whether a report has colors, with these words before the program's name
 colored() {
-    with=("${@:2}")
+    local with=("${@:2}")
     ends 1 check settings.toml
-    with=()
     holds test "$(grep -q $'\e' "$work/stdout" && echo yes)" = "$1"
 }
 
@@ -221,7 +217,7 @@ error: cannot read \`no\\u000a::error file=x\`: no such file" --format short onc
 
 # prefixes: what is shown is written as it is made, so a write that fails leaves a prefix
 prefixes() {
-    local at least=-1
+    local at least=-1 with
     python3 -c 'print("\n".join(f"k{n} = {n}" for n in range(50000)))' >"$work/folder/many.toml"
     ends 0 get --items many.toml ''
     cp "$work/stdout" "$work/whole"
@@ -232,23 +228,18 @@ prefixes() {
         least=$(stat -c %s "$work/stdout")
         holds cmp -n "$least" "$work/stdout" "$work/whole"
     done
-    with=()
 }
 
 toml_span_cli() {
     local terminal='import os, pty, sys; sys.exit(os.waitstatus_to_exitcode(pty.spawn(sys.argv[1:])))'
     fresh
     for part in cuts names prefixes; do "$part"; done
-    out=/dev/full
     for words in "check settings.toml" "check --help" "show tree.toml"; do
         # shellcheck disable=SC2086 # (words)
-        ends 3 $words
+        out=/dev/full ends 3 $words
     done
-    out=$work/stdout
-    err=/dev/full
-    ends 3 check --format
-    ends 3 set tree.toml /nothing 1
-    err=$work/stderr
+    err=/dev/full ends 3 check --format
+    err=/dev/full ends 3 set tree.toml /nothing 1
     colored '' TERM=xterm
     colored yes CLICOLOR_FORCE=1 TERM=dumb
     colored '' CLICOLOR_FORCE=0
@@ -275,8 +266,9 @@ toml_span_cli() {
     echo other >"$work/folder/odd.toml.toml-span"
     ends 3 remove odd.toml /m/n
     holds cmp "$work/folder/odd.toml" runs/data/odd.toml
-    for name in runs/{colour,github,json,sarif,summary,all_files,get_tagged,items,get_root_as_toml,set_odd,set_in_invalid} \
-        runs/{tagged,items}_{clashing,crossing,nested} runs/{rename_quoted,remove_dotted,remove_inline,add_to_empty}; do
+    for name in runs/{colour,github,json,sarif,summary,all_files,get_tagged,items,get_root_as_toml,set_odd} \
+        runs/{tagged,items}_{clashing,crossing,nested} \
+        runs/{rename_quoted,remove_dotted,remove_inline,add_to_empty,set_in_invalid}; do
         arguments_of
         refused 4 20 0
     done

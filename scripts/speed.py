@@ -222,23 +222,25 @@ def filled(line, size=1_000_000):
     return "".join(f"{line % at}\n" for at in range(size // (len(line % 10**5) + 1)))
 
 
-HEADERS = "".join(f"[[{keys(count, 'h')}]]\n" for count in range(1, 129))
-DEEPEST = {
-    "one assignment": "a = 1\n",
-    "127 brackets": f"a = {'[' * 127}{']' * 127}\n",
-    "127 inline tables": f"a = {'{a = ' * 127}1{'}' * 127}\n",
-    "a key of 128 parts": f"{keys(128)} = 1\n",
-    "a header of 128 parts, and below it a key of 128": f"[{keys(128, 'h')}]\n{keys(128)} = 1\n",
-    "128 arrays of tables in one another, and below them a key of 128": f"{HEADERS}{keys(128)} = 1\n",
-}
-LARGEST = {
-    "headers of 128 parts": filled(f"[k%d.{keys(127, 'a')}]"),
-    "dotted keys of 128 parts": filled(f"k%d.{keys(127, 'a')} = 1"),
-    "headers of 2 parts": filled("[k%d.a]"),
-    "assignments": filled("k%d = 1"),
-    "an array of integers": f"a = [{'1,' * 499_997}]\n",
-    "an array of integers, its key of 1,000 bytes": f"{'k' * 1000} = [{'1,' * 499_497}]\n",
-}
+def deepest():
+    """Documents that take much stack."""
+    yield "one assignment", "a = 1\n"
+    yield "127 brackets", f"a = {'[' * 127}{']' * 127}\n"
+    yield "127 inline tables", f"a = {'{a = ' * 127}1{'}' * 127}\n"
+    yield "a key of 128 parts", f"{keys(128)} = 1\n"
+    yield "a header of 128 parts, and below it a key of 128", f"[{keys(128, 'h')}]\n{keys(128)} = 1\n"
+    headers = "".join(f"[[{keys(count, 'h')}]]\n" for count in range(1, 129))
+    yield "128 arrays of tables in one another, and below them a key of 128", f"{headers}{keys(128)} = 1\n"
+
+
+def largest():
+    """Documents that take much memory."""
+    yield "headers of 128 parts", filled(f"[k%d.{keys(127, 'a')}]")
+    yield "dotted keys of 128 parts", filled(f"k%d.{keys(127, 'a')} = 1")
+    yield "headers of 2 parts", filled("[k%d.a]")
+    yield "assignments", filled("k%d = 1")
+    yield "an array of integers", f"a = [{'1,' * 499_997}]\n"
+    yield "an array of integers, its key of 1,000 bytes", f"{'k' * 1000} = [{'1,' * 499_497}]\n"
 
 
 def ends(program, text, size):
@@ -281,9 +283,9 @@ def limits(named):
         programs = [[cli, "check"], [cli, "get", "--items", "-", ""], [cli, "get", "--tagged", "-", ""], [show]]
     for program in programs:
         print(f"{' '.join([os.path.relpath(program[0], TOP), *program[1:]])}:")
-        for name, text in DEEPEST.items():
+        for name, text in deepest():
             print(f"{least(program, text.encode()):8} KB of stack: {name}", flush=True)
-        for name, text in LARGEST.items():
+        for name, text in largest():
             print(f"{peak(program, text.encode()):>8} times the text in memory: {name}", flush=True)
 
 
