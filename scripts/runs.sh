@@ -209,8 +209,9 @@ error: cannot read \`loop\`: Too many levels of symbolic links (os error 40)
 error: cannot read \`socket\`: No such device or address (os error 6)
 error: cannot read \`once.toml/x\`: Not a directory (os error 20)
 error: cannot read \`$long\`: File name too long (os error 36)
-error: cannot read \`no\\u000a::error file=x\`: no such file" --format short once.toml $'caf\xe9.toml' $'\xc3\xa9\n\xff' \
-        tree way/a empty loop socket once.toml/x "$long" $'no\n::error file=x'
+error: cannot read \`no\\u000a::error file=x\`: no such file" --format short \
+        once.toml $'caf\xe9.toml' $'\xc3\xa9\n\xff' tree way/a empty loop socket once.toml/x "$long" \
+        $'no\n::error file=x'
     writes 2 "error: the path \`/\\xff\` is not valid UTF-8" get once.toml $'/\xff'
     cd - >/dev/null || return
 }
