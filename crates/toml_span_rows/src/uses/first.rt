@@ -8,7 +8,7 @@ pub fn port_told(alloc: Global, text: &str) -> Result<String, AllocError> {
     match parse(alloc, text) {
         Ok(root) => match root.pointer("/server/port") {
             Some(port) => format!(in alloc;
-                "the port stands at {}..{}",
+                "the port is at {}..{}",
                 port.span.start, port.span.end
             ),
             None => format!(in alloc; "there is no port"),
