@@ -147,7 +147,13 @@ fn push_all(found: &[Option<Finding>], list: &mut Vec<Finding>) -> Result<(), Al
 }
 
 /// Tests the keywords of a package.
-fn keywords(alloc: Global, words: &[Value], list: &mut Vec<Finding>) -> Result<(), AllocError> {
+fn keywords(alloc: Global, package: &Value, list: &mut Vec<Finding>) -> Result<(), AllocError> {
+    let Some(found) = package.pointer("/keywords") else {
+        return Ok(());
+    };
+    let Some(words) = found.as_array() else {
+        return Ok(());
+    };
     if let Some(sixth) = words.get(5) {
         let message = "there are more than five keywords";
         let place = (sixth.span, "the sixth");
@@ -166,17 +172,6 @@ fn keywords(alloc: Global, words: &[Value], list: &mut Vec<Finding>) -> Result<(
     Ok(())
 }
 
-/// Returns the keywords of a package.
-fn keywords_of<'v, 'de>(package: &'v Value<'de>) -> &'v [Value<'de>] {
-    match package.pointer("/keywords") {
-        Some(found) => match found.as_array() {
-            Some(words) => words.as_slice(),
-            None => &[],
-        },
-        None => &[],
-    }
-}
-
 /// Tests a manifest.
 fn lint(alloc: Global, root: &Table, list: &mut Vec<Finding>) -> Result<(), AllocError> {
     for (key, value) in root.iter() {
@@ -184,7 +179,7 @@ fn lint(alloc: Global, root: &Table, list: &mut Vec<Finding>) -> Result<(), Allo
         match (key.name.as_str(), value.as_table()) {
             ("package", _) => {
                 push_all(&package(key, value), list)?;
-                keywords(alloc, keywords_of(value), list)?;
+                keywords(alloc, value, list)?;
             }
             ("dependencies", Some(table)) => {
                 for value in table.values() {
