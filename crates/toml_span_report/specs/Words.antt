@@ -72,20 +72,21 @@ value_words of_value.Prefixed =
 value_words of_value.RawString =
     said (codes "strings have no prefix") [] [] (codes "use single quotes for a raw string") (codes ": ") false
 value_words of_value.ValueBelow =
-    said (codes "the value is not on the line of its key") (codes "expected a value here") []
+    said (codes "a value must be on the same line as `=`") (codes "expected a value here") []
     (codes "write") (codes " ") false
 value_words of_value.HashValue =
     said (codes "`#` begins a comment") [] [] (codes "put the value in quotes") (codes ": ") false
 value_words of_value.NoValueBehind =
-    said (codes "this key has no value") (codes "expected a value on this line") [] [] [] false
+    said (codes "this key has no value") (codes "expected a value on this line") []
+    (codes "write a value, or remove the line") [] false
 value_words of_value.FloatDue = said [] [] [] (codes "write") (codes " ") true
 value_words of_value.StringDue = said [] [] [] (codes "put it in quotes") (codes ": ") false
 
 abbrev pub symbol_words : SymbolMistake → WordsContent
 symbol_words of_symbol.Backticks =
-    said (codes "strings have no backticks") [] [] (codes "use double quotes") (codes ": ") true
+    said (codes "backticks do not quote strings") [] [] (codes "use double quotes") (codes ": ") true
 symbol_words of_symbol.CurlyQuotes =
-    said (codes "strings have straight quotes") [] [] (codes "use double quotes") (codes ": ") true
+    said (codes "strings need straight quotes") [] [] (codes "use double quotes") (codes ": ") true
 symbol_words of_symbol.OtherSpace =
     said (codes "this is not an ordinary space") [] [] (codes "use an ordinary space") [] true
 symbol_words of_symbol.Invisible = said (codes "this character is invisible") [] [] (codes "remove it") [] true
@@ -96,8 +97,7 @@ symbol_words of_symbol.Parentheses =
 symbol_words of_symbol.Conflict =
     said (codes "this is a merge conflict marker") [] [] (codes "choose one side and delete the markers") [] false
 symbol_words of_symbol.Markup = said (codes "this looks like XML or HTML, not TOML") [] [] [] [] false
-symbol_words of_symbol.Comment =
-    said (codes "comments begin with `#`") [] [] (codes "write `#` in place of this sign") [] true
+symbol_words of_symbol.Comment = said (codes "comments begin with `#`") [] [] (codes "write `#` instead") [] true
 symbol_words of_symbol.BlockComment =
     said (codes "TOML has no block comments") [] [] (codes "begin each line of the comment with `#`") [] false
 symbol_words of_symbol.Semicolon = said (codes "lines do not end with a semicolon") [] [] (codes "remove it") [] true
@@ -106,7 +106,7 @@ symbol_words of_symbol.LoneReturn =
 
 abbrev pub key_words : KeyMistake → WordsContent
 key_words of_key.BareKey =
-    said (codes "this key needs quotes") (codes "bare keys are A-Z, a-z, 0-9, `_` and `-`") []
+    said (codes "this key needs quotes") (codes "bare keys contain only A-Z, a-z, 0-9, `_` and `-`") []
     (codes "put it in quotes") (codes ": ") true
 key_words of_key.Equals =
     said (codes "a key and its value are separated by one `=`") [] [] (codes "write") (codes " ") true
@@ -116,10 +116,10 @@ key_words of_key.NoEquals =
     said (codes "`=` is missing between this key and its value") [] [] (codes "write") (codes " ") true
 key_words of_key.NoValue =
     said (codes "this key has no value") [] [] (codes "write `=` and a value after it") [] false
-key_words of_key.Keyword = said (codes "this word is not part of TOML") [] [] (codes "remove it") [] false
+key_words of_key.Keyword =
+    said (codes "TOML has no keywords such as `export` or `let`") [] [] (codes "remove this word") [] false
 key_words of_key.ExtraDot =
-    said (codes "a dot separates two parts of a key") [] []
-    (codes "remove this dot, or write an empty part as `\"\"`") [] false
+    said (codes "this key has an empty part") [] [] (codes "remove this dot, or write an empty part as `\"\"`") [] false
 key_words of_key.NoKey =
     said (codes "this value has no key") (codes "expected a key before `=`") []
     (codes "write an empty key as `\"\"`") [] false
@@ -127,8 +127,7 @@ key_words of_key.NoName =
     said (codes "this header has no name") [] [] (codes "write the name of the table: `[name]`") [] false
 key_words of_key.LongKey =
     said (codes "keys have no multiline strings") [] [] (codes "use one quote on each side of the key") [] false
-key_words of_key.OpenKey =
-    said (codes "this key is not closed") [] [] (codes "close it with the quote that it begins with") [] false
+key_words of_key.OpenKey = said (codes "this key is not closed") [] [] (codes "close it after the key") [] false
 
 abbrev pub format_words : FormatMistake → WordsContent
 format_words of_format.YamlTable =
@@ -136,36 +135,34 @@ format_words of_format.YamlTable =
 format_words of_format.YamlList =
     said (codes "this looks like YAML, not TOML") [] [] (codes "write an array: `key = [\"a\", \"b\"]`") [] false
 format_words of_format.YamlItem =
-    said (codes "this looks like YAML, not TOML") [] [] (codes "begin each table of a list with `[[name]]`") [] false
+    said (codes "this looks like YAML, not TOML") [] [] (codes "begin each table in an array with `[[name]]`") [] false
 format_words of_format.DocumentMarker =
     said (codes "this looks like YAML, not TOML") [] [] (codes "remove this line") [] false
 format_words of_format.Json = said (codes "this looks like JSON, not TOML") [] [] (codes "write") (codes " ") false
 format_words of_format.JsonDocument =
     said (codes "this looks like JSON, not TOML") [] []
-    (codes "write each member on a line, as `key = value`") [] false
+    (codes "remove the braces and commas, and write `key = value` on each line") [] false
 format_words of_format.BraceHeader =
     said (codes "table headers have brackets, not braces") [] [] (codes "write") (codes " ") false
 format_words of_format.Template =
-    said (codes "this is a placeholder of a template") [] []
-    (codes "fill it in, or put it in quotes") (codes ": ") false
+    said (codes "this is a template placeholder") [] [] (codes "fill it in, or put it in quotes") (codes ": ") false
 format_words of_format.TemplateLine =
-    said (codes "this is a line of a template") [] [] (codes "render the template before reading it as TOML") [] false
+    said (codes "this looks like a template, not TOML") [] []
+    (codes "render the template before reading it as TOML") [] false
 
 abbrev pub list_words : ListMistake → WordsContent
 list_words of_list.ExtraComma =
     said (codes "there is no value before this comma") [] [] (codes "remove the comma") [] true
 list_words of_list.NoComma =
-    said (codes "a comma is missing between two elements") (codes "expected `,` or `]`") []
-    (codes "separate the elements with `,`") [] true
+    said (codes "a comma is missing between two elements") [] [] (codes "separate the elements with `,`") [] true
 list_words of_list.NoCommaInTable =
-    said (codes "a comma is missing between two pairs") (codes "expected `,` or `}`") []
-    (codes "separate the pairs with `,`") [] true
+    said (codes "a comma is missing between two pairs") [] [] (codes "separate the pairs with `,`") [] true
 list_words of_list.OpenArray =
     said (codes "this array is not closed") (codes "expected `,` or `]`") (codes "the array begins here")
-    (codes "close it with `]`") [] false
+    (codes "add `]` after the last element") [] false
 list_words of_list.OpenTable =
     said (codes "this inline table is not closed") (codes "expected `,` or `}`") (codes "the table begins here")
-    (codes "close it with `}`") [] false
+    (codes "add `}` after the last pair") [] false
 list_words of_list.ClosedByBrace =
     said (codes "this array is closed with a brace") [] (codes "the array begins here")
     (codes "write") (codes " ") false
@@ -177,27 +174,27 @@ list_words of_list.ExtraClosing =
 list_words of_list.ArrayAlone =
     said (codes "a header names one table") [] [] (codes "give an array a key: `key = [\"a\", \"b\"]`") [] false
 list_words of_list.OpenHeader =
-    said (codes "this header is not closed") [] [] (codes "close it on its line") (codes ": ") true
+    said (codes "this header is not closed") [] [] (codes "close it with `]` on the same line") (codes ": ") true
 list_words of_list.HeaderBracket =
     said (codes "this header has an extra bracket") [] [] (codes "remove it, or begin the header with `[[`") [] false
 
 abbrev pub line_words : LineMistake → WordsContent
 line_words of_line.LastComma = said (codes "lines do not end with a comma") [] [] (codes "remove it") [] true
 line_words of_line.SecondKey =
-    said (codes "this line has two keys") (codes "expected a new line here") []
-    (codes "begin a new line before the second key") [] true
+    said (codes "this line has two keys") [] [] (codes "begin a new line before the second key") [] true
+line_words of_line.CommaBehindValue =
+    said (codes "this line has two keys") [] [] (codes "replace the comma with a new line") [] true
 line_words of_line.KeyAfterHeader =
-    said (codes "this line has a header and a key") (codes "expected a new line here") []
-    (codes "begin a new line before the key") [] true
+    said (codes "this line has a header and a key") [] [] (codes "begin a new line before the key") [] true
 line_words of_line.ValueOfHeader =
-    said (codes "a header has no value") [] [] (codes "write a key without brackets") (codes ": ") false
+    said (codes "a header can't have a value") [] [] (codes "write a key without brackets") (codes ": ") false
 line_words of_line.QuoteInString =
     said (codes "the string ends at an inner quote") [] [] (codes "use the other quotes around it") (codes ": ") false
 line_words of_line.Joined = said (codes "strings can't be joined") [] [] (codes "write one string") [] false
 line_words of_line.HalfDay =
     said (codes "times have no AM and PM") [] [] (codes "use a 24-hour time, as `18:30:00`") [] false
 line_words of_line.ZoneName =
-    said (codes "an offset is `Z` or a difference, as `+01:00`") [] [] (codes "write") (codes " ") false
+    said (codes "offsets are written as `Z` or `+01:00`") [] [] (codes "write") (codes " ") false
 line_words of_line.AfterValue =
     said (codes "expected the end of the line") (codes "only a comment can follow here") [] [] [] false
 
@@ -213,24 +210,24 @@ number_words of_number.LeadingZero =
 number_words of_number.Octal = said (codes "octal numbers begin with `0o`") [] [] (codes "write") (codes " ") false
 number_words of_number.UpperPrefix =
     said (codes "the prefix of a number is lower case") [] [] (codes "write") (codes " ") true
-number_words of_number.OtherDigit = said (codes "this number has a digit of another base") [] [] [] [] false
-number_words of_number.Signs = said (codes "a number has one sign") [] [] (codes "write") (codes " ") false
+number_words of_number.OtherDigit = said (codes "this number has an invalid digit") [] [] [] [] false
+number_words of_number.Signs = said (codes "a number can have only one sign") [] [] (codes "write") (codes " ") false
 number_words of_number.Underscore =
     said (codes "each `_` in a number needs a digit on both sides") [] [] (codes "write") (codes " ") true
-number_words of_number.SignedPrefix = said (codes "only decimal numbers have a sign") [] [] [] [] false
+number_words of_number.SignedPrefix = said (codes "only decimal numbers can have a sign") [] [] [] [] false
 number_words of_number.TooLarge =
     said (codes "this integer does not fit into 64 bits") [] []
     (codes "an integer is from -9223372036854775808 to 9223372036854775807") [] false
 
 abbrev pub date_words : DateMistake → WordsContent
 date_words of_date.SlashDate =
-    said (codes "dates are written as year-month-day") [] [] (codes "write") (codes " ") false
+    said (codes "dates are written as year-month-day") [] [] (codes "if the month comes first, write") (codes " ") false
 date_words of_date.ShortDate = said (codes "months and days have two digits") [] [] (codes "write") (codes " ") true
-date_words of_date.NoMonth = said (codes "this month does not exist") (codes "months are 01 to 12") [] [] [] false
-date_words of_date.NoDay =
-    said (codes "this day does not exist") (codes "the month does not have this day") [] [] [] false
+date_words of_date.NoMonth =
+    said (codes "this month does not exist") (codes "months are 01 to 12, days at most 31") [] [] [] false
+date_words of_date.NoDay = said (codes "this month does not have this day") [] [] [] [] false
 date_words of_date.NoTime = said (codes "this time does not exist") (codes "hours are 00 to 23") [] [] [] false
-date_words of_date.Offset = said (codes "an offset has a colon") [] [] (codes "write") (codes " ") true
+date_words of_date.Offset = said (codes "an offset needs a colon") [] [] (codes "write") (codes " ") true
 date_words of_date.Datetime = said [] [] [] (codes "a date is like `2026-01-31`, a time like `07:32:00`") [] false
 
 abbrev pub text_words : TextMistake → WordsContent
@@ -248,31 +245,40 @@ text_words of_text.ControlInLiteral =
     said (codes "control characters must be escaped") [] []
     (codes "use a string in double quotes, and an escape as `\\u0001`") [] false
 text_words of_text.Backslash =
-    said (codes "this backslash begins no escape") [] []
-    (codes "write two backslashes, or use single quotes") (codes ": ") false
+    said (codes "this is not an escape sequence") [] []
+    (codes "double every backslash, or use single quotes") (codes ": ") false
 text_words of_text.ShortEscape = said (codes "this escape has too few digits") [] [] (codes "write") (codes " ") false
 text_words of_text.Surrogate =
     said (codes "this escape is a surrogate, not a character") [] []
-    (codes "write the character itself, or one escape as `\\U0001F600`") [] false
+    (codes "write a surrogate pair as one escape, such as `\\U0001F600`") [] false
 text_words of_text.NoCharacter =
     said (codes "this escape is past the last character") (codes "the last character is `\\U0010FFFF`") [] [] [] false
 
 abbrev pub clash_words : ClashMistake → WordsContent
 clash_words of_clash.TableTwice =
     said [] (codes "duplicate table") (codes "first table instance")
-    (codes "put all its keys under one header, or use `[[..]]` for a list") [] false
+    (codes "merge the two tables, or write both headers as `[[..]]`") [] false
+clash_words of_clash.ArrayOfTable =
+    said (codes "this is already a table, not an array of tables") [] (codes "table defined here")
+    (codes "write the first header as `[[..]]`") [] false
+clash_words of_clash.TableOfArray =
+    said (codes "this is already an array of tables, not a table") [] (codes "array of tables begins here")
+    (codes "write `[[..]]` to add a table to it") [] false
 clash_words of_clash.ArrayAfterTable = said [] [] [] (codes "put it before the headers of its subtables") [] false
 clash_words of_clash.ClosedTable =
-    said (codes "an inline table can't be extended") (codes "this extends the table") (codes "an inline table is closed")
+    said (codes "an inline table can't be extended") (codes "this extends the table") (codes "inline table defined here")
     (codes "write the key inside its braces") [] false
+clash_words of_clash.ClosedTableHeader =
+    said (codes "an inline table can't be extended") (codes "this extends the table") (codes "inline table defined here")
+    (codes "write it inside the braces, as `key = {..}`") [] false
 clash_words of_clash.ClosedArray =
-    said (codes "an array in brackets can't be extended") (codes "this extends the array") (codes "this array is closed")
+    said (codes "a static array can't be extended") (codes "this extends the array") (codes "array defined here")
     (codes "write the element inside its brackets") [] false
 clash_words of_clash.ThroughValue =
-    said [] (codes "this needs a table") (codes "this is a value, not a table") [] [] false
+    said [] (codes "used as a table here") (codes "this is a value, not a table") [] [] false
 clash_words of_clash.DottedTable =
-    said [] (codes "this is a second definition") (codes "defined here by a dotted key")
-    (codes "use dotted keys for all of it, or a header") [] false
+    said (codes "this table is already defined by a dotted key") [] (codes "defined here")
+    (codes "use only dotted keys, or only a header, for this table") [] false
 
 abbrev pub words_for : Mistake → WordsContent
 words_for (mistakes.Value m) = value_words m

@@ -92,6 +92,7 @@ pub(crate) enum ListMistake {
 pub(crate) enum LineMistake {
     LastComma,
     SecondKey,
+    CommaBehindValue,
     KeyAfterHeader,
     ValueOfHeader,
     QuoteInString,
@@ -148,8 +149,11 @@ pub(crate) enum TextMistake {
 #[derive(Clone, Copy)]
 pub(crate) enum ClashMistake {
     TableTwice,
+    ArrayOfTable,
+    TableOfArray,
     ArrayAfterTable,
     ClosedTable,
+    ClosedTableHeader,
     ClosedArray,
     ThroughValue,
     DottedTable,

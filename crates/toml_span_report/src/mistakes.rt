@@ -37,7 +37,7 @@ pub(crate) fn mistake_of<'a>(kind: &ErrorKind<'_>, text: &'a str, span: Span) ->
         }
         ErrorKind::UnterminatedString => Some(strings::unterminated(text, span.start)),
         ErrorKind::MultilineStringKey => Some(strings::long_key(text, span.start)),
-        ErrorKind::DuplicateTable { first, .. } => Some(clashes::table_twice(span, *first)),
+        ErrorKind::DuplicateTable { first, .. } => Some(clashes::table_twice(text, span, *first)),
         ErrorKind::DuplicateKey { first, .. } => clashes::key_twice(text, span, *first),
         ErrorKind::DottedKeyInvalidType { first } => clashes::through_value(text, span, *first),
         ErrorKind::RedefineAsArray => Some(marked(

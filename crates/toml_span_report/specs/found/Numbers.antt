@@ -14,8 +14,8 @@ behind_sign text at = if slice_index text at == 43 || slice_index text at == 45 
 
 abbrev pub digits_of : ℕ → List ℕ
 digits_of letter =
-    if letter == 120 then codes "hexadecimal digits are 0 to 9 and A to F"
-    else if letter == 111 then codes "octal digits are 0 to 7"
+    if letter == 120 then codes "hexadecimal digits are 0-9, a-f and A-F"
+    else if letter == 111 then codes "octal digits are 0-7"
     else if letter == 98 then codes "binary digits are 0 and 1"
     else []
 

@@ -55,18 +55,27 @@ unfoldable pub zeros_of : ℕ → ℕ → List ℕ
 zeros_of letter count =
     part (codes "00000000") 0 ((if letter == 85 then 8 else if letter == 117 then 4 else 2) - count)
 
+-- the digits that an escape needs
+abbrev pub digits_after : ℕ → List ℕ
+digits_after letter =
+    if letter == 85 then codes "`\\U` needs eight hexadecimal digits"
+    else if letter == 117 then codes "`\\u` needs four hexadecimal digits"
+    else codes "`\\x` needs two hexadecimal digits"
+
 unfoldable pub hex_escape : List ℕ → ℕ → FindingContent
 hex_escape text at =
     let digits = start_of class.Hex text at in
     let start = digits - 2 in
-    if digits == at || not (slice_index text start == 92) then backslash text start (ahead text at 1)
+    let letter = slice_index text (digits - 1) in
+    if digits == at || not (slice_index text start == 92)
+    then record (backslash text start (ahead text at 1)) { name = digits_after letter }
     else replaced (mistakes.Text of_text.ShortEscape) start at
-    (pieces (part text start digits) (zeros_of (slice_index text (digits - 1)) (at - digits)) (part text digits at))
+    (pieces (part text start digits) (zeros_of letter (at - digits)) (part text digits at))
 
 unfoldable pub escape_value : List ℕ → ℕ → ℕ → FindingContent
 escape_value text at value =
-    marked (if nat_lt value 0xE000 then (mistakes.Text of_text.Surrogate) else (mistakes.Text of_text.NoCharacter)) (at - 2)
-    (ahead text at (if slice_index text (at - 1) == 85 then 8 else 4))
+    marked (if nat_lt value 0xE000 then (mistakes.Text of_text.Surrogate) else (mistakes.Text of_text.NoCharacter)) (at - 1)
+    (ahead text at (if slice_index text at == 85 then 9 else 5))
 
 unfoldable pub unterminated : List ℕ → ℕ → FindingContent
 unterminated text at =

@@ -33,7 +33,10 @@ comma text at =
     let end = ahead text at 1 in
     or_comma (thousands text at)
     (if is_last text end || byte_behind text end == 35 then replaced (mistakes.Line of_line.LastComma) at end (pieces [] [] [])
-    else broken (mistakes.Line of_line.SecondKey) text at (end_of class.Blank text end))
+    else if slice_index text (end_of class.Left text end) == 61
+    then mended (mistakes.Line of_line.CommaBehindValue) (span_of at end) (span_of at (end_of class.Blank text end))
+    (pieces (10 ∷ []) [] [])
+    else marked (mistakes.Line of_line.AfterValue) at end)
 
 -- more behind a header, on its line
 unfoldable pub header_value : List ℕ → ℕ → ℕ → FindingContent

@@ -16,11 +16,21 @@ fn with_other<'a>(mistake: Mistake, span: Span, other: Span) -> Finding<'a>
     found
 }
 
-/// A table with two headers.
-pub(crate) fn table_twice<'a>(span: Span, first: Span) -> Finding<'a>
-    ensures { finding_content result ≡ spec.table_twice span first }
+/// A table with two headers: each may be that of an array of tables.
+#[tactic(auto, unfolding(crate::specs::found::Clashes::table_twice))]
+pub(crate) fn table_twice<'a>(text: &'a str, span: Span, first: Span) -> Finding<'a>
+    ensures { finding_content result ≡ spec.table_twice text.now span first }
 {
-    with_other(Mistake::Clash(ClashMistake::TableTwice), span, first)
+    let was_array = begins(text, first.start, b"[[");
+    let is_array = begins(text, span.start, b"[[");
+    let mistake = if is_array && !was_array {
+        Mistake::Clash(ClashMistake::ArrayOfTable)
+    } else if was_array && !is_array {
+        Mistake::Clash(ClashMistake::TableOfArray)
+    } else {
+        Mistake::Clash(ClashMistake::TableTwice)
+    };
+    with_other(mistake, span, first)
 }
 
 /// The first byte of the value of a key that ends at an offset, or of what else follows the key.
@@ -41,11 +51,11 @@ fn value_of(text: &str, end: usize) -> u8
 pub(crate) fn through_value<'a>(text: &'a str, span: Span, first: Span) -> Option<Finding<'a>>
     ensures { option_map finding_content result ≡ spec.through_value text.now span first }
 {
+    let line = first_of_line(text, span.start);
     let mistake = match value_of(text, first.end) {
+        b'{' if byte_at(text, line) == b'[' => Mistake::Clash(ClashMistake::ClosedTableHeader),
         b'{' => Mistake::Clash(ClashMistake::ClosedTable),
-        b'[' if begins(text, first_of_line(text, span.start), b"[[") => Mistake::Clash(
-            ClashMistake::ClosedArray,
-        ),
+        b'[' if begins(text, line, b"[[") => Mistake::Clash(ClashMistake::ClosedArray),
         b'.' => Mistake::Clash(ClashMistake::DottedTable),
         0 | b']' => return None,
         _ => Mistake::Clash(ClashMistake::ThroughValue),

@@ -25,8 +25,8 @@ fn digits_of(letter: u8) -> &'static str
     ensures { result.now ≡ spec.digits_of letter }
 {
     match letter {
-        b'x' => "hexadecimal digits are 0 to 9 and A to F",
-        b'o' => "octal digits are 0 to 7",
+        b'x' => "hexadecimal digits are 0-9, a-f and A-F",
+        b'o' => "octal digits are 0-7",
         b'b' => "binary digits are 0 and 1",
         _ => "",
     }

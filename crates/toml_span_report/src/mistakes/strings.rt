@@ -112,6 +112,17 @@ fn zeros_of<'a>(letter: u8, count: usize) -> &'a str
     part("00000000", 0, wanted.saturating_sub(count))
 }
 
+/// The digits that an escape needs.
+fn digits_after(letter: u8) -> &'static str
+    ensures { result.now ≡ spec.digits_after letter }
+{
+    match letter {
+        b'U' => "`\\U` needs eight hexadecimal digits",
+        b'u' => "`\\u` needs four hexadecimal digits",
+        _ => "`\\x` needs two hexadecimal digits",
+    }
+}
+
 /// A character in the place of a hexadecimal digit.
 #[tactic(auto, unfolding(crate::specs::found::Strings::hex_escape))]
 pub(crate) fn hex_escape<'a>(text: &'a str, at: usize) -> Finding<'a>
@@ -119,26 +130,24 @@ pub(crate) fn hex_escape<'a>(text: &'a str, at: usize) -> Finding<'a>
 {
     let digits = start_of(Class::Hex, text, at);
     let start = digits.saturating_sub(2);
-    if digits == at || byte_at(text, start) != b'\\' {
-        return backslash(text, start, ahead(text, at, 1));
-    }
     let letter = byte_at(text, digits.saturating_sub(1));
+    if digits == at || byte_at(text, start) != b'\\' {
+        let mut found = backslash(text, start, ahead(text, at, 1));
+        found.name = digits_after(letter);
+        return found;
+    }
     let zeros = zeros_of(letter, at.saturating_sub(digits));
     let code = pieces(part(text, start, digits), zeros, part(text, digits, at));
     replaced(Mistake::Text(TextMistake::ShortEscape), start, at, code)
 }
 
-/// Digits of an escape that are no character's.
+/// Digits of an escape that are no character's. Its letter is at `at`.
 #[tactic(auto, unfolding(crate::specs::found::Strings::escape_value))]
 pub(crate) fn escape_value<'a>(text: &'a str, at: usize, value: u32) -> Finding<'a>
     ensures { finding_content result ≡ spec.escape_value text.now at value }
 {
-    let start = at.saturating_sub(2);
-    let length = if byte_at(text, at.saturating_sub(1)) == b'U' {
-        8
-    } else {
-        4
-    };
+    let start = at.saturating_sub(1);
+    let length = if byte_at(text, at) == b'U' { 9 } else { 5 };
     let mistake = if value < 0xE000 {
         Mistake::Text(TextMistake::Surrogate)
     } else {

@@ -42,13 +42,15 @@ fn comma<'a>(text: &'a str, at: usize) -> Finding<'a>
             end,
             pieces("", "", ""),
         )
-    } else {
-        broken(
-            Mistake::Line(LineMistake::SecondKey),
-            text,
-            at,
-            end_of(Class::Blank, text, end),
+    } else if byte_at(text, end_of(Class::Left, text, end)) == b'=' {
+        mended(
+            Mistake::Line(LineMistake::CommaBehindValue),
+            span_of(at, end),
+            span_of(at, end_of(Class::Blank, text, end)),
+            pieces("\n", "", ""),
         )
+    } else {
+        marked(Mistake::Line(LineMistake::AfterValue), at, end)
     }
 }
 
