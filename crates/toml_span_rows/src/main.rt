@@ -126,12 +126,11 @@ fn push_row(rt: &HostRuntime, alloc: Global, line: &str, out: &mut Out) -> bool 
     let mut answer = Out::new(alloc);
     let answered = push_answered(rt, alloc, line, &mut answer);
     let known = out.kept(answered).unwrap_or(false);
-    let text = if known {
-        answer.text.as_str()
-    } else {
-        NO_SUCH_ROW
-    };
-    for line in text.lines() {
+    if !known {
+        answer.text.clear();
+        answer.push_str(NO_SUCH_ROW);
+    }
+    for line in answer.text.lines() {
         out.push_str("    ");
         out.push_str(line);
         out.push_str("\n");
