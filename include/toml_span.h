@@ -42,7 +42,8 @@ enum {
 /* The most bytes that a document may have: 16 MiB. */
 #define TOML_SPAN_LONGEST 16777216
 
-/* More stack than any document takes: at most 401 KB were measured, so 47 KB are left. */
+/* More stack than any document takes: at most 401 KB were measured, in the
+   build without proofs, so 47 KB are left. */
 #define TOML_SPAN_STACK 458752
 
 /* The kinds of values. A datetime is a date, a time or both, with or without an offset. */
