@@ -142,11 +142,12 @@ uint32_t toml_span_report(const char *text, size_t length, const char *name, siz
 #define TOML_SPAN_EACH(nodes, parent, child) \
     for (size_t child = (parent) + 1; child < (nodes)[parent].next; child = (nodes)[child].next)
 
-/* Finds a value by its JSON Pointer (RFC 6901), such as "/server/ports/0", from the record `from` on, which is 0 for
- * the root. Returns the number of its record, or TOML_SPAN_NONE. `sources` is {text, strings}, and `count` says how
- * many records the array has: those that had no room in it are not found. */
+/* Finds a value by its path from the record `from` on, which is 0 for the root. A path that begins with a slash is a
+ * JSON Pointer (RFC 6901), such as "/server/ports/0"; any other is a dotted key with positions in brackets, such as
+ * "server.ports[0]" or "dependencies.\"a/b\"". Returns the number of the record, or TOML_SPAN_NONE. `sources` is
+ * {text, strings}, and `count` says how many records the array has: those that had no room in it are not found. */
 size_t toml_span_find(const toml_span_node *nodes, size_t count, const char *const sources[2], size_t from,
-                      const char *pointer);
+                      const char *path);
 
 /* Copies the records of a document to `sorted`, with the entries of each table in the order in which the text names
  * them. The fields `parent`, `position` and `next` are those of the new order. The array must have all records: `count`

@@ -150,8 +150,8 @@ public:
                 if (held.node().position == position) return held;
         return {of_, TOML_SPAN_NONE};
     }
-    value find(const char *pointer) const {
-        return {of_, toml_span_find(of_->nodes().data(), of_->nodes().size(), of_->sources(), number_, pointer)};
+    value find(const char *path) const {
+        return {of_, toml_span_find(of_->nodes().data(), of_->nodes().size(), of_->sources(), number_, path)};
     }
 
 private:

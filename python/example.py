@@ -18,6 +18,6 @@ try:
 except toml_span.TOMLDecodeError as error:
     sys.exit(error.report or str(error))
 show(root)
-port = root.pointer("/server/ports/0")
+port = root.find("server.ports[0]")
 if port is not None:
     print(f"the first port is {port.value}, at the bytes {port.span} and the characters {port.char_span}")

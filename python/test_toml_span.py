@@ -339,6 +339,19 @@ class Nodes(unittest.TestCase):
         with self.assertRaises(ValueError):
             root.pointer("a")
 
+    def test_paths(self):
+        root = toml_span.parse("a.'x/y~' = [1, {b = 2}]\n'' = 3\n[a.0]\n\u00e9 = 4\n")
+        for path, found in (
+            ("", ()), ("a.'x/y~'[1].b", ("a", "x/y~", 1, "b")), ("/a/x~1y~0/1/b", ("a", "x/y~", 1, "b")),
+            ("''", ("",)), ("a.0", ("a", "0")), ("a . 0 . '\u00e9'", ("a", "0", "\u00e9")),
+            ('a.0."\\u00e9"', ("a", "0", "\u00e9")),
+        ):
+            self.assertEqual(root.find(path).path, found)
+        for path in ("b", "a.x", "a[0]", "a.'x/y~'[2]", "a.'x/y~'[01]", "a.'x/y~'.1", ".a", "a.", "a.'x/y~", "[0]",
+                     "a\0", "\u00e9", "\ud800"):
+            self.assertIsNone(root.find(path))
+        self.assertEqual(root["a"]["x/y~"].find("[0]").value, 1)
+
     def test_characters(self):
         text = "# \u00e9\U0001f600\r\n'\u00e9' = '\u00e9x' # \n[t]\nb = '\u00e9\u00e9'"
         root = toml_span.parse(text)

@@ -7,21 +7,14 @@
 # runs/data and of its own `data`. These must be as before afterwards, with their permissions, except for the files of
 # its folder `after`, and no other file may be there. Further checks of some programs follow, such as runs with each
 # request for memory refused in turn. PROGRAM is the proved build by default.
-set -uo pipefail
-unset CDPATH NO_COLOR CLICOLOR_FORCE
-script=$(readlink -f -- "${BASH_SOURCE[0]}")
-top=${script%/scripts/*}
+source "$(dirname -- "$(readlink -f -- "$0")")/common.sh"
+set +e
+unset NO_COLOR CLICOLOR_FORCE
 crate=${1?usage: bash scripts/runs.sh CRATE [PROGRAM]}
-program=$(realpath -- "${2-$top/crates/$crate/out/$crate}")
+program=$(realpath -m -- "${2-$top/crates/$crate/out/$crate}")
 cd -- "$top/crates/$crate" || exit
-if [ ! -x "$program" ]; then
-    echo "runs: there is no program $program"
-    exit 1
-fi
-source "$top/scripts/refuse.sh"
-work=$(mktemp -d)
-trap 'rm -rf "$work"' EXIT
-make_faults "$work" || exit 1
+if [ ! -x "$program" ]; then fail 1 "there is no program $program"; fi
+scratch
 count=0
 wrong=0
 with=()
@@ -130,15 +123,55 @@ refused() {
     holds test "$made" -ge "$2" -a "$spared" -eq "$3"
 }
 
-toml_span_example() {
-    refused 1 20 20
+toml_span_example() { refused 1 20 27; }
+
+# row ROW: prints a row of calls that allocate, its answer and, after each refused request that a call reports
+# (`AllocError`, or the text of it), the answer from then on as a diff, with the number of requests that lead to it
+row() {
+    local request made=1 usual with answer answers=()
+    local -A times=()
+    echo "$1" >"$input"
+    for ((request = 0; request <= made; request++)); do
+        with=("LD_PRELOAD=$work/faults.so" "REFUSED=$request")
+        go
+        answer=$(cat "$work/stdout" && echo ".$status")
+        if [ "$request" -eq 0 ]; then
+            made=$(<"$work/made")
+            usual=${answer%$'\n'.0}
+        elif silent 1; then
+            count=$((count + 1))
+        else
+            holds grep -qE 'AllocError|memory allocation failed' "$work/stdout" >&2
+            if [ -z "${times[$answer]-}" ]; then answers+=("$answer"); fi
+            times[$answer]=$((${times[$answer]-0} + 1))
+            reported=$((reported + 1))
+        fi
+    done
+    printf '%s\n' "$usual"
+    for answer in "${answers[@]}"; do
+        printf '  refused: %s\n' "${times[$answer]}"
+        diff <(printf '%s\n' "$usual") <(printf '%s\n' "${answer%$'\n'.0}") | sed 's/^/  /'
+    done
 }
 
+# The rows of the file `refused` must have the answers that it has: so a refusal that is not reported, a request more or
+# less, and another state after a refusal are seen. A row without `refused:` makes no request.
 toml_span_rows() {
-    local calls='nodes|text_order|key_places|section_places|table_forms a|insertion_point bin|node_at 1[0-5]'
+    local calls='key_places|section_places|table_forms a|insertion_point bin|node_at 1[0-5]'
+    local line reported=0
     grep -E "^($calls|quote_key|quote_string|replaced|write[^:]*(look|at)=)" stdin >"$work/rows"
     input=$work/rows
     refused 1 200 0
+    input=$work/row
+    while IFS= read -r line; do
+        case $line in
+        "" | "#"*) printf '%s\n' "$line" ;;
+        " "*) ;;
+        *) row "$line" ;;
+        esac
+    done <refused >"$work/answers"
+    holds diff refused "$work/answers"
+    holds test "$reported" -ge 200
 }
 
 toml_span_show() {
@@ -231,16 +264,60 @@ prefixes() {
     done
 }
 
+# edits: files of every kind that are edited
+edits() {
+    # shellcheck disable=SC2016,SC2034 # (backticks of messages; used by `writes`)
+    local number long left='error: cannot write `named.toml`: `named.toml.toml-span` was left by another run'
+    long=$(printf '%0240d' 0)
+    cd "$work/folder" || return
+    printf 'a = 1\n' | tee read.toml one.toml long.toml left.toml named.toml many.toml >"$long"
+    chmod 444 read.toml
+    ln one.toml other.toml
+    mkfifo pipe
+    ln -s named.toml linked.toml
+    writes 3 'error: cannot write `read.toml`: it is read-only
+help: `--force` edits it all the same' set read.toml /a 2
+    ends 0 set --force read.toml /a 2
+    holds test "$(stat -c %a read.toml)" = 444
+    writes 3 'error: cannot write `one.toml`: it has more than one name (hard links)
+help: `--in-place` writes into the file itself, which keeps its names' set one.toml /a 2
+    ends 0 set --in-place one.toml /a 22
+    ends 0 set --in-place one.toml /a 2
+    holds cmp one.toml read.toml
+    holds cmp other.toml read.toml
+    writes 3 'error: cannot write `pipe`: it is not a regular file' set pipe /a 2
+    writes 3 'error: cannot write `/dev/null`: it is not a regular file' set --in-place /dev/null /a 2
+    ends 0 set "$long" /a 2
+    holds cmp "$long" read.toml
+    echo other >named.toml.toml-span
+    writes 3 "$left: remove it if none is running" set --wait 0 named.toml /a 2
+    writes 3 "${left/named/linked}: remove it if none is running" set --wait=0 linked.toml /a 2
+    (umask 077 && echo other >left.toml.toml-span)
+    ends 0 set left.toml /a 2
+    holds cmp left.toml read.toml
+    (umask 077 && : >left.toml.toml-span)
+    exec 8<left.toml.toml-span
+    flock 8
+    writes 3 'error: cannot write `left.toml`: another run is editing it and holds `left.toml.toml-span`
+help: `--wait SECONDS` waits longer' set --wait 0 left.toml /a 3
+    exec 8<&-
+    for number in {1..8}; do "$program" add many.toml '' "k$number" "$number" & done
+    wait
+    holds test "$(grep -c '^k' many.toml)" = 8
+    holds test "$(echo *.toml-span)" = 'left.toml.toml-span named.toml.toml-span'
+    cd - >/dev/null || return
+}
+
 toml_span_cli() {
     local terminal='import os, pty, sys; sys.exit(os.waitstatus_to_exitcode(pty.spawn(sys.argv[1:])))'
     fresh
-    for part in cuts names prefixes; do "$part"; done
-    for words in "check settings.toml" "check --help" "show tree.toml"; do
-        # shellcheck disable=SC2086 # (words)
-        out=/dev/full ends 3 $words
-    done
+    for part in cuts names prefixes edits; do "$part"; done
+    out=/dev/full ends 3 check settings.toml
+    out=/dev/full ends 3 check --help
+    out=/dev/full ends 3 show tree.toml
     err=/dev/full ends 3 check --format
-    err=/dev/full ends 3 set tree.toml /nothing 1
+    err=/dev/full ends 3 remove tree.toml /nothing
+    out=/dev/full ends 3 set --diff tree.toml /name 1
     colored '' TERM=xterm
     colored yes CLICOLOR_FORCE=1 TERM=dumb
     colored '' CLICOLOR_FORCE=0
@@ -264,16 +341,47 @@ toml_span_cli() {
     ends 0 rename link.toml /dependencies/a dependencies
     holds test -L "$work/folder/link.toml"
     holds grep '^\[dependencies.dependencies\]$' "$work/folder/child.toml"
-    echo other >"$work/folder/odd.toml.toml-span"
-    ends 3 remove odd.toml /m/n
-    holds cmp "$work/folder/odd.toml" runs/data/odd.toml
     for name in runs/{colour,github,json,sarif,summary,all_files,get_tagged,items,get_root_as_toml,set_odd} \
         runs/{tagged,items}_{clashing,crossing,nested} \
-        runs/{rename_quoted,remove_dotted,remove_inline,add_to_empty,set_in_invalid}; do
+        runs/{rename_quoted,remove_dotted,remove_inline,add_to_empty,set_in_invalid,fmt_one}; do
         arguments_of
         refused 4 20 0
     done
 }
+
+# $work/faults.so, made with the kit's clang, for LD_PRELOAD: the request for memory number $REFUSED is refused; the
+# number of requests, counted before the C library sees them, is written to file descriptor 9. The write number $FAILED
+# and all later ones fail as if a disk were full. With $INTERRUPTED, every other read and write fails as if a signal came.
+kit=$(dirname "$(rt doc)")/toolchain/bin
+cat >"$work/faults.c" <<'END'
+extern void *__libc_malloc(unsigned long);
+extern void *__libc_realloc(void *, unsigned long);
+extern int dprintf(int, const char *, ...);
+extern long syscall(long, ...);
+extern int *__errno_location(void);
+extern char *getenv(const char *);
+static long requests, writes, calls;
+static long number_of(const char *name) {
+    const char *digit = getenv(name);
+    long number = 0;
+    while (digit && *digit) number = number * 10 + (*digit++ - '0');
+    return number;
+}
+static int is_refused(void) { return ++requests == number_of("REFUSED"); }
+static long transfer(long call, int file, const void *at, unsigned long size) {
+    if (number_of("INTERRUPTED") && ++calls % 2) *__errno_location() = 4;
+    else if (call == 1 && number_of("FAILED") && ++writes >= number_of("FAILED")) *__errno_location() = 28;
+    else return syscall(call, file, at, size);
+    return -1;
+}
+long read(int file, void *at, unsigned long size) { return transfer(0, file, at, size); }
+long write(int file, const void *at, unsigned long size) { return transfer(1, file, at, size); }
+void *malloc(unsigned long size) { return is_refused() ? 0 : __libc_malloc(size); }
+void *realloc(void *block, unsigned long size) { return is_refused() ? 0 : __libc_realloc(block, size); }
+__attribute__((destructor)) static void tell(void) { dprintf(9, "%ld\n", requests); }
+END
+"$kit/clang" --target=x86_64-unknown-linux-gnu -O1 -fPIC -c "$work/faults.c" -o "$work/faults.o" &&
+    "$kit/ld.lld" -shared "$work/faults.o" -o "$work/faults.so" || exit
 
 for name in . runs/*/; do
     name=${name%/}

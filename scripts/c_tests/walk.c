@@ -75,9 +75,9 @@ static void look(const char *name) {
     tell(has_fronts(), name, "pickle", 0);
 }
 
-/* A document, a pointer into it, and the bytes of the value there; -1 if there is none. */
+/* A document, a path in it, and the bytes of the value there; -1 if there is none. */
 static const struct {
-    const char *text, *pointer;
+    const char *text, *path;
     int start, end;
 } finds[] = {
     {"a = 1", "", 0, 5},
@@ -99,6 +99,23 @@ static const struct {
     {"'a/b~c~1' = 1\n0 = 2", "/0", 18, 19},
     {"\"\\u0061\" = 1", "/a", 11, 12},
     {"[[a]]\n[[a]]\nb = 7", "/a/1/b", 16, 17},
+    {"[[a]]\n[[a]]\nb = 7", "a[1].b", 16, 17},
+    {"[[a]]\n[[a]]\nb = 7", "a [1]\t. b ", 16, 17},
+    {"[[a]]\n[[a]]\nb = 7", "a.1.b", -1, 0},
+    {"[[a]]\n[[a]]\nb = 7", "a[01].b", -1, 0},
+    {"[[a]]\n[[a]]\nb = 7", "a[1]b", -1, 0},
+    {"[[a]]\n[[a]]\nb = 7", "a[1", -1, 0},
+    {"[[a]]\n[[a]]\nb = 7", "a.", -1, 0},
+    {"[[a]]\n[[a]]\nb = 7", ".a", -1, 0},
+    {"[[a]]\n[[a]]\nb = 7", "[0]", -1, 0},
+    {"'a/b' = {'' = 3}", "\"a/b\".''", 14, 15},
+    {"'a/b' = {'' = 3}", "'a\\u002Fb'.''", -1, 0},
+    {"'a/b' = {'' = 3}", "\"a\\u002Fb\" . \"\"", 14, 15},
+    {"'a/b' = {'' = 3}", "\"a/b", -1, 0},
+    {"'a/b' = {'' = 3}", "a/b", -1, 0},
+    {"\"\xf0\x9f\x98\x80\\e\" = 4", "\"\\U0001F600\\x1B\"", 11, 12},
+    {"\"\xf0\x9f\x98\x80\\e\" = 4", "\"\\uD83D\\uDE00\\e\"", -1, 0},
+    {"'\"' = 5", "\"\\\"\"", 6, 7},
 };
 
 /* A text, an offset, and its line and column. */
@@ -126,13 +143,13 @@ int main(int argc, char **argv) {
     long documents = rows;
     for (size_t at = 0; at < sizeof finds / sizeof *finds; at++) {
         take(finds[at].text);
-        size_t found = is_read() ? toml_span_find(nodes, counts.nodes, sources, 0, finds[at].pointer) : 99;
+        size_t found = is_read() ? toml_span_find(nodes, counts.nodes, sources, 0, finds[at].path) : 99;
         int right = found == TOML_SPAN_NONE ? finds[at].start == -1
                                             : found < counts.nodes && (int)nodes[found].span.start == finds[at].start &&
                                                   (int)nodes[found].span.end == finds[at].end;
         tell(right, finds[at].text, "find", at);
         for (size_t count = 0; count < counts.nodes; count++) {
-            size_t other = toml_span_find(nodes, count, sources, 0, finds[at].pointer);
+            size_t other = toml_span_find(nodes, count, sources, 0, finds[at].path);
             tell(other == TOML_SPAN_NONE || other == found, finds[at].text, "find in fewer records", at);
         }
     }

@@ -1,4 +1,4 @@
--- What is claimed from the root on is what is claimed by absolute paths.
+-- The claims seen from the root are those with absolute paths.
 use Rattle.toml_span_lex.proofs.Common.{◌≡◌, ℕ, zero, suc, false, cond, List, [], ◌∷◌, ◌++◌, refl, sym, ap, ◌∙◌, inl, inr, if◌then◌else◌, append_assoc, cases_Bool, arith, nat_tests, common_steps}
 use Rattle.toml_span_tree.specs.Path.{Path, Step, key, position}
 use Rattle.toml_span_read.specs.Data.{ParsedValue as Read, parsed, ParsedInner, scalar, array, inline, ParsedItems, no_items, item, ParsedPairs, no_pairs, pair, KeyValue, pairs_onto, Block, SimpleKey}
@@ -25,7 +25,7 @@ key_claims-under s p [] v inside moves = refl
 key_claims-under s p (k ∷ []) v inside moves = ap (claimed (assigned (s ∷ with_key p k) k v)) (moves s (with_key p k))
 key_claims-under s p (k ∷ l ∷ more) v inside moves = grind (arith, nat_tests, common_steps, key_claims-under s (with_key p k) (l ∷ more) v inside moves)
 
--- what moves, and then what moves
+-- two parts that move, one after the other
 followed-under : (s : Step) (xs ys as' bs : Claims) → xs ≡ under s as' → ys ≡ under s bs → followed xs ys ≡ under s (followed as' bs)
 followed-under s xs ys as' bs a b = ap (λ t. followed t ys) a ∙ ap (followed (under s as')) b ∙ sym (under-followed s as' bs)
 
@@ -61,19 +61,19 @@ unfolding key_value_claims under
 key_value_claims-under [] s p = refl
 key_value_claims-under (e ∷ es) s p = grind (arith, nat_tests, common_steps, assignment_claims-under, followed-under, key_value_claims-under es s p)
 
--- an inner part of a key, and those behind it
+-- an inner part of a key, and those after it
 pub key_claims-more : (p : Path) (k : SimpleKey) (inner : List SimpleKey) (last : SimpleKey) (v : Read) (inside : Path → Claims)
     → key_claims p (k ∷ (inner ++ (last ∷ []))) v inside ≡ claimed (dotted (with_key p k) k v) (key_claims (with_key p k) (inner ++ (last ∷ [])) v inside)
 unfolding key_claims
 key_claims-more p k inner last v inside = grind (arith, nat_tests, common_steps)
 
--- a key, from the node at which it starts
+-- a key, seen from the node at which it begins
 pub pair_at-is : (inner : List SimpleKey) (last : SimpleKey) (v : Read) → pair_at inner last v ≡ key_claims [] (inner ++ (last ∷ [])) v (value_claims v)
 unfolding pair_at key_claims under
 pair_at-is [] last v = ap (claimed (assigned (key last.name ∷ []) last v)) (sym (value_claims-under v (key last.name) []))
 pair_at-is (k ∷ inner) last v = grind (arith, nat_tests, common_steps, key_claims-more, key_claims-under, value_claims-under, pair_at-is inner last v)
 
--- the pairs of an inline table claim what assignments claim
+-- the pairs of an inline table have the same claims as assignments
 pub pairs-key_values : (es : List KeyValue) (p : Path) → pair_claims (pairs_onto es no_pairs) p ≡ key_value_claims es p
 unfolding pair_claims key_value_claims
 pairs-key_values [] p = refl
@@ -96,13 +96,13 @@ onward e p s = fun_ext (λ q. ap e (sym (append_assoc p (s ∷ []) q)))
 
 -- ---- sections
 
--- the part k of a header, and those behind it
+-- the part k of a header, and those after it
 pub section_at-through : (e : Path → ℕ) (h : Head) (k : SimpleKey) (rest : List SimpleKey) (tail : Claims)
     → section_at e h (k ∷ rest) tail ≡ under (key k.name) (through (λ q. e (key k.name ∷ q)) h k rest tail)
 unfolding section_at
 section_at-through e h k rest tail = grind (arith, nat_tests, common_steps)
 
--- the path below which a section assigns, from the path p on
+-- the path below which a section assigns, beginning at the path p
 abbrev path_from : (Path → ℕ) → Head → Path → List SimpleKey → Path
 path_from e h p parts = if h.array then with_position (target e p parts) (e (target e p parts)) else target e p parts
 
@@ -138,7 +138,7 @@ module _ (h : Head) (tail : Path → Claims) (moves : Moves tail) (e : Path → 
       arrays zero = below-opening p ArrayOfTables k (adding h k (tail []) 0) ∙ ap (claimed (header_claim h ArrayOfTables p k)) (added 0)
       arrays (suc n) = added (suc n)
 
-  -- what a section claims from the path p on
+  -- the claims of a section, beginning at the path p
   abbrev from : Path → List SimpleKey → Claims
   from p parts = followed (header_claims e h p parts) (tail (path_from e h p parts))
 
@@ -166,15 +166,15 @@ module _ (h : Head) (tail : Path → Claims) (moves : Moves tail) (e : Path → 
   section_at-from [] header = rw (header refl)
   section_at-from (k ∷ rest) header = section_more k rest []
 
--- what a section claims from the root on
+-- the claims of a section, seen from the root
 pub section_at-is : (e : Path → ℕ) (b : Block) → (b.header ≡ [] → b.array ≡ false)
     → section_at e (head_of b) b.header (key_value_claims b.key_values []) ≡ section_claims e b
 unfolding section_claims
 section_at-is e b header = section_at-from (head_of b) (key_value_claims b.key_values) (key_value_claims-under b.key_values) e b.header header
 
--- ---- how many entries there are then
+-- ---- the number of entries afterwards
 
--- how many, below the part k and behind it
+-- the number below the part k and after it
 pub counts_after-through : (e : Path → ℕ) (h : Head) (k : SimpleKey) (rest : List SimpleKey)
     → counts_after e h (k ∷ rest) ≡ graft (key k.name) e (counts_after_through (λ q. e (key k.name ∷ q)) h rest)
 unfolding counts_after
@@ -195,7 +195,7 @@ unfolding grafted
 grafted-itself [] e = refl
 grafted-itself (s ∷ p) e = ap (graft s e) (grafted-itself p (λ q. e (s ∷ q))) ∙ graft-itself s e
 
--- one entry more at a path
+-- one more entry at a path
 abbrev bump : Path → (Path → ℕ) → Path → ℕ
 bump t e p = if same_path t p then suc (e p) else e p
 
@@ -241,11 +241,11 @@ module _ (h : Head) (e : Path → ℕ) where
   counts_after-grows [] header = rw (header refl)
   counts_after-grows (k ∷ rest) header = counts_after-more k rest []
 
--- one path more among the opened ones
+-- one more path among the opened ones
 bump-entries : (t : Path) (before : List Path) → bump t (elements_added before) ≡ elements_added (t ∷ before)
 bump-entries t before = fun_ext (λ p. elim (cases_Bool (same_path t p)) [ inl here ↦ rw here | inr off ↦ rw off ])
 
--- how many entries there are behind a section
+-- the number of entries after a section
 pub counts_after-is : (earlier : List Block) (b : Block) → (b.header ≡ [] → b.array ≡ false)
     → counts_after (elements_added (opened_by earlier)) (head_of b) b.header ≡ elements_added (opened_by (b ∷ earlier))
 unfolding opened_by

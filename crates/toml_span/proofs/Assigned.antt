@@ -32,7 +32,7 @@ use Rattle.toml_span.proofs.Values.{put_all-value, told-value, value-shown}
 abbrev value_mark : Key → Read → Mark
 value_mark k v = pair_mark Assigned k.span (parsed_span v)
 
--- with what stands at its name
+-- with a branch of its name
 pub refused-child : (n new : Branch) (k : Key) (v : Read) (q : Result (Unit {0}) Halt) (e : Halt) (m : Mark) (P : Unit {0} → Type 0) (d : Path → ℕ)
     → m ≡ value_mark k v → q ≡ Err e → Gives (Err e) (earliest_clash (held_marks (child (simple_key k).name n)) m (simple_key k).name) P → Places n new q (pair_at [] (simple_key k) v) d
 unfolding pair_at cell_at
@@ -46,7 +46,7 @@ refused-child n new k v q (Fault t) m P d same is h =
     go None c h = absurd (none-some _ h)
     go (Some x) c h = ap (λ f. earliest_clash (f []).marks (value_mark k v) (simple_key k).name) (cells-at n (key (simple_key k).name) (Some x) c) ∙ h
 
--- where it does not, no branch stands there
+-- if it does not, there is no branch of that name
 pub missing-free : (n : Branch) (k : List ℕ) (m : Mark) (name : List ℕ) → IsScope n → m.sort ≡ Assigned → earliest_clash (held_marks (child k n)) m name ≡ None → child k n ≡ None
 missing-free n k m name before is h = go (child k n) refl
   where
@@ -69,7 +69,7 @@ refused-value n new k earlier x v r ms m name P d missing found is same mark h =
     let there = ap (λ f. (f []).marks) (cells-at n (key (simple_key k).name) None (missing before)) ∙ marks-found _ earlier x _ found refl in
     (assigned_twice r at (value_mark k v) _ _ ⊥ refl refl given, rw there given))
 
--- ---- what a value claims in a scope that has none of its name
+-- ---- the claims of a value in a scope that has none of its name
 
 cell-is : (a b : Cell) → a.marks ≡ b.marks → a.shown ≡ b.shown → a ≡ b
 cell-is a b m s = λ i. record { marks = m i; shown = s i }
@@ -97,7 +97,7 @@ value-cells k x v h = fun_ext at ∙ sym (put_all-value (change nothing [] (with
 
 -- ---- a value of a new name
 
--- what is told is what is told inside the value
+-- its clashes are those inside the value
 told-free : (n : Branch) (k : Key) (v : Read) → child (simple_key k).name n ≡ None → closed (simple_key k).name n ≡ None → clash_met (cells n) (pair_at [] (simple_key k) v) ≡ clash_met nothing (value_claims v [])
 unfolding clash_met pair_at
 told-free n k v missing free =

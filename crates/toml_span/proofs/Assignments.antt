@@ -44,13 +44,13 @@ pub places-one : (a : Assignment) (inner : List Key) (old new : Branch) (r : Res
     → Places old new r (pair_at (map simple_key inner) (simple_key a.parts.last) (view a.value)) (counts old) → Places old new r (assignment_claims (key_value a) []) (counts old)
 places-one a inner old new r is h = grind (arith, nat_tests, common_steps, pair-claims)
 
--- a key that is one part
+-- a key with one part
 pub inner-none : (a : Assignment) → true ≡ (vec_len a.parts.inner == 0) → [] ≡ a.parts.inner.items
 inner-none a h = let v = a.parts.inner in sym (nil_from_length v.items (omega (arith, v.ok.0, eqb-true (vec_len v) 0 (sym h))))
 
 -- ---- one after another
 
--- what is placed from the first branch on up to n, before the rest
+-- what has been placed, beginning at the branch `first`, before the rest
 pub record Remains (n : Branch) (rest : Claims) (first : Branch) (all : Claims) : Type 0 where
   pub done : Claims
   pub split : all ≡ followed done rest
@@ -68,7 +68,7 @@ placed-then first n w r xs ys h g before =
     reaches-then IsScope (λ m. IsScope m × (marks m ≡ marks first)) (λ m. IsScope m × (marks m ≡ marks first)) first n w r xs ys (counts first) (counts first) h
     (λ now. gives-map r _ _ _ _ refl (λ u k. (k.0, k.1 ∙ (h before).1.1, (k.2.0, k.2.1 ∙ now.1))) (g now.0)) before
 
--- the next one and those behind it
+-- the next one, and those after it
 next-split : (n first : Branch) (old new all : List Assignment) (a : Assignment) → old ≡ a ∷ new → (inv : Placing n old first all)
     → key_value_claims (map key_value all) [] ≡ followed (followed inv.done (assignment_claims (key_value a) [])) (key_value_claims (map key_value new) [])
 unfolding key_value_claims
@@ -99,7 +99,7 @@ placing-none n first rest all none inv = grind (arith, nat_tests, common_steps, 
 map-plain : {A : Type 0} (f : A → Place) (o : Option A) → option_map (λ m. plain (f m)) o ≡ option_map plain (option_map f o)
 map-plain f o = grind (arith, nat_tests, common_steps)
 
--- what assignments show from inside, they show from outside
+-- what assignments show inside their scope is what they show outside
 shows-plain : (i : tree.Inner) (es : List KeyValue) (st : State) → st ≡ put_all nothing (key_value_claims es []) → ShowsBelow i st → ShowsPlain i (show_all nothing (key_value_claims es []))
 shows-plain i es st is h s p =
     map-plain tree_place (reached (s ∷ p) (None, tree.node i (record { start = 0; end = 0 })))
@@ -110,7 +110,7 @@ pub table-gives : (old new : Branch) (es : List KeyValue) (table : BTreeMap Key 
     → Finishes (out-Branch new).tables (out-Branch new).values (Ok table) → ScopeGives (Ok table) (λ t. inner_view (Table t)) (key_value_claims es [])
 table-gives old new es table fresh placed finished = grind (arith, nat_tests, common_steps, cells-fresh, scope-fresh, shows-plain)
 
--- what is right in the scope is right in the table, by the spans of its own keys
+-- what is borrowed correctly in the scope is so in the table, by the spans of its own keys
 pub table-own : (text : List ℕ) (old new : Branch) (es : List KeyValue) (t : BTreeMap Key Value) → IsFresh old → Places old new (Ok tt) (key_value_claims es []) (counts old)
     → Finishes (out-Branch new).tables (out-Branch new).values (Ok t) → AreBorrowedRight text (standing new) → AreBorrowedRight text (own_table t.entries)
 table-own text old new es t fresh placed finished right =

@@ -1,4 +1,5 @@
--- The tree under construction borrows as what is put into it, and that as it was read.
+-- The strings and keys in the tree under construction are borrowed like those that are put into it, and these as they
+-- were read.
 use Rattle.toml_span_lex.proofs.Common.{◌≡◌, ℕ, zero, suc, Bool, List, [], ◌∷◌, ◌++◌, map, Option, Some, None, is_eq, rules, inl, inr, refl, sym, ap, ◌∙◌, subst, BTreeMap, ◌-◌, ◌<◌, ◌≤◌, length, take, drop, set, get_or, take_all, Result, Ok, arith, OnOk, insert_entry, keys_of, box_value, cow_str_bytes, IsBorrowedStr, Box, lookup, lookup_entry, cases_Bool, false≢true, none-some, same_Some, IfSome, IsErrAnd, nat_tests, common_steps}
 use Rattle.toml_span_lex.specs.declared.key.Key.{Key}
 use Rattle.toml_span_lex.specs.declared.span.Span.{Span}
@@ -23,7 +24,7 @@ use Rattle.toml_span_read.specs.declared.section.Section.{Section}
 use Rattle.toml_span_read.specs.declared.value.Assignment.{Assignment}
 use Rattle.toml_span_read.specs.Borrowed.{Written, IsWrittenRight, AreWrittenRight, joined, key_written, keys_written, written, assignment_written, assignments_written, section_written}
 
--- ---- a level at a time
+-- ---- one level at a time
 
 abbrev contents : Branch → Contents
 contents = fold-Branch Contents node_step
@@ -62,7 +63,7 @@ standing-roll b =
 pub standing_is : (n : Branch) → standing n ≡ values_standing (out-Branch n).values.entries ++ (boxes_standing (out-Branch n).tables.entries ++ entries_of (out-Branch n).entries.items)
 standing_is n = ap standing (sym (roll-out n)) ∙ standing-roll (out-Branch n)
 
--- in a fresh branch nothing stands
+-- a fresh branch has no strings and keys
 pub fresh-bare : (n : Branch) → IsFresh n → standing n ≡ []
 fresh-bare n fresh = standing_is n ∙ rw (fresh.no_values, fresh.no_tables, fresh.no_entries)
 
@@ -102,7 +103,7 @@ module _ (text : List ℕ) where
       → AreBorrowedRight text (standing (roll-Branch b))
   node_of b values tables entries = rw (standing-roll b) (search (rules, all_append))
 
-  -- ---- entries by name, of which each one has these standing
+  -- ---- entries by name, each with these strings and keys
 
   module _ (X : Type 0) (g : Key × X → List StringOrKey) where
     abbrev Right : List (Key × X) → Type 0
@@ -115,7 +116,7 @@ module _ (text : List ℕ) where
       | inr off ↦ rw off (entry_right test es (all_behind Borrows (g e) (joined (map g es)) h))
     ]
 
-    -- put at a name where none is
+    -- inserted at a name that is free
     pub insert_new : (k : Key) (v : X) (es : List (Key × X)) → lookup_entry (is_named (cow_str_bytes k.name)) es ≡ None → AreBorrowedRight text (g (k, v)) → Right es → Right (insert_entry key_cmp es k v)
     insert_new k v [] free here h = all_append Borrows (g (k, v)) [] here tt
     insert_new k v (e ∷ es) free here h = elim (cases_Bool (is_named (cow_str_bytes k.name) e.0)) [
@@ -126,7 +127,7 @@ module _ (text : List ℕ) where
           (λ more. all_append Borrows (g e) (joined (map g (insert_entry key_cmp es k v))) (all_front Borrows (g e) (joined (map g es)) h) rest)
     ]
 
-    -- put in the place of another one
+    -- inserted in place of another one
     pub insert_again : (k : Key) (x v : X) (es : List (Key × X)) → lookup (is_named (cow_str_bytes k.name)) es ≡ Some x → keys_of (insert_entry key_cmp es k v) ≡ keys_of es
         → ((l : Key) → AreBorrowedRight text (g (l, x)) → AreBorrowedRight text (g (l, v))) → Right es → Right (insert_entry key_cmp es k v)
     insert_again k x v [] found same next h = absurd (none-some x found)
@@ -159,14 +160,14 @@ module _ (text : List ℕ) where
       let last : AreWrittenRight text (key_written a.parts.last ∷ []) = search (rules, all_front, all_behind) in
       (search (rules, all_front), last.0, search (rules, all_behind))
 
-  -- the first, and those behind it
+  -- the first, and those after it
   pub first_right : {A : Type 0} (f : A → List Written) (old new : List A) (x : A) → old ≡ x ∷ new → AreWrittenRight text (joined (map f old)) → AreWrittenRight text (f x) × AreWrittenRight text (joined (map f new))
   first_right f old new x is h = let all : AreWrittenRight text (f x ++ joined (map f new)) = rw is at h in search (rules, all_front, all_behind)
 
   pub section_right : (s : Section) → AreWrittenRight text (section_written s) → AreWrittenRight text (keys_written s.header.items) × AreWrittenRight text (assignments_written s.assignments.items)
   section_right s h = search (rules, all_front, all_behind)
 
-  -- a clone of a key is right where the key is
+  -- a clone of a key is borrowed correctly if the key is
   clone_right : (k c : Key) → cow_str_bytes c.name ≡ cow_str_bytes k.name → (IsBorrowedStr k.name → IsBorrowedStr c.name) → (IsBorrowedStr c.name → IsBorrowedStr k.name) → IsWrittenRight text (key_written k)
       → IsBorrowedRight text (c.name, Some k.span)
   clone_right k c same forth back h = grind (arith, nat_tests, common_steps)
@@ -191,7 +192,7 @@ module _ (text : List ℕ) where
   keeps_marked n b m next new r key claims values tables items keep h =
       ok_map r (Kept (roll-Branch b) new) (KeptName next n new) (λ k. (k.0, λ at is. ap name_span (k.1 ∙ marks-roll b ∙ claims) ∙ written-remember next at n m key is)) (keep (rw (standing-roll b, values, tables, items, ← standing_is n) h))
 
-  -- an array of tables is claimed no more
+  -- an array of tables is not claimed again
   pub keeps_array : (next : Span) (n new : Branch) (r : Result (Unit {0}) Halt) → (entries n ≡ [] → ⊥) → Keeps text n new r → KeepsName text next n new r
   keeps_array next n new r some keep h = ok_map r (Kept n new) (KeptName next n new) (λ k. (k.0, λ at is. ap name_span k.1 ∙ stays at is)) (keep h)
     where
@@ -199,7 +200,7 @@ module _ (text : List ℕ) where
       stays at (inl is) = is
       stays at (inr fresh) = absurd (some fresh.0.no_entries)
 
-  -- a branch of a name that was there
+  -- a branch with a name that exists
   pub keeps_found : (n : Branch) (tables made : BTreeMap Key (Box Branch)) (c : Key) (x w : Box Branch) (next : Span) (r : Result (Unit {0}) Halt)
       → made.entries ≡ insert_entry key_cmp (out-Branch n).tables.entries c w → tables ≡ made → lookup (is_named (cow_str_bytes c.name)) (out-Branch n).tables.entries ≡ Some x
       → keys_of made.entries ≡ keys_of (out-Branch n).tables.entries → KeepsName text next (box_value x) (box_value w) r → Keeps text n (with_tables n tables) r
@@ -219,7 +220,7 @@ module _ (text : List ℕ) where
       named l None is right stays = absurd right
       named l (Some at) is right stays = rw (stays at (inl is)) right
 
-  -- a branch of a new name
+  -- a branch with a new name
   pub keeps_new : (n : Branch) (tables made : BTreeMap Key (Box Branch)) (k c : Key) (x : Branch) (w : Box Branch) (r : Result (Unit {0}) Halt)
       → cow_str_bytes c.name ≡ cow_str_bytes k.name → (IsBorrowedStr k.name → IsBorrowedStr c.name) → (IsBorrowedStr c.name → IsBorrowedStr k.name)
       → made.entries ≡ insert_entry key_cmp (out-Branch n).tables.entries c w → tables ≡ made → lookup_entry (is_named (cow_str_bytes c.name)) (out-Branch n).tables.entries ≡ None

@@ -30,7 +30,7 @@ same_sort-eq a b h = grind (arith, nat_tests, common_steps)
 pub remember-cases : (ms : List Mark) (m : Mark) → ((has_sort ms m.sort ≡ true) × (remember ms m ≡ ms)) ⊎ ((has_sort ms m.sort ≡ false) × (remember ms m ≡ ms ++ m ∷ []))
 remember-cases ms m = grind (arith, nat_tests, common_steps)
 
--- a fact of each mark, and of the one that comes
+-- what holds for the marks and for the new one holds for those that are kept
 remember-each : (P : List Mark → Type 0) (ms : List Mark) (m : Mark) → P ms → P (ms ++ m ∷ []) → P (remember ms m)
 remember-each P ms m kept added = grind (arith, nat_tests, common_steps, remember-cases)
 
@@ -40,7 +40,7 @@ no_array-remember ms m other h = remember-each NoArray ms m h (all_append (λ x.
 named-append : (ms : List Mark) (m : Mark) → is_entry_sort m.sort ≡ false → NoEntry ms → IsNamed (ms ++ m ∷ [])
 named-append ms m other h = grind (arith, nat_tests, common_steps)
 
--- a claimed branch stands at a name
+-- a fresh branch that is claimed has a name
 pub named-fresh : (ms : List Mark) (m : Mark) → is_entry_sort m.sort ≡ false → ms ≡ [] → IsNamed (remember ms m)
 named-fresh ms m other none = rw none (other, tt)
 
@@ -60,7 +60,7 @@ unfolding shown_by
 marks_show-none [] = refl
 marks_show-none (x ∷ ms) = shown_by-none Mark by_mark first_by_header refl (λ x xs. refl) x ms
 
--- what has decided so that a claim, of a header or not, changes nothing
+-- what has already decided, so that a claim, by a header or not, changes nothing
 abbrev IsSettled : Option Decided → Bool → Type 0
 IsSettled None header = ⊥
 IsSettled (Some first) header = (first.header || not header) ≡ true
@@ -86,7 +86,7 @@ known-settled o [] m known = absurd (false≢true known)
 known-settled o (x ∷ ms) m known =
     grind (arith, nat_tests, common_steps, same_sort-eq, settled-by o (by_mark x), settled-show (decide o (by_mark x)) ms, known-settled (decide o (by_mark x)) ms m)
 
--- what decides of the marks is decided claim by claim
+-- what decides among the marks is decided claim by claim
 pub deciding-remember : (ms : List Mark) (m : Mark) → by_marks (remember ms m) ≡ decide (by_marks ms) (by_mark m)
 unfolding shown_by
 deciding-remember ms m =
@@ -113,7 +113,7 @@ marked-roll m old b claims values tables added = record {
   added = ap (λ (n : Branch-F Branch). n.entries.items) (out-roll b) ∙ added;
 }
 
--- what stands below it is the same
+-- everything below it is the same
 marked-slot : (m : Mark) (old new : Branch) → Marked m old new → (s : Step) → slot s new ≡ slot s old
 marked-slot m old new h s = grind (arith, nat_tests, common_steps)
 
@@ -128,7 +128,7 @@ unfolding count_at
 counts-marked m old new h =
     path_ext (ap length h.added) (λ s p. counts-step new s p ∙ ap (λ x. slot_count x p) (marked-slot m old new h s) ∙ sym (counts-step old s p))
 
--- a table that is claimed, but not as an array, is one
+-- a table that is claimed, but not as an array, is still a table
 pub scope-marked : (m : Mark) (old new : Branch) → is_array_sort m.sort ≡ false → Marked m old new → IsScope old → IsScope new
 scope-marked m old new other h before =
     scope-from new (subst NoArray (sym h.claims) (no_array-remember (marks old) m other (scope-marks old before))) (h.added ∙ before.1)

@@ -1,4 +1,4 @@
--- What holds of each claim holds of what decides in the flat document.
+-- What holds for each claim holds for what decides in the flat document.
 use Rattle.toml_span_lex.proofs.Common.{◌≡◌, ℕ, suc, true, List, [], ◌∷◌, Option, Some, option_map, refl, ⊤, IfSome, false≢true, and_parts, AllByRecursion, arith, nat_tests, common_steps}
 use Rattle.toml_span_tree.specs.Path.{Path, Step, Place}
 use Rattle.toml_span_read.proofs.BorrowLemmas.{all_append}
@@ -19,7 +19,7 @@ same_path-eq p q h = absurd (false≢true h)
 
 -- ---- claims
 
--- P holds of each claim, in every scope
+-- P holds for each claim, in every scope
 abbrev pub Each : (Claim → Type 0) → Claims → Type 0
 Each P no_claims = ⊤
 Each P (claimed c cs) = P c × Each P cs
@@ -31,7 +31,7 @@ each-followed P no_claims ys h g = g
 each-followed P (claimed c xs) ys h g = (h.0, each-followed P xs ys h.1 g)
 each-followed P (scope inner xs) ys h g = (h.0, each-followed P xs ys h.1 g)
 
--- P holds of all that values and assignments claim, if it does of each part of a key and of each element
+-- P holds for all claims of values and assignments, if it does for each part of a key and for each element
 module _ (P : Claim → Type 0) (of_inner : (p : Path) (k : SimpleKey) (v : Read) → P (dotted (with_key p k) k v)) (of_last : (p : Path) (k : SimpleKey) (v : Read) → P (assigned (with_key p k) k v))
     (of_element : (p : Path) (i : ℕ) (v : Read) → P (element (with_position p i) v)) where
   key-each : (p : Path) (parts : List SimpleKey) (v : Read) (inside : Path → Claims) → ((q : Path) → Each P (inside q)) → Each P (key_claims p parts v inside)
@@ -66,14 +66,14 @@ module _ (P : Claim → Type 0) (of_inner : (p : Path) (k : SimpleKey) (v : Read
   key_values-each (e ∷ es) p =
       each-followed P (key_claims p e.parts e.value (value_claims e.value)) (key_value_claims es p) (key-each p e.parts e.value (value_claims e.value) (value-each e.value)) (key_values-each es p)
 
--- and of each claim of a list
+-- and for each claim of a list
 pub each-all : (P : Claim → Type 0) (cs : Claims) → Each P cs → AllByRecursion P (all_claims cs)
 unfolding all_claims
 each-all P no_claims h = tt
 each-all P (claimed c cs) h = (h.0, each-all P cs h.1)
 each-all P (scope inner cs) h = all_append P (all_claims inner) (all_claims cs) (each-all P inner h.0) (each-all P cs h.1)
 
--- P holds of the claim, which is on this path
+-- P holds for the claim, which is on this path
 abbrev On : (Claim → Type 0) → Path → Claim → Type 0
 On P q c = P c × (c.path ≡ q)
 
@@ -96,7 +96,7 @@ deciding-one P cs h = grind (arith, nat_tests, common_steps, by_header-one, eith
 
 -- ---- the flat document
 
--- the claim that decides at a path, of which P holds
+-- the claim that decides at a path, for which P holds
 pub record Decides (P : Claim → Type 0) (q : Path) (x : Place) : Type 0 where
   pub claim : Claim
   pub on : claim.path ≡ q

@@ -36,9 +36,9 @@ item-past : (xs : List Branch) (m : ℕ) → length xs ≤ m → item m xs ≡ N
 item-past [] m h = refl
 item-past (x ∷ xs) m h = grind (arith, nat_tests, common_steps, item-past xs)
 
--- ---- another entry at a place
+-- ---- another entry at an index
 
--- the same branch, with w as the entry at the place m
+-- the same branch, with w as the entry at the index m
 pub record PutsEntry (m : ℕ) (w n new : Branch) : Type 0 where
   pub sets : Sets (position m) (Some w, None) n new
   pub values : (out-Branch new).values ≡ (out-Branch n).values
@@ -59,7 +59,7 @@ counts-pushed m w n new puts past many none =
     counts-sets (position m) (Some w, None) n new (counts_after_adding (counts n)) puts.sets many (λ t p. refl)
     ∙ ap (graft (position m) (counts_after_adding (counts n))) (none ∙ sym (counts-at n (position m) None past)) ∙ graft-itself (position m) (counts_after_adding (counts n))
 
--- ---- what always holds of it
+-- ---- invariants
 
 array-named : (n : Branch) → IsArray n → IsNamed (marks n)
 array-named n h = subst IsNamed (sym h.only) (ap is_entry_sort h.array, tt)
@@ -83,7 +83,7 @@ held-put m w n new puts h table claimed =
       no_tables = ap (λ t. t.entries) puts.tables ∙ h.array.no_tables;
     }
 
--- an array with entries takes another one
+-- an array that has entries can take another one
 pub open-array : (n : Branch) (i : ℕ) (x : Branch) → item i (entries n) ≡ Some x → Sound n → IsOpen n
 open-array n i x found h = let good = λ (j : ℕ) (c : Branch) (is : item j (entries n) ≡ Some c). good-entry n j c (sound-good n h (position j)) is in record {
   array = (shape-of n i x found).0 (sound-shape n h);
@@ -110,7 +110,7 @@ reaches-entry k m n new x w r cs c found puts many h =
     added : Sound n → (entries x ≡ []) × IsEntry (marks x) × Sound x
     added h = good-entry n m x (sound-good n h (position m)) found
 
--- in a new one, which is pushed to the list of entries where nothing stops
+-- in a new one, which is pushed to the list of entries if nothing fails
 reaches-added : (k : Mark) (n new x w : Branch) (r : Result (Unit {0}) Halt) (cs : Claims) (c : Path → ℕ) → IsFresh x
     → OnOk r ((c ≡ counts x) × (k.sort ≡ TableElement) × PutsEntry (length (entries n)) w n new × (length (entries new) ≡ suc (length (entries n))))
     → Opening (Opens TableElement) k x w r cs c → Reaches IsOpen IsHeld n new r (under (position (counts n [])) cs) (counts_after_adding (counts n))

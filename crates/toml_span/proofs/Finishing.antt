@@ -1,4 +1,4 @@
--- What the branches have become.
+-- What the branches become.
 use Rattle.toml_span_lex.proofs.Common.{◌≡◌, ℕ, zero, suc, List, [], ◌∷◌, Option, Some, None, option_map, option_and_then, false, cond, Ok, Less, is_eq, nat_cmp, inl, inr, refl, sym, ap, subst, ◌∙◌, IfSome, BTreeMap, insert_entry, box_value, cow_str_bytes, slice_cmp, Box, AllZip, AllByRecursion, keys_of, lookup_entry, cases_Bool, none-some, same_Some, arith, nat_tests, common_steps}
 use Rattle.std.specs.List.Sorted.{IsStrictlySortedBy}
 use Rattle.std.proofs.lemmas.Map.Keys.{sorted_head, sorted_tail}
@@ -36,22 +36,22 @@ use Rattle.toml_span.specs.code.Machine.{key_spans}
 
 -- ---- values and branches by name
 
--- what stands at a name: the original value, or what the branch of the name has become, under the branch's name
+-- at a name there is the original value, or what the branch with this name has become, under the branch's name
 abbrev pub Stands : Option (Key × Box Branch) → Option (Key × Value) → Option (Key × Value) → Type 0
 Stands None old new = new ≡ old
 Stands (Some b) old new = old ≡ None → (e : Key × Value) × (new ≡ Some e) × (e.0.name ≡ b.0.name) × Becomes (box_value b.1) (Ok (e.0.span, e.1))
 
--- the same, where the branch of the name may be left to be finished
+-- the same, if the branch with this name may still have to be finished
 abbrev pub StandsSoFar : Option (Key × Box Branch) → Option (Key × Box Branch) → Option (Key × Value) → Option (Key × Value) → Type 0
 StandsSoFar node None old new = Stands node old new
 StandsSoFar node (Some b) old new = (node ≡ Some b) × (new ≡ old)
 
--- the values, where all branches but those that are left are finished
+-- the values, once all branches but those in `left` are finished
 pub record Filled (tables left : List (Key × Box Branch)) (old new : List (Key × Value)) : Type 0 where
   pub sorted : IsStrictlySortedBy key_cmp (keys_of left)
   pub stands : (name : List ℕ) → StandsSoFar (lookup_entry (is_named name) tables) (lookup_entry (is_named name) left) (lookup_entry (is_named name) old) (lookup_entry (is_named name) new)
 
--- the elements, where all entries but those that are left are finished
+-- the elements, once all entries but those in `left` are finished
 abbrev pub EntriesFilled : List Branch → List Branch → List Value → Type 0
 EntriesFilled all left made = Made Branch Value BecomesEntry all left made
 
@@ -75,7 +75,7 @@ finished-one name tables k made b left old new v named become behind h =
       | inr off ↦ rw (found.1 ∙ ap (λ c. cond c (Some (found.0, v)) (lookup_entry (is_named name) new)) (same ∙ off)) (rw off at h)
     ]
 
--- one branch more is finished
+-- one more branch is finished
 pub filled-more : (tables : List (Key × Box Branch)) (k made : Key) (b : Box Branch) (left : List (Key × Box Branch)) (old new : List (Key × Value)) (v : Value)
     → made.name ≡ k.name → Becomes (box_value b) (Ok (made.span, v)) → Filled tables ((k, b) ∷ left) old new → Filled tables left old (insert_entry key_cmp new made v)
 filled-more tables k made b left old new v named become h = record {
@@ -86,12 +86,12 @@ filled-more tables k made b left old new v named become h = record {
 
 -- ---- the deciding mark
 
--- what holds of all marks holds of the first of a header
+-- what holds for all marks holds for the first one of a header
 header-all : (P : Mark → Type 0) (ms : List Mark) → AllByRecursion P ms → IfSome (first_by_header ms) P
 header-all P [] all = tt
 header-all P (x ∷ ms) all = grind (arith, nat_tests, common_steps, header-all P ms)
 
--- and of the one that decides
+-- and for the one that decides
 decides : (P : Mark → Type 0) (x : Mark) (ms : List Mark) → AllByRecursion P (x ∷ ms) → (m : Mark) × (deciding (x ∷ ms) ≡ Some m) × P m
 decides P x ms all = grind (arith, nat_tests, common_steps, header-all)
 
@@ -99,11 +99,11 @@ deciding-all : (P : Mark → Type 0) (ms : List Mark) (m : Mark) → AllByRecurs
 deciding-all P [] m all is = absurd (none-some m is)
 deciding-all P (x ∷ ms) m all is = let d = decides P x ms all in subst P (same_Some d.0 m (sym d.1 ∙ is)) d.2
 
--- a branch at a name stands at its key
+-- a branch at a name has a key
 named_key : (sort : Sort) (at : Span) → is_entry_sort sort ≡ false → key_span_of sort at ≡ Some at
 named_key sort at h = grind (arith, nat_tests, common_steps)
 
--- what is no array is a table
+-- what is not an array is a table
 table_shape : (sort : Sort) → is_array_sort sort ≡ false → shape_claimed sort ≡ shape_table
 table_shape sort h = grind (arith, nat_tests, common_steps)
 
@@ -116,7 +116,7 @@ entry-decides : (ms : List Mark) → IsEntry ms → (m : Mark) × (deciding ms �
 entry-decides [] h = absurd h
 entry-decides (x ∷ ms) h = (x, rw h, rw h)
 
--- that of an array of tables is alone
+-- the only mark of an array of tables
 array-decides : (x m : Mark) → x.sort ≡ ArrayOfTables → deciding (x ∷ []) ≡ Some m → x ≡ m
 array-decides x m array is = grind (arith, nat_tests, common_steps)
 
@@ -125,7 +125,7 @@ array-decides x m array is = grind (arith, nat_tests, common_steps)
 own-place : (ms : List Mark) → place_shown (own_cell ms) ≡ option_map place_claimed (deciding ms)
 own-place ms = grind (arith, nat_tests, common_steps)
 
--- what a branch has become shows what the branch keeps, at the key's span that the deciding mark gives
+-- what a branch becomes shows what the branch keeps, with the key's span of the deciding mark
 became-shows : (c : Branch) (at : Span) (v : Value) (o : Option Span) → Becomes c (Ok (at, v)) → Sound c
     → (m : Mark) × (deciding (marks c) ≡ Some m) × (key_span_of m.sort m.key ≡ o) → (p : Path)
     → option_map tree_place (reached p (o, view v)) ≡ place_shown (cell_at p c)
@@ -140,7 +140,7 @@ named-shows c at v become good named p =
     let d = named-decides (marks c) named in
     became-shows c at v (Some at) become good (d.0, d.1, d.2 ∙ ap (λ k. Some k) (sym ((become good).0 d.0 None d.1).0)) p
 
--- whether a header decided is no part of the place
+-- the place does not depend on whether a header decided
 plain_place : (o : Option (Option Span × tree.Node)) → option_map tree_place o ≡ option_map (λ d. d.place) (option_map (λ m. plain (tree_place m)) o)
 plain_place o = grind (arith, nat_tests, common_steps)
 
@@ -148,18 +148,18 @@ plain_place o = grind (arith, nat_tests, common_steps)
 closed-shows : (o : Option (Key × Value)) (p : Path) → option_map tree_place (option_and_then (reached p) (option_map (λ e. (Some e.0.span, view e.1)) o)) ≡ place_shown (closed_cell o p)
 closed-shows o p = grind (arith, nat_tests, common_steps, plain_place)
 
--- the branch of a name
+-- the branch with a name
 abbrev branch_of : Option (Key × Box Branch) → Option Branch
 branch_of b = option_map (λ e. box_value e.1) b
 
 child-entry : (n : Branch) (name : List ℕ) → child name n ≡ branch_of (lookup_entry (is_named name) (out-Branch n).tables.entries)
 child-entry n name = grind (arith, nat_tests, common_steps, value-of)
 
--- a branch stands where no value does
+-- there is no value where there is a branch
 abbrev Apart : Option (Key × Box Branch) → Option (Key × Value) → Type 0
 Apart b old = (c : Branch) → branch_of b ≡ Some c → (old ≡ None) × IsNamed (marks c) × Sound c
 
--- what stands at a name
+-- the value or branch at a name
 name-shows : (b : Option (Key × Box Branch)) (old new : Option (Key × Value)) (p : Path) → Stands b old new → Apart b old
     → option_map tree_place (option_and_then (reached p) (option_map (λ e. (Some e.0.span, view e.1)) new)) ≡ place_shown (or_closed (option_map (cell_at p) (branch_of b)) (closed_cell old p))
 name-shows None old new p h apart = rw h (closed-shows old p)
@@ -168,7 +168,7 @@ name-shows (Some b) old new p h apart =
     let made = h a.0 in
     rw (made.1) (named-shows (box_value b.1) made.0.0.span made.0.1 made.3 a.2 a.1 p)
 
--- where none is left
+-- once none is left
 finished : (tables left : List (Key × Box Branch)) (old new : List (Key × Value)) (name : List ℕ) → left ≡ [] → Filled tables left old new
     → Stands (lookup_entry (is_named name) tables) (lookup_entry (is_named name) old) (lookup_entry (is_named name) new)
 finished tables left old new name none h = rw none at (h.stands name)
@@ -177,7 +177,7 @@ finished tables left old new name none h = rw none at (h.stands name)
 node-named : (n : Branch) → Sound n → (name : List ℕ) → Apart (lookup_entry (is_named name) (out-Branch n).tables.entries) (closed name n)
 node-named n good name c is = good-child n name c (sound-good n good (key name)) (child-entry n name ∙ is)
 
--- a finished table shows below it what the branch's cells show
+-- below a finished table there is what the branch's cells show
 finished-shows : (t : Table) (left : List (Key × Box Branch)) (n : Branch) → left ≡ [] → Filled (out-Branch n).tables.entries left (out-Branch n).values.entries t.entries → Sound n → entries n ≡ []
     → ShowsBelow (inner_view (table_inner t)) (cells n)
 unfolding cell_at
@@ -186,7 +186,7 @@ finished-shows t left n none h good table (key name) p =
     rw (inner_view-Table t, ← entry_at-lookup name t.entries, child-entry n name) shown
 finished-shows t left n none h good table (position i) p = rw (inner_view-Table t, table)
 
--- what stands at a name is ordered
+-- the value at a name is in order
 name-ordered : (b : Option (Key × Box Branch)) (old new : Option (Key × Value)) (e : Key × Value) → Stands b old new → Apart b old → ((f : Key × Value) → old ≡ Some f → IsOrdered (view f.1))
     → new ≡ Some e → IsOrdered (view e.1)
 name-ordered None old new e h apart kept is = kept e (sym h ∙ is)
@@ -206,14 +206,14 @@ finished-ordered t left n none h ascend good =
 
 -- ---- what is borrowed
 
--- the name of a branch is written at its first claim
+-- the name of a branch is written where it is first claimed
 name-written : (ms : List Mark) → option_map (λ d. d.key) (own_cell ms).shown ≡ name_span ms
 name-written ms = grind (arith, nat_tests, common_steps)
 
 abbrev EntryRight : List ℕ → KeySpans → Key × Value → Type 0
 EntryRight text spans e = IsBorrowedRight text (e.0.name, spans []) × AreBorrowedRight text (held e.1 spans)
 
--- what stands at a name
+-- the value or branch at a name
 name-right : (text : List ℕ) (b : Option (Key × Box Branch)) (old new : Option (Key × Value)) (e : Key × Value) → Stands b old new → Apart b old → new ≡ Some e
     → IfSome b (λ x. AreBorrowedRight text (box_standing x)) → IfSome old (λ x. AreBorrowedRight text (value_standing x))
     → EntryRight text (key_spans (λ p. or_closed (option_map (cell_at p) (branch_of b)) (closed_cell old p))) e
@@ -233,7 +233,7 @@ table-right : (text : List ℕ) (es : List (Key × Value)) (spans : KeySpans) �
 table-right text [] spans each = tt
 table-right text (e ∷ es) spans each = (each.0.0, all_append (IsBorrowedRight text) (held e.1 (λ p. spans (key (cow_str_bytes e.0.name) ∷ p))) (table_held es spans) each.0.1 (table-right text es spans each.1))
 
--- what is right in a branch is right in the finished table
+-- what is borrowed correctly in a branch is so in the finished table
 finished-right : (t : Table) (left : List (Key × Box Branch)) (n : Branch) → left ≡ [] → Filled (out-Branch n).tables.entries left (out-Branch n).values.entries t.entries → NamesAscend t → Sound n
     → StaysRight n (table_held t.entries)
 unfolding cell_at
@@ -247,12 +247,12 @@ finished-right t left n none h ascend good text right =
     (name-right text _ _ _ e (finished _ _ _ _ name none h) (node-named n good name) is
     (entry_right text (Box Branch) box_standing (is_named name) (out-Branch n).tables.entries inside.1) (entry_right text Value value_standing (is_named name) (out-Branch n).values.entries inside.0))))
 
--- where there are none
+-- if there are none
 pub filled-none : (tables : List (Key × Box Branch)) (values : List (Key × Value)) → tables ≡ [] → Filled tables [] values values
 unfolding IsStrictlySortedBy
 filled-none tables values none = record { sorted = tt; stands = λ name. rw none refl }
 
--- where all branches are finished
+-- once all branches are finished
 pub filled-finishes : (tables : BTreeMap Key (Box Branch)) (values t : Table) (left : List (Key × Box Branch)) → left ≡ [] → Filled tables.entries left values.entries t.entries → NamesAscend t
     → Finishes tables values (Ok t)
 filled-finishes tables values t left none h ascend n sameTables sameValues scope =
@@ -261,7 +261,7 @@ filled-finishes tables values t left none h ascend n sameTables sameValues scope
 
 -- ---- tables and arrays of tables
 
--- what has become of a branch, whose shape and whose places below it are told apart
+-- what a branch becomes, given its shape, and the places below it separately
 became : (n : Branch) (i : ValueInner) (spans : Span × Span) (v : Value) → IfSome (deciding (marks n)) (λ m. spans ≡ (m.key, m.extent)) → view v ≡ tree.node (inner_view i) spans.1
     → (Sound n → ((m : Mark) → deciding (marks n) ≡ Some m → tree_shape (inner_view i) ≡ shape_claimed m.sort) × ShowsBelow (inner_view i) (cells n) × HoldsOrdered (inner_view i) × StaysRight n (held v))
     → Becomes n (Ok (spans.0, v))
@@ -273,7 +273,7 @@ became n i spans v placed seen h good =
         × ShowsBelow (tree_inner (view v)) (cells n) × IsOrdered (view v)
     told = let g = h good in let shape = g.0 in let below = g.1 in let order = g.2 in grind (arith, nat_tests, common_steps)
 
--- what was made of a value is kept
+-- the content and span of a value that was created
 abbrev IsMadeOf : ValueInner → Span → Value → Type 0
 IsMadeOf i span v = (v.value ≡ Some i) × (v.span ≡ span)
 
@@ -306,7 +306,7 @@ elements-ordered ns ms made good = absurd made
 array-of : (n : Branch) (ns : List Branch) → entries n ≡ ns → (ns ≡ [] → ⊥) → IsTableOrArray n ns → IsArray n
 array-of n ns is some h = grind (arith, nat_tests, common_steps)
 
--- an array of tables shows below it its entries
+-- below an array of tables there are its entries
 array-shows : (n : Branch) (a : Array) → EachBecomes (entries n) (Ok a) → Sound n → IsArray n → ShowsBelow (inner_view (array_inner a)) (cells n)
 unfolding cell_at
 array-shows n a made good arr (key name) p = rw (inner_view-Array a, arr.no_tables, arr.no_values)
@@ -318,14 +318,14 @@ array-shows n a made good arr (position i) p =
 array-ordered : (n : Branch) (a : Array) → EachBecomes (entries n) (Ok a) → Sound n → HoldsOrdered (inner_view (array_inner a))
 array-ordered n a made good = rw (inner_view-Array a) (elements-ordered (entries n) a.items made (λ j c is. (good-entry n j c (sound-good n good (position j)) is).2))
 
--- an element stands where its entry did
+-- an element has the position of its entry
 element-made : (i : ℕ) (ns : List Branch) (vs : List Value) (v : Value) → AllZip BecomesEntry ns vs → item i vs ≡ Some v → (n : Branch) × (item i ns ≡ Some n) × BecomesEntry n v
 element-made i [] [] v made is = absurd (none-some v is)
 element-made zero (n ∷ ns) (x ∷ vs) v made is = (n, refl, subst (BecomesEntry n) (same_Some x v is) made.0)
 element-made (suc i) (n ∷ ns) (x ∷ vs) v made is = element-made i ns vs v made.1 is
 element-made i ns vs v made is = absurd made
 
--- and what is right in an entry is right in it
+-- and what is borrowed correctly in an entry is so in the element
 array-right : (n : Branch) (a : Array) → EachBecomes (entries n) (Ok a) → Sound n → StaysRight n (array_held a.items)
 unfolding cell_at
 array-right n a made good text right =
@@ -349,6 +349,6 @@ became-array n a spans v placed seen kept some made =
       subst (StaysRight n) (sym (array-held v a spans.1 kept)) (array-right n a made good),
     ))
 
--- a list from which something is taken is not empty
+-- a list from which an item can be taken is not empty
 pub never-empty : {A : Type 0} (x : A) (xs ys : List A) → ys ≡ x ∷ xs → ys ≡ [] → ⊥
 never-empty x xs ys some none = let same : [] ≡ x ∷ xs = sym none ∙ some in cc

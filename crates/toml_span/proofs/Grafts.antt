@@ -25,7 +25,7 @@ same_step-eq s t h = grind (arith, nat_tests, common_steps, bytes_eq-Decides, eq
 pub same_step-self : (s : Step) → same_step s s ≡ true
 same_step-self s = grind (arith, nat_tests, common_steps, bytes_eq-Decides, eq-eqb)
 
--- what is sub below a step and f elsewhere
+-- a state that is `sub` below a step, and f elsewhere
 pub graft-is : {A : Type 0} (s : Step) (f sub g : Path → A) → g [] ≡ f [] → (λ q. g (s ∷ q)) ≡ sub
     → ((t : Step) (q : Path) → same_step s t ≡ false → g (t ∷ q) ≡ f (t ∷ q)) → g ≡ graft s f sub
 unfolding graft
@@ -52,7 +52,7 @@ graft-graft s f a b = graft-is s f b (graft s (graft s f a) b) refl (sub-graft s
 
 -- ---- claims below a step
 
--- a change below a step, which below it is the change itself
+-- a change below a step is the same change, seen from there
 sub-change-under : (s : Step) (st : State) (p : Path) (f : Cell → Cell) → (λ q. change st (s ∷ p) f (s ∷ q)) ≡ change (λ q. st (s ∷ q)) p f
 unfolding change same_path
 sub-change-under s st p f = fun_ext (λ q. rw (same_step-self s))

@@ -1,4 +1,4 @@
--- What sections make, one after another.
+-- The tree of sections, one after another.
 use Rattle.std.specs.Global.{Box}
 use Rattle.toml_span_lex.proofs.Common.{◌≡◌, ℕ, IfOk, List, [], ◌∷◌, ◌++◌, map, length, false, Option, Some, None, Ok, Err, refl, sym, subst, append_assoc, append-nil, ◌<◌, get_or, inr, Result, ap, ◌∙◌, IfSome, IfNone, is_some, BTreeMap, false≢true, arith, nat_tests, common_steps}
 use Rattle.toml_span_lex.specs.declared.key.Key.{Key}
@@ -65,13 +65,13 @@ pub placed-block : (s : Section) (parts : List Key) (root new : Branch) (r : Res
     → PlacesBlock (block s) root new r
 placed-block s parts root new r same h = rw same at h
 
--- the same, by absolute paths
+-- the same, with absolute paths
 placed-is : (b : Block) (earlier : List Block) (root new : Branch) (r : Result (Unit {0}) Halt) → counts root ≡ elements_added (opened_by earlier)
     → (b.header ≡ [] → b.array ≡ false) → PlacesBlock b root new r
     → Places root new r (section_claims (elements_added (opened_by earlier)) b) (elements_added (opened_by (b ∷ earlier)))
 placed-is b earlier root new r counting header placed = grind (arith, nat_tests, common_steps, counts_after-is, section_at-is)
 
--- what the next section claims, and then the others
+-- the claims of the next section, followed by those of the others
 next-claims : (earlier : List Block) (b : Block) (bs : List Block)
     → claims_behind earlier (b ∷ bs) ≡ followed (section_claims (elements_added (opened_by earlier)) b) (claims_behind (b ∷ earlier) bs)
 unfolding claims_behind
@@ -98,7 +98,7 @@ assembles-err all old new length b root w q (stops.Fault c) steps inv same place
     let h = placed-is b inv.earlier root w (Err (stops.Fault c)) inv.counting headers.0 placed inv.scope in
     grind (arith, nat_tests, common_steps, first-met, next-claims, told-followed, inv.telling)
 
--- the tree shows what the root's node keeps, and that is the flat document
+-- the tree shows what the root keeps, which is the flat document
 shows-flat : (length : ℕ) (cs : Claims) (t : BTreeMap Key Value) (root : Branch) → cells root ≡ put_all nothing cs → ShowsBelow (inner_view (table_inner t)) (cells root)
     → Shows (node (inner_view (table_inner t)) (record { start = 0; end = length })) (flat length cs)
 unfolding flat
@@ -120,7 +120,7 @@ assembles-ok all [] length t root v done inv finished is =
     (told, rw is (shows-flat length (claims all) t root put below.0), rw is (below.1))
 assembles-ok all (b ∷ rest) length t root v done inv finished is = cc
 
--- ---- what the sections so far make
+-- ---- the tree of the sections so far
 
 pub grows-none : (root : Branch) → IsFresh root → GrowsTo [] root None
 grows-none root fresh rest headed = remaining-first rest rest root refl headed fresh
@@ -146,7 +146,7 @@ pub finish-tree : (bs : List Block) (length : ℕ) (t : BTreeMap Key Value) (roo
     → Assembles bs length (Ok v)
 finish-tree bs length t root v grows finished shows = assembles-ok bs [] length t root v refl (rw append-nil at (grows [] tt)) finished shows
 
--- what is right in the root is right in the tree, by the first claims of the document
+-- what is borrowed correctly in the root is so in the tree, by the first claims of the document
 pub finish-right : (text : List ℕ) (bs : List Block) (span : Span) (t : BTreeMap Key Value) (root : Branch) (v : Value) → GrowsTo bs root None
     → (IsScope root → ShowsBelow (inner_view (table_inner t)) (cells root) × HoldsOrdered (inner_view (table_inner t)) × StaysRight root (table_held t.entries)) → (v.value ≡ Some (table_inner t)) × (v.span ≡ span)
     → AreBorrowedRight text (standing root) → AreBorrowedRight text (held v (first_key (claims bs)))
@@ -164,7 +164,7 @@ tree_borrows bs text limit (Err e) given h = tt
 
 -- ---- while a text is read
 
--- sections that are read up to a place, and what they make
+-- the sections read so far, and their tree
 pub record Growing (text : List ℕ) (limit at : ℕ) (g : Grown) : Type 0 where
   pub sections : List Section
   pub whole : DocumentFrom text limit (map block sections) at
@@ -194,7 +194,7 @@ growing-first text limit at (Some s) g right h grows borrows bare = record {
 never-empty : (ss : List Section) (s : Section) → ss ++ (s ∷ []) ≡ [] → ⊥
 never-empty ss s none = grind (arith, nat_tests, common_steps)
 
--- a section behind a header has parts, as the grammar reads it
+-- a section after a header has parts, as the grammar reads it
 headed : (text : List ℕ) (limit at next : ℕ) (s : Section) → get_or text at 0 ≡ 91 → read.section text limit at (Ok (block s, next)) → AreSections (block s ∷ [])
 headed text limit at next s here h =
     let spelled = section_sound (block s) text limit at next here h in (some_part (block s).array text _ _ (block s).header spelled.header.front.key, tt)
@@ -229,9 +229,9 @@ grown-whole text limit at g h end = record {
   borrows = h.borrows;
 }
 
--- ---- want of memory
+-- ---- failed allocations
 
--- a section that is placed is something to keep
+-- where a section is placed, there is something to store
 pub begin-keeps : (text : List ℕ) (limit at : ℕ) (o : Option Section) → read.before_headers text limit (Ok (first_blocks o, at)) → (o ≡ None → ⊥) → (i : ℕ) × FirstPlace text i × HoldsForm text i
 begin-keeps text limit at None given some = absurd (some refl)
 begin-keeps text limit at (Some s) given some = first_keeps text limit at (Some s) s refl given

@@ -1,4 +1,4 @@
--- A section is placed: its header part by part, and its assignments at the end. A dotted key is placed part by part.
+-- Placing a section: its header part by part, and its assignments at the end. A dotted key is placed part by part.
 use Rattle.toml_span_lex.proofs.Common.{◌≡◌, ◌<◌, ◌-◌, Global, Vec, get_or, map, ℕ, zero, suc, false, true, if◌then◌else◌, List, [], ◌∷◌, length, Some, None, Result, Err, refl, sym, ap, ◌∙◌, subst, inl, inr, arith, vec_len, ◌==◌, with_item, eqb-false, length-map, nil_from_length, nat_tests, common_steps}
 use Rattle.std.proofs.Math.ListN.{length-set}
 use Rattle.toml_span_tree.specs.Path.{Path, key}
@@ -26,13 +26,13 @@ use Rattle.toml_span.proofs.Placed.{gives-map, not-array, Starts, places-beside,
 
 -- ---- what clashes
 
--- so what is claimed as an array is fresh
+-- so a branch that is claimed as an array is fresh
 array-fresh : (n : Branch) (m : Mark) (name : List ℕ) → m.sort ≡ ArrayOfTables → entries n ≡ [] → IsChild n → earliest_clash (marks n) m name ≡ None → IsFresh n
 array-fresh n m name is none h free = grind (arith, nat_tests, common_steps, sound-shape)
 
 -- ---- a table is claimed, and assignments are placed below it
 
--- what is placed behind the claim on a table
+-- what is placed after a table has been claimed
 opened : (A : Branch → Type 0) (k : SimpleKey) (m : Mark) (old mid new : Branch) (r : Result (Unit {0}) Halt) (cs : (Path → ℕ) → Claims) (d : (Path → ℕ) → Path → ℕ)
     → earliest_clash (marks old) m k.name ≡ None → Marked m old mid → (A old → IsScope mid) → Places mid new r (cs (counts mid)) (d (counts mid))
     → Opening A m old new r (claimed (table_claim [] k m) (cs (counts old))) (d (counts old))
@@ -102,7 +102,7 @@ module _ (h : Head) (k : SimpleKey) where
     end-first-err old new q e P d is none same clash =
         rw (array-first old is none) (reaches-claim-err IsChild IsHeld k (header_mark h ArrayOfTables k.span) old new q e P (adding h k tail (counts old [])) d same clash)
 
-    -- with a further one
+    -- with a later one
     pub end-further : (old new : Branch) (r : Result (Unit {0}) Halt) → h.array ≡ true → (entries old ≡ [] → ⊥) → Reaches IsOpen IsHeld old new r (adding h k tail (counts old [])) (counts_after_adding (counts old))
         → Passes old new r (ending h k tail (counts old [])) (counts_after_end (counts old) h)
     end-further old new r is some placed =
@@ -131,7 +131,7 @@ module _ (h : Head) (k : SimpleKey) where
           opened IsScope k (header_mark h Passed k.span) old mid new r (λ f. section_at f h rest tail) (λ f. counts_after f h rest) free claims
           (scope-marked (header_mark h Passed k.span) old mid refl claims) placed
 
-    -- what stands behind the first claim, where nothing stands yet
+    -- what follows the first claim, if there is nothing yet
     behind_first : (Path → ℕ) → List SimpleKey → Claims
     behind_first e [] = if h.array then adding h k tail 0 else tail
     behind_first e (l ∷ more) = section_at e h (l ∷ more) tail
@@ -140,7 +140,7 @@ module _ (h : Head) (k : SimpleKey) where
     unfolding behind_first
     through-first rest e none = grind (arith, nat_tests, common_steps)
 
-    -- what clashes with a value of the name
+    -- what clashes with a value of this name
     pub section-beside : (rest : List SimpleKey) (n new : Branch) (q : Result (Unit {0}) Halt) (e : Halt) (P : Unit {0} → Type 0) (d : Path → ℕ)
         → child k.name n ≡ None → q ≡ Err e → Gives (Err e) (earliest_clash (closed_marks (closed k.name n)) (header_mark h (part_sort h rest) k.span) k.name) P
         → Places n new q (section_at (counts n) h (k ∷ rest) tail) d
@@ -149,7 +149,7 @@ module _ (h : Head) (k : SimpleKey) where
         rw (section_at-through, through-first rest (λ p. counts n (key k.name ∷ p)) none)
         (places-beside n new k.name q e (table_claim [] k (header_mark h (part_sort h rest) k.span)) (behind_first (λ p. counts n (key k.name ∷ p)) rest) P d missing refl same clash)
 
-    -- where nothing clashes no value stands there
+    -- if nothing clashes, there is no value of this name
     pub section-free : (rest : List SimpleKey) (n : Branch) → earliest_clash (closed_marks (closed k.name n)) (header_mark h (part_sort h rest) k.span) k.name ≡ None → closed k.name n ≡ None
     section-free rest n free = grind (arith, nat_tests, common_steps, unclosed)
 
@@ -191,7 +191,7 @@ module _ (h : Head) (k : SimpleKey) (tail : Claims) where
       rw count (reaches-entry (header_mark h Passed k.span) m n new x w r (passing h k (l ∷ more) tail) (λ f. counts_after f h (l ∷ more)) (item-at (entries n) m x within ∙ ap Some (sym is))
       (puts-set m w n _ refl refl refl within refl) (ap (λ (b : Branch-F Branch). length b.entries.items) (out-roll _) ∙ length-set (entries n) m w) placed)
 
-  -- or on from the node itself
+  -- or from the node itself
   pub pass-again : (rest : List SimpleKey) (n new : Branch) (r : Result (Unit {0}) Halt) → (rest ≡ [] → ⊥) → entries n ≡ []
       → Opening IsScope (header_mark h Passed k.span) (with_entries n (out-Branch n).entries) new r
       (passing h k rest tail (counts (with_entries n (out-Branch n).entries))) (counts_after (counts (with_entries n (out-Branch n).entries)) h rest)
@@ -207,7 +207,7 @@ dotted_mark k v = pair_mark Dotted k.span (parsed_span v)
 
 -- ---- a dotted key, through a branch
 
--- a branch that a dotted key passes through is a table
+-- a branch through which a dotted key passes is a table
 table-marked : (n mid : Branch) (m : Mark) (name : List ℕ) → m.sort ≡ Dotted → earliest_clash (marks n) m name ≡ None → Marked m n mid → IsChild n → IsScope mid × IsNamed (marks mid)
 table-marked n mid m name sort h marked before = grind (arith, nat_tests, common_steps, held-claimed, not-array, scope-marked)
 

@@ -1,4 +1,4 @@
--- What stands in finished values: their strings and keys.
+-- The strings and keys in finished values.
 use Rattle.toml_span_lex.proofs.Common.{◌≡◌, ℕ, zero, suc, ◌+◌, List, [], ◌∷◌, ◌++◌, map, Option, Some, None, option_map, rules, refl, sym, ap, ◌∙◌, subst, Global, Vec, BTreeMap, CowStr, cow_str_bytes, arith, none-some, same_Some}
 use Rattle.toml_span_lex.specs.declared.span.Span.{Span}
 use Rattle.toml_span_lex.specs.declared.key.Key.{Key}
@@ -21,7 +21,7 @@ use Rattle.toml_span_read.specs.declared.value.ValKind.{ValKind, the_lemmas as r
 use Rattle.toml_span_read.specs.declared.value.ValKind.TheVariants as kinds
 use Rattle.toml_span.proofs.Grafts.{fun_ext}
 
--- ---- a level at a time
+-- ---- one level at a time
 
 abbrev pub inner_held : ValueInner → Span → Held
 inner_held = fold-ValueInner (Span → Held) Held inner_step value_step
@@ -69,7 +69,7 @@ element-item (suc i) v (x ∷ vs) is = element-item i v vs is
 
 -- ---- values by the spans of their own keys
 
--- where the value itself has its key is nothing to a table
+-- the span of a value's own key does not matter to the table inside
 pub table-spans : (es : List (Key × Held)) (f g : KeySpans) → ((s : Step) (p : Path) → f (s ∷ p) ≡ g (s ∷ p)) → entries_standing es f ≡ entries_standing es g
 table-spans [] f g same = refl
 table-spans (e ∷ es) f g same =

@@ -1,4 +1,4 @@
--- What is told is the first clash.
+-- The clash that is reported is the first one.
 use Rattle.toml_span_lex.proofs.Common.{◌≡◌, ℕ, true, List, [], ◌∷◌, ◌++◌, Option, option_map, refl, sym, ap, ◌∙◌, list_any, false≢true, arith, nat_tests, common_steps}
 use Rattle.toml_span.specs.declared.claims.Blame.{Blame}
 use Rattle.toml_span.specs.declared.claims.Mark.{Mark}
@@ -11,7 +11,7 @@ use Rattle.toml_span.proofs.Claimed.{remember-cases, same_sort-eq}
 use Rattle.toml_span.proofs.Grafts.{or_else-assoc, or_else-none}
 use Rattle.toml_span.proofs.Shown.{show_all-marks}
 
--- ---- a later claim meets the first one of each sort, and no other
+-- ---- a later claim clashes only with the first one of a sort
 
 absorbed : (x a b : Mark) (o p : Option Blame) (y : Option Meeting) → o ≡ p
     → or_else (option_map (meeting x b) o) y ≡ or_else (or_else (option_map (meeting x b) o) y) (option_map (meeting a b) p)
@@ -38,7 +38,7 @@ among-push (x ∷ earlier) c later = grind (arith, nat_tests, common_steps, or_e
 abbrev met_in : State → Claim → Option NamedClash
 met_in st c = earliest_clash (st c.path).marks c.mark c.name
 
--- the state knows what the earlier claims say to each later one
+-- from the state follow the clashes of each later claim with the earlier ones
 abbrev Keeps : State → List Claim → Type 0
 Keeps st earlier = (later : Claim) → met_in st later ≡ clash_among earlier later
 
@@ -59,7 +59,7 @@ keeps-claim st earlier c keeps later = grind (arith, nat_tests, common_steps, am
 keeps-inner : (st : State) (earlier : List Claim) (inner : Claims) → Keeps st earlier → Keeps (show_all st inner) earlier
 keeps-inner st earlier inner keeps later = ap (λ l. earliest_clash l later.mark later.name) (show_all-marks st inner later.path) ∙ keeps later
 
--- ---- what is met is the first clash
+-- ---- the clash that is found is the first one
 
 met-behind : (st : State) (earlier : List Claim) (cs : Claims) → Keeps st earlier → clash_met st cs ≡ clash_behind earlier cs
 unfolding clash_met clash_behind

@@ -1,10 +1,10 @@
--- Maps by key, once an entry is put into them.
+-- Maps by key, after an entry has been inserted.
 use Rattle.toml_span_lex.proofs.Common.{◌≡◌, ℕ, Bool, true, false, cond, List, [], ◌∷◌, Option, Some, None, option_map, Ordering, Less, Equal, Greater, match_ordering, is_eq, nat_cmp, refl, sym, ap, ◌∙◌, insert_entry, slice_cmp, cow_str_bytes, lookup, lookup_entry, lookup_key, bytes_eq, is_eq-slice_cmp, none-some, arith, nat_tests, common_steps}
 use Rattle.toml_span_lex.specs.declared.key.Key.{Key}
 use Rattle.toml_span_read.proofs.EarlierTree.{key_cmp, same_name, same-sym}
 use Rattle.toml_span.specs.code.Tree.{is_named}
 
--- an entry is put first, at an equal key, or behind the first one
+-- an entry is inserted first, at an equal key, or after the first one
 pub insert_by : {X : Type 0} (P : List (Key × X) → Type 0) (k : Key) (v : X) (e : Key × X) (es : List (Key × X)) → (key_cmp k e.0 ≡ Less → P ((k, v) ∷ e ∷ es))
     → (key_cmp k e.0 ≡ Equal → P ((e.0, v) ∷ es))
     → (key_cmp k e.0 ≡ Greater → P (e ∷ insert_entry key_cmp es k v)) → P (insert_entry key_cmp (e ∷ es) k v)
@@ -19,7 +19,7 @@ pub named-by : (l : List ℕ) (k : Key) → is_named l k ≡ bytes_eq (cow_str_b
 named-by l k = same-sym l (cow_str_bytes k.name) ∙ is_eq-slice_cmp (cow_str_bytes k.name) l
 
 module _ {X : Type 0} where
-  -- what is found in a map after `insert`: the value stands under the key, or under an equal one that the map had
+  -- what is found in a map after `insert`: the value under the key, or under an equal key that the map had
   pub found-insert : (key : Key) (w : X) (l : List ℕ) (es : List (Key × X))
       → (k : Key) × (lookup_entry (is_named l) (insert_entry key_cmp es key w) ≡ cond (is_named l key) (Some (k, w)) (lookup_entry (is_named l) es)) × (lookup_entry (is_named (cow_str_bytes key.name)) es ≡ None → k ≡ key)
   found-insert key w l [] = (key, refl, λ free. refl)
@@ -49,7 +49,7 @@ module _ {X : Type 0} where
   pub puts-insert : (key : Key) (w : X) (es : List (Key × X)) (l : List ℕ) → lookup (is_named l) (insert_entry key_cmp es key w) ≡ cond (bytes_eq (cow_str_bytes key.name) l) (Some w) (lookup (is_named l) es)
   puts-insert key w es l = let found = found-insert key w l es in grind (arith, nat_tests, common_steps, value-of, named-by)
 
-  -- where the name was free, the key stands in the map with its value
+  -- if the name was free, the map has the key with its value
   pub holds-insert : (key : Key) (w : X) (es : List (Key × X)) → lookup_entry (is_named (cow_str_bytes key.name)) es ≡ None
       → (l : List ℕ) → lookup_entry (is_named l) (insert_entry key_cmp es key w) ≡ cond (bytes_eq (cow_str_bytes key.name) l) (Some (key, w)) (lookup_entry (is_named l) es)
   holds-insert key w es free l = let found = found-insert key w l es in grind (arith, nat_tests, common_steps, named-by)

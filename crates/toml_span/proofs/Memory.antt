@@ -1,4 +1,4 @@
--- Memory is wanted only where there is something to place.
+-- An allocation can fail only if there is something to place.
 use Rattle.toml_span_lex.proofs.Common.{◌≡◌, ℕ, ◌<◌, ◌≤◌, Bool, List, [], ◌∷◌, ◌++◌, map, length, arith, Result, Ok, Err, refl, ◌∙◌, IsOk, false≢true, AllocError, nat_tests, common_steps}
 use Rattle.toml_span_lex.specs.declared.stop.Stop.{Stop}
 use Rattle.toml_span_lex.specs.declared.stop.Stop.TheVariants as stops
@@ -18,7 +18,7 @@ use Rattle.toml_span_read.specs.Reading.{HoldsForm, OnlyFormsTakeMemory}
 use Rattle.toml_span_read.proofs.InsideLemmas.{ascend_forward}
 use Rattle.toml_span_read.proofs.KeyOrder.{dotted_ascend}
 
--- a key stands before the end of the text
+-- a key begins before the end of the text
 key-before : (ps : List SimpleKey) (text : List ℕ) (i j : ℕ) → SpellsKey ps text i j → i < length text
 key-before [] text i j h = absurd h
 key-before (p ∷ ps) text i j h = grind (arith, nat_tests, common_steps, ascend_forward, dotted_ascend)
@@ -29,7 +29,7 @@ opens-forward array text i j h = grind (arith, nat_tests, common_steps)
 section-before : (b : Block) (text : List ℕ) (limit i j : ℕ) → SpellsSection b text limit i j → i < length text
 section-before b text limit i j h = grind (arith, nat_tests, common_steps, key-before, opens-forward)
 
--- where a section is spelled, more than blank lines stand
+-- where a section is spelled, there is more than blank lines
 sections-hold : (es : List KeyValue) (bs : List Block) (text : List ℕ) (limit start k j : ℕ) → MaximalGap text start k → KeyValuesWith SpellsScalar es [] text limit k j → SectionsWith SpellsScalar bs text limit j
     → (first_block es ++ bs ≡ [] → ⊥) → HoldsForm text start
 sections-hold [] [] text limit start k j gap h rest some = absurd (some refl)
@@ -40,7 +40,7 @@ no-blocks : (ss : List Section) → map block ss ≡ [] → ss ≡ []
 no-blocks [] none = refl
 no-blocks (s ∷ ss) none = cc
 
--- a tree that needs no memory where there are no sections
+-- a tree for which nothing is allocated if there are no sections
 pub keeps-placed : (ss : List Section) (text : List ℕ) (limit : ℕ) (r : Result Value (Stop Error)) → read.document text limit (Ok (map block ss)) → (ss ≡ [] → IsOk r)
     → (start : ℕ) × FirstPlace text start × OnlyFormsTakeMemory text start r
 keeps-placed ss text limit (Ok root) given bare = let h = document_sound (map block ss) text limit given in (h.start, h.begins, tt)
@@ -49,7 +49,7 @@ keeps-placed ss text limit (Err (stops.Memory e)) given bare =
     let h = document_sound (map block ss) text limit given in
     (h.start, h.begins, sections-hold h.first h.rest text limit h.start h.lines.0 h.end h.lines.1 h.lines.2 h.sections (λ none. false≢true (bare (no-blocks ss (h.all ∙ none)))))
 
--- want of memory is handed on
+-- a failed allocation is passed on
 pub keeps-on : (text : List ℕ) (stop : Stop Fault) (e : AllocError) → stop ≡ stops.Memory e → ((start : ℕ) × FirstPlace text start × OnlyFormsTakeMemory {A = Grown} text start (Err stop))
     → (start : ℕ) × FirstPlace text start × OnlyFormsTakeMemory {A = Value} {E = Error} text start (Err (stops.Memory e))
 keeps-on text stop e is h = rw is at h

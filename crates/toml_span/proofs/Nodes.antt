@@ -1,4 +1,4 @@
--- What stands at a step of a branch: what the branch keeps there, and what always holds of it.
+-- What a branch has at a step: what it keeps there, and the invariants.
 use Rattle.toml_span_lex.proofs.Common.{rules, ◌≡◌, ℕ, true, false, cond, List, [], ◌∷◌, length, Option, Some, None, option_map, refl, sym, ap, ◌∙◌, subst, arith, ⊤, vec_len, ◌==◌, box_value, lookup, lookup_entry, eqb-false, nil_from_length, none-some, nat_tests, common_steps}
 use Rattle.std.proofs.lemmas.Bool.{eqb-true}
 use Rattle.toml_span_lex.specs.declared.key.Key.{Key}
@@ -22,7 +22,7 @@ out-roll n = search (rules, the_lemmas)
 
 -- ---- a step
 
--- a branch, or else a value and its key
+-- a branch, or a value and its key
 abbrev pub Slot : Type 0
 Slot = Option Branch × Option (Key × Value)
 
@@ -74,7 +74,7 @@ no-entries n h = nil_from_length (entries n) (omega (arith, eqb-true (vec_len (o
 pub some-entries : (n : Branch) → (vec_len (out-Branch n).entries == 0) ≡ false → entries n ≡ [] → ⊥
 some-entries n h none = eqb-false (vec_len (out-Branch n).entries) 0 h (omega (arith, ap length none, (out-Branch n).entries.ok.0))
 
--- ---- what always holds
+-- ---- invariants
 
 abbrev pub IsGood : Option Branch → Option (Key × Value) → Step → Type 0
 IsGood None None s = ⊤
@@ -105,7 +105,7 @@ sound-from n shape good =
     sound n shape (λ k c is. let g = good-child n k c (good (key k)) is in (g.0, g.1)) (λ i c is. let g = good-entry n i c (good (position i)) is in (g.0, g.1))
     (λ k e is. good-value n k e (good (key k)) is) (λ k c is. (good-child n k c (good (key k)) is).2) (λ i c is. (good-entry n i c (good (position i)) is).2)
 
--- a table has no claim of an array
+-- a table is not claimed as an array
 pub scope-marks : (n : Branch) → IsScope n → NoArray (marks n)
 scope-marks n h = subst (IsTableOrArray n) h.1 (sound-shape n h.0)
 
@@ -136,7 +136,7 @@ open-good n h s = grind (arith, nat_tests, common_steps, bare-slot)
 
 -- ---- something else at a step
 
--- the same branch, but for what stands at one step
+-- the same branch, except at one step
 pub record Sets (s : Step) (x : Slot) (n new : Branch) : Type 0 where
   pub claims : marks new ≡ marks n
   pub stands : (t : Step) → slot t new ≡ cond (same_step s t) x (slot t n)

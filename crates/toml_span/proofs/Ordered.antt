@@ -45,12 +45,12 @@ names-behind k (e ∷ es) h = (name-before (cow_str_bytes k.name) (cow_str_bytes
 named-itself : (k : Key) → is_named (cow_str_bytes k.name) k ≡ true
 named-itself k = is_eq-slice_cmp (cow_str_bytes k.name) (cow_str_bytes k.name) ∙ same_step-self (key (cow_str_bytes k.name))
 
--- behind a key nothing has its name
+-- no key after it has its name
 pub none-again : {X : Type 0} (k : Key) (es : List (Key × X)) → AllByRecursion (λ l. key_cmp k l ≡ Less) (keys_of es) → lookup_entry (is_named (cow_str_bytes k.name)) es ≡ None
 none-again k [] h = refl
 none-again k (e ∷ es) h = rw (h.0) (none-again k es h.1)
 
--- what holds of each entry that is found by its name holds of all
+-- what holds for each entry that is found by its name holds for all
 pub each-named : (P : Key × Value → Type 0) (es : List (Key × Value)) → IsStrictlySortedBy key_cmp (keys_of es) → ((e : Key × Value) → lookup_entry (is_named (cow_str_bytes e.0.name)) es ≡ Some e → P e)
     → AllByRecursion P es
 each-named P [] sorted each = tt
@@ -70,7 +70,7 @@ members-ordered [] sorted each = tt
 members-ordered (e ∷ es) sorted each =
     (names-behind e.0 es (sorted_head key_cmp e.0 (keys_of es) sorted), each.0, members-ordered es (sorted_tail key_cmp e.0 (keys_of es) sorted) each.1)
 
--- ---- no name stands twice
+-- ---- each name once
 
 -- no name is before itself
 pub not-before : (name : List ℕ) → IsNameBefore name name → ⊥

@@ -1,4 +1,4 @@
--- A clash is told inside the text, at the later of two claims.
+-- A clash has a span inside the text, which is that of the later claim.
 use Rattle.std.specs.Box.{box_value}
 use Rattle.std.specs.Global.{Box}
 use Rattle.toml_span_lex.proofs.Common.{Ok, ◌≡◌, ℕ, List, [], ◌∷◌, map, length, Option, Some, None, option_map, true, append-nil, ⊤, IfSome, false≢true, arith, nat_tests, common_steps}
@@ -29,11 +29,11 @@ use Rattle.toml_span.proofs.EachClaim.{either-one}
 use Rattle.toml_span.proofs.Judged.{first-met}
 use Rattle.toml_span.proofs.Values.{first_in, told-array}
 
--- the key of a claim stands inside the first n bytes, and of a header's claim its line too
+-- the key of a claim is inside the first n bytes, and so is the line of a header's claim
 abbrev IsMarkInside : ℕ → Mark → Type 0
 IsMarkInside n mark = IsInside n mark.key × (by_header mark.sort ≡ true → IsInside n mark.line)
 
--- what is told at a line is told of a header
+-- a clash that is reported at a line is one of a header
 abbrev IsTold : Sort → Blame → Type 0
 IsTold sort blames.DuplicateTable = by_header sort ≡ true
 IsTold sort blames.DuplicateKey = ⊤
@@ -49,7 +49,7 @@ earliest_meeting_inside : (n : ℕ) (marks : List Mark) (later : Mark) → IsMar
 earliest_meeting_inside n [] later inside = tt
 earliest_meeting_inside n (earlier ∷ marks) later inside = grind (arith, nat_tests, common_steps, blame_told, either-one, meeting_inside, earliest_meeting_inside n marks later inside)
 
--- a clash is told there
+-- a clash is reported there
 abbrev In : ℕ → NamedClash → Type 0
 In n t = IsInside n t.meeting.span
 
@@ -58,8 +58,8 @@ named_inside n name o h = grind (arith, nat_tests, common_steps)
 
 -- ---- claims
 
--- The claims of the scope are inside. What clashes in a scope within is told inside: there the elements of an array have
--- no keys, and do not clash.
+-- The claims of the scope are inside. A clash in a scope within is reported inside, since the elements of an array have
+-- no keys and do not clash.
 abbrev Told : ℕ → Claims → Type 0
 Told n no_claims = ⊤
 Told n (claimed c cs) = IsMarkInside n c.mark × Told n cs
@@ -133,7 +133,7 @@ behind_told n earlier (s ∷ ss) h =
     (key_values_told n b.key_values (section_path e b) h.0.2))
     (behind_told n (b ∷ earlier) ss h.1)
 
--- ---- what is told of the sections of a text
+-- ---- the clashes of a text's sections
 
 is_inside : (n : ℕ) (o : Option NamedClash) (t : NamedClash) → o ≡ Some t → IfSome o (In n) → In n t
 is_inside n o t is h = rw is at h

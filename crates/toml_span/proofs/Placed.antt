@@ -1,4 +1,4 @@
--- One placing after another, and below a step.
+-- One placement after another, and below a step.
 use Rattle.toml_span_lex.proofs.Common.{◌≡◌, ℕ, Bool, false, List, [], ◌∷◌, Option, Some, None, option_map, Result, Ok, Err, OnOk, cond, refl, sym, ap, ◌∙◌, subst, inl, inr, box_value, BTreeMap, insert_entry, cow_str_bytes, Box, lookup, IsErrAnd, bytes_eq, bytes_eq-Decides, arith, nat_tests, common_steps}
 use Rattle.toml_span_tree.specs.Path.{Path, Step, key, position}
 use Rattle.toml_span_tree.specs.Value.{span_of}
@@ -24,7 +24,7 @@ use Rattle.toml_span.proofs.Grafts.{told-followed, put_all-followed, told-under,
 use Rattle.toml_span.proofs.KeyMaps.{puts-insert}
 use Rattle.toml_span.proofs.Nodes.{Slot, Sets, cells-at, cells-slot, cells-sets, counts-at, counts-named, cells-fresh, counts-fresh, good-child, scope-fresh, scope-named, sets-roll, slot, slot_in, sound-good, sound-shape}
 
--- ---- what is given
+-- ---- results
 
 pub gives-map : {A : Type 0} (r : Result A Halt) (o p : Option NamedClash) (P Q : A → Type 0) → p ≡ o → ((x : A) → P x → Q x) → Gives r o P → Gives r p Q
 gives-map r o p P Q same more h = grind (arith, nat_tests, common_steps)
@@ -33,7 +33,7 @@ pub gives-err : {A B : Type 0} (r : Result B Halt) (e : Halt) (o p : Option Name
     → r ≡ Err e → ((t : NamedClash) → o ≡ Some t → p ≡ Some t) → Gives {A = A} (Err e) o P → Gives r p Q
 gives-err r e o p P Q is more h = grind (arith, nat_tests, common_steps)
 
--- what `?` passes on
+-- the error that `?` returns
 pub err-of : {A : Type 0} (r : Result A Halt) (e : Halt) (Q : Halt → Type 0) → IsErrAnd r Q → ((y : Halt) → Q y → y ≡ e) → r ≡ Err e
 err-of r e Q h k = grind (arith, nat_tests, common_steps)
 
@@ -46,7 +46,7 @@ pub reaches-then : (A B C : Branch → Type 0) (old mid new : Branch) (r : Resul
     → Reaches A B old mid (Ok tt) xs c → Reaches B C mid new r ys d → Reaches A C old new r (followed xs ys) d
 reaches-then A B C old mid new r xs ys c d h g before = grind (arith, nat_tests, common_steps, gives-map, put_all-followed, told-followed)
 
--- what is placed below a step, from a branch x on that becomes w
+-- what is placed below a step, beginning at a branch x, which becomes w
 pub reaches-below : (A B C D : Branch → Type 0) (s : Step) (n new x w : Branch) (r : Result (Unit {0}) Halt) (cs : Claims) (c d : Path → ℕ)
     → (λ p. cells n (s ∷ p)) ≡ cells x → (A n → C x) → OnOk r (A n → D w → (cells new ≡ graft s (cells n) (cells w)) × (counts w ≡ c → counts new ≡ d) × B new)
     → Reaches C D x w r cs c → Reaches A B n new r (under s cs) d
@@ -59,13 +59,13 @@ reaches-below A B C D s n new x w (Ok u) cs c d at start set h before =
 reaches-below A B C D s n new x w (Err (Fault t)) cs c d at start set h before = told-under s (cells n) cs ∙ ap (λ f. clash_met f cs) at ∙ h (start before)
 reaches-below A B C D s n new x w (Err (Memory e)) cs c d at start set h before = tt
 
--- where it stops, nothing is said of the branch and of its entries
+-- after an error nothing is stated about the branch and its entries
 pub reaches-stops : (A B : Branch → Type 0) (n new other : Branch) (e : Halt) (cs : Claims) (c d : Path → ℕ) → Reaches A B n other (Err e) cs c → Reaches A B n new (Err e) cs d
 reaches-stops A B n new other e cs c d h = grind (arith, nat_tests, common_steps)
 
 -- ---- below a name
 
--- whatever stands at a name is chosen by the name, and both parts of a slot
+-- what is at a name depends on the name, and so do both parts of a slot
 pub cond-same : {A : Type 0} (k l : List ℕ) (f : List ℕ → A) → f l ≡ cond (bytes_eq k l) (f k) (f l)
 cond-same k l f = grind (arith, nat_tests, common_steps, bytes_eq-Decides)
 
@@ -76,7 +76,7 @@ cond-slot b x y = grind (arith, nat_tests, common_steps)
 abbrev pub with_tables : Branch → BTreeMap Key (Box Branch) → Branch
 with_tables n tables = roll-Branch (record { marks = (out-Branch n).marks; values = (out-Branch n).values; tables = tables; entries = (out-Branch n).entries })
 
--- put into the map, which may have the name
+-- inserted into the map, which may have the name
 pub sets-entry : (n : Branch) (tables made : BTreeMap Key (Box Branch)) (k : List ℕ) (name : Key) (w : Box Branch) → cow_str_bytes name.name ≡ k
     → made.entries ≡ insert_entry key_cmp (out-Branch n).tables.entries name w → tables ≡ made → Sets (key k) (Some (box_value w), closed k n) n (with_tables n tables)
 sets-entry n tables made k name w is written same = sets-roll (key k) (Some (box_value w), closed k n) n (record { marks = (out-Branch n).marks; values = (out-Branch n).values; tables = tables; entries = (out-Branch n).entries }) refl at
@@ -88,11 +88,11 @@ sets-entry n tables made k name w is written same = sets-roll (key k) (Some (box
     at (key l) = (λ i. (named_now l i, cond-same k l (λ l. closed l n) i)) ∙ cond-slot (bytes_eq k l) (Some (box_value w), closed k n) (slot (key l) n)
     at (position i) = refl
 
--- the branch of a name in a scope
+-- the branch with a name in a scope
 pub held-child : (n x : Branch) (k : List ℕ) → child k n ≡ Some x → IsScope n → (closed k n ≡ None) × IsNamed (marks x) × Sound x
 held-child n x k found before = good-child n k x (sound-good n before.0 (key k)) found
 
--- x stands at the name k, or is a fresh branch where nothing does
+-- x is the branch at the name k, or a fresh one if there is none
 pub record Starts (n x : Branch) (k : List ℕ) : Type 0 where
   pub shown : (λ p. cells n (key k ∷ p)) ≡ cells x
   pub counted : (λ p. counts n (key k ∷ p)) ≡ counts x
@@ -112,7 +112,7 @@ starts-new n x k missing free fresh = record {
   is_open = λ scope. (free, ((scope-fresh x fresh).0, inl fresh));
 }
 
--- what is placed in the branch of a name
+-- what is placed in the branch at a name
 pub places-below : (n new x w : Branch) (k : List ℕ) (r : Result (Unit {0}) Halt) (cs : (Path → ℕ) → Claims) (c : (Path → ℕ) → Path → ℕ)
     → Starts n x k → Sets (key k) (Some w, closed k n) n new → Passes x w r (cs (counts x)) (c (counts x))
     → Places n new r (under (key k) (cs (λ p. counts n (key k ∷ p)))) (graft (key k) (counts n) (c (λ p. counts n (key k ∷ p))))
@@ -135,7 +135,7 @@ places-refused n new k (Ok u) c cs P d here h before = absurd (h before).0
 places-refused n new k (Err (Fault t)) c cs P d here h before = grind (arith, nat_tests, common_steps, told-under)
 places-refused n new k (Err (Memory e)) c cs P d here h before = tt
 
--- with a value of the name
+-- with a value of this name
 pub places-beside : (n new : Branch) (k : List ℕ) (q : Result (Unit {0}) Halt) (e : Halt) (c : Claim) (cs : Claims) (P : Unit {0} → Type 0) (d : Path → ℕ)
     → child k n ≡ None → c.path ≡ [] → q ≡ Err e → Gives (Err e) (earliest_clash (closed_marks (closed k n)) c.mark c.name) P
     → Places n new q (under (key k) (claimed c cs)) d
@@ -144,19 +144,19 @@ places-beside n new k q e c cs P d missing here same h =
 
 -- ---- what clashes
 
--- each claim at a name with a value, and that of a table with an array
+-- any claim at a name with a value, and that of a table with an array
 pub named-clashes : (s : Sort) → is_entry_sort s ≡ false → (blame s Assigned ≡ None → ⊥) × (blame Assigned s ≡ None → ⊥) × (is_array_sort s ≡ false → blame s ArrayOfTables ≡ None → ⊥)
 named-clashes s e = grind (arith, nat_tests, common_steps)
 
--- what clashes with none does not clash with the first one
+-- what clashes with no claim does not clash with the first one
 pub met-first : (x m : Mark) (ms : List Mark) (name : List ℕ) → earliest_clash (x ∷ ms) m name ≡ None → blame x.sort m.sort ≡ None
 met-first x m ms name h = grind (arith, nat_tests, common_steps)
 
--- what clashes with each array of tables is claimed of a table
+-- what clashes with any array of tables is a claim on a table
 pub not-array : (n : Branch) (m : Mark) (name : List ℕ) → (blame ArrayOfTables m.sort ≡ None → ⊥) → earliest_clash (marks n) m name ≡ None → Sound n → entries n ≡ []
 not-array n m name clashes free h = grind (arith, nat_tests, common_steps, met-first, sound-shape)
 
--- where nothing clashes with it there is none
+-- if nothing clashes with it, there is none
 pub unclosed : (o : Option (Key × Value)) (m : Mark) (name : List ℕ) → earliest_clash (closed_marks o) m name ≡ None → is_entry_sort m.sort ≡ false → o ≡ None
 unclosed o m name h named = grind (arith, nat_tests, common_steps, met-first, named-clashes)
 
@@ -166,15 +166,15 @@ assigned_twice r a b name Q P d e h = grind (arith, nat_tests, common_steps)
 
 -- ---- maps by name
 
--- the claim of a value that stands at a name
+-- the claim of the value at a name
 pub marks-found : (o : Option (Key × Value)) (k : Key) (v : Value) (m : Mark) → o ≡ Some (k, v) → m ≡ pair_mark Assigned k.span v.span → closed_marks o ≡ m ∷ []
 marks-found o k v m is mark = ap closed_marks is ∙ ap (λ s. pair_mark Assigned k.span s ∷ []) (ap span_of (view_is v)) ∙ ap (λ x. x ∷ []) (sym mark)
 
--- what a look-up by a key of the name k says of the branch at k
+-- what looking up a key with the name k says about the branch at k
 pub looked : (k : List ℕ) (name : Key) (m : BTreeMap Key (Box Branch)) (o : Option (Box Branch)) → cow_str_bytes name.name ≡ k
     → lookup (is_named (cow_str_bytes name.name)) m.entries ≡ o → option_map box_value (lookup (is_named k) m.entries) ≡ option_map box_value o
 looked k name m o same is = ap (λ l. option_map box_value (lookup (is_named l) m.entries)) (sym same) ∙ ap (option_map box_value) is
 
--- what is told is the same, whatever would have been given
+-- the clash is the same, whatever the type of the result
 pub told : {A B : Type 0} (e : Halt) (o : Option NamedClash) (P : A → Type 0) (Q : B → Type 0) → Gives {A = A} (Err e) o P → Gives {A = B} (Err e) o Q
 told e o P Q h = gives-err (Err e) e o o P Q refl (λ t k. k) h

@@ -1,4 +1,4 @@
--- What the reader and the assembly give is what `parse` gives.
+-- The result of the reader and of placing the sections is that of `parse`.
 use Rattle.std.specs.Global.{Box}
 use Rattle.toml_span_lex.proofs.Common.{◌≡◌, Some, ℕ, Bool, true, false, List, [], ◌∷◌, ◌++◌, length, inl, Result, Ok, Err, IfOk, arith, nat_tests, common_steps}
 use Rattle.toml_span_lex.specs.declared.stop.Stop.{Stop}
@@ -25,7 +25,7 @@ use Rattle.toml_span.proofs.Ordered.{one-each}
 use Rattle.toml_span.proofs.ShownWhole.{shown-whole}
 use Rattle.toml_span.specs.code.Placing.{AreSections, Assembles}
 
--- a fault of reading is told as an error
+-- a fault of reading is reported as an error
 pub answers-fault : (text : List ℕ) (limit : ℕ) (stop : Stop Fault) (fault : Fault) (error : Error) → stop ≡ stops.Fault fault → GrownGives text limit (Err stop) → IsPlacedStop text stop
     → Tells text fault (content_of error) → Answers text limit (Err (stops.Fault error))
 answers-fault text limit stop fault error is told placed tells = inl (fault, rw is at told, (rw is at placed, tells))
@@ -43,7 +43,7 @@ sections-headed (b ∷ bs) text limit i (j, here, rest) = grind (arith, nat_test
 pub first-headed : (evs : List KeyValue) (bs : List Block) → AreSections bs → AreSections (first_block evs ++ bs)
 first-headed evs bs h = grind (arith, nat_tests, common_steps)
 
--- only a section without a header has no parts, and that is no array of tables
+-- only a section without a header has no parts, and it is not an element of an array of tables
 pub spelled-headed : (bs : List Block) (text : List ℕ) (limit : ℕ) → SpellsDocument bs text limit → AreSections bs
 spelled-headed bs text limit h = grind (arith, nat_tests, common_steps, first-headed, sections-headed)
 
@@ -56,6 +56,6 @@ pub whole-tree : (text : List ℕ) (limit : ℕ) (r : Result Value (Stop Error))
 whole-tree text limit (Err stop) h = tt
 whole-tree text limit (Ok root) (bs, has, tree) = shown-whole (view root) (length text) bs (one-each (view root) tree.ordered) tree.shows
 
--- where the assembly ends at a clash it is the first one
+-- if placing ends with a clash, it is the first one
 pub first-of-halt : (bs : List Block) (n : ℕ) (halt : Halt) (c : Box Clash) → halt ≡ stops.Fault c → Assembles bs n (Err halt) → first_clash (claims bs) ≡ Some (clash_told c)
 first-of-halt bs n halt c is h = rw is at h

@@ -1,4 +1,4 @@
--- What a state shows is what the flat document says.
+-- A state shows what the flat document says.
 use Rattle.toml_span_lex.proofs.Common.{◌≡◌, ℕ, Bool, true, false, List, [], ◌∷◌, ◌++◌, Option, Some, None, option_map, refl, sym, ap, ◌∙◌, inl, inr, if◌then◌else◌, ⊤, cases_Bool, arith, nat_tests, common_steps}
 use Rattle.toml_span_lex.specs.declared.span.Span.{Span}
 use Rattle.toml_span_tree.specs.Path.{Path, Step, Place}
@@ -18,7 +18,7 @@ use Rattle.toml_span.proofs.Grafts.{fun_ext}
 abbrev by_some : Bool → Place → Span → Option Decided
 by_some header place span = Some (record { header = header; place = place; key = span })
 
--- what some claims, or marks, decide, of which `by` is the first one of a header
+-- what claims, or marks, decide, where `by` is the first one of a header
 module _ (A : Type 0) (d : A → Decided) (by : List A → Option A) where
   unfoldable pub shown_by : Option Decided → List A → Option Decided
   shown_by o [] = o
@@ -30,13 +30,13 @@ module _ (A : Type 0) (d : A → Decided) (by : List A → Option A) where
   shown_by-append o (x ∷ xs) ys = shown_by-append (decide o (d x)) xs ys
 
   module _ (none : by [] ≡ None) (some : (x : A) (xs : List A) → by (x ∷ xs) ≡ (if (d x).header then Some x else by xs)) where
-    -- a header that has decided stays
+    -- a header that has decided is not replaced
     shown_by-header : (place : Place) (span : Span) (xs : List A) → shown_by (by_some true place span) xs ≡ by_some true place span
     unfolding shown_by
     shown_by-header place span [] = refl
     shown_by-header place span (x ∷ xs) = shown_by-header place span xs
 
-    -- behind an assignment the first header still decides
+    -- after an assignment the first header still decides
     shown_by-plain : (place : Place) (span : Span) (xs : List A) → shown_by (by_some false place span) xs ≡ or_else (option_map (λ y. with_span span (d y)) (by xs)) (by_some false place span)
     unfolding shown_by
     shown_by-plain place span [] = rw none refl
@@ -58,7 +58,7 @@ module _ (A : Type 0) (d : A → Decided) (by : List A → Option A) where
 
 -- ---- what is shown at a path
 
--- what claims on one path decide
+-- what the claims on a path decide
 abbrev claims_show : Option Decided → List Claim → Option Decided
 claims_show = shown_by Claim decided first_claim_by_header
 
@@ -67,7 +67,7 @@ unfolding claims_at
 claims_at-append p [] ys = refl
 claims_at-append p (x ∷ xs) ys = grind (arith, nat_tests, common_steps, claims_at-append p xs)
 
--- the claims of a path, in every scope
+-- the claims on a path, in all scopes
 abbrev on_path : Path → Claims → List Claim
 on_path p cs = claims_at p (all_claims cs)
 
@@ -107,7 +107,7 @@ show_all-marks st (scope inner cs) p = show_all-marks (show_all st inner) cs p �
 
 -- ---- values and assignments
 
--- no header claims anything here, and what stands at a key has that key's span
+-- there is no claim of a header, and a place with a key has that key's span
 abbrev pub NoHeader : Claims → Type 0
 NoHeader cs = Each (λ c. decided c ≡ plain c.place) cs
 
@@ -157,6 +157,6 @@ pub shown-flat : (length : ℕ) (cs : Claims) (s : Step) (p : Path) → place_sh
 unfolding flat
 shown-flat length cs s p = ap (option_map (λ d. d.place)) (put_all-is nothing cs (s ∷ p)) ∙ place-decided (on_path (s ∷ p) cs)
 
--- and what is claimed first has the key
+-- and the first claim has the key
 pub first_key-is : (cs : Claims) → key_spans (put_all nothing cs) ≡ first_key cs
 first_key-is cs = fun_ext (λ p. ap (option_map (λ d. d.key)) (put_all-is nothing cs p) ∙ key-decided (on_path p cs))

@@ -14,7 +14,7 @@ use Rattle.toml_span.proofs.Ordered.{same-name}
 use Rattle.toml_span.specs.declared.claims.Head.{Head}
 use Rattle.toml_span.specs.Paths.{enter, with_key}
 
--- ---- what is claimed is not taken
+-- ---- what is claimed has not been taken
 
 -- the shape is that of a value
 abbrev pub is_held : Shape → Bool
@@ -50,16 +50,16 @@ behind-held earlier (b ∷ bs) = grind (arith, nat_tests, common_steps, each-fol
 pub claims-held : (bs : List Block) → Each IsHeldAt (claims bs)
 claims-held bs = behind-held [] bs
 
--- ---- what no path finds taken is whole
+-- ---- if no path finds a taken value, the tree is whole
 
 abbrev At : Type 0
 At = Option Span × Node
 
--- what a path finds behind a step is not taken
+-- what a path finds after a step has not been taken
 abbrev IsFilledBelow : Option At → Type 0
 IsFilledBelow o = (p : Path) (m : Node) → option_map (λ r. r.1) (option_and_then (reached p) o) ≡ Some m → is_taken m ≡ false
 
--- a key's span changes nothing
+-- the span of a key changes nothing
 reached-key : (p : Path) (at : Option Span) (n : Node) → option_map {T = At} (λ r. r.1) (reached p (at, n)) ≡ option_map (λ r. r.1) (reached p (None, n))
 reached-key [] at n = refl
 reached-key (s ∷ p) at n = refl
@@ -95,7 +95,7 @@ mutual
       (ap (λ b. option_map (λ r. r.1) (option_and_then (reached p) (cond b (Some (Some at, n)) (entry_at name ms)))) (same_step-self (key name)) ∙ reached-key p (Some at) n ∙ is)))
       (members-whole ms once.2 (rest-filled name at n ms once.0 h))
 
--- ---- what stands in the flat document is not taken
+-- ---- no place of the flat document has been taken
 
 held-filled : (i : Inner) → is_held (shape_of i) ≡ true → holds_nothing i ≡ false
 held-filled taken h = sym h

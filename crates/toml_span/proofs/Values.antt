@@ -1,4 +1,4 @@
--- What finished values show, and which clashes are told in them.
+-- What finished values show, and the clashes in them.
 use Rattle.toml_span_lex.proofs.Common.{◌≡◌, ℕ, zero, suc, ◌+◌, ◌<◌, ◌≤◌, false, List, [], ◌∷◌, ◌++◌, map, Option, Some, None, option_map, Result, Ok, Err, Vec, Global, refl, sym, ap, ◌∙◌, append_assoc, append-nil, arith, option_and_then, AllZip, nat_tests, common_steps}
 use Rattle.std.proofs.lemmas.Bool.{ne_eqb}
 use Rattle.toml_span_tree.specs.Node as tree
@@ -30,7 +30,7 @@ use Rattle.toml_span.proofs.Absolute.{item_claims-under, pairs-key_values, value
 use Rattle.toml_span.proofs.Grafts.{or_else-none, put_all-under, show_all-followed, show_all-under, sub-graft, told-followed, told-under}
 use Rattle.toml_span.proofs.EachClaim.{Each, value-each}
 
--- ---- what a value claims stands below it
+-- ---- the claims of a value are on paths below it
 
 abbrev pub IsBelow : Claim → Type 0
 IsBelow c = same_path c.path [] ≡ false
@@ -56,7 +56,7 @@ show_all-local f g no_claims p same = same
 show_all-local f g (claimed c cs) p same = grind (arith, nat_tests, common_steps, show_all-local (change f c.path (with_inner c)) (change g c.path (with_inner c)) cs p)
 show_all-local f g (scope inner cs) p same = grind (arith, nat_tests, common_steps, show_all-local (show_all f inner) (show_all g inner) cs p, show_all-local f g inner p same)
 
--- ---- a value is a scope of its own, or claims nothing
+-- ---- a value is a scope, or has no claims
 
 pub told-value : (st : State) (v : Read) (p : Path) → clash_met st (value_claims v p) ≡ clash_met nothing (value_claims v p)
 unfolding clash_met value_claims inner_claims
@@ -72,7 +72,7 @@ put_all-value st (parsed (inline ps) span) p = refl
 
 -- ---- elements, one after another
 
--- what is made of the items of a list, where all but those that are left are done
+-- what has been made of the items of a list, once all but those in `left` are done
 pub record Made (A B : Type 0) (R : A → B → Type 0) (all left : List A) (made : List B) : Type 0 where
   pub done : List A
   pub split : all ≡ done ++ left
@@ -98,7 +98,7 @@ Elements rest all xs = Made Val Value IsMade all rest xs
 pub elements-first : (rest all : List Val) (xs : List Value) → rest ≡ all → xs ≡ [] → Elements rest all xs
 elements-first rest all xs same none = record { done = []; split = sym same; become = rw none tt }
 
--- an element claims its position, and below it what the value claims
+-- an element claims its position, and the value inside it makes the claims below
 abbrev own : Read → Claims
 own v = claimed (element [] v) (value_claims v [])
 
@@ -109,7 +109,7 @@ item-under v vs i = ap (λ t. claimed (element (position i ∷ []) v) (followed 
 apart : (i l : ℕ) → i < l → same_step (position i) (position l) ≡ false
 apart i l h = ne_eqb i l (λ same. absurd (omega (arith, same)))
 
--- ---- what is told: the first clash in an element
+-- ---- the clash: the first one in an element
 
 unfoldable pub first_in : ParsedItems → Option NamedClash
 first_in no_items = None
@@ -128,7 +128,7 @@ told-items (item v vs) i st none =
     ∙ ap (or_else (clash_met nothing (value_claims v []))) (told-items vs (suc i) next
     (λ l past. ap (λ f. (f (position l ∷ [])).marks) (put_all-under (position i) st (own v)) ∙ rw (apart i l (omega arith)) (none l (omega arith))))
 
--- at whatever path
+-- at any path
 pub told-array : (vs : ParsedItems) (p : Path) → clash_met nothing (item_claims vs 0 p) ≡ first_in vs
 told-array vs [] = told-items vs 0 nothing (λ l past. refl)
 told-array vs (s ∷ p) = ap (clash_met nothing) (item_claims-under vs 0 s p) ∙ told-under s nothing (item_claims vs 0 p) ∙ told-array vs p
@@ -139,7 +139,7 @@ told-finished [] [] h = refl
 told-finished (v ∷ vs) (x ∷ xs) h = rw (h.0.0) (told-finished vs xs h.1)
 told-finished ns ms h = absurd h
 
--- the first clash in an element behind them
+-- the first clash in an element after them
 told-element : (vs : List Val) (xs : List Value) (v : Val) (more : List Val) (t : NamedClash) → AllZip IsMade vs xs
     → clash_met nothing (value_claims (view_read v) []) ≡ Some t → first_in (onto (map view_read (vs ++ (v ∷ more))) no_items) ≡ Some t
 unfolding first_in
@@ -162,7 +162,7 @@ items-apart no_items i st s p other = refl
 items-apart (item v vs) i st s p other =
     ap (λ f. f (s ∷ p)) (show_all-item st i v vs) ∙ items-apart vs (suc i) (behind st i v) s p (λ l past. other l (omega arith)) ∙ rw (other i (omega arith)) refl
 
--- a value shows what was claimed where nothing stood
+-- a value shows what was claimed, if there was nothing before
 pub value-shown : (v : Read) (x : Value) (at : Option Span) (f : Cell → Cell) → IsFinished v x → (f no_cell).shown ≡ Some (plain (record { shape = value_shape (parsed_inner v); key_span = at; span = parsed_span v }))
     → (p : Path) → (show_all (change nothing [] f) (value_claims v []) p).shown ≡ value_shows at (view x) p
 unfolding change same_path
@@ -204,7 +204,7 @@ pub elements-none : (rest all : List Val) (xs : Vec Value Global) → rest ≡ [
     → ScopeGives (Ok xs) (λ xs. inner_view (inners.Array xs)) (item_claims (onto (map view_read all) no_items) 0 [])
 elements-none rest all xs none inv = grind (arith, nat_tests, common_steps, append-nil, inner_view-Array, items-ordered, items-plain, told-array, told-finished)
 
--- ---- what was read of a kind
+-- ---- what was read, by kind
 
 value-gives : (v : Val) (k : ParsedInner) (i : tree.Inner) (x : Value) → kind_view v.kind ≡ k → view x ≡ tree.node i v.span → tree_shape i ≡ value_shape k
     → clash_met nothing (inner_claims k []) ≡ None → ShowsPlain i (show_all nothing (inner_claims k [])) → HoldsOrdered i → ValueGives (Ok x) (view_read v)
@@ -222,7 +222,7 @@ scalar-gives v inner i kind x s is made read seen shown =
 
 -- ---- arrays and inline tables
 
--- what was read is a scope of these claims
+-- a value that was read is a scope of these claims
 abbrev pub ReadsScope : Val → ParsedInner → Claims → Type 0
 ReadsScope v k cs = (kind_view v.kind ≡ k) × (inner_claims k [] ≡ scope cs no_claims)
 

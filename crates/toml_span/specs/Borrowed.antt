@@ -1,6 +1,6 @@
--- Which of the strings and keys of a tree are borrowed: each exactly where it equals the text where it is written. That
--- is a string's span, and the first key that claims a path: a table or an array keeps its name also where a later claim
--- decides and gives the key its span.
+-- Which strings and keys of a tree are borrowed: exactly those that equal the text where they are written. For a string
+-- that is its span. For a key it is the first key that claims the path: a table or an array keeps that name even if a
+-- later claim decides and determines the span of its key.
 use Rattle.std.specs.Global.{Global}
 use Rattle.std.specs.declared.borrow.CowStr.{CowStr}
 use Rattle.std.specs.Prelude.{ℕ, suc, List, [], ◌∷◌, ◌++◌, Option, Some, None, option_map, IsSomeAnd}
@@ -16,17 +16,17 @@ use Rattle.toml_span_tree.specs.declared.value.ValueInner.TheFolds.{fold-Value}
 use Rattle.toml_span.specs.Claims.{Claims}
 use Rattle.toml_span.specs.Flat.{all_claims, claims_at, first_claim}
 
--- ---- what stands in a tree
+-- ---- the strings and keys of a tree
 
--- a string value or a key, and where it is written, if that is known
+-- a string value or a key, and the span where it is written, if that is known
 abbrev pub StringOrKey : Type 0
 StringOrKey = CowStr Global × Option Span
 
--- where the key of each path is written
+-- the span where the key of each path is written
 abbrev pub KeySpans : Type 0
 KeySpans = Path → Option Span
 
--- what stands in a value, where this tells for the paths from it on where their keys are written
+-- the strings and keys of a value, given where the keys of the paths below it are written
 abbrev pub Held : Type 0
 Held = KeySpans → List StringOrKey
 
@@ -40,7 +40,7 @@ entries_standing (e ∷ es) spans =
     let name = cow_str_bytes e.0.name in
     (e.0.name, spans (key name ∷ [])) ∷ (e.1 (λ p. spans (key name ∷ p)) ++ entries_standing es spans)
 
--- one level of each type, with each value inside already seen; a string's span is its value's
+-- one level of each type, with the values inside already converted; the span of a string is that of its value
 abbrev pub inner_step : ValueInner-F (Span → Held) Held → Span → Held
 inner_step (ValueInner-F.String s) span spans = (s, Some span) ∷ []
 inner_step (ValueInner-F.Array v) span spans = elements_standing 0 v.items spans
@@ -60,11 +60,11 @@ held = fold-Value (Span → Held) Held inner_step value_step
 
 -- ---- what is borrowed
 
--- where the key stands with which a path is claimed first
+-- the span of the key with which each path is claimed first
 abbrev pub first_key : Claims → KeySpans
 first_key cs p = option_map (λ c. c.mark.key) (first_claim (claims_at p (all_claims cs)))
 
--- it is known where it is written, and it is borrowed exactly where it equals the text there
+-- It is known where the string or key is written, and it is borrowed exactly if it equals the text there.
 abbrev pub IsBorrowedRight : List ℕ → StringOrKey → Type 0
 IsBorrowedRight text x = IsSomeAnd x.1 (λ span. BorrowsWhereSame text span x.0)
 

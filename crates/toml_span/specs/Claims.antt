@@ -1,4 +1,4 @@
--- What headers and assignments claim.
+-- The claims of headers and assignments on paths.
 use Rattle.std.specs.Prelude.{ℕ, zero, suc, if◌then◌else◌, List, [], ◌∷◌, Option, Some, None}
 use Rattle.toml_span_lex.specs.declared.span.Span.{Span}
 use Rattle.toml_span_tree.specs.Path.{Path, Place, Shape, shape_array, shape_table, shape_scalar}
@@ -11,22 +11,23 @@ use Rattle.toml_span.specs.declared.claims.Sort.TheVariants.{StandardTable, Pass
 use Rattle.toml_span.specs.Paths.{with_key, with_position, enter, section_path, elements_added, opened_by}
 use Rattle.toml_span.specs.declared.claims.Head.{Head}
 
--- A path is claimed by a key of this name. The mark says in which way, and the place is what stands there if this claim
--- decides. An element of an array in brackets has no key: its name is empty, and the key's span is that of its value.
+-- A claim on a path by a key with this name. The mark says in which way, and the place is what is at the path if this
+-- claim decides. An element of an array in brackets has no key: its name is empty, and the key's span is that of its
+-- value.
 pub record Claim : Type 0 where
   pub path : Path
   pub name : List ℕ
   pub mark : Mark
   pub place : Place
 
--- The claims of a scope, in the order of the text, and among them the scopes that stand in it: an inline table is one
--- of its own, and so are the elements of an array, of which no two claim one path.
+-- The claims of a scope, in the order of the text, with the scopes inside it among them. An inline table is a scope. So
+-- is an array, although no two of its elements claim the same path.
 pub data Claims : Type 0 where
   no_claims : Claims
   claimed : Claim → Claims → Claims
   scope : Claims → Claims → Claims
 
--- these claims, and then those
+-- the first claims, followed by the rest
 unfoldable pub followed : Claims → Claims → Claims
 followed no_claims rest = rest
 followed (claimed c cs) rest = claimed c (followed cs rest)
@@ -34,18 +35,18 @@ followed (scope inner cs) rest = scope inner (followed cs rest)
 
 -- ---- tables
 
--- what headers and dotted keys make
+-- the shape of what headers and dotted keys create
 abbrev pub shape_claimed : Sort → Shape
 shape_claimed ArrayOfTables = shape_array
 shape_claimed _ = shape_table
 
--- an element of an array of tables stands at no key
+-- an element of an array of tables has no key
 abbrev pub key_span_of : Sort → Span → Option Span
 key_span_of TableElement key = None
 key_span_of _ key = Some key
 
--- What stands where a claim of a table, or of an array of tables, decides. That of a header which passes through an
--- element never does: the element's own claim is earlier.
+-- The place at a path if a claim of a table or of an array of tables decides. A header's claim on an element through
+-- which it passes never does, since the element's own claim is earlier.
 abbrev pub place_claimed : Mark → Place
 place_claimed m = record { shape = shape_claimed m.sort; key_span = key_span_of m.sort m.key; span = m.extent }
 
@@ -65,11 +66,11 @@ parsed_inner (parsed k span) = k
 abbrev pub pair_mark : Sort → Span → Span → Mark
 pair_mark sort key span = record { sort = sort; key = key; line = span; extent = span }
 
--- an inner part of a dotted key claims a table that stands where the value stands
+-- An inner part of a dotted key claims a table, whose span is that of the value.
 abbrev pub dotted : Path → SimpleKey → ParsedValue → Claim
 dotted p k v = table_claim p k (pair_mark Dotted k.span (parsed_span v))
 
--- its last part claims the value
+-- The last part of a dotted key claims the value.
 abbrev pub assigned : Path → SimpleKey → ParsedValue → Claim
 assigned p k v = record {
   path = p;
@@ -78,7 +79,7 @@ assigned p k v = record {
   place = record { shape = value_shape (parsed_inner v); key_span = Some k.span; span = parsed_span v };
 }
 
--- an element of an array is assigned to its position
+-- An element of an array claims its position.
 abbrev pub element : Path → ParsedValue → Claim
 element p v = record {
   path = p;
@@ -87,7 +88,7 @@ element p v = record {
   place = record { shape = value_shape (parsed_inner v); key_span = None; span = parsed_span v };
 }
 
--- the claims of a key below p, which has at least one part, and those inside the value
+-- The claims of a key below p, which has at least one part, followed by those inside the value.
 unfoldable pub key_claims : Path → List SimpleKey → ParsedValue → (Path → Claims) → Claims
 key_claims p [] v inside = no_claims
 key_claims p (k ∷ []) v inside = claimed (assigned (with_key p k) k v) (inside (with_key p k))
@@ -96,7 +97,7 @@ key_claims p (k ∷ l ∷ more) v inside =
     claimed (dotted q k v) (key_claims q (l ∷ more) v inside)
 
 unfoldable mutual
-  -- what a value at p claims below p
+  -- the claims of a value at p on the paths below p
   pub value_claims : ParsedValue → Path → Claims
   value_claims (parsed k span) p = inner_claims k p
 
@@ -114,7 +115,7 @@ unfoldable mutual
   pair_claims no_pairs p = no_claims
   pair_claims (pair parts v extent rest) p = followed (key_claims p parts v (value_claims v)) (pair_claims rest p)
 
--- what an assignment claims below p, and what several do
+-- the claims of an assignment below p, and those of several
 abbrev pub assignment_claims : KeyValue → Path → Claims
 assignment_claims e p = key_claims p e.parts e.value (value_claims e.value)
 
@@ -133,19 +134,20 @@ header_mark h sort key = record { sort = sort; key = key; line = h.line; extent 
 abbrev pub header_claim : Head → Sort → Path → SimpleKey → Claim
 header_claim h sort p k = table_claim p k (header_mark h sort k.span)
 
--- the array itself is claimed with its first element
+-- The array itself is claimed together with its first element.
 abbrev pub array_claims : Head → Path → SimpleKey → ℕ → Claims → Claims
 array_claims h p k zero rest = claimed (header_claim h ArrayOfTables p k) rest
 array_claims h p k (suc n) rest = rest
 
--- at the end of a header, where n elements were added at p: a table, or the next element of an array of tables
+-- The claims at the end of a header, if n elements have been added at p: a table, or the next element of an array of
+-- tables.
 unfoldable pub end_claims : Head → Path → SimpleKey → ℕ → Claims
 end_claims h p k n =
     if h.array
     then array_claims h p k n (claimed (header_claim h TableElement (with_position p n) k) no_claims)
     else claimed (header_claim h StandardTable p k) no_claims
 
--- Each part but the last passes through a table: the latest element, where an array of tables stands there.
+-- Each part but the last passes through a table, which is the latest element if there is an array of tables.
 unfoldable pub header_claims : (Path → ℕ) → Head → Path → List SimpleKey → Claims
 header_claims counts h p [] = no_claims
 header_claims counts h p (k ∷ []) = end_claims h (with_key p k) k (counts (with_key p k))
@@ -153,17 +155,17 @@ header_claims counts h p (k ∷ l ∷ more) =
     let q = enter (counts (with_key p k)) (with_key p k) in
     claimed (header_claim h Passed q k) (header_claims counts h q (l ∷ more))
 
--- what a section claims, where `counts` counts the elements of each array of tables before it
+-- the claims of a section, where `counts` is the number of elements of each array of tables before it
 unfoldable pub section_claims : (Path → ℕ) → Block → Claims
 section_claims counts b =
     followed (header_claims counts (head_of b) [] b.header) (key_value_claims b.key_values (section_path counts b))
 
--- what sections claim behind these earlier ones, the nearest first
+-- the claims of sections that follow the earlier ones, which are listed with the nearest first
 unfoldable pub claims_behind : List Block → List Block → Claims
 claims_behind earlier [] = no_claims
 claims_behind earlier (b ∷ bs) =
     followed (section_claims (elements_added (opened_by earlier)) b) (claims_behind (b ∷ earlier) bs)
 
--- what a document claims
+-- the claims of a document
 abbrev pub claims : List Block → Claims
 claims bs = claims_behind [] bs

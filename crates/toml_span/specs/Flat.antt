@@ -1,4 +1,4 @@
--- The flat document: what stands at each path.
+-- The flat document: the place at each path.
 use Rattle.std.specs.Prelude.{◌≡◌, ℕ, Bool, true, false, if◌then◌else◌, List, [], ◌∷◌, ◌++◌, Option, Some, None}
 use Rattle.std.specs.Prelude.{option_map}
 use Rattle.toml_span_tree.specs.Path.{Path, shape_table, Place, place_at}
@@ -9,13 +9,13 @@ use Rattle.toml_span.specs.declared.claims.Sort.{Sort}
 use Rattle.toml_span.specs.declared.claims.Sort.TheVariants.{Dotted, Assigned}
 use Rattle.toml_span.specs.Clashes.{or_else}
 
--- the claims of every scope, in the order of the text
+-- the claims of all scopes, in the order of the text
 unfoldable pub all_claims : Claims → List Claim
 all_claims no_claims = []
 all_claims (claimed c cs) = c ∷ all_claims cs
 all_claims (scope inner cs) = all_claims inner ++ all_claims cs
 
--- those of a path
+-- the claims on one path
 unfoldable pub claims_at : Path → List Claim → List Claim
 claims_at p [] = []
 claims_at p (c ∷ cs) = if same_path c.path p then c ∷ claims_at p cs else claims_at p cs
@@ -33,18 +33,18 @@ abbrev pub first_claim : List Claim → Option Claim
 first_claim [] = None
 first_claim (c ∷ cs) = Some c
 
--- The first header that reaches or passes through the path decides, or else the first assignment through it. (Where the
--- claims resolve those of a path are of one scope.)
+-- The claim that decides: that of the first header which reaches or passes through the path, or else the first
+-- assignment through it. If the claims resolve, those on one path belong to one scope.
 abbrev pub deciding_claim : List Claim → Option Claim
 deciding_claim cs = or_else (first_claim_by_header cs) (first_claim cs)
 
--- What stands at each path of a document that is so many bytes long: at the empty path the root, at another one what is
--- claimed there.
+-- The place at each path of a document that is `size` bytes long: the root at the empty path, and elsewhere what the
+-- deciding claim says.
 unfoldable pub flat : ℕ → Claims → Path → Option Place
 flat size cs [] = Some (record { shape = shape_table; key_span = None; span = record { start = 0; end = size } })
 flat size cs (s ∷ p) = option_map (λ c. c.place) (deciding_claim (claims_at (s ∷ p) (all_claims cs)))
 
--- At each path the tree shows this place, or nothing where there is none. That no name stands twice in a table says
--- `IsOrdered`.
+-- The tree has this place at each path, and nothing where the document has nothing. That no name occurs twice in a
+-- table is part of `IsOrdered`.
 abbrev pub Shows : Node → (Path → Option Place) → Type 0
 Shows n places = (p : Path) → place_at p n ≡ places p

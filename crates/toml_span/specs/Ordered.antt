@@ -1,24 +1,25 @@
--- Trees whose tables have their entries in the order of the names, and no name twice.
+-- Trees whose tables have their entries in the order of the names, each name once.
 use Rattle.std.specs.Prelude.{◌≡◌, ⊤, ℕ, ◌<◌, ◌⊎◌, List, [], ◌∷◌, None}
 use Rattle.toml_span_tree.specs.Node.{Members, no_members, member, Node, node, Inner, taken, scalar, array, table}
 use Rattle.toml_span_tree.specs.Node.{Items, no_items, item, entry_at}
 
--- a list is before each longer one that begins with it, and else the first two elements that differ decide
+-- The order of lists: a list is before a longer one that begins with it; otherwise the first two elements that differ
+-- decide.
 abbrev pub IsBefore : {A : Type 0} → (A → A → Type 0) → List A → List A → Type 0
 IsBefore less xs [] = ⊥
 IsBefore less [] (y ∷ ys) = ⊤
 IsBefore less (x ∷ xs) (y ∷ ys) = less x y ⊎ ((x ≡ y) × IsBefore less xs ys)
 
--- names by their bytes
+-- the order of names, by their bytes
 abbrev pub IsNameBefore : List ℕ → List ℕ → Type 0
 IsNameBefore name other = IsBefore (λ m n. m < n) name other
 
--- P holds of each name
+-- P holds for each name.
 abbrev pub EachName : (List ℕ → Type 0) → Members → Type 0
 EachName P no_members = ⊤
 EachName P (member name at n ms) = P name × EachName P ms
 
--- in each table a name is before all later ones
+-- In each table every name is before all later ones.
 abbrev mutual
   pub IsOrdered : Node → Type 0
   IsOrdered (node i span) = HoldsOrdered i
@@ -37,9 +38,9 @@ abbrev mutual
   MembersOrdered no_members = ⊤
   MembersOrdered (member name at n ms) = EachName (IsNameBefore name) ms × IsOrdered n × MembersOrdered ms
 
--- ---- no name twice, in whatever order
+-- ---- each name once, in any order
 
--- in no table of the tree a name stands twice
+-- No name occurs twice in a table of the tree.
 abbrev mutual
   pub HasOneEach : Node → Type 0
   HasOneEach (node i span) = InnerHasOneEach i

@@ -1,4 +1,4 @@
--- What `parse` answers.
+-- What `parse` returns.
 use Rattle.std.specs.Prelude.{◌≡◌, ⊤, ℕ, ◌≤◌, ◌⊎◌, List, Some, Result, Ok, Err, length}
 use Rattle.toml_span_lex.specs.declared.stop.Stop.{Stop}
 use Rattle.toml_span_lex.specs.declared.stop.Stop.TheVariants as stops
@@ -18,31 +18,31 @@ use Rattle.toml_span.specs.Flat.{flat, Shows}
 use Rattle.toml_span.specs.Ordered.{IsOrdered}
 use Rattle.toml_span.specs.Borrowed.{AreBorrowedRight, first_key, held}
 
--- ---- what becomes of a text
+-- ---- the outcome of a text
 
--- the sections that are read; those and their first clash; or the fault that is told where it can't be read on
+-- its sections; its sections and their first clash; or the fault at which reading it stopped
 pub data Outcome : Type 0 where
   resolved : List Block → Outcome
   clashed : List Block → NamedClash → Outcome
   refused_at : Fault → Outcome
 
--- Reading the document, within the limit, gives these sections, and no two of their claims clash; or it gives them, and
--- this clash is their first; or it tells this fault.
+-- Reading the document within the limit results in these sections, and no two of their claims clash; or in these
+-- sections, and this is their first clash; or in this fault.
 abbrev pub HasOutcome : List ℕ → ℕ → Outcome → Type 0
 HasOutcome text limit (resolved blocks) = document text limit (Ok blocks) × Resolves (claims blocks)
 HasOutcome text limit (clashed blocks clash) =
     document text limit (Ok blocks) × (first_clash (claims blocks) ≡ Some clash)
 HasOutcome text limit (refused_at fault) = document text limit (Err fault)
 
--- ---- what is answered
+-- ---- the answer
 
--- The tree shows the flat document of these sections, which is so many bytes long. In each table the names ascend, so
--- none stands there twice.
+-- The tree shows the flat document of these sections, which is `size` bytes long. In each table the names ascend, so
+-- none occurs twice.
 pub record IsTreeOf (blocks : List Block) (size : ℕ) (root : Value) : Type 0 where
   pub shows : Shows (view root) (flat size (claims blocks))
   pub ordered : IsOrdered (view root)
 
--- The error tells this clash, at a place in the text, with its line and its column.
+-- The error reports this clash, with a span that starts within the text, and the line and column of that start.
 pub record TellsClash (text : List ℕ) (clash : NamedClash) (error : Error) : Type 0 where
   pub line : ℕ
   pub column : ℕ
@@ -51,8 +51,8 @@ pub record TellsClash (text : List ℕ) (clash : NamedClash) (error : Error) : T
   pub forward : clash.meeting.span.start ≤ clash.meeting.span.end
   pub place : IsLineInfo text clash.meeting.span.start line column
 
--- The tree of these sections; an error that tells this clash; or one that tells this fault, which has a place in the
--- text. Where memory was refused nothing is said.
+-- The answer to an outcome: the tree of these sections; an error that reports this clash; or an error that reports this
+-- fault, whose span starts within the text. A failed allocation is an answer to any outcome.
 abbrev pub IsAnswerOf : List ℕ → Outcome → Result Value (Stop Error) → Type 0
 IsAnswerOf text (resolved blocks) (Ok root) = IsTreeOf blocks (length text) root
 IsAnswerOf text (clashed blocks clash) (Err (stops.Fault error)) = TellsClash text clash error
@@ -61,7 +61,7 @@ IsAnswerOf text (refused_at fault) (Err (stops.Fault error)) =
 IsAnswerOf text outcome (Err (stops.Memory e)) = ⊤
 IsAnswerOf text outcome result = ⊥
 
--- What comes back is the answer of what becomes of the text within the limit, or that memory was refused.
+-- The result is the answer to the outcome of the text within the limit, or a failed allocation.
 abbrev pub Answers : List ℕ → ℕ → Result Value (Stop Error) → Type 0
 Answers text limit (Ok root) =
     (blocks : List Block) × HasOutcome text limit (resolved blocks) × IsAnswerOf text (resolved blocks) (Ok root)
@@ -72,21 +72,21 @@ Answers text limit (Err (stops.Fault error)) =
     ⊎ ((blocks : List Block) × (clash : NamedClash) × HasOutcome text limit (clashed blocks clash)
     × IsAnswerOf text (clashed blocks clash) (Err (stops.Fault error)))
 
--- a tree, and what stops its making, as they are answered
+-- The same for a result that is a tree, and for one that is an error.
 abbrev pub IsTree : List ℕ → ℕ → Value → Type 0
 IsTree text limit root = Answers text limit (Ok root)
 
 abbrev pub IsRefusal : List ℕ → ℕ → Stop Error → Type 0
 IsRefusal text limit stop = Answers text limit (Err stop)
 
--- ---- what else is known of a tree
+-- ---- properties of the tree
 
--- a table that spans the whole document, which is so many bytes long
+-- a table that spans the whole document, which is `size` bytes long
 abbrev pub IsRoot : ℕ → Value → Type 0
 IsRoot size root = (members : Members) × (view root ≡ node (table members) (record { start = 0; end = size }))
 
--- Each string value of the tree is borrowed exactly where it equals the text at its span, and each key where it equals
--- the text at the first key that claims its path. An empty string on one line is borrowed.
+-- Each string value of the tree is borrowed exactly if it equals the text at its span, and each key exactly if it
+-- equals the text of the first key that claims its path. An empty single-line string is borrowed.
 abbrev pub IsBorrowedTree : List ℕ → ℕ → Value → Type 0
 IsBorrowedTree text limit root =
     (blocks : List Block) × document text limit (Ok blocks)

@@ -17,38 +17,39 @@ same_path [] (t ∷ q) = false
 same_path (s ∷ p) [] = false
 same_path (s ∷ p) (t ∷ q) = same_step s t && same_path p q
 
--- the path with one more key
+-- the path followed by a key
 abbrev pub with_key : Path → SimpleKey → Path
 with_key p k = p ++ (key k.name ∷ [])
 
--- the path with one more position
+-- the path followed by a position
 abbrev pub with_position : Path → ℕ → Path
 with_position p i = p ++ (position i ∷ [])
 
--- how many elements of the array of tables at p were added so far
+-- the number of elements added so far to the array of tables at p
 abbrev pub elements_added : List Path → Path → ℕ
 elements_added opened p = length (filter (λ q. same_path q p) opened)
 
--- into the latest of so many elements, where there are any
+-- enters the latest of this many elements, if there are any
 unfoldable pub enter : ℕ → Path → Path
 enter zero p = p
 enter (suc latest) p = with_position p latest
 
--- The path of a header from p on, without the position of the element that it adds itself. `counts` counts the elements
--- of each array of tables so far.
+-- The path of a header, beginning at p, without the position of the element that it adds itself. `counts` is the number
+-- of elements of each array of tables so far.
 unfoldable pub target : (Path → ℕ) → Path → List SimpleKey → Path
 target counts p [] = p
 target counts p (k ∷ []) = with_key p k
 target counts p (k ∷ l ∷ more) = target counts (enter (counts (with_key p k)) (with_key p k)) (l ∷ more)
 
--- the arrays to which these sections, the nearest first, added an element each
+-- the arrays to which these sections each added an element, the nearest first
 unfoldable pub opened_by : List Block → List Path
 opened_by [] = []
 opened_by (b ∷ earlier) =
     let before = opened_by earlier in
     if b.array then target (elements_added before) [] b.header ∷ before else before
 
--- The path below which a section assigns: that of its header and, in double brackets, the position of its own element.
+-- The path below which a section assigns: that of its header and, with double brackets, the position of its own
+-- element.
 abbrev pub section_path : (Path → ℕ) → Block → Path
 section_path counts b =
     let p = target counts [] b.header in

@@ -1,4 +1,4 @@
--- How the functions of the code share the work: no clause of a public result rests on it.
+-- How the functions share the work. No clause of a public result depends on it.
 pub mod Marks
 pub mod Machine
 pub mod Tree

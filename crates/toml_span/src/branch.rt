@@ -14,27 +14,27 @@ use toml_span_lex::key::Key;
 use toml_span_lex::span::Span;
 use toml_span_tree::{Array, Table, Value, ValueInner};
 
-/// Branches by name. Each is in a block of its own, since a leaf of the map has room for fifteen entries.
+/// Branches by name. Each is boxed, since a leaf of the map has room for fifteen entries.
 pub type Branches<'de> = BTreeMap<Key<'de>, Box<Branch<'de>>>;
 
-/// A table or an array of tables, while the sections are placed.
+/// A table or an array of tables under construction.
 ///
-/// An assigned value is closed: it stands in `values` as it will in the tree, and its key's span is all
-/// that is kept of its claim. No name stands both in `values` and in `tables`.
+/// An assigned value is final: `values` has it as the tree will have it, and only the span of its key is kept of its
+/// claim. No name is in both `values` and `tables`.
 #[derive(Drop)]
 pub struct Branch<'de> {
-    /// The claims on the branch.
+    /// The claims on this branch.
     pub marks: Marks,
     /// The assigned values.
     pub values: Table<'de>,
-    /// What headers and dotted keys made: tables, and arrays of tables.
+    /// The tables and arrays of tables that headers and dotted keys created.
     pub tables: Branches<'de>,
-    /// The elements, if this is an array of tables. An array has one at least.
+    /// The elements, if this is an array of tables. An array of tables has at least one.
     pub entries: Vec<Branch<'de>>,
 }
 
 impl<'de> Branch<'de> {
-    /// A table on which nothing is claimed, and in which nothing stands.
+    /// Returns an empty table without claims.
     pub fn new(alloc: Global) -> Self
         ensures { IsFresh result }
     {
@@ -47,14 +47,14 @@ impl<'de> Branch<'de> {
     }
 }
 
-/// Whether a header made the claim.
+/// Returns whether a header makes claims of this sort.
 fn by_header(sort: Sort) -> bool
     ensures { result ≡ kept.by_header sort }
 {
     !matches!(sort, Sort::Dotted | Sort::Assigned)
 }
 
-/// The claim that says where a branch stands: that of the first header, or else the first one.
+/// Returns the claim that decides for a branch: that of the first header, or else the first one.
 fn deciding(marks: &[Mark]) -> Option<Mark>
     ensures { result ≡ code.deciding marks.now }
 {
@@ -66,7 +66,7 @@ fn deciding(marks: &[Mark]) -> Option<Mark>
     marks.first().copied()
 }
 
-/// The key's span and the span of the branch with these claims.
+/// Returns the span of the key, and the span of the branch with these claims.
 fn spans(marks: &[Mark]) -> (Span, Span)
     ensures { IfSome (code.deciding marks.now) (λ m. result ≡ (m.key, m.extent)) }
 {
@@ -76,23 +76,23 @@ fn spans(marks: &[Mark]) -> (Span, Span)
     }
 }
 
-/// The names of a table are in order, and none stands there twice.
+/// Shows that the names of a table are in order, and that none occurs twice.
 fn in_order(table: &Table<'_>)
     ensures { NamesAscend table.now }
 {
-    // A map keeps its keys in order, and says so when it is asked for its length.
+    // The contract of a map's length says that its keys are in order.
     let _ = table.len();
 }
 
-/// The table of what these branches have become, and of these values. The error is that memory ran out;
-/// without branches none is asked for.
+/// Returns the table of these values and of those made from these branches. Fails if an allocation fails; without
+/// branches nothing is allocated.
 #[cycle(finish)]
 pub fn into_table<'de>(
     tables: Branches<'de>,
     mut values: Table<'de>,
 ) -> Result<Table<'de>, AllocError>
     ensures finishes { Finishes tables.entry values.entry result }
-    // Where there are no branches, no memory is wanted.
+    // Without branches nothing is allocated.
     ensures bare { tables.entry.entries ≡ [] → IsOk result }
 {
     if tables.is_empty() {
@@ -112,7 +112,8 @@ pub fn into_table<'de>(
     Ok(values)
 }
 
-/// The value that a branch has become, and the span of its key. What the branch held is taken out.
+/// Takes the contents of a branch, and returns the span of its key with the value made from it. Fails if an allocation
+/// fails.
 #[cycle(finish)]
 fn into_value<'de>(node: &mut Branch<'de>) -> Result<(Span, Value<'de>), AllocError>
     ensures { Becomes node.old result }
@@ -129,7 +130,7 @@ fn into_value<'de>(node: &mut Branch<'de>) -> Result<(Span, Value<'de>), AllocEr
     Ok((key_span, Value::with_span(ValueInner::Array(array), span)))
 }
 
-/// The elements of an array of tables as finished values.
+/// Returns the elements of an array of tables as finished values. Fails if an allocation fails.
 #[cycle(finish)]
 #[inline(never)]
 fn into_array<'de>(entries: Vec<Branch<'de>>) -> Result<Array<'de>, AllocError>

@@ -1,4 +1,4 @@
-//! What headers and assignments claim of a path, and which claims clash.
+//! The claims of headers and assignments on paths, and which of them clash.
 ghost use Rattle.std.specs.Prelude.{◌≡◌, ⊤, string_bytes, IfOk};
 ghost use Rattle.std.specs.Cow.{cow_str_bytes};
 ghost use Rattle.toml_span_tree.specs.Error.{content_of};
@@ -13,21 +13,23 @@ use toml_span_lex::span::Span;
 use toml_span_lex::stop::Stop;
 use toml_span_tree::{Error, ErrorKind};
 
-/// How a path is claimed.
+// Toolchain: `SmallVec` fills unused places ("the trait bound `Key: Default` is not satisfied"), so `Key`, `Mark` and
+// `Sort` have a default.
+/// The ways in which a path is claimed.
 #[derive(Clone, Copy, Default)]
 pub enum Sort {
-    /// As a table that a header passes through: `a` in `[a.b]`.
+    /// A table through which a header passes: `a` in `[a.b]`.
     #[default]
     Passed,
-    /// As the table that a header in single brackets opens.
+    /// The table that a header in single brackets opens.
     StandardTable,
-    /// As the array to which a header in double brackets adds a table.
+    /// The array to which a header in double brackets adds a table.
     ArrayOfTables,
-    /// As a table that is an element of an array of tables.
+    /// A table that is an element of an array of tables.
     TableElement,
-    /// As a table that a dotted key passes through: `a` in `a.b = 1`.
+    /// A table through which a dotted key passes: `a` in `a.b = 1`.
     Dotted,
-    /// As a value that is assigned.
+    /// A value that is assigned.
     Assigned,
 }
 
@@ -35,19 +37,19 @@ pub enum Sort {
 #[derive(Clone, Copy, Default)]
 pub struct Mark {
     pub sort: Sort,
-    /// The part of the header or of the dotted key that names the path.
+    /// The part of the header or dotted key that names the path.
     pub key: Span,
-    /// The header's line, from its first bracket to behind its line end. Of an assignment, and of a part of
-    /// its key, the value, which no clash tells.
+    /// The header's line, from its first bracket to the end of the line, line end included. For an assignment and the
+    /// parts of its key, the value, which no clash reports.
     pub line: Span,
-    /// Where the branch stands if this claim decides: the header's section, or the assigned value.
+    /// The span of the branch if this claim decides: the header's section, or the assigned value.
     pub extent: Span,
 }
 
-/// What a header says beside its parts.
+/// A header without its parts.
 #[derive(Clone, Copy)]
 pub struct Head {
-    /// Whether the header stands in double brackets.
+    /// Whether the header has double brackets.
     pub array: bool,
     /// The header's line.
     pub line: Span,
@@ -55,18 +57,18 @@ pub struct Head {
     pub extent: Span,
 }
 
-/// What is told of two claims that clash.
+/// The kinds of clashes.
 #[derive(Clone, Copy)]
 pub enum Blame {
     /// A table is defined again.
     DuplicateTable,
-    /// A key is assigned again, or stands for something else.
+    /// A key is assigned again, or is already something else.
     DuplicateKey,
-    /// A table that a header passed through is made an array of tables.
+    /// A table through which a header has passed is defined as an array of tables.
     RedefineAsArray,
 }
 
-/// What is told where an earlier claim and a later one on the same path clash.
+/// Returns the kind of clash of an earlier and a later claim on the same path, or `None` if they do not clash.
 fn blame_of(earlier: Sort, later: Sort) -> Option<Blame>
     ensures { result ≡ clashes.blame earlier later }
 {
@@ -84,13 +86,13 @@ fn blame_of(earlier: Sort, later: Sort) -> Option<Blame>
     }
 }
 
-/// What is told of a clash, but for the name.
+/// A clash without the name of the key.
 #[derive(Clone, Copy)]
 pub struct Meeting {
     pub blame: Blame,
-    /// The earlier claim's header, or its key.
+    /// The header or key of the earlier claim.
     pub first: Span,
-    /// The later claim's header, or its key.
+    /// The header or key of the later claim.
     pub span: Span,
 }
 
@@ -120,16 +122,16 @@ fn meeting_between(earlier: Mark, later: Mark) -> Option<Meeting>
     }
 }
 
-/// A clash of two claims on one path.
+/// A clash of two claims on the same path.
 #[derive(Drop)]
 pub struct Clash {
     pub meeting: Meeting,
-    /// The key that both claim.
+    /// The name of the key that both claim.
     pub name: String,
 }
 
 impl Clash {
-    /// The error that tells of the clash, in a text where its place has this line and column.
+    /// Converts the clash into an error. `line_info` is the line and column of its span in the text.
     pub fn into_error<'s>(self, line_info: (usize, usize)) -> Error<'s>
         ensures { content_of result ≡ clashes.content_of_clash self.meeting (string_bytes self.name) line_info }
     {
@@ -153,12 +155,11 @@ impl Clash {
     }
 }
 
-/// Why the assembly gives no tree: memory ran out, or two claims clash. The clash stands in a block of its own, so that
-/// a result that may be a halt is small.
+/// Why no tree was built: an allocation failed, or two claims clash. The clash is boxed to keep results small.
 pub type Halt = Stop<Box<Clash>>;
 
-/// The first claim of each sort on a branch, in the order of the text: whether two claims clash depends
-/// on their sorts alone.
+/// The first claim of each sort on a branch, in the order of the text. Whether two claims clash depends only on their
+/// sorts.
 pub type Marks = SmallVec<Mark, 1>;
 
 fn same_sort(a: Sort, b: Sort) -> bool
@@ -167,7 +168,7 @@ fn same_sort(a: Sort, b: Sort) -> bool
     a as u8 == b as u8
 }
 
-/// The clash of a claim with the earliest of these that it clashes with.
+/// Returns the clash of a claim with the earliest of those with which it clashes.
 fn earliest_meeting(marks: &[Mark], later: Mark) -> Option<Meeting>
     ensures { result ≡ kept.earliest_meeting marks.now later }
 {
@@ -179,7 +180,7 @@ fn earliest_meeting(marks: &[Mark], later: Mark) -> Option<Meeting>
     None
 }
 
-/// Whether one of these claims is of this sort.
+/// Returns whether one of these claims has this sort.
 fn has_sort(marks: &[Mark], sort: Sort) -> bool
     ensures { result ≡ kept.has_sort marks.now sort }
 {
@@ -191,7 +192,7 @@ fn has_sort(marks: &[Mark], sort: Sort) -> bool
     false
 }
 
-/// The clash over a key.
+/// Returns a clash over a key. Fails if an allocation fails.
 fn clash_of(alloc: Global, meeting: Meeting, key: &Key<'_>) -> Result<Box<Clash>, AllocError>
     ensures { IfOk result (λ clash. kept.IsClashOver clash.value meeting (cow_str_bytes key.now.name)) }
 {
@@ -199,7 +200,7 @@ fn clash_of(alloc: Global, meeting: Meeting, key: &Key<'_>) -> Result<Box<Clash>
     Ok(Box::new(alloc, Clash { meeting, name })?)
 }
 
-/// The halt at a clash over a key, or want of memory to tell it.
+/// Returns the `Halt` of a clash over a key, or of a failed allocation for its name.
 #[cold]
 fn halted(alloc: Global, meeting: Meeting, key: &Key<'_>) -> Halt
     ensures { kept.Halts result meeting (cow_str_bytes key.now.name) }
@@ -210,8 +211,8 @@ fn halted(alloc: Global, meeting: Meeting, key: &Key<'_>) -> Halt
     }
 }
 
-/// Halts where a claim clashes with one of the earlier ones: with the first of these, or where there is no memory
-/// for the key's name.
+/// Fails with the clash of a claim with the earliest of those with which it clashes, or if an allocation fails for the
+/// key's name.
 #[inline(always)]
 pub fn check_clash(alloc: Global, marks: &[Mark], mark: Mark, key: &Key<'_>) -> Result<(), Halt>
     ensures { Gives result (earliest_clash marks.now mark (cow_str_bytes key.now.name)) (λ _. ⊤) }
@@ -222,8 +223,7 @@ pub fn check_clash(alloc: Global, marks: &[Mark], mark: Mark, key: &Key<'_>) -> 
     }
 }
 
-/// Keeps a claim on a branch, unless it clashes with an earlier one. Of each sort the first one is kept. Halts as
-/// `check_clash` does, or where there is no memory to keep the claim.
+/// Records a claim on a branch, if it is the first of its sort. Fails like `check_clash`, or if an allocation fails.
 #[inline(never)]
 pub fn record_claim(alloc: Global, marks: &mut Marks, mark: Mark, key: &Key<'_>) -> Result<(), Halt>
     ensures { Gives result (earliest_clash marks.old.items mark (cow_str_bytes key.now.name))

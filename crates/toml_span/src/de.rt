@@ -1,4 +1,4 @@
-//! Reads a document into a tree.
+//! Parses a document into a tree.
 ghost use Rattle.std.specs.Prelude.{◌≡◌, ◌≤◌, ℕ, List, true, IfOk, IfErr, IsOk, length};
 ghost use Rattle.toml_span_lex.specs.Text.{FirstPlace};
 ghost use Rattle.toml_span_read.specs.code.Faults.{IsPlacedStop};
@@ -19,10 +19,11 @@ use toml_span_read::fault::{Fault, error_of};
 use toml_span_read::{read_first, read_section};
 use toml_span_tree::{Error, Value};
 
-/// How deep a value, a header and a dotted key may be.
+/// The limit on the depth of values and on the parts of headers and dotted keys.
 const LIMIT: usize = 128;
 
-/// What the sections of a text make, or its fault. Each section is placed as it is read.
+/// Reads the sections of a text, and places each as soon as it is read. Fails with the first fault of reading, or if an
+/// allocation fails.
 fn grown_of<'de>(alloc: Global, text: &'de str, limit: usize) -> Result<Grown<'de>, Stop<Fault>>
     requires some { 1 ≤ limit }
     requires small { limit ≤ depth_limit }
@@ -46,7 +47,7 @@ fn grown_of<'de>(alloc: Global, text: &'de str, limit: usize) -> Result<Grown<'d
     Ok(grown)
 }
 
-/// The tree of a document, or its first clash.
+/// Returns the tree of a document. Fails with its first clash, or if an allocation fails.
 fn tree_of<'de>(grown: Grown<'de>, text: &'de str) -> Result<Value<'de>, Stop<Error<'de>>>
     requires inside { IsGrownInside (length text.now) grown }
     ensures answers { (bs : List Block) (limit : ℕ) → document text.now limit (Ok bs) → Grows bs grown.entry
@@ -67,24 +68,26 @@ fn tree_of<'de>(grown: Grown<'de>, text: &'de str) -> Result<Value<'de>, Stop<Er
     }
 }
 
-/// The tree of a document, with the limit 128 (see `parse_with_limit`).
+/// Parses a document with the limit 128 (see `parse_with_limit`).
 ///
-/// The error is the first fault of reading or, where the text is read, the first clash of two claims on
-/// one path; or `Stop::Memory`, where a request for memory was refused. There is no tree then.
+/// Fails with the first fault of reading; if the text can be read, with the first clash of two claims on the same path;
+/// or with `Stop::Memory` if an allocation fails.
 pub fn parse<'de>(alloc: Global, s: &'de str) -> Result<Value<'de>, Stop<Error<'de>>>
     ensures answers { Answers s.now depth_limit result }
     ensures root { IfOk result (IsRoot (length s.now)) }
     ensures whole { IfOk result (λ root. is_whole (view root) ≡ true) }
     ensures borrows { IfOk result (IsBorrowedTree s.now depth_limit) }
-    // Memory is wanted only where more than comments and blank lines stand in the text.
+    // An allocation can fail only if the text has more than comments and blank lines.
     ensures memory { (start : ℕ) × FirstPlace s.now start × OnlyFormsTakeMemory s.now start result }
 {
     parse_with_limit(alloc, s, LIMIT)
 }
 
-/// The tree of a TOML 1.1 document, its spans in bytes of `s`. A value may be `limit` brackets, braces and key
-/// parts deep, and a header and a dotted key may have `limit` parts; what is deeper is `ExceededDepthLimit`.
-/// The other errors are those of `parse`. `limit` is from 1 to 128, which nothing tests at run time.
+/// Parses a TOML 1.1 document into a tree, whose spans are byte offsets in `s`.
+///
+/// Values may be nested `limit` brackets, braces and key parts deep, and headers and dotted keys may have `limit`
+/// parts; beyond that the error is `ExceededDepthLimit`. The other errors are those of `parse`. `limit` must be from 1
+/// to 128, which is not checked at run time.
 pub fn parse_with_limit<'de>(
     alloc: Global,
     s: &'de str,
@@ -96,7 +99,7 @@ pub fn parse_with_limit<'de>(
     ensures root { IfOk result (IsRoot (length s.now)) }
     ensures whole { IfOk result (λ root. is_whole (view root) ≡ true) }
     ensures borrows { IfOk result (IsBorrowedTree s.now limit) }
-    // Memory is wanted only where more than comments and blank lines stand in the text.
+    // An allocation can fail only if the text has more than comments and blank lines.
     ensures memory { (start : ℕ) × FirstPlace s.now start × OnlyFormsTakeMemory s.now start result }
 {
     match grown_of(alloc, s, limit) {

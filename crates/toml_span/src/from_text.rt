@@ -1,6 +1,7 @@
 //! Reads a document as a type.
 ghost use Rattle.std.specs.Prelude.{IfOk, IfErr, Ok, map};
 ghost use Rattle.toml_span_tree.specs.Error.{content_of};
+ghost use Rattle.toml_span_typed.specs.WithWarnings.{Extends};
 ghost use Rattle.toml_span.specs.FromText.{IsRead, IsReadWithWarnings, NotRead, NotReadWithWarnings};
 
 use crate::de::parse;
@@ -9,9 +10,10 @@ use toml_span_lex::stop::Stop;
 use toml_span_tree::Error;
 use toml_span_typed::{DeserError, Deserialize, DeserializeWithWarnings};
 
-/// Reads a document as a type: `parse`, and then `deserialize` of the root.
+/// Reads a document as a type: parses it, and calls `deserialize` of the root.
 ///
-/// The errors are the one for which the text is refused, or all errors of the type's read; or `Stop::Memory`.
+/// Fails with the error for which the text is refused, with all errors of reading the type, or with `Stop::Memory` if
+/// an allocation fails.
 pub fn from_str<'de, T: Deserialize<'de>>(
     alloc: Global,
     text: &'de str,
@@ -27,8 +29,8 @@ pub fn from_str<'de, T: Deserialize<'de>>(
     T::deserialize(alloc, &mut root)
 }
 
-/// Reads a document as a type that warns: as `from_str`, and warnings are put behind those of the list, also where
-/// the read fails. A text that is refused has none.
+/// Reads a document as a type that warns, like `from_str`. Warnings are appended to `warnings`, even if the type cannot
+/// be read. A text that is refused has none.
 pub fn from_str_with_warnings<'de, T: DeserializeWithWarnings<'de>>(
     alloc: Global,
     text: &'de str,
@@ -38,6 +40,7 @@ pub fn from_str_with_warnings<'de, T: DeserializeWithWarnings<'de>>(
         (map content_of warnings.new.items)) }
     ensures refused { IfErr result (λ stop. NotReadWithWarnings T.reads text.now stop
         (map content_of warnings.old.items) (map content_of warnings.new.items)) }
+    ensures kept { Extends (map content_of warnings.old.items) (map content_of warnings.new.items) }
 {
     let mut root = match parse(alloc, text) {
         Ok(root) => root,

@@ -1,4 +1,4 @@
-//! Parses TOML into a tree that knows, for each key and each value, the bytes at which it stands.
+//! Parses TOML into a tree that has the byte span of every key and every value.
 #![tactic(auto)]
 
 mod branch;
@@ -17,18 +17,18 @@ pub use toml_span_lex::spanned::Spanned;
 pub use toml_span_lex::stop::Stop;
 pub use toml_span_tree::{Diagnostic, Error, ErrorKind, Label, Value};
 pub use toml_span_typed::{
-    DeserError, Deserialize, DeserializeWithWarnings, ErrorIter, Parsed, Unmerged, read_table,
-    read_tagged,
+    DeserError, Deserialize, DeserializeWithWarnings, ErrorIter, InRange, Parsed, Unmerged,
+    read_name, read_table, read_tagged,
 };
 
-/// Typed reads of a table's fields.
+/// Typed reads of the fields of a table.
 pub mod de_helpers {
     pub use toml_span_typed::de_helpers::{
-        TableHelper, Unfinished, expected, parse, parse_with, parsed,
+        TableHelper, Unfinished, expected, name_of, parse, parse_with, parsed,
     };
 }
 
-/// Places in a text.
+/// Spans in a text.
 pub mod span {
     pub use toml_span_lex::span::Span;
     pub use toml_span_lex::spanned::Spanned;

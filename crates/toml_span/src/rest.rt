@@ -1,19 +1,19 @@
-//! Long lists, which give their memory back while they are taken apart.
+//! Long lists that free their memory while they are consumed.
 ghost use Rattle.std.specs.Prelude.{◌≡◌};
 ghost use Rattle.std.specs.Iterator.{YieldsFirst, item_count};
 
 use std::marker::Model;
 
-/// A block of so many items is small enough to be given back whole.
+/// A list whose buffer has at most this many items keeps it to the end.
 const SMALL_BLOCK: usize = 4096;
 
-/// What is left of a list that is taken apart from its front.
+/// The remaining items of a list that is consumed from the front.
 ///
-/// A `Vec` keeps its block until it is dropped. This one gives back what stands empty once it is a
-/// quarter of the block. That may move what is left: fewer than four moves for each item, taken together.
+/// A `Vec` keeps its buffer until it is dropped. This list gives back the unused part once that is a quarter of the
+/// buffer, which may move the remaining items: fewer than four moves per item in total.
 #[derive(Drop)]
 pub struct Rest<T> {
-    /// The items, the next one last.
+    /// The items in reverse order, so that the next one is the last.
     turned: Vec<T>,
 }
 
@@ -26,7 +26,7 @@ impl<T> Model for Rest<T> {
 }
 
 impl<T> Rest<T> {
-    /// The whole list, from its first item on.
+    /// Returns the whole list, from its first item on.
     pub fn new(mut items: Vec<T>) -> Self
         ensures { result ≡ items.items }
     {

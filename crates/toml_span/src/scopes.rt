@@ -1,4 +1,4 @@
-//! Assignments placed below a branch: a section's table, or an inline table.
+//! Places assignments below a branch: those of a section, or of an inline table.
 ghost use Rattle.std.specs.Prelude.{◌≡◌, ⊤, ℕ, List, map, [], IfOk, Some};
 ghost use Rattle.std.specs.Cow.{cow_str_bytes};
 ghost use Rattle.toml_span_tree.specs.Value.{inner_view};
@@ -27,11 +27,11 @@ use toml_span_lex::span::Span;
 use toml_span_read::{Assignment, DottedKey, Val, ValKind};
 use toml_span_tree::{Array, Table, Value, ValueInner};
 
-/// A list of at most so many assignments keeps its block until all are placed. Giving it back on the way
-/// takes time, since the system clears memory that is asked for anew.
+/// A list of at most this many assignments keeps its buffer until all are placed. Freeing it earlier takes time, since
+/// the system clears memory before it hands it out again.
 const SHORT_LIST: usize = 65_536;
 
-/// The claim of a part of an assignment's key.
+/// Returns the claim of a part of an assignment's key.
 fn pair_mark(sort: Sort, key: &Key<'_>, span: Span) -> Mark
     ensures { result ≡ record { sort = sort; key = key.now.span; line = span; extent = span } }
 {
@@ -43,7 +43,7 @@ fn pair_mark(sort: Sort, key: &Key<'_>, span: Span) -> Mark
     }
 }
 
-/// Halts where a claim on a name clashes with a value that is assigned there.
+/// Fails if a claim on a name clashes with a value assigned to that name.
 fn check_beside_value<'de>(
     alloc: Global,
     values: &Table<'de>,
@@ -64,8 +64,7 @@ fn check_beside_value<'de>(
     }
 }
 
-/// A branch for a name, on which nothing is claimed yet. Halts where a claim on the name clashes with a value that is
-/// assigned there.
+/// Returns a branch for a name, without claims. Fails if a claim on the name clashes with a value assigned to it.
 #[inline(never)]
 pub(crate) fn fresh_child<'de>(
     alloc: Global,
@@ -81,7 +80,7 @@ pub(crate) fn fresh_child<'de>(
     Ok(child)
 }
 
-/// Halts where a claim on a name clashes with what headers and dotted keys made there.
+/// Fails if a claim on a name clashes with what headers and dotted keys created there.
 #[inline(always)]
 fn check_beside_table<'de>(
     alloc: Global,
@@ -98,7 +97,7 @@ fn check_beside_table<'de>(
     }
 }
 
-/// Assigns a value to a name of a branch.
+/// Assigns a value to a name of a branch. Fails with the first clash, or if an allocation fails.
 #[inline(never)]
 fn assign<'de>(
     alloc: Global,
@@ -132,8 +131,8 @@ fn assign<'de>(
     }
 }
 
-/// What is to be assigned. Functions that call each other along a path take it by reference, so that none of them
-/// needs room on the stack for it.
+/// An assignment in progress. Functions that call each other along a path take it by reference, so that it needs no
+/// room on their stack.
 #[derive(Drop)]
 struct Pending<'de> {
     /// The last part of the key.
@@ -141,7 +140,7 @@ struct Pending<'de> {
     value: Result<Value<'de>, Halt>,
 }
 
-/// Assigns what is pending to a name of a branch.
+/// Assigns the pending value to a name of a branch. Fails with the first clash, or if an allocation fails.
 #[inline(never)]
 fn assign_pending<'de>(
     alloc: Global,
@@ -160,10 +159,11 @@ fn assign_pending<'de>(
     }
 }
 
-/// Places what is pending below a branch, inner part by inner part. `span` is the value's.
+/// Places the pending value below a branch, one inner part after another. `span` is that of the value. Fails with the
+/// first clash, or if an allocation fails.
 ///
-/// An inline table is a scope of its own. What clashes in it is told behind the clashes of the key to
-/// which it is assigned, since it stands behind that key.
+/// An inline table is a scope of its own. Its clashes are reported after those of the key to which it is assigned,
+/// since it comes after that key.
 #[cycle(place_pair)]
 #[inline(always)]
 fn place_pair<'de>(
@@ -191,7 +191,7 @@ fn place_pair<'de>(
     }
 }
 
-/// From the branch of an inner part on, in its block.
+/// Places the pending value, beginning at the branch of an inner part.
 #[cycle(place_pair)]
 fn pass_child<'de>(
     alloc: Global,
@@ -206,10 +206,11 @@ fn pass_child<'de>(
     ensures borrows { (text : List ℕ) → (d : Pending) → pending.old ≡ Some d → IfPairRight text rest.now d
         (KeepsName text part.now.span child.old.value child.new.value result) }
 {
+    // Toolchain: nothing is known of what `as_mut` leaves in a box that a map's entry lends. Of a parameter it is.
     pass_pair(alloc, child.as_mut(), part, rest, pending, span)
 }
 
-/// Claims the branch of an inner part, and places what is pending below it.
+/// Claims the branch of an inner part, and places the pending value below it.
 #[cycle(place_pair)]
 #[inline(always)]
 fn pass_pair<'de>(
@@ -234,7 +235,7 @@ fn pass_pair<'de>(
     place_pair(alloc, node, rest, pending, span)
 }
 
-/// Places an assignment below a branch.
+/// Places an assignment below a branch. Fails with the first clash, or if an allocation fails.
 #[cycle(value_of)]
 #[inline(always)]
 fn place_one<'de>(alloc: Global, pair: Assignment<'de>, node: &mut Branch<'de>) -> Result<(), Halt>
@@ -256,7 +257,7 @@ fn place_one<'de>(alloc: Global, pair: Assignment<'de>, node: &mut Branch<'de>) 
     place_pair(alloc, node, inner.as_slice(), &mut pending, span)
 }
 
-/// Places assignments below a branch.
+/// Places assignments below a branch. Fails with the first clash, or if an allocation fails.
 #[cycle(value_of)]
 fn place_pairs<'de>(
     alloc: Global,
@@ -273,7 +274,7 @@ fn place_pairs<'de>(
     Ok(())
 }
 
-/// Places the assignments of a section below its branch.
+/// Places the assignments of a section below its branch. Fails with the first clash, or if an allocation fails.
 pub(crate) fn place_all<'de>(
     alloc: Global,
     pairs: Vec<Assignment<'de>>,
@@ -292,7 +293,7 @@ pub(crate) fn place_all<'de>(
     Ok(())
 }
 
-/// The table of an inline table.
+/// Returns the table of an inline table's pairs. Fails with the first clash, or if an allocation fails.
 #[cycle(value_of)]
 fn table_of<'de>(alloc: Global, pairs: Vec<Assignment<'de>>) -> Result<Table<'de>, Halt>
     ensures scope { ScopeGives result (λ t. inner_view (inners.Table t)) (claims_of pairs.entry.items) }
@@ -304,7 +305,7 @@ fn table_of<'de>(alloc: Global, pairs: Vec<Assignment<'de>>) -> Result<Table<'de
     Ok(into_table(scope.tables, scope.values)?)
 }
 
-/// The elements of an array.
+/// Returns the elements of an array as finished values. Fails with the first clash in one, or if an allocation fails.
 #[cycle(value_of)]
 fn array_of<'de>(alloc: Global, elements: Vec<Val<'de>>) -> Result<Array<'de>, Halt>
     ensures scope { ScopeGives result (λ xs. inner_view (inners.Array xs))
@@ -319,7 +320,7 @@ fn array_of<'de>(alloc: Global, elements: Vec<Val<'de>>) -> Result<Array<'de>, H
     Ok(array)
 }
 
-/// The value that was read.
+/// Converts a value that was read into one of the tree. Fails with the first clash in it, or if an allocation fails.
 #[cycle(value_of)]
 #[inline(always)]
 fn value_of<'de>(alloc: Global, val: Val<'de>) -> Result<Value<'de>, Halt>

@@ -1,4 +1,4 @@
-//! Sections placed one by one into a tree.
+//! Places sections, one by one, into the tree under construction.
 ghost use Rattle.std.specs.Prelude.{◌≡◌, ℕ, List, map, [], ◌∷◌, ◌++◌, IfOk, IfErr, IfSome, IsOk, IsOkAnd, None, OnOk};
 ghost use Rattle.toml_span_read.specs.Borrowed.{assignments_written, section_written, AreWrittenRight};
 ghost use Rattle.toml_span_read.specs.Data.{Block, block, simple_key as part_of};
@@ -26,7 +26,7 @@ use toml_span_lex::stop::Stop;
 use toml_span_read::{Assignment, Section};
 use toml_span_tree::{Value, ValueInner};
 
-/// The claim of a part of a header.
+/// Returns the claim of a part of a header.
 fn header_mark(head: Head, sort: Sort, key: &Key<'_>) -> Mark
     ensures { result ≡ claims.header_mark head sort key.now.span }
 {
@@ -38,7 +38,7 @@ fn header_mark(head: Head, sort: Sort, key: &Key<'_>) -> Mark
     }
 }
 
-/// What the part of a header claims that is followed by these.
+/// Returns the sort of claim of a header's part that the parts `rest` follow.
 fn sort_of(head: Head, rest: &[Key<'_>]) -> Sort
     ensures { result ≡ part_sort head (map part_of rest.now) }
 {
@@ -51,7 +51,8 @@ fn sort_of(head: Head, rest: &[Key<'_>]) -> Sort
     }
 }
 
-/// Places a section below a branch, part by part of its header.
+/// Places a section below a branch, one part of its header after another. Fails with the first clash, or if an
+/// allocation fails.
 #[cycle(place_section)]
 #[inline(always)]
 fn place_section<'de>(
@@ -78,7 +79,7 @@ fn place_section<'de>(
     }
 }
 
-/// From the branch of a part on, in its block.
+/// Places a section, beginning at the branch of a part of its header.
 #[cycle(place_section)]
 fn pass_child<'de>(
     alloc: Global,
@@ -95,8 +96,8 @@ fn pass_child<'de>(
     pass_header(alloc, child.as_mut(), part, rest, head, pairs)
 }
 
-/// Places a section from the branch of a part on. A part that is not the last one leads into the latest
-/// element of an array of tables (TOML 1.1, Array of Tables).
+/// Places a section, beginning at the branch of a part of its header. A part that is not the last one leads into the
+/// latest element of an array of tables (TOML 1.1, Array of Tables).
 #[cycle(place_section)]
 #[inline(always)]
 fn pass_header<'de>(
@@ -120,7 +121,7 @@ fn pass_header<'de>(
     }
 }
 
-/// Passes through a branch.
+/// Claims a branch through which the header passes, and places the section below it.
 #[cycle(place_section)]
 fn descend<'de>(
     alloc: Global,
@@ -162,7 +163,7 @@ fn open_table<'de>(
     place_all(alloc, pairs, node)
 }
 
-/// Adds an element to an array of tables.
+/// Appends an element to an array of tables.
 fn add_entry<'de>(
     alloc: Global,
     node: &mut Branch<'de>,
@@ -181,7 +182,7 @@ fn add_entry<'de>(
     Ok(())
 }
 
-/// Claims the branch at the end of a header, and places the assignments there.
+/// Claims the branch at the end of a header, and places the assignments below it.
 #[inline(never)]
 fn end_header<'de>(
     alloc: Global,
@@ -226,17 +227,17 @@ fn place<'de>(alloc: Global, root: &mut Branch<'de>, section: Section<'de>) -> R
     place_section(alloc, root, header.as_slice(), head, assignments)
 }
 
-/// What the sections that are read so far make.
+/// The tree of the sections read so far, or their first clash.
 #[derive(Drop)]
 pub(crate) struct Grown<'de> {
-    /// Their tree, as long as no two clash.
+    /// Their tree, unless two clash.
     root: Branch<'de>,
     /// Their first clash.
     clash: Option<Box<Clash>>,
 }
 
 impl<'de> Grown<'de> {
-    /// What no sections make.
+    /// Returns the tree of no sections.
     pub(crate) fn new(alloc: Global) -> Self
         ensures grows { Grows [] result }
         ensures inside { (n : ℕ) → IsGrownInside n result }
@@ -250,7 +251,7 @@ impl<'de> Grown<'de> {
     }
 }
 
-/// Places one more section, unless two have clashed.
+/// Places another section, unless two have already clashed. Fails if an allocation fails.
 pub(crate) fn grow<'de>(
     alloc: Global,
     grown: &mut Grown<'de>,
@@ -275,7 +276,7 @@ pub(crate) fn grow<'de>(
     }
 }
 
-/// What the section before the first header makes, if there is one.
+/// Returns the tree of the section before the first header, if there is one. Fails if an allocation fails.
 pub(crate) fn begin<'de>(
     alloc: Global,
     first: Option<Section<'de>>,
@@ -295,7 +296,7 @@ pub(crate) fn begin<'de>(
     }
 }
 
-/// The tree of a document, which is `length` bytes long, or its first clash.
+/// Returns the tree of a document, which is `length` bytes long. Fails with its first clash, or if an allocation fails.
 pub(crate) fn finish<'de>(grown: Grown<'de>, length: usize) -> Result<Value<'de>, Halt>
     ensures assembles { (bs : List Block) → Grows bs grown.entry → Assembles bs length result }
     ensures root { IfOk result (IsRoot length) }

@@ -1,8 +1,8 @@
-//! Measures how fast a document is read.
+//! Measures how fast a document is parsed.
 //!
-//! `toml_span_bench FILE N` parses FILE N times, or for about a second where N is 0, drops the tree each
-//! time, and prints one line with the best and the mean time of a pass in nanoseconds.
-//! `toml_span_bench tokens FILE N` goes through the tokens alone.
+//! `toml_span_bench FILE N` parses FILE N times, or for about a second if N is 0, drops the tree each time, and prints
+//! one line with the best and the mean time of a pass in nanoseconds. `toml_span_bench tokens FILE N` only reads the
+//! tokens.
 #![tactic(auto)]
 
 use std::alloc::Global;
@@ -12,16 +12,16 @@ use std::{env, fs, io};
 use toml_span::parse;
 use toml_span::tokens::Tokenizer;
 
-/// About how long to measure where no number of passes is asked for, in nanoseconds.
+/// About how long to measure if no number of passes is given, in nanoseconds.
 const SECOND: u128 = 1_000_000_000;
 
-/// How the program is called.
+/// The usage message.
 const USAGE: &str = "usage: toml_span_bench FILE N
        toml_span_bench tokens FILE N
 Parses FILE N times, or for about a second where N is 0, and prints the best and the mean
 time of a pass in nanoseconds. The second form goes through the tokens alone.";
 
-/// Goes over a text once. Returns whether it has no error.
+/// Parses a text once, or reads its tokens. Returns whether there was no error.
 fn is_read(alloc: Global, text: &str, in_tokens: bool) -> bool {
     if !in_tokens {
         return parse(alloc, text).is_ok();
@@ -37,7 +37,8 @@ fn is_read(alloc: Global, text: &str, in_tokens: bool) -> bool {
     false
 }
 
-/// Goes over a text this many times, or for about a second where that is 0, and prints the line for its file.
+/// Parses a text, or reads its tokens, `passes` times, or for about a second if that is 0, and prints the line for its
+/// file.
 fn measure(
     rt: &HostRuntime,
     file: &str,

@@ -1,4 +1,4 @@
--- A document has no more values than its text allows, and its names and texts fit into it.
+-- A document has no more values than its text allows, and its names and strings fit into it.
 use Rattle.toml_span_lex.proofs.Common.{◌≡◌, ◌≤◌, ◌+◌, ◌-◌, ◌*◌, ℕ, suc, Bool, true, false, List, [], ◌∷◌, length, Option, Some, None, refl, ap, inl, inr, arith, drop, codes, slice_range, unwrap_or, filter, nat_tests, common_steps}
 use Rattle.std.specs.List.{sum_by}
 use Rattle.std.proofs.lemmas.List.{length-take}
@@ -29,9 +29,9 @@ use Rattle.toml_span_c.proofs.Fits.{Fair, claims-fit}
 use Rattle.toml_span_c.proofs.Puts.{length-records}
 use Rattle.toml_span_c.proofs.Walks.{own_entry}
 
--- ---- texts cost their bytes
+-- ---- strings cost their bytes
 
--- the bytes of what a scalar says
+-- the number of bytes of a scalar's text
 abbrev scalar_long : Scalar → ℕ
 scalar_long s = length (unwrap_or (scalar_text s) [])
 
@@ -39,7 +39,7 @@ abbrev shape_long : Shape → ℕ
 shape_long (shape_scalar s) = scalar_long s
 shape_long _ = 0
 
--- a name costs its bytes, a scalar those of its text
+-- a name costs its bytes, and a scalar those of its text
 abbrev bytes_cost : Cost
 bytes_cost = record { name = λ s. length s; shape = shape_long }
 
@@ -57,7 +57,7 @@ string-short : (text v src : List ℕ) (i j : ℕ) (s : Span) (m : Bool) → IsS
 string-short text v src i j s m h =
     omega (arith, content_fits _ m text v h.from h.to j h.content_is, content_from_after m text i h.from h.begins)
 
--- a word with its sign, which is kept where it is a minus
+-- a word with its sign, which is kept if it is a minus
 plain-short : (word text : List ℕ) (i j : ℕ) → SpecialFloat word text i j → i + length word ≤ j
 plain-short word text i j h = grind (arith, nat_tests, common_steps)
 
@@ -96,7 +96,7 @@ bytes_fair = record {
 abbrev one_cost : Cost
 one_cost = record { name = λ s. 0; shape = λ s. 1 }
 
--- a text has no more than two for each byte: an array of tables and its first element stand at one name
+-- a text has at most two values per byte: an array of tables and its first element have the same name
 abbrev ones_fair : Fair
 ones_fair = record {
   cost = one_cost;
@@ -108,14 +108,14 @@ ones_fair = record {
   tables = omega arith;
 }
 
--- ---- the records of a tree cost one each, and its strings what its names and texts do
+-- ---- the records of a tree cost one each, and its strings as much as its names and texts
 
 -- what a name costs, if there is one
 abbrev name_cost : Cost → Option (List ℕ) → ℕ
 name_cost c None = 0
 name_cost c (Some s) = c.name s
 
--- an entry weighs no more than its name and its value's shape cost
+-- an entry weighs at most what its name and the shape of its value cost
 abbrev IsWorth : Cost → (Entry → ℕ) → Type 0
 IsWorth c w = (e : Entry) → w e ≤ name_cost c e.name + c.shape (shape_of (inner_of e.value))
 
@@ -158,7 +158,7 @@ count-ones : (es : List Entry) → sum_by (λ e. 1) es ≡ length es
 count-ones [] = refl
 count-ones (e ∷ es) = grind (arith, nat_tests, common_steps, count-ones es)
 
--- ---- of a document
+-- ---- documents
 
 tree-weighs : (c : Cost) (w : Entry → ℕ) → IsWorth c w → (n : Node) → sum_by w (tree_entries n) ≤ node_cost c n
 tree-weighs c w f n = omega (arith, node-weighs c w f 0 NONE 0 None no_span n)
@@ -178,7 +178,7 @@ short-strings bytes limit root tree =
     let long = length-flat_map (entry_strings bytes) (tree_entries (view root)) in
     omega (arith, long, weighed, tree-few bytes_cost bs (length bytes) root made, claims-fit bytes_fair bs bytes limit (document_sound bs bytes limit has.0))
 
--- what the calls read can be counted
+-- the records and strings of what the calls read can be counted
 pub tree-fits : (bytes : List ℕ) (limit : ℕ) (root : Value) → IsText bytes → IsTree bytes limit root → Fits bytes 0 0 (tree_entries (view root))
 tree-fits bytes limit root text tree =
     grind (arith, nat_tests, common_steps, few-records bytes limit root tree, length-records bytes 0 (tree_entries (view root)), short-strings bytes limit root tree)

@@ -1,4 +1,4 @@
--- What a tree costs, by its names and by what stands in it, it costs by its claims too.
+-- The cost of a tree, by its names and the places in it, is at most the cost of its claims.
 use Rattle.toml_span_lex.proofs.Common.{◌≡◌, ◌≤◌, ◌<◌, ◌+◌, ℕ, suc, false, List, [], ◌∷◌, ◌++◌, Option, Some, None, option_map, refl, sym, ap, subst, ◌∙◌, inl, inr, arith, nat_tests, common_steps, option_and_then, nat_eq, same_Some}
 use Rattle.toml_span_lex.specs.declared.span.Span.{Span}
 use Rattle.toml_span_tree.specs.Node.{Node, node, Inner, taken, scalar, array, table, Items, no_items, item, Members, no_members, member, entry_at, element_at}
@@ -14,7 +14,7 @@ use Rattle.toml_span.proofs.EachClaim.{Each, flat-decides}
 use Rattle.toml_span.proofs.Ordered.{first-entry, later-entry, one-each, same-name}
 use Rattle.toml_span_c.proofs.Paths.{Has, after, without, total, stepping, stepping-parts, stepping-fewer, after-mem, without-mem}
 
--- what a name costs, and what a place does by its shape
+-- the cost of a name, and that of a place, by its shape
 pub record Cost : Type 0 where
   pub name : List ℕ → ℕ
   pub shape : Shape → ℕ
@@ -39,20 +39,20 @@ abbrev mutual
   members_cost c no_members = 0
   members_cost c (member name at n ms) = c.name name + node_cost c n + members_cost c ms
 
--- of a place behind a name that costs so much: the name before it, and the place
+-- of a place after a name that costs e: the name before it, and the place
 abbrev pub place_cost : Cost → ℕ → Path → Place → ℕ
 place_cost c e [] x = e + c.shape x.shape
 place_cost c e (key name ∷ p) x = place_cost c (c.name name) p x
 place_cost c e (position i ∷ p) x = place_cost c 0 p x
 
--- what a path finds behind a step
+-- what a path finds after a step
 abbrev found : Path → Option (Option Span × Node) → Option Place
 found q o = option_map place_of (option_and_then (reached q) o)
 
 off-numbers : (i j : ℕ) → i < j → nat_eq i j ≡ false
 off-numbers i j h = grind (arith, nat_tests, common_steps)
 
--- a name that is found behind the first is another one
+-- a name that is found after the first differs from it
 others : (c : Cost) (name : List ℕ) (at : Span) (n : Node) (ms : Members) (ps : List (Path × ℕ)) → entry_at name ms ≡ None
     → ((other : List ℕ) (q : Path) (x : Place) → found q (entry_at other (member name at n ms)) ≡ Some x → Has (key other ∷ q) (place_cost c (c.name other) q x) ps)
     → (other : List ℕ) (q : Path) (x : Place) → found q (entry_at other ms) ≡ Some x → Has (key other ∷ q) (place_cost c (c.name other) q x) (without (key name) ps)
@@ -103,7 +103,7 @@ abbrev pub prices : Cost → List Claim → List (Path × ℕ)
 prices c [] = []
 prices c (x ∷ xs) = (x.path, place_cost c 0 x.path x.place) ∷ prices c xs
 
--- what the claims of every scope cost
+-- the cost of the claims of all scopes
 abbrev pub claims_cost : Cost → Claims → ℕ
 claims_cost c cs = total (prices c (all_claims cs))
 

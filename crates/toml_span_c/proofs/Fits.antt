@@ -1,4 +1,4 @@
--- What the claims of a document cost, its text has room for.
+-- The text of a document has room for the cost of its claims.
 use Rattle.toml_span_lex.proofs.Common.{◌≡◌, ◌≤◌, ◌<◌, ◌+◌, ◌-◌, ℕ, suc, Bool, List, [], ◌∷◌, ◌++◌, length, refl, ap, inl, inr, arith, cases_lt, nat_tests, common_steps}
 use Rattle.toml_span_lex.specs.declared.span.Span.{Span}
 use Rattle.toml_span_tree.specs.Node.{Scalar}
@@ -18,8 +18,8 @@ use Rattle.toml_span_c.proofs.Costs.{Cost, place_cost, prices, claims_cost}
 
 -- ---- fair costs
 
--- A cost that each text has room for. The first n bytes have room for `room n`, and each further byte for `byte` more. A
--- spelled key has room for its name and for one byte's worth besides, which is what a table and an array cost together. A
+-- A cost for which each text has room. The first n bytes have room for `room n`, and each further byte for `byte`. A
+-- spelled key has room for its name and for one byte besides, which is what a table and an array cost together. A
 -- spelled scalar and one more byte have room for the scalar.
 pub record Fair : Type 0 where
   pub cost : Cost
@@ -57,7 +57,7 @@ module _ (f : Fair) where
   abbrev value_cost : ParsedValue → ℕ
   value_cost v = f.cost.shape (value_shape (parsed_inner v))
 
-  -- of the parts of a key, with a byte's worth for each
+  -- the cost of the parts of a key, with a byte for each
   abbrev key_cost : List SimpleKey → ℕ
   key_cost [] = 0
   key_cost (k ∷ ks) = (f.cost.name k.name + f.byte) + key_cost ks
@@ -115,12 +115,12 @@ module _ (f : Fair) where
 
   -- ---- values
 
-  -- an element, before what comes behind it
+  -- an element, before what follows it
   element-spends : (v : ParsedValue) (n : ℕ) (q : Path) (rest : Claims)
       → spent (claimed (element (with_position q n) v) (followed (value_claims v (with_position q n)) rest)) ≡ value_cost v + (spent (value_claims v (with_position q n)) + spent rest)
   element-spends v n q rest = grind (arith, nat_tests, common_steps, spent-claimed, spent-followed, last-cost)
 
-  -- a key and its value, for which the sign pays
+  -- a key and its value, for which the equals sign pays
   own-fits : (q : Path) (ks : List SimpleKey) (v : ParsedValue) (text : List ℕ) (i a b j : ℕ) → SpellsKey ks text i a → a < b
       → ((r : Path) → f.room b + (value_cost v + spent (value_claims v r)) ≤ f.room j + f.byte) → f.room i + spent (key_claims q ks v (value_claims v)) ≤ f.room j
   own-fits q ks v text i a b j spelled sign fits =
@@ -221,7 +221,7 @@ module _ (f : Fair) where
         sections-fit (b ∷ earlier) bs text limit j rest,
       )
 
-  -- a first section without a header, and those behind it
+  -- a first section without a header, and those after it
   headless-fit : (b : Block) (bs : List Block) (text : List ℕ) (limit i j : ℕ) → b.header ≡ [] → KeyValuesWith SpellsScalar b.key_values [] text limit i j → SectionsWith SpellsScalar bs text limit j
       → f.room i + spent (claims (b ∷ bs)) ≤ f.room (length text)
   unfolding claims_behind

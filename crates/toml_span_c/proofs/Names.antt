@@ -1,4 +1,4 @@
--- Numbers of kinds have the names of the kinds, and each error of a document has a number.
+-- The numbers of kinds have the names of the kinds, and each error of a document has a number.
 use Rattle.toml_span_lex.proofs.Common.{◌≡◌, ◌≢◌, ◌∙◌, ap, arith, inl, inr, List, refl, sym, ℕ}
 use Rattle.toml_span.specs.Clashes.{kind_of_clash}
 use Rattle.toml_span.specs.Parsing.{IsRefusal, TellsClash}

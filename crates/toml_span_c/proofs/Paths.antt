@@ -1,10 +1,10 @@
--- Lists of paths with prices, taken apart by the first steps of the paths.
+-- Lists of paths with prices, split by the first steps of the paths.
 use Rattle.toml_span_lex.proofs.Common.{◌≡◌, ◌≤◌, ◌+◌, ◌⊎◌, ℕ, false, List, [], ◌∷◌, refl, arith, if◌then◌else◌, nat_tests, common_steps}
 use Rattle.toml_span_tree.specs.Path.{Path, Step}
 use Rattle.toml_span.specs.Paths.{same_step}
 use Rattle.toml_span.proofs.Grafts.{same_step-self}
 
--- the path is there at this price or a higher one
+-- the path is in the list at this price or a higher one
 abbrev pub Has : Path → ℕ → List (Path × ℕ) → Type 0
 Has p w [] = ⊥
 Has p w (c ∷ cs) = ((p ≡ c.0) × (w ≤ c.1)) ⊎ Has p w cs
@@ -38,7 +38,7 @@ stepping-total : (ps : List (Path × ℕ)) → stepping ps ≤ total ps
 stepping-total [] = omega arith
 stepping-total ((p, w) ∷ ps) = grind (arith, nat_tests, common_steps, stepping-total ps)
 
--- the empty path's price and the prices of those that have a step
+-- the price of the empty path and the prices of those that have a step
 pub stepping-fewer : (w : ℕ) (ps : List (Path × ℕ)) → Has [] w ps → w + stepping ps ≤ total ps
 stepping-fewer w [] h = absurd h
 stepping-fewer w ((p, v) ∷ ps) h = grind (arith, nat_tests, common_steps, stepping-total ps, stepping-fewer w ps)

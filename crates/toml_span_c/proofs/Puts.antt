@@ -1,4 +1,4 @@
--- Entries that are put, one behind the other.
+-- Entries that are written one after the other.
 use Rattle.toml_span_lex.proofs.Common.{◌≡◌, ◌≤◌, ℕ, suc, ◌+◌, List, [], ◌∷◌, ◌++◌, length, refl, ap, subst, ◌∙◌, arith, length-append, nat_tests, common_steps}
 use Rattle.toml_span_c.specs.declared.records.Counts.{Counts}
 use Rattle.toml_span_c.specs.declared.records.Record.{Record}
@@ -28,12 +28,12 @@ at-moved k l m n counts e f at = record { nodes = at.nodes ∙ e; strings = at.s
 pub puts-none : (document : List ℕ) (k m : ℕ) (ns : List Record) (bytes : List ℕ) (counts : Counts) → IsAt k m counts → Puts document k m [] ns ns bytes bytes counts
 puts-none document k m ns bytes counts at = grind (arith, nat_tests, common_steps, at-moved, laid-none)
 
--- the entries of one value, and then those behind it
+-- the entries of one value, followed by those after it
 pub puts-append : (document : List ℕ) (k m : ℕ) (es fs : List Entry) (a b c : List Record) (x y z : List ℕ) (t u : Counts) → Puts document k m es a b x y t
     → Puts document (k + length es) (m + length (strings_of document es)) fs b c y z u → Puts document k m (es ++ fs) a c x z u
 puts-append document k m es fs a b c x y z t u p q = grind (arith, nat_tests, common_steps, at-moved, laid-append, length-records, records-append, strings-append)
 
--- the entry of a value whose record is written last, and those of what it holds
+-- the entry of a value whose record is written last, and those of the values inside it
 pub puts-own : (document : List ℕ) (j k m n : ℕ) (e : Entry) (es : List Entry) (r : Record) (a b c : List Record) (x y z : List ℕ) (t : Counts)
     → n ≡ m + length (entry_strings document e) → r ≡ record_of document m e → y ≡ laid m (entry_strings document e) x
     → Puts document (suc k) n es a b y z t → c ≡ laid j (r ∷ []) b → j ≡ k → Puts document k m (e ∷ es) a c x z t
@@ -44,7 +44,7 @@ bytes-append m xs ys a b c t u p q = grind (arith, nat_tests, common_steps, laid
 
 -- ---- what can be counted
 
--- an entry and those behind it
+-- an entry, and those after it
 pub fits-own : (document : List ℕ) (k m : ℕ) (e : Entry) (es : List Entry) → Fits document k m (e ∷ es)
     → (m + length (entry_strings document e) ≤ NONE) × Fits document (suc k) (m + length (entry_strings document e)) es
 fits-own document k m e es h = grind (arith, nat_tests, common_steps)

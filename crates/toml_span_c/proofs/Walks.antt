@@ -11,7 +11,7 @@ use Rattle.toml_span_c.specs.Records.{Entry, no_span, node_entries, held_entries
 use Rattle.toml_span_c.specs.code.Filling.{Fits, IsAt, Puts}
 use Rattle.toml_span_c.proofs.Puts.{puts-none, puts-append, fits-part, fits-same}
 
--- the entry of a value that holds something
+-- the entry of a value that has not been taken
 abbrev pub own_entry : ℕ → ℕ → ℕ → Option (List ℕ) → Span → Node → Inner → Entry
 own_entry at parent i name key n inner = record {
   parent = parent;
@@ -29,7 +29,8 @@ entries-held at parent i name key n h = grind (arith, nat_tests, common_steps)
 pub entries-taken : (at parent i : ℕ) (name : Option (List ℕ)) (key : Span) (n : Node) → is_taken n ≡ true → node_entries at parent i name key n ≡ []
 entries-taken at parent i name key n h = grind (arith, nat_tests, common_steps)
 
--- The entries were put up to those that are left, which depend on the number of the next one; together they are all.
+-- The entries have been written up to those that are left, which depend on the number of the next one. Together they
+-- are all entries.
 pub record Upto (document : List ℕ) (k m : ℕ) (left : ℕ → List Entry) (all : List Entry) (old new : List Record) (bytes bytes' : List ℕ) (total : Counts) : Type 0 where
   pub done : List Entry
   pub puts : Puts document k m done old new bytes bytes' total
@@ -68,12 +69,12 @@ pub members-split : (parent i at : ℕ) (es rest : List (Key × Value)) (key : K
     ++ members_left parent (i + 1) rest (at + length (node_entries at parent i (Some (cow_str_bytes key.name)) key.span (view value)))
 members-split parent i at es rest key value split = grind (arith, nat_tests, common_steps)
 
--- at the end nothing is left
+-- at the end none is left
 pub upto-all : (document : List ℕ) (k m : ℕ) (left : ℕ → List Entry) (all : List Entry) (a b : List Record) (x y : List ℕ) (t : Counts) → ((at : ℕ) → left at ≡ [])
     → Upto document k m left all a b x y t → Puts document k m all a b x y t
 upto-all document k m left all a b x y t none so = grind (arith, nat_tests, common_steps)
 
--- at the start all is left
+-- at the start all are left
 pub upto-begin : (document : List ℕ) (k m : ℕ) (left : ℕ → List Entry) (a : List Record) (x : List ℕ) (t : Counts) → IsAt k m t → Upto document k m left (left k) a a x x t
 upto-begin document k m left a x t at =
     let same : k + 0 ≡ k = omega arith in

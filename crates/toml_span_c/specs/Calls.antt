@@ -1,4 +1,4 @@
--- What the calls answer.
+-- What the calls return.
 use Rattle.std.specs.Prelude.{◌≡◌, ◌≤◌, ◌⊎◌, ℕ, IsUtf8, List, length}
 use Rattle.toml_span.specs.Parsing.{IsTree, IsRefusal}
 use Rattle.toml_span_c.specs.Faults.{fault_of}
@@ -13,25 +13,25 @@ use Rattle.toml_span_tree.specs.Value.{view}
 use Rattle.toml_span_tree.specs.declared.error.Error.{Error}
 use Rattle.toml_span_tree.specs.declared.value.Value.{Value}
 
--- the most bytes that a document may have
+-- the maximum length of a document in bytes
 abbrev pub bound : ℕ
 bound = 16777216
 
--- UTF-8 within the bound
+-- UTF-8 of at most this length
 abbrev pub IsText : List ℕ → Type 0
 IsText bytes = (length bytes ≤ bound) × IsUtf8 bytes
 
--- 2 where the bytes are no text within the bound; else 0, 1, or 4 where memory was refused
+-- The status is 2 if the bytes are not such a text; otherwise 0, 1, or 4 if an allocation failed.
 pub record IsStatus (bytes : List ℕ) (status : ℕ) : Type 0 where
   pub unread : ¬ IsText bytes → status ≡ 2
   pub read : IsText bytes → (status ≡ 0) ⊎ ((status ≡ 1) ⊎ (status ≡ 4))
 
--- the bytes are a document
+-- The bytes are a document.
 abbrev pub IsDocument : List ℕ → Type 0
 IsDocument bytes = (root : Value) × IsTree bytes depth_limit root
 
--- The bytes are a document. The arrays have the fronts of its records and of its strings, as far as there was room, and
--- the counts are those of all of them.
+-- The bytes are a document. The arrays begin with its records and its strings, as far as there is room, and the counts
+-- are those of all of them.
 pub record IsRead (bytes : List ℕ) (nodes nodes' : List Record) (strings strings' : List ℕ) (counts : Counts) : Type 0
   where
     pub root : Value
@@ -40,14 +40,14 @@ pub record IsRead (bytes : List ℕ) (nodes nodes' : List Record) (strings strin
     pub strings_are : strings' ≡ filled (tree_strings bytes (view root)) strings
     pub counts_are : counts ≡ tree_counts bytes (view root)
 
--- the bytes are refused, and of what the error tells this holds
+-- The bytes are refused, and P holds for the contents of the error.
 abbrev pub IsRefused : List ℕ → (ErrorContent → Type 0) → Type 0
 IsRefused bytes P = (error : Error) × IsRefusal bytes depth_limit (stops.Fault error) × P (content_of error)
 
--- the record is that of the error
+-- The record is that of the error.
 abbrev pub IsFaultOf : FaultRecord → ErrorContent → Type 0
 IsFaultOf fault error = fault ≡ fault_of error
 
--- an array has the front of a text, as far as there was room, and the number is the length of all of it
+-- The array begins with the text, as far as there is room, and `needed` is the length of all of it.
 abbrev pub Fills : List ℕ → List ℕ → ℕ → List ℕ → Type 0
 Fills out out' needed text = (out' ≡ filled text out) × (needed ≡ length text)

@@ -9,7 +9,7 @@ use Rattle.toml_span_tree.specs.Error.{unquoted_string}
 use Rattle.toml_span_c.specs.Records.{no_span, range_of}
 use Rattle.toml_span_c.specs.declared.faults.FaultRecord.{FaultRecord}
 
--- the number of a kind; 0 of one that no document has
+-- the number of a kind, or 0 for a kind that no document has
 abbrev pub code_number : Kind → ℕ
 code_number unexpected_eof = 1
 code_number exceeded_depth_limit = 2
@@ -30,7 +30,7 @@ code_number (dotted_key_invalid_type first) = 16
 code_number unquoted_string = 17
 code_number _ = 0
 
--- the name of the kind with this number; empty where there is none
+-- the name of the kind with this number, or an empty string
 abbrev pub code_name : ℕ → List ℕ
 code_name code =
     if code == 1 then codes "unexpected-eof"

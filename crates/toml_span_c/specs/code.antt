@@ -1,4 +1,4 @@
--- How the functions of the code share the work: no clause of an export rests on it.
+-- How the functions share the work. No clause of an export depends on it.
 pub mod Filling
 pub mod Sites
 pub mod Answers

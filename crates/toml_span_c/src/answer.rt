@@ -6,7 +6,7 @@ use toml_span::de::parse;
 use toml_span::value::Value;
 use toml_span::{Error, Stop};
 
-/// The most bytes that a document may have.
+/// The maximum length of a document in bytes.
 pub const BOUND: usize = 16_777_216;
 
 /// The answer to the bytes of a document.
@@ -14,7 +14,7 @@ pub const BOUND: usize = 16_777_216;
 pub(crate) enum Answer<'de> {
     Tree(&'de str, Value<'de>),
     Fault(&'de str, Error<'de>),
-    /// Not UTF-8, or longer than the bound.
+    /// Not UTF-8, or too long.
     Unread,
     Memory,
 }

@@ -51,7 +51,7 @@ fn code_number(kind: &ErrorKind<'_>) -> u32
     }
 }
 
-/// The second place of an error.
+/// Returns the second place of an error, if it has one.
 fn first_of(kind: &ErrorKind<'_>) -> Option<Span>
     ensures { result ≡ spec.first_of (kind_of kind.now) }
 {
@@ -63,7 +63,7 @@ fn first_of(kind: &ErrorKind<'_>) -> Option<Span>
     }
 }
 
-/// The record of an error.
+/// Returns the record of an error.
 pub(crate) fn fault_of(error: &Error<'_>) -> FaultRecord
     ensures { result ≡ spec.fault_of (content_of error.now) }
 {

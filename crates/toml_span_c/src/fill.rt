@@ -13,7 +13,7 @@ use crate::records::{
 use toml_span_lex::span::Span;
 use toml_span_tree::{Table, Value};
 
-/// The site of a value: its name and the span of its key, if it has one, and its position in what holds it.
+/// The site of a value: its name and the span of its key, if it has one, and its position in its parent.
 #[derive(Clone, Copy)]
 pub(crate) struct Site<'a> {
     name: Option<&'a str>,
@@ -102,8 +102,8 @@ fn put_record(nodes: &mut [Record], at: usize, added: Record)
     }
 }
 
-/// Returns the record of a value without its `next`, and writes its texts into the strings. It is a function of its
-/// own, and not inlined, since each level of a tree would need room on the stack for what it makes.
+/// Returns the record of a value without its `next`, and writes its texts into the strings. It is a separate function
+/// that is not inlined, so that its temporaries do not take stack at every level of a tree.
 #[inline(never)]
 fn begin_record(
     document: &str,
@@ -146,7 +146,7 @@ fn begin_record(
     }
 }
 
-/// Writes the records of a value, its own before those of what it holds.
+/// Writes the records of a value: its own, followed by those of the values inside it.
 #[cycle(put_value)]
 fn put_value(
     document: &str,
@@ -171,7 +171,7 @@ fn put_value(
     put_record(nodes, at, record);
 }
 
-/// Writes the records of what a value holds.
+/// Writes the records of the values inside a value.
 #[cycle(put_value)]
 fn put_held(
     document: &str,

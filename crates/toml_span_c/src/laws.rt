@@ -1,4 +1,4 @@
-//! Laws of the records.
+//! Laws about the records.
 ghost use Rattle.std.specs.Prelude.{◌≡◌, ◌≢◌, ◌≤◌, ◌+◌, ◌*◌, ℕ, List, length};
 ghost use Rattle.toml_span.specs.Parsing.{IsRefusal, IsTree};
 ghost use Rattle.toml_span_c.specs.Faults.{code_name, code_number};
@@ -16,18 +16,18 @@ pub fn errors_are_numbered()
         → code_number (content_of error).kind ≢ 0 }
 {}
 
-/// The number of a kind has the code of that kind as its name.
+/// The name of a kind's number is the code of that kind.
 pub fn numbers_are_named()
     ensures { (kind : Kind) → code_number kind ≢ 0 → code_name (code_number kind) ≡ code_of kind }
 {}
 
-/// A document has no more records than twice its bytes and one.
+/// A document has at most two records per byte, and one more.
 pub fn records_are_few()
     ensures { (bytes : List ℕ) (limit : ℕ) (root : Value) → IsTree bytes limit root
         → length (tree_records bytes (view root)) ≤ 2 * length bytes + 1 }
 {}
 
-/// The strings of a document have no more bytes than it has.
+/// The strings of a document have at most as many bytes as it has.
 pub fn strings_fit()
     ensures { (bytes : List ℕ) (limit : ℕ) (root : Value) → IsTree bytes limit root
         → length (tree_strings bytes (view root)) ≤ length bytes }

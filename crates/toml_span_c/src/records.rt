@@ -5,13 +5,13 @@ ghost use Rattle.toml_span_c.specs.Records as spec;
 
 use toml_span_tree::ValueInner;
 
-/// The number of no record: the parent of the root.
+/// The number of no record, which is the parent of the root.
 pub const NONE: usize = usize::MAX;
 
 /// The `number` of a record that is not a float.
 pub const NO_NUMBER: f64 = 0.0;
 
-/// Bytes of the document.
+/// A byte span of the document.
 #[repr(C)]
 #[derive(Clone, Copy)]
 pub struct Range {
@@ -38,21 +38,21 @@ pub struct Record {
     pub kind: u32,
     /// 1 for `true`.
     pub truth: u32,
-    /// The bytes of the value.
+    /// The span of the value.
     pub span: Range,
-    /// The bytes of its key; 0..0 if it has none.
+    /// The span of its key; 0..0 if it has none.
     pub key_span: Range,
     /// Its name in a table; empty if it has none.
     pub key: Text,
     /// The text of a string, a float or a date.
     pub text: Text,
-    /// The number of the record of what holds it; `NONE` for the root.
+    /// The number of its parent's record; `NONE` for the root.
     pub parent: usize,
     /// Its position among the values of its parent, counted from 0.
     pub position: usize,
-    /// How many values an array or a table holds.
+    /// The number of values in an array or a table.
     pub children: usize,
-    /// The number of the first record after all that it holds.
+    /// The number of the first record after those of the values inside it.
     pub next: usize,
     /// The integer.
     pub integer: i64,
@@ -60,7 +60,7 @@ pub struct Record {
     pub number: f64,
 }
 
-/// How many records there are, and how many bytes in the strings.
+/// The number of records, and of bytes in the strings.
 #[repr(C)]
 #[derive(Clone, Copy)]
 pub struct Counts {
@@ -117,7 +117,7 @@ pub(crate) fn number_of(inner: &ValueInner<'_>) -> f64
     }
 }
 
-/// Returns how many values an array or a table holds, otherwise 0.
+/// Returns the number of values in an array or a table, otherwise 0.
 pub(crate) fn children_of(inner: &ValueInner<'_>) -> usize
     ensures { result ≡ spec.children_of (inner_view inner.now) }
 {

@@ -4,11 +4,16 @@
 pub mod answer;
 mod dates;
 mod document;
+pub mod every;
 pub mod faults;
+pub mod fixing;
 pub mod folder;
 mod github;
 pub mod input;
+pub mod lints;
+mod patterns;
 pub mod run;
 mod sarif;
 mod shown;
+mod statements;
 pub mod words;

@@ -1,5 +1,10 @@
+pub mod Check
 pub mod Colours
 pub mod Commands
+pub mod Dispatch
+pub mod Explain
 pub mod Options
 pub mod Say
+pub mod Show
 pub mod Start
+pub mod Words

@@ -1,12 +1,21 @@
 //! The command line of toml-span: checks, shows and edits TOML files.
 #![tactic(auto)]
 
+ghost use Rattle.std.specs.Prelude.{◌≤◌, IfOk};
+
+mod answers;
+mod arguments;
+mod changes;
+mod check;
 mod colours;
 mod commands;
 mod dispatch;
 mod edit;
+mod explain;
 mod files;
+mod fmt;
 mod help;
+mod making;
 mod options;
 mod say;
 mod show;
@@ -23,18 +32,23 @@ use toml_span_check::input::Host;
 use toml_span_lines::told::Told;
 
 /// Runs the program, and returns its exit status.
-fn status_of(rt: HostRuntime) -> Result<u8, AllocError> {
+fn status_of(rt: HostRuntime) -> Result<u8, AllocError>
+    ensures { IfOk result (λ status. status ≤ 4) }
+{
     let alloc = rt.alloc();
     let words = given_words(&rt)?;
     let out = rt.stdout();
     let is_coloured = wants_colours(&rt, out.is_terminal())?;
     let mut out = Told::new(out);
-    let mut errors = Told::new(rt.stderr());
+    let errors = rt.stderr();
+    let is_watched = errors.is_terminal();
+    let mut errors = Told::new(errors);
     let mut host = Host { rt };
     dispatch(
         alloc,
         words.as_slice(),
         is_coloured,
+        is_watched,
         &mut host,
         &mut out,
         &mut errors,

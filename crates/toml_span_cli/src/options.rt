@@ -32,9 +32,13 @@ pub(crate) struct Options<'w> {
     pub(crate) task: Task,
     /// The path of the value to show: empty for the whole document.
     pub(crate) pointer: &'w str,
+    /// The patterns of what is left out of directories.
+    pub(crate) excludes: Vec<&'w str>,
     pub(crate) names: Vec<&'w str>,
     /// Write nothing.
     pub(crate) is_quiet: bool,
+    /// Make safe replacements before.
+    pub(crate) is_fixing: bool,
 }
 
 /// What is wrong with arguments that clap takes.
@@ -68,6 +72,14 @@ fn choice<'w>(alloc: Global, name: &'w str, default: &'w str) -> Arg<'w>
     ensures own { result.global ≡ false }
 {
     Arg::new(alloc, name).long(name).default_value(default)
+}
+
+/// An option that can be given several times.
+fn several<'w>(alloc: Global, name: &'w str) -> Arg<'w>
+    ensures rule { rule_of result ≡ spec.several name.entry.now }
+    ensures own { result.global ≡ false }
+{
+    Arg::new(alloc, name).long(name).action(ArgAction::Append)
 }
 
 /// The names of files.
@@ -104,6 +116,8 @@ fn check_command<'w>(alloc: Global) -> Result<Command<'w>, AllocError>
 {
     common(alloc, "toml-span check", CHECK)?
         .arg(flag(alloc, "quiet"))?
+        .arg(flag(alloc, "fix"))?
+        .arg(several(alloc, "exclude"))?
         .arg(files(alloc))
 }
 
@@ -293,7 +307,8 @@ pub(crate) fn options_of<'w>(
     is_terminal: bool,
 ) -> Result<Options<'w>, Error>
     ensures ok { IfOk result (λ o. spec.Asks reader (map (λ w. string_bytes w) words.entry.now) is_terminal
-        o.format o.task o.pointer.now (map (λ name. name.now) o.names.items) o.is_quiet) }
+        o.format o.task o.pointer.now (map (λ pattern. pattern.now) o.excludes.items)
+        (map (λ name. name.now) o.names.items) o.is_quiet o.is_fixing) }
     ensures fails { FailsBy (spec.faults reader (map (λ w. string_bytes w) words.entry.now) is_terminal) result }
 {
     let mut command = command(alloc, reader)?;
@@ -303,8 +318,10 @@ pub(crate) fn options_of<'w>(
             format,
             task,
             pointer: value_of(&matches, "PATH"),
+            excludes: Vec::from_slice(alloc, matches.get_strs("exclude").unwrap_or(&[]))?,
             names: Vec::from_slice(alloc, matches.get_strs("FILE").unwrap_or(&[]))?,
             is_quiet: is_given(&matches, "quiet"),
+            is_fixing: is_given(&matches, "fix"),
         }),
         Err(mistake) => Err(command.error(kind_of(mistake), message_of(mistake))?),
     }

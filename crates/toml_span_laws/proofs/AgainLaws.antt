@@ -43,7 +43,7 @@ document_spelled v text limit d i j deep h =
 
 -- ---- the values of a document
 
--- a value whose span is from where it begins to where it ends
+-- a value whose span is the text that spells it
 pub at-span : (v : ParsedValue) (text : List ℕ) (limit d i j : ℕ) → 1 ≤ d → Spells v text limit d i j → parsed_span v ≡ from_to i j → ReadsAgain text limit v
 at-span v text limit d i j deep h e = subst (λ (s : Span). SpellsAgain v text limit s.start s.end) (sym e) (document_spelled v text limit d i j deep h)
 

@@ -1,4 +1,4 @@
--- A part of a text that ends another one: runs, gaps and strings that stand in the part stand in its copy.
+-- A part of a text that another text ends with: runs, gaps and strings in the part are also in its copy.
 use Rattle.toml_span_lex.proofs.Common.{◌≡◌, ℕ, ◌+◌, ◌-◌, ◌<◌, ◌⊎◌, Bool, true, false, List, [], ◌∷◌, length, get_or, arith, inl, inr, sym, ◌∙◌, refl, ◌==◌, cases_lt, false≢true, false_from_ne_true, get_or_past, nat_tests, common_steps, ◌≤◌, ◌++◌, take, drop, subst}
 use Rattle.toml_span_lex.specs.Bytes.{is_blank, is_printed, MaximalRun}
 use Rattle.toml_span_lex.specs.Pieces.{is_ws_or_newline, is_plain, WsAndNewlines, IsDropped, IsPiece, piece_value, IsClose}
@@ -32,7 +32,7 @@ module _ {a b : List ℕ} {s t : ℕ} (w : Copied a b s t (length b) 0) where
     to = λ i j k l u v h. (let some = h.0 in (omega arith, (runs p).to i j k l u v h.1, h.2 ∙ same_range w i j k l (omega arith) u v));
   }
 
-  -- a run that may go on behind the copy's end
+  -- a run that may extend past the end of the copy
   pub run_cut : (p : ℕ → Bool) (i j k : ℕ) → At s t (length b) 0 i k → MaximalRun p a i j → (l : ℕ) × MaximalRun p b k l × ((j + t ≡ l + s) ⊎ ((l ≡ length b) × (l + s < j + t)))
   run_cut p i j k u r =
       elim (cases_lt (length b + s) (j + t)) [
@@ -112,7 +112,7 @@ module _ {a b : List ℕ} {s t : ℕ} (w : Copied a b s t (length b) 0) where
 pub equal_moved : (s t x y x' y' : ℕ) → x + t ≡ x' + s → y + t ≡ y' + s → (x == y) ≡ (x' == y')
 equal_moved s t x y x' y' e f = grind (arith, nat_tests, common_steps)
 
--- ---- what stands before the closing quotes
+-- ---- what comes before the closing quotes
 
 content_end_moved : (m : Bool) (s t to end to' end' : ℕ) → (m ≡ true → 3 ≤ end) → to ≡ content_end m end → s ≤ to → to < end → to + t ≡ to' + s → end + t ≡ end' + s → to' ≡ content_end m end'
 content_end_moved m s t to end to' end' n e o l f g = grind (arith, nat_tests, common_steps)

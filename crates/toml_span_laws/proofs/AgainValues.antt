@@ -1,4 +1,4 @@
--- Numbers, dates and values that stand in a part of a text stand in its copy.
+-- Numbers, dates and values in a part of a text are also in its copy.
 use Rattle.toml_span_lex.proofs.Common.{◌≡◌, ℕ, ◌+◌, ◌-◌, ◌<◌, ◌≤◌, Bool, true, false, List, length, get_or, arith, inl, inr, sym, ◌∙◌, refl, ◌==◌, ◌&&◌, false≢true, and_parts, and_from, false_from_ne_true, nat_tests, common_steps, [], ◌∷◌, ◌++◌, map, ap, subst, map-append, length-map}
 use Rattle.toml_span_lex.specs.declared.span.Span.{Span}
 use Rattle.toml_span_lex.specs.Bytes.{is_keylike, MaximalRun}
@@ -16,17 +16,17 @@ use Rattle.toml_span_read.specs.Keys.{SpellsSimpleKey, Onward, SpellsKey}
 use Rattle.toml_span_read.specs.Data.{SimpleKey, ParsedValue, parsed, ParsedInner, scalar, array, inline, ParsedItems, no_items, item, ParsedPairs, no_pairs, pair, KeyValue, from_to}
 use Rattle.toml_span_read.specs.Earlier.{part_names, NoneAt, NoneThrough, Clear}
 
--- ---- numbers, truth values and dates
+-- ---- numbers, booleans and dates
 
--- a run goes on over a byte that passes
+-- a run extends over a byte that passes
 covers : (p : ℕ → Bool) (a : List ℕ) (i j x : ℕ) → p 0 ≡ false → MaximalRun p a i j → x ≤ j → p (get_or a x 0) ≡ true → x < j
 covers p a i j x z r l h = grind (arith, nat_tests, common_steps)
 
--- behind a space the run of a date goes on
+-- after a space the run of a date continues
 second_run : (a : List ℕ) (i j : ℕ) → continues_date a (i + 10) ≡ true → MaximalRun is_date_byte a (i + 11) j → i + 11 < j
 second_run a i j h r = grind (arith, nat_tests, common_steps)
 
--- a date's first run
+-- the first run of a date
 first_run : (a : List ℕ) (i j : ℕ) → IsCandidate a i j → (n : ℕ) × MaximalRun is_date_byte a i n × (n ≤ j)
 first_run a i j (inl (r, n)) = let z : j ≤ j = omega arith in (j, r, z)
 first_run a i j (inr (r, c, more)) = (i + 10, r, omega (arith, second_run a i j c more))
@@ -99,7 +99,7 @@ none_moved : (s t : ℕ) (names : List (List ℕ)) (es : List KeyValue) → None
 none_moved s t names [] h = tt
 none_moved s t names (e ∷ es) (h, more) = ((λ x. h (sym (path_moved s t e.parts) ∙ x)), none_moved s t names es more)
 
--- a list with the names of one that is cut
+-- a list with the same names as one that is split
 record CutAt (ps xs : List SimpleKey) (y : SimpleKey) (ys : List SimpleKey) : Type 0 where
   before : List SimpleKey
   here : SimpleKey
@@ -159,7 +159,7 @@ module _ {a b : List ℕ} {s t : ℕ} (w : Copied a b s t (length b) 0) where
   front ss v x limit c d again = said (λ i j h. ((h.0, h.2, (h.1, h.4, h.5)), (h.3, h.6))) (λ k l h. (h.0.0, h.0.2.0, h.0.1, h.1.0, h.0.2.1, h.0.2.2, h.1.1))
       (also {P = λ i j. (length ss ≤ limit) × (x ≡ from_to i j)} {Q = λ k l. (length (moved_parts s t ss) ≤ limit) × (moved_span s t x ≡ from_to k l)} (behind (dotted ss) (behind (sign w 61) again)) (λ i j k l o u v h z. (omega (arith, length_moved s t ss, z.0), spans w u v z.1)))
 
-  -- a bracket, and what stands behind it
+  -- a bracket, and what follows it
   opened : (c : ℕ) (span : Span) {R S : ℕ → ℕ → Type 0} → To R S
       → To (λ i j. (get_or a i 0 ≡ c) × (span ≡ from_to i j) × (k : ℕ) × MaximalGap a (i + 1) k × R k j) (λ i j. (get_or b i 0 ≡ c) × (moved_span s t span ≡ from_to i j) × (k : ℕ) × MaximalGap b (i + 1) k × S k j)
   opened c span x = said (λ i j h. ((h.0, (h.2, h.3, h.4)), h.1)) (λ k l h. (h.0.0, h.1, h.0.1.0, h.0.1.1, h.0.1.2)) (also (first w (λ x. x) c (behind (gap w) x)) (λ i j k l o u v h z. spans w u v z))

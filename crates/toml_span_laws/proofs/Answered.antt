@@ -1,4 +1,4 @@
--- Each document has a tree or a first clash, and one only.
+-- Each text has exactly one outcome: a tree, a first clash or a fault.
 use Rattle.toml_span_lex.proofs.Common.{◌≡◌, ℕ, arith, List, Some, None, Result, Ok, Err, sym, ap, ◌∙◌, subst, ◌⊎◌, inl, inr, none-some, nat_tests, common_steps}
 use Rattle.toml_span_lex.specs.declared.stop.Stop.{Stop}
 use Rattle.toml_span_lex.specs.declared.stop.Stop.TheVariants as stops

@@ -1,4 +1,4 @@
--- No two keys of a document start at one place.
+-- No two keys of a document start at the same offset.
 use Rattle.toml_span_lex.proofs.Common.{◌≡◌, ℕ, ◌<◌, ◌⊎◌, List, [], ◌∷◌, ◌++◌, Option, Some, length, arith, refl, sym, ap, ◌∙◌, inl, inr, ⊤, option_and_then, none-some, option_and_then_some, nat_tests, common_steps}
 use Rattle.toml_span_lex.specs.declared.span.Span.{Span}
 use Rattle.toml_span_tree.specs.Path.{Path, key, Place, place_at}
@@ -30,7 +30,7 @@ pub in-cases : (c : Claim) (xs ys : List Claim) → IsIn c (xs ++ ys) → IsIn c
 in-cases c [] ys h = inr h
 in-cases c (x ∷ xs) ys h = grind (arith, nat_tests, common_steps, in-cases c xs)
 
--- R holds of each claim and each behind it
+-- R holds for each claim and each one after it
 abbrev pub Pairs : (Claim → Claim → Type 0) → List Claim → Type 0
 Pairs R [] = ⊤
 Pairs R (c ∷ cs) = ((d : Claim) → IsIn d cs → R c d) × Pairs R cs
@@ -56,7 +56,7 @@ each-in (scope inner cs) l f = grind (arith, nat_tests, common_steps, each-in in
 
 -- ---- claims that ascend
 
--- the claim starts behind the other, or it is an entry
+-- the claim starts after the other, or it is that of an entry
 abbrev pub IsLater : Claim → Claim → Type 0
 IsLater c d = (claim_start c < claim_start d) ⊎ (d.mark.sort ≡ TableElement)
 
@@ -83,14 +83,14 @@ rising-keyed c (d ∷ ds) i j r (inr later) = rising-keyed c ds (claim_start d) 
 pub strictly : (c d : Claim) → IsLater c d → (d.mark.sort ≡ TableElement → ⊥) → claim_start c < claim_start d
 strictly c d h plain = grind (arith, nat_tests, common_steps)
 
--- two claims that start at one place are one, if neither is an entry
+-- two claims that start at the same offset are the same, if neither is that of an entry
 one-claim : (c d : Claim) (l : List Claim) → Pairs IsLater l → IsIn c l → IsIn d l → (c.mark.sort ≡ TableElement → ⊥) → (d.mark.sort ≡ TableElement → ⊥) → claim_start c ≡ claim_start d → c ≡ d
 one-claim c d [] r h g f e at = absurd h
 one-claim c d (x ∷ xs) r h g f e at = grind (arith, nat_tests, common_steps, one-claim c d xs)
 
 -- ---- keys
 
--- the claim of the list that says where the key at a path stands
+-- the claim in the list that determines the span of the key at a path
 record ClaimAt (l : List Claim) (p : Path) (k : Span) : Type 0 where
   claim : Claim
   on : claim.path ≡ p

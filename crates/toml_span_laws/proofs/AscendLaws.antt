@@ -1,4 +1,4 @@
--- Where a text spells a document, its headers, keys and values stand one behind the other, and their starts rise.
+-- In a text that spells a document, its headers, keys and values follow each other, and their starts ascend.
 use Rattle.toml_span_lex.proofs.Common.{◌≡◌, ◌⊎◌, inl, inr, refl, ℕ, ◌+◌, ◌≤◌, Bool, false, List, [], ◌∷◌, ◌++◌, length, arith, zero, suc, ◌<◌, get_or, IsStrictlyIncreasing, nat_tests, common_steps}
 use Rattle.toml_span_read.specs.Data.{KeyValue, Block, ParsedValue, parsed, scalar, array, inline, ParsedItems, no_items, item, ParsedPairs, no_pairs, pair, last_end, first_block, SimpleKey}
 use Rattle.toml_span_read.specs.Places.{Ascend}
@@ -14,7 +14,7 @@ ascend_wide : (ps : List SimpleKey) (h i j k : ℕ) → h ≤ i → j ≤ k → 
 ascend_wide [] h i j k a b x = omega (arith, a, b, x)
 ascend_wide (p ∷ ps) h i j k a b (x, y, z) = (omega (arith, a, x), y, ascend_wide ps p.span.end p.span.end j k (omega arith) b z)
 
--- the assignments from i on, behind n
+-- the assignments from i on, which begin at n or after it
 key_values_ascend : (es before : List KeyValue) (text : List ℕ) (limit n i j : ℕ) → n ≤ i → KeyValuesWith SpellsScalar es before text limit i j → KeyValuesAscend es n (last_end n es) × (last_end n es ≤ j)
 key_values_ascend [] before text limit n i j l h = (omega arith, omega (arith, l, h))
 key_values_ascend (e ∷ es) before text limit n i j l (m, q, k, h, t, c, g, r) =
@@ -45,16 +45,16 @@ first_ascend (e ∷ es) text limit k i j bs h r =
 pub document_ascends : (bs : List Block) (text : List ℕ) (limit : ℕ) → SpellsDocument bs text limit → BlocksAscend bs 0 (length text)
 document_ascends bs text limit x = rw x.all (first_ascend x.first text limit x.lines.0 x.start x.end x.rest x.lines.2 x.sections)
 
--- ---- the sections of a document, one like the other
+-- ---- the sections of a document, with and without a header
 
--- the parts of a header, behind its bracket; or none
+-- the parts of a header, after its bracket; or none
 abbrev pub HeaderFrom : Block → ℕ → ℕ → Type 0
 HeaderFrom b i j = ((b.header ≡ []) × (i ≤ j)) ⊎ ((i ≤ b.header_span.start) × Ascend b.header (b.header_span.start + 1) j)
 
 pub header_from : (b : Block) (i j : ℕ) → HeaderFrom b i j → Ascend b.header i j
 header_from b i j h = elim h [ inl (none, on) ↦ rw none on | inr (on, a) ↦ ascend_wide b.header i (b.header_span.start + 1) j j (omega (arith, on)) (omega arith) a ]
 
--- from i to n stand these sections: each has its header, if it has one, and assignments
+-- Between i and n there are these sections: each has its header, if it has one, and assignments.
 abbrev pub AreBlocks : List Block → List ℕ → ℕ → ℕ → ℕ → Type 0
 AreBlocks [] text limit i n = i ≤ n
 AreBlocks (b ∷ bs) text limit i n =
@@ -82,9 +82,9 @@ first_blocks (e ∷ es) bs text limit i j n h rest = (0, i, j, inl (refl, omega 
 pub document_blocks : (bs : List Block) (text : List ℕ) (limit : ℕ) → SpellsDocument bs text limit → AreBlocks bs text limit 0 (length text)
 document_blocks bs text limit x = rw x.all (first_blocks x.first x.rest text limit x.lines.0 x.end (length text) x.lines.2 (λ h l. section_blocks x.rest text limit h x.end l x.sections))
 
--- ---- where headers, keys, arrays and inline tables start
+-- ---- the starts of headers, keys, arrays and inline tables
 
--- from i to before j the numbers rise
+-- between i and j (exclusive) the numbers ascend
 abbrev Rising : List ℕ → ℕ → ℕ → Type 0
 Rising [] i j = i ≤ j
 Rising (n ∷ ns) i j = (i ≤ n) × Rising ns (n + 1) j
@@ -165,9 +165,9 @@ document_starts_rise bs text limit d = blocks_starts_rise bs text limit 0 (docum
 pub document_starts_increase : (bs : List Block) (text : List ℕ) (limit : ℕ) → SpellsDocument bs text limit → IsStrictlyIncreasing (block_starts bs)
 document_starts_increase bs text limit d = rising_increases (block_starts bs) 0 (length text) (document_starts_rise bs text limit d)
 
--- ---- keys alone
+-- ---- keys only
 
--- where the second list rises, the first does
+-- if the second list ascends, so does the first
 abbrev Fewer : List ℕ → List ℕ → Type 0
 Fewer ms ns = (i j : ℕ) → Rising ns i j → Rising ms i j
 

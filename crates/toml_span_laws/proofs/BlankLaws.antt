@@ -1,11 +1,11 @@
--- A gap before a form is blank lines, and the spaces and tabs before it.
+-- The gap before a form consists of blank lines, and the spaces and tabs before it.
 use Rattle.toml_span_lex.proofs.Common.{◌≡◌, ℕ, ◌+◌, ◌-◌, zero, suc, ◌<◌, ◌≤◌, ◌⊎◌, true, false, List, [], ◌∷◌, ◌++◌, length, get_or, arith, inl, inr, sym, refl, ◌==◌, nat_tests, common_steps}
 use Rattle.toml_span_lex.specs.Bytes.{is_blank, is_printed, MaximalRun}
 use Rattle.toml_span_lex.specs.Text.{LineEnd}
 use Rattle.toml_span_read.specs.Gaps.{GapPiece, GapBy, MaximalGap, begins_gap, Skipped, Tail, BlankLines, BehindLines}
 use Rattle.toml_span_read.proofs.InsideLemmas.{tail_inside}
 
--- blank lines, and the spaces and tabs behind them
+-- blank lines, and the spaces and tabs after them
 abbrev pub Blank : List ℕ → ℕ → ℕ → Type 0
 Blank text i j = (ks : List ℕ) × (k : ℕ) × BlankLines text i ks k × MaximalRun is_blank text k j
 
@@ -50,7 +50,7 @@ blank_of (k ∷ ks) text i j (inr (inr (h, r)), rest) n d l = add_comment text i
 pub gap_lines : (text : List ℕ) (i j : ℕ) → MaximalGap text i j → BehindLines text j → (ks : List ℕ) × (k : ℕ) × BlankLines text i ks k × MaximalRun is_blank text k j
 gap_lines text i j g d = blank_of g.ends text i j g.pieces g.stops d (grind (arith, nat_tests, common_steps))
 
--- ---- and the other way round
+-- ---- and conversely
 
 gap_join : (ks ls : List ℕ) (text : List ℕ) (i j k : ℕ) → GapBy text i ks j → GapBy text j ls k → GapBy text i (ks ++ ls) k
 gap_join [] ls text i j k a b = rw a b

@@ -1,4 +1,4 @@
--- The text of a float that is read spells the float by itself.
+-- The stored text of a float is itself a spelling of that float.
 use Rattle.toml_span_lex.proofs.Common.{◌≡◌, ℕ, zero, suc, ◌+◌, ◌-◌, ◌<◌, ◌≤◌, ◌⊎◌, Bool, true, false, cond, List, [], ◌∷◌, ◌++◌, map, filter, length, get_or, drop, arith, inl, inr, sym, ◌∙◌, refl, ap, subst, length-append, length-take, length-drop, ◌==◌, ◌||◌, not, slice_range, or_cases, false_from_ne_true, get_or_past, get_or-take, map-append, drop_at, filter-append, nat_tests, common_steps}
 use Rattle.std.proofs.lemmas.Bool.{eqb-true}
 use Rattle.std.proofs.lemmas.List.{get_or-drop}
@@ -12,7 +12,7 @@ use Rattle.toml_span_read.proofs.NumbersMove.{Plain, plain_in}
 use Rattle.toml_span_read.proofs.Undated.{no_date}
 use Rattle.toml_span_read.proofs.Parts.{Part, same_part, here, byte_at, empty_range, range, whole}
 
--- ---- what cleaning does
+-- ---- what storing changes
 
 abbrev kept : ℕ → Bool
 kept c = not (c == 43 || c == 95)
@@ -20,7 +20,7 @@ kept c = not (c == 43 || c == 95)
 abbrev capital : ℕ → ℕ
 capital c = cond (c == 101) 69 c
 
--- one byte of what is cleaned
+-- one byte of the stored text
 cleaned_kept : (c : ℕ) (cs : List ℕ) → kept c ≡ true → cleaned (c ∷ cs) ≡ capital c ∷ cleaned cs
 cleaned_kept c cs h = rw h refl
 
@@ -52,7 +52,7 @@ cleaned_digits (c ∷ cs) h k l =
       | inr low ↦ let e : c ≡ 95 = eqb-true c 95 low in rw e (more k (rw e at l))
     ]
 
--- digits from a to b that are cleaned
+-- digits from a to b, as they are stored
 record Cleaned (text : List ℕ) (a b : ℕ) : Type 0 where
   plain : Plain (cleaned (slice_range text a b))
   first : get_or (cleaned (slice_range text a b)) 0 0 ≡ get_or text a 0
@@ -87,13 +87,13 @@ one_byte text a l = slice_cons text a (a + 1) (omega arith) (omega arith) ∙ (r
 clean_sign : (text : List ℕ) (a : ℕ) → a < length text → IsSign (cleaned (slice_range text a (behind_sign text a)))
 clean_sign text a l = grind (arith, nat_tests, common_steps)
 
--- ---- what is cleaned, as it stands
+-- ---- the stored text, unchanged
 
--- behind a sign, if one is there, a digit
+-- after a sign, if there is one, a digit
 signed_in : {text rest : List ℕ} {i j : ℕ} (s : List ℕ) → IsSign s → Part text s rest i j → is_digit_in 10 (get_or text j 0) ≡ true → behind_sign text i ≡ j
 signed_in s h g other = grind (arith, nat_tests, common_steps)
 
--- a letter or a dot, which stays
+-- a letter or a dot, which is kept
 abbrev Mark : ℕ → Type 0
 Mark c = (is_exponent c ≡ true) ⊎ (c ≡ 46)
 
@@ -119,7 +119,7 @@ module _ (text : List ℕ) (i j : ℕ) (fits : j ≤ length text) where
   abbrev Clean : ℕ → ℕ → List ℕ
   Clean a b = cleaned (slice_range text a b)
 
-  -- where what stands at m stands in what is cleaned
+  -- the offset in the stored text of the byte at m
   abbrev To : ℕ → ℕ
   To m = length (Clean i m)
 

@@ -24,11 +24,11 @@ use Rattle.toml_span_read.proofs.NumberComplete.{number_complete}
 use Rattle.toml_span_read.proofs.ReadSound.{onto_more, pairs_onto_more, SpellsPair}
 use Rattle.toml_span_read.proofs.ValueRead.{levels}
 
--- a byte that p passes is none that it does not
+-- a byte that passes differs from one that does not
 not_at : (p : ℕ → Bool) (c k : ℕ) → p c ≡ true → p k ≡ false → (c == k) ≡ false
 not_at p c k h n = is_false (c == k) (λ e. clash p c k h (byte_is c k e) n)
 
--- where a byte stands that passes, the text does not end
+-- the text does not end at a byte that passes
 not_end : (p : ℕ → Bool) (text : List ℕ) (i : ℕ) → p 0 ≡ false → p (get_or text i 0) ≡ true → (i == length text) ≡ false
 not_end p text i z h = let l = here p text i z h in ne_eqb i (length text) (λ e. omega (arith, l, e))
 
@@ -56,7 +56,7 @@ key_complete (s ∷ ss) header text (suc n) i j (m, k, rest) few = inl ((s, m), 
 is_signed : (t : List ℕ) (i : ℕ) → (begins_number (get_or t i 0) ≡ true) ⊎ (behind_sign t i ≡ i)
 is_signed t i = grind (arith, nat_tests, common_steps)
 
--- a number begins here, and no other word
+-- a number begins here, and not another word
 abbrev Begins : List ℕ → ℕ → Type 0
 Begins t i = ((begins_number (get_or t i 0) || is_some (special false (read.run_at t i))) ≡ true) × (begins_bare (get_or t i 0) ≡ true)
 
@@ -135,7 +135,7 @@ key_value_complete e text limit left skipped i a n b j k few s h t v x =
     let under = levels text limit left (length e.parts) b (Ok (e.value, j)) v in
     inl ((e.parts, a), key_complete e.parts false text limit i a k few, (n, s, inl (same_byte _ 61 h, (b, t, inl ((e.value, j), under, ap (λ z. Ok (record { parts = e.parts; value = e.value; extent = z }, j)) x)))))
 
--- of a pair whose value is read
+-- the pair, if its value is read
 pair_given : (e : KeyValue) (text : List ℕ) (limit left d i j : ℕ) → (p : SpellsPair e text limit d i j) → read.value text limit (left - length e.parts) zero p.1 (Ok (e.value, j))
     → read.keyval text limit (MaximalGap text) (read.value text limit left) i (Ok (e, j))
 pair_given e text limit left d i j (a, b, k, few, s, h, x) v = key_value_complete e text limit left (MaximalGap text) i a s.at b j k few s.before s.here s.behind v x

@@ -63,11 +63,11 @@ document_within ss text limit h = blocks_within ss text limit 0 (length text) (d
 
 -- ---- paths
 
--- the path has no more keys, and no more than twice as many steps, as a header may have parts, and d more
+-- the path has at most d more keys than a header may have parts, and at most d more steps than twice as many
 abbrev Fits : ℕ → ℕ → Path → Type 0
 Fits limit d p = (keys_in p ≤ limit + d) × (length p ≤ 2 * limit + d)
 
--- a header whose other parts lead to the path may go on with these ones
+-- a header whose earlier parts lead to the path may continue with these ones
 abbrev HasRoom : ℕ → Path → List SimpleKey → Type 0
 HasRoom limit p parts = (keys_in p + length parts ≤ limit) × (length p + 2 * length parts ≤ 2 * limit)
 
@@ -95,7 +95,7 @@ fits-at limit d e p i fits l = let here = at p i in (omega (arith, fits.0, here.
 fits-on : (limit d e : ℕ) (p : Path) → Fits limit d p → d ≤ e → Fits limit e p
 fits-on limit d e p fits l = (omega (arith, fits.0), omega (arith, fits.1))
 
--- behind a part that a header passes
+-- after a part through which a header passes
 passes : (limit : ℕ) (e : Path → ℕ) (p : Path) (k : SimpleKey) (parts : List SimpleKey) → HasRoom limit p (k ∷ parts) → HasRoom limit (enter (e (with_key p k)) (with_key p k)) parts
 passes limit e p k parts room = grind (arith, nat_tests, common_steps, below p k, entered (e (with_key p k)) (with_key p k))
 
@@ -130,7 +130,7 @@ key-depth limit d p (k ∷ l ∷ more) v inside fits few h = (
 deep : (limit d : ℕ) (v : ParsedValue) → Within limit d v → d ≤ limit
 deep limit d (parsed k span) h = h.0
 
--- each bracket round a value is a step at most, and each part of a key is one
+-- each bracket around a value is at most one step, and each part of a key is one
 mutual
   unfolding value_claims inner_claims item_claims pair_claims
 
@@ -189,8 +189,8 @@ blocks-depth limit earlier (b ∷ bs) text i (s, k, j, start, few, plain, on, li
     (key_values-depth limit b.key_values [] (section_path e b) text k j (section-fits limit e b b.header refl plain few) lines))
     (blocks-depth limit (b ∷ earlier) bs text j rest)
 
--- No path of the flat document has more keys than a header and an assignment together. To its steps the positions of the entries of
--- arrays of tables come, and of the elements of arrays.
+-- No path of the flat document has more keys than a header and an assignment together. Its other steps are the
+-- positions of entries of arrays of tables and of elements of arrays.
 flat-fits : (text : List ℕ) (limit l : ℕ) (bs : List Block) (p : Path) (x : Place) → SpellsDocument bs text limit → flat l (claims bs) p ≡ Some x → Fits limit limit p
 flat-fits text limit l bs [] x spelled is = (omega arith, omega arith)
 flat-fits text limit l bs (s ∷ p) x spelled is =

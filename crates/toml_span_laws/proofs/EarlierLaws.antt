@@ -1,4 +1,4 @@
--- Clear keys and crossing keys.
+-- Keys that go through earlier values, and keys that do not.
 use Rattle.toml_span_lex.proofs.Common.{◌≡◌, ℕ, ◌⊎◌, inl, inr, List, [], ◌∷◌, ◌++◌, append_assoc, refl, sym, ap, subst, ◌∙◌, arith, nat_tests, common_steps}
 use Rattle.std.proofs.lemmas.List.{append-nil}
 use Rattle.toml_span_lex.specs.declared.span.Span.{Span}
@@ -9,7 +9,7 @@ use Rattle.toml_span_read.specs.Earlier.{part_names, NoneAt, EarliestAt, NoneThr
 use Rattle.toml_span_read.proofs.EarlierLemmas.{snoc_same, clear_of, through_none}
 use Rattle.toml_span_read.proofs.EarlierKnows.{same_path, behind_part}
 
--- one list is cut in two places: they are the same place, or one is before the other
+-- one list is split at two places: they are the same, or one is before the other
 abbrev Cuts : {A : Type 0} → List A → A → List A → A → Type 0
 Cuts {A} xs x ys y =
     ((xs ≡ ys) × (x ≡ y))
@@ -66,9 +66,9 @@ crossing_one earlier next f g c d = go (cuts c.outer d.outer (c.more ∷ c.rest)
     go (inr (inl (zs, e))) = absurd (none_earliest _ earlier c.first (d.outermost c.outer c.part zs e) c.met)
     go (inr (inr (zs, e))) = absurd (none_earliest _ earlier d.first (c.outermost d.outer d.part zs e) d.met)
 
--- ---- every key is clear or crosses
+-- ---- every key goes through an earlier value, or through none
 
--- the values at a path: there is none, or there is an earliest one
+-- the values at a path: either none, or an earliest one
 EarliestOrNone : List (List ℕ) → List KeyValue → Type 0
 EarliestOrNone names key_values = NoneAt names key_values ⊎ ((first : Span) × EarliestAt names key_values first)
 
@@ -116,7 +116,7 @@ none_push outer p key_values none here front q (r ∷ rest) split =
     let cut = snoc_same outer (front ++ (q ∷ end.0)) p end.1 (split ∙ ap (λ l. front ++ (q ∷ l)) end.2 ∙ sym (append_assoc front (q ∷ end.0) (end.1 ∷ []))) in
     none front q end.0 cut.0
 
--- the key is clear, or it crosses
+-- the key goes through an earlier value, or through none
 Judged : List KeyValue → KeyValue → Type 0
 Judged earlier next = Clear earlier next ⊎ ((fault : Fault) × Crossing earlier next fault)
 

@@ -1,4 +1,5 @@
--- A document, worked by evaluation: what it claims, that it resolves, what stands at its paths, and its tree.
+-- A worked example, by evaluation: the claims of a document, that they do not clash, the places at its paths, and its
+-- tree.
 use Rattle.toml_span_lex.proofs.Common.{◌≡◌, refl, ⊤, ℕ, ◌+◌, Bool, false, List, [], ◌∷◌, map, length, Option, Some, None, codes, pos}
 use Rattle.toml_span_lex.specs.declared.span.Span.{Span}
 use Rattle.toml_span_tree.specs.Node as tree
@@ -34,7 +35,7 @@ digit n i = parsed (scalar (integer (pos n))) (at i (i + 1))
 abbrev key_value : ℕ → ℕ → List SimpleKey → ParsedValue → KeyValue
 key_value i j parts v = record { parts = parts; value = v; extent = at i j }
 
--- a header whose line is from i to j, in double brackets or not, and the assignments behind it
+-- a header whose line is from i to j, in double brackets or not, and the assignments after it
 abbrev header : Bool → ℕ → ℕ → List SimpleKey → List KeyValue → Block
 header double i j parts key_values = record { header = parts; array = double; header_span = at i j; extent = at i (last_end j key_values); key_values = key_values }
 
@@ -75,12 +76,13 @@ abbrev /a/0 : Path
 
 -- ---- how claims, places and trees are written
 
--- a table or an array, claimed at a path by a key: the key's bytes, the header's line and what the place spans
+-- a table or an array, claimed at a path by a key: the span of the key, the line of the header and the span of the
+-- place
 abbrev claims_table : Sort → Path → List ℕ → Span → Span → Span → Claim
 claims_table sort path name k line extent =
     table_claim path (record { name = name; span = k }) (record { sort = sort; key = k; line = line; extent = extent })
 
--- a value: the key's bytes, what it is, and its bytes
+-- a value: the span of its key, its shape and its span
 abbrev claims_value : Path → List ℕ → Span → Shape → Span → Claim
 claims_value path name k shape span =
     record {
@@ -90,7 +92,7 @@ claims_value path name k shape span =
       place = record { shape = shape; key_span = Some k; span = span };
     }
 
--- these claims, and then those
+-- these claims, followed by the rest
 abbrev in_order : List Claim → Claims → Claims
 in_order [] rest = rest
 in_order (first ∷ more) rest = claimed first (in_order more rest)
@@ -98,7 +100,7 @@ in_order (first ∷ more) rest = claimed first (in_order more rest)
 abbrev number : ℕ → Shape
 number n = shape_scalar (integer (pos n))
 
--- what stands at a key
+-- the place at a key
 abbrev keyed : Shape → Span → Span → Option Place
 keyed shape name span = Some (record { shape = shape; key_span = Some name; span = span })
 

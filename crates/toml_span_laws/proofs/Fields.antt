@@ -1,4 +1,4 @@
--- What a helper over a table reads is what stands there in the flat document.
+-- What a helper over a table reads is what the flat document has there.
 use Rattle.toml_span_lex.proofs.Common.{◌≡◌, ◌↔◌, ℕ, Bool, true, false, cond, List, [], ◌∷◌, ◌++◌, Option, Some, None, option_map, Result, Ok, Err, IsOk, MatchOption, refl, sym, ap, ◌∙◌, subst, inl, inr, bytes_eq, AllocError, cases_Bool, arith, nat_tests, common_steps}
 use Rattle.toml_span_lex.specs.declared.span.Span.{Span}
 use Rattle.toml_span_lex.specs.declared.stop.Stop.{Stop}
@@ -22,7 +22,7 @@ use Rattle.toml_span.proofs.Ordered.{same-name, first-entry, later-entry}
 use Rattle.toml_span_laws.proofs.OneTree.{At, shown, not-again}
 use Rattle.toml_span_laws.proofs.Pointed.{part-value, node-reached}
 
--- ---- entries without one of a name
+-- ---- the entries without those of one name
 
 turned : (a b : List ℕ) → bytes_eq a b ≡ false → bytes_eq b a ≡ false
 turned a b h = grind (arith, nat_tests, common_steps, same-name b a, same_step-self (key a))
@@ -70,7 +70,7 @@ opens-some places (node k at) h = (λ opened. absurd (let is = opened.1 in cc), 
 
 -- ---- reads
 
--- what is found under a name stands at that key
+-- what is found under a name is at that key
 found-there : (o : Option At) (t : Option Place) (A : Type 0) (B : Node → Type 0) (C : Place → Type 0) → shown o [] ≡ t → MatchOption (option_map (λ e. e.1) o) A B
     → ((n : Node) (x : Place) → option_map (λ e. e.1) o ≡ Some n → B n → C x) → MatchOption t A C
 found-there o t A B C is h f = grind (arith, nat_tests, common_steps)

@@ -1,4 +1,4 @@
--- Claims that are free of clashes, form by form.
+-- Claims without clashes, form by form.
 use Rattle.toml_span_lex.proofs.Common.{⊤, ◌≡◌, List, [], ◌∷◌, ◌++◌, Option, Some, None, option_map, refl, ◌⊎◌, inl, inr, arith, nat_tests, common_steps}
 use Rattle.toml_span.specs.Claims.{Claim, Claims, no_claims, claimed, scope}
 use Rattle.toml_span.specs.Clashes.{or_else, clash_among, clash_behind}

@@ -1,4 +1,4 @@
--- The clash that is told is the first by the places of the keys.
+-- The clash that is reported is the first one by the offsets of the keys.
 use Rattle.toml_span_lex.proofs.Common.{◌≡◌, ℕ, ◌<◌, ◌⊎◌, List, [], ◌∷◌, ◌++◌, Some, length, arith, refl, sym, ap, ◌∙◌, append_assoc, inl, inr, none-some, nat_tests, common_steps}
 use Rattle.toml_span_read.specs.Data.{Block}
 use Rattle.toml_span_read.specs.Grammar.{SpellsDocument}
@@ -14,9 +14,9 @@ use Rattle.toml_span_laws.proofs.Apart.{IsLater, Pairs, in-left, in-right, pairs
 use Rattle.toml_span_laws.proofs.FirstClash.{IsFree, AreFree, cases_option, are-free, mapped}
 use Rattle.toml_span_laws.proofs.Order.{document-rises}
 
--- ---- claims that clash are no entries
+-- ---- claims that clash are not those of entries
 
--- two claims that clash are on one path, and their sorts clash
+-- two claims that clash are on the same path, and their sorts clash
 pub clash-blames : (c d : Claim) → DoClash c d → (c.path ≡ d.path) × ((b : Blame) × (blame c.mark.sort d.mark.sort ≡ Some b))
 unfolding clash
 clash-blames c d (t, h) = grind (arith, nat_tests, common_steps, mapped, same_path-eq)
@@ -35,7 +35,7 @@ pair-is earlier no_claims c d h = absurd h
 pair-is earlier (claimed x cs) c d h = grind (arith, nat_tests, common_steps, pair-is (earlier ++ (x ∷ [])) cs)
 pair-is earlier (scope inner cs) c d h = grind (arith, nat_tests, common_steps, pair-is [] inner, pair-is earlier cs, in-left, in-right)
 
--- a pair behind a claim
+-- a pair after a claim
 pub pair-late : (earlier : List Claim) (cs : Claims) (x c d : Claim) → ((e : Claim) → IsIn e (all_claims cs) → IsLater x e) → IsPair earlier cs c d → claim_start x < claim_start d
 pair-late earlier cs x c d behind h = let (among, clashes) = pair-is earlier cs c d h in strictly x d (behind d among) (later-plain c d clashes)
 
@@ -55,13 +55,13 @@ no-pair earlier no_claims c d ok h = absurd h
 no-pair earlier (claimed x cs) c d ok h = grind (arith, nat_tests, common_steps, no-pair (earlier ++ (x ∷ [])) cs, free-clash)
 no-pair earlier (scope inner cs) c d ok h = grind (arith, nat_tests, common_steps, no-pair [] inner, no-pair earlier cs)
 
--- ---- the pair that is told
+-- ---- the pair that is reported
 
--- the first pair, and what is told of it
+-- the first pair, and its clash
 abbrev Pair : List Claim → Claims → NamedClash → Type 0
 Pair earlier cs t = (c d : Claim) × IsFirstPair earlier cs c d × (clash c d ≡ Some t)
 
--- a first pair, where all others come later
+-- a first pair, if all others come later
 pair-wide : (l m : List Claim) (cs ds : Claims) (t : NamedClash) (p : Pair l cs t) → ((e f : Claim) → IsPair l cs e f → IsPair m ds e f)
     → ((e f : Claim) → IsPair m ds e f → IsPair l cs e f ⊎ (claim_start p.1 < claim_start f)) → Pair m ds t
 pair-wide l m cs ds t (c, d, is, told) into out = grind (arith, nat_tests, common_steps)

@@ -1,4 +1,4 @@
--- In the tree of a document the text of each float spells it by itself.
+-- In the tree of a document, the text of each float is itself a spelling of that float.
 use Rattle.toml_span_lex.proofs.Common.{◌≡◌, ℕ, suc, true, cond, List, [], ◌∷◌, Option, Some, None, option_map, refl, sym, ap, ◌∙◌, inl, inr, option_and_then, bytes_eq, cases_Bool, none-some, same_Some, arith, nat_tests, common_steps}
 use Rattle.toml_span_lex.specs.declared.span.Span.{Span}
 use Rattle.toml_span_tree.specs.Node.{Scalar, Node, node, taken, scalar, array, table, Items, no_items, item, Members, no_members, member, entry_at, element_at}
@@ -13,12 +13,12 @@ use Rattle.toml_span_read.specs.Again.{IsScalarText, HasFloatTexts, ItemsHaveFlo
 use Rattle.toml_span_laws.proofs.CleanedFloats.{cleaned_spells}
 use Rattle.toml_span_laws.proofs.ReadAgain.{HasScalar, tree-scalar}
 
--- ---- what no path shows otherwise holds of the tree
+-- ---- a property that no path contradicts holds for the tree
 
 abbrev At : Type 0
 At = Option Span × Node
 
--- the scalars that are reached behind a step have their texts
+-- the scalars that are reached after a step have their texts
 abbrev IsSpelledBelow : Option At → Type 0
 IsSpelledBelow o = (p : Path) (x : Place) (s : Scalar) → option_map place_of (option_and_then (reached p) o) ≡ Some x → x.shape ≡ shape_scalar s → IsScalarText s
 
@@ -40,7 +40,7 @@ others name at n ms once h k p x s is = elim (cases_Bool (bytes_eq k name)) [
   | inr off ↦ h k p x s (ap (λ b. option_map place_of (option_and_then (reached p) (cond b (Some (Some at, n)) (entry_at k ms)))) off ∙ is)
 ]
 
--- what is reached with a key's span has the shape that is reached without it
+-- what is reached with the span of a key has the same shape as without it
 keyed : (p : Path) (at : Option Span) (n : Node) (x : Place) (s : Scalar) → ((y : Place) → option_map place_of (reached p (at, n)) ≡ Some y → y.shape ≡ shape_scalar s → IsScalarText s) → place_at p n ≡ Some x → x.shape ≡ shape_scalar s → IsScalarText s
 keyed [] at (node k span) x s h is e = h (record { shape = shape_of k; key_span = at; span = span }) refl (ap (λ y. y.shape) (same_Some (place_of (None, node k span)) x is) ∙ e)
 keyed (t ∷ p) at n x s h is e = h x is e

@@ -1,4 +1,4 @@
--- Bytes are a document or are refused, and one text shows it or tells why.
+-- Bytes either are a document or are refused, and have one output.
 use Rattle.toml_span_lex.proofs.Common.{arith, nat_tests, common_steps, ◌≡◌, ℕ, ◌+◌, ◌≤◌, ◌⊎◌, Bool, true, false, nat_lt, List, ◌++◌, Option, Some, None, take, Err, refl, sym, ap, subst, ◌∙◌, inl, inr, length, cases_lt, false≢true, take_at, IsUtf8-from_is_utf8, is_utf8-from_IsUtf8, Appends, Consumes, IsAtEnd, IsUtf8, is_utf8}
 use Rattle.std.proofs.lemmas.List.{append-nil, take_all}
 use Rattle.toml_span_lex.specs.declared.stop.Stop.TheVariants as stops
@@ -35,7 +35,7 @@ one-show bytes limit status other text last (inl (s, d)) (inr (t, r)) = absurd (
 one-show bytes limit status other text last (inr (s, r)) (inl (t, d)) = absurd (not-refused bytes limit last text d r)
 one-show bytes limit status other text last (inr (s, r)) (inr (t, q)) = (s ∙ sym t, one-refused bytes limit text last r q)
 
--- bytes that are not too long are text, or they are none
+-- bytes that are not too long either are UTF-8 or are not
 short-output : (bytes : List ℕ) (limit status other : ℕ) (text last : List ℕ) (is : Bool) → is_utf8 bytes ≡ is → length bytes ≤ bound → IsAnswer bytes limit status text → IsAnswer bytes limit other last
     → (status ≡ other) × (text ≡ last)
 short-output bytes limit status other text last true is short a b =
@@ -55,7 +55,7 @@ one-output bytes limit status other text last a b = elim (cases_lt bound (length
   | inr short ↦ short-output bytes limit status other text last (is_utf8 bytes) refl short a b
 ]
 
--- what is read of a known input, up to n bytes, is its first bytes
+-- what is read from a known input, up to n bytes, is its first bytes
 first-read : (n : ℕ) (input bytes : List ℕ) (left : Option (List ℕ)) → Consumes (Some input) left bytes → length bytes ≤ n → (length bytes ≡ n) ⊎ IsAtEnd left → bytes ≡ take n input
 first-read n input bytes None h l e = absurd h
 first-read n input bytes (Some rest) h l (inl full) = sym (ap (λ xs. take n xs) h ∙ take_at bytes rest n full)

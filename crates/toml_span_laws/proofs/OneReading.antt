@@ -1,4 +1,4 @@
--- Reading a form gives one thing at most.
+-- Reading a form has at most one result.
 use Rattle.toml_span_lex.proofs.Common.{◌≡◌, ℕ, zero, suc, ◌+◌, ◌<◌, Bool, true, false, List, length, arith, inl, inr, refl, sym, ap, ◌∙◌, Result, Ok, Err, nat_tests, common_steps, [], ◌∷◌, ◌++◌, get_or, ◌==◌, false≢true, ◌⊎◌, ◌&&◌}
 use Rattle.toml_span_lex.specs.declared.span.Span.{Span}
 use Rattle.toml_span_lex.specs.declared.tokens.Error.{Error}
@@ -47,7 +47,7 @@ one_stands text i (no_token x) (token s l j) (k, h) g = absurd (token_or_fault t
 one_stands text i (no_token x) text_end (k, h) g = absurd (no_fault_at_end text i k x g h)
 one_stands text i (no_token x) (no_token y) (j, h) (k, g) = ap (λ z. no_token z) (fault_unique text i j k x y h g).1
 
--- what is told of what stands at i
+-- the result for what is at i
 pub one_standing : {A : Type 0} (text : List ℕ) (i : ℕ) {f : Standing → Result A Fault} → One (λ r. (t : Standing) × StandsAt text i t × (r ≡ f t))
 one_standing text i = one_given (one_stands text i) (λ t. one_is)
 
@@ -67,7 +67,7 @@ loops_one turn one (goes_on s t r h l) (goes_on s' u q g m) = let x = one s (Ok 
 pub one_loop : {S A : Type 0} (turn : S → Reading (Turn S A)) → ((s : S) → One (turn s)) → (s : S) → One (Loop turn s)
 one_loop turn one s r q h g = loops_one turn one {s = s} {r = r} {q = q} h g
 
--- a byte that is c, where it is none
+-- a byte that both is c and is not
 pub not_here : (b c : ℕ) → b ≡ c → (b == c) ≡ false → ⊥
 not_here b c e n = false≢true (sym n ∙ same_byte b c e)
 
@@ -121,7 +121,7 @@ line_within text i j h = grind (arith, nat_tests, common_steps)
 line_or_none : (text : List ℕ) (i j : ℕ) → LineEnd text i j → NoLineEnd text i → ⊥
 line_or_none text i j h n = grind (arith, nat_tests, common_steps)
 
--- the rest of a line ends at one place
+-- the rest of a line has one end
 rest_one : (text : List ℕ) (i : ℕ) → One (Tail text i)
 rest_one text i = one_given (skipped_one text i) (λ m. one_either (line_unique text m) (one_where one_is) (λ j k line end. omega (arith, line_within text m j line, end.0)))
 

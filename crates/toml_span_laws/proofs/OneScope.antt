@@ -1,4 +1,5 @@
--- Where no two claims clash, those on one path are of one scope. At a position no header that passes through decides.
+-- If no two claims clash, those on the same path belong to the same scope. At a position, a header that passes through
+-- never decides.
 use Rattle.toml_span_lex.proofs.Common.{◌≡◌, ◌⊎◌, ℕ, true, List, [], ◌∷◌, ◌++◌, Option, Some, None, refl, sym, ap, ◌∙◌, subst, inl, inr, ⊤, none-some, arith, nat_tests, common_steps, append_assoc, append-nil}
 use Rattle.toml_span_tree.specs.Path.{Path, position}
 use Rattle.toml_span_read.specs.Data.{Block}
@@ -32,7 +33,7 @@ at-append q (c ∷ xs) ys = grind (arith, nat_tests, common_steps, at-append q x
 
 -- ---- headers that pass through
 
--- Of these claims on the path, a header passes through where S holds, or behind an entry.
+-- Among these claims on the path, a header passes through only if S holds, or after an entry.
 abbrev Entered : Path → Type 0 → List Claim → Type 0
 Entered q S [] = ⊤
 Entered q S (c ∷ cs) = (c.mark.sort ≡ Passed → c.path ≡ q → S) × Entered q (S ⊎ ((c.mark.sort ≡ TableElement) × (c.path ≡ q))) cs
@@ -91,7 +92,7 @@ pub do-clash : (c d : Claim) (b : Blame) → c.path ≡ d.path → blame c.mark.
 unfolding clash
 do-clash c d b same is = (named d.name (meeting c.mark d.mark b), rw (same, path-self d.path, is) refl)
 
--- a value and another claim on one path clash, whichever comes first, but for an entry
+-- a value and any other claim on the same path clash, whichever comes first, except for an entry
 value-clashes : (s : Sort) → (s ≡ TableElement) ⊎ ((blame Assigned s ≡ Some DuplicateKey) × (blame s Assigned ≡ Some DuplicateKey))
 value-clashes s = grind (arith, nat_tests, common_steps)
 
@@ -106,7 +107,7 @@ peaceful-push l c h free = grind (arith, nat_tests, common_steps, free-clash, pa
 pub peaceful-across : (xs ys : List Claim) (c d : Claim) → Peaceful (xs ++ ys) → IsIn c xs → IsIn d ys → DoClash c d → ⊥
 peaceful-across xs ys c d h = (pairs-split (λ x y. DoClash x y → ⊥) xs ys h).2 c d
 
--- one of the two stands before the other in the list
+-- one of the two is before the other in the list
 abbrev pub Two : List Claim → Claim → Claim → Type 0
 Two l c d = (xs ys : List Claim) × (l ≡ xs ++ ys) × ((IsIn c xs × IsIn d ys) ⊎ (IsIn d xs × IsIn c ys))
 
@@ -122,17 +123,17 @@ two-of (x ∷ l) c d (inr more) (inr also) differ =
 two-in : (l : List Claim) (c d : Claim) → Two l c d → IsIn c l × IsIn d l
 two-in l c d h = grind (arith, nat_tests, common_steps, in-left, in-right)
 
--- two claims that clash in either order are not both there
+-- two claims that clash in either order are not both in the list
 pub peaceful-two : (l : List Claim) (c d : Claim) → Peaceful l → Two l c d → DoClash c d → DoClash d c → ⊥
 peaceful-two l c d h g first last = grind (arith, nat_tests, common_steps, peaceful-across)
 
--- ---- on the path of a value, and below, nothing else of its scope stands
+-- ---- on the path of a value, and below it, there is nothing else of its scope
 
 -- each claim of the list fits the scope, and none clashes with a later one
 abbrev pub Calm : Path → List Claim → Type 0
 Calm base l = ((c : Claim) → IsIn c l → Fits base l c) × Peaceful l
 
--- a value and another claim are not on one path
+-- a value and another claim are not on the same path
 value-apart : (base : Path) (l : List Claim) (a e : Claim) → Calm base l → Two l a e → a.mark.sort ≡ Assigned → a.path ≡ e.path → ⊥
 value-apart base l a e (fit, peace) two value same =
     let (here, there) = two-in l a e two in
@@ -143,7 +144,7 @@ value-apart base l a e (fit, peace) two value same =
           (do-clash e a DuplicateKey (sym same) (ap (blame e.mark.sort) value ∙ last))
     ]
 
--- further inside than a value nothing stands: the way there would go through its path
+-- there is nothing inside a value: the way there would lead through its path
 below-none : (base : Path) (l : List Claim) (a c : Claim) → Calm base l → IsIn a l → IsIn c l → a.mark.sort ≡ Assigned → IsUnder a.path c.path → ⊥
 below-none base l a c calm here there value under =
     let (fit, peace) = calm in
@@ -159,7 +160,7 @@ both-none : (base : Path) (l : List Claim) (a b : Claim) (q : Path) → Calm bas
 both-none base l a b q calm (xs, ys, is, two) value other (r, under) (u, below) =
     grind (arith, nat_tests, common_steps, none-from base l a b calm (xs, ys, is, two) value, none-from base l b a calm, on-one-way a.path b.path r u (sym under ∙ below))
 
--- ---- where a claim of a scope inside stands
+-- ---- where the claims of a scope inside are
 
 pub scoped-under : (base : Path) (earlier : List Claim) (last : Option Claim) (cs : Claims) (d : Claim) → Scoped base earlier last cs → IsIn d (all_claims cs) → IsUnder base d.path
 unfolding all_claims
@@ -176,7 +177,7 @@ abbrev latest : Option Claim → List Claim
 latest None = []
 latest (Some a) = a ∷ []
 
--- a claim is of the outer scope, or stands in a value: in the last one before these claims, or in one of them
+-- a claim belongs to the outer scope, or is inside a value: the last one before these claims, or one of them
 origin : (base : Path) (earlier : List Claim) (last : Option Claim) (cs : Claims) (d : Claim) → Scoped base earlier last cs → IsIn d (all_claims cs)
     → IsIn d (own cs) ⊎ ((a : Claim) × IsIn a (latest last ++ own cs) × (a.mark.sort ≡ Assigned) × IsUnder a.path d.path)
 unfolding all_claims
@@ -220,9 +221,9 @@ all-calm base earlier last (claimed c cs) h =
 all-calm base earlier None (scope inner cs) h = absurd h.scoped
 all-calm base earlier (Some a) (scope inner cs) h = all-calm base earlier None cs (scene-after base earlier a inner cs h)
 
--- ---- what stands beside a value
+-- ---- what is next to a value
 
--- behind the scope of a value nothing is on its path or below
+-- after the scope of a value there is nothing on its path or below it
 pub outside : (base : Path) (earlier : List Claim) (a : Claim) (inner cs : Claims) (d : Claim) → Scene base earlier (Some a) (scope inner cs) → IsIn d (all_claims cs) → IsFrom a.path d.path → ⊥
 outside base earlier a inner cs d h more from =
     let calm = all-calm base earlier None cs (scene-after base earlier a inner cs h) in
@@ -232,7 +233,7 @@ outside base earlier a inner cs d h more from =
       | inr (b, behind, other, under) ↦ both-none base (earlier ++ own cs) a b d.path calm (earlier, own cs, refl, inl (here, behind)) h.scoped.0 other from (from-under b.path d.path under)
     ]
 
--- what stands in a value is neither on the path of a later value nor below
+-- a claim inside a value is neither on the path of a later value nor below it
 pub scope-before : (base : Path) (earlier : List Claim) (a : Claim) (inner cs : Claims) (c d : Claim) → Scene base earlier (Some a) (scope inner cs) → IsIn c (all_claims cs) → IsIn d (all_claims inner)
     → c.mark.sort ≡ Assigned → IsFrom c.path d.path → ⊥
 scope-before base earlier a inner cs c d h more inside value from =
@@ -245,7 +246,7 @@ scope-before base earlier a inner cs c d h more inside value from =
       | inr (b, behind, other, above) ↦ none b behind other (from-under b.path d.path (under-from b.path c.path d.path above from))
     ]
 
--- a claim of the scope is in no value behind it
+-- a claim of the scope is not inside a value after it
 beside : (base : Path) (earlier : List Claim) (last : Option Claim) (x : Claim) (cs : Claims) (d : Claim) → Scene base earlier last (claimed x cs) → IsIn d (all_claims cs) → IsFrom d.path x.path → IsIn d (own cs)
 beside base earlier last x cs d h more from = elim (origin base (earlier ++ (x ∷ [])) (Some x) cs d h.scoped.1 more) [
   | inl here ↦ here
@@ -254,16 +255,16 @@ beside base earlier last x cs d h more from = elim (origin base (earlier ++ (x �
       (under-from a.path d.path x.path under from))
 ]
 
--- it is neither on the path of a later value nor below
+-- it is neither on the path of a later value nor below it
 pub claim-before : (base : Path) (earlier : List Claim) (last : Option Claim) (x : Claim) (cs : Claims) (c : Claim) → Scene base earlier last (claimed x cs) → IsIn c (all_claims cs) → c.mark.sort ≡ Assigned
     → IsFrom c.path x.path → ⊥
 claim-before base earlier last x cs c h more value from =
     none-from base (earlier ++ (x ∷ own cs)) c x (all-calm base earlier last (claimed x cs) h)
     (earlier ++ (x ∷ []), own cs, sym (append_assoc earlier (x ∷ []) (own cs)), inr (in-right x earlier (x ∷ []) (inl refl), beside base earlier last x cs c h more from)) value from
 
--- ---- two claims on one path
+-- ---- two claims on the same path
 
--- a claim inside a value, and one behind it, are not on one path
+-- a claim inside a value, and one after it, are not on the same path
 across : (base : Path) (earlier : List Claim) (a : Claim) (inner cs : Claims) (c d : Claim) → Scene base earlier (Some a) (scope inner cs) → IsIn c (all_claims inner) → IsIn d (all_claims cs) → c.path ≡ d.path → ⊥
 across base earlier a inner cs c d h inside more same =
     outside base earlier a inner cs d h more (subst (IsFrom a.path) same (from-under a.path c.path (scoped-under a.path [] None inner c h.scoped.2 inside)))

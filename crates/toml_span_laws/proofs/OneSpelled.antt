@@ -1,5 +1,5 @@
--- At most one form is spelled at a place, and where one is, no fault is told: what is spelled is read, and reading gives
--- one thing.
+-- At most one form is spelled at an offset, and there is no fault then: what is spelled is read, and reading has one
+-- result.
 use Rattle.toml_span_lex.proofs.Common.{◌≡◌, ℕ, zero, ◌+◌, ◌-◌, Bool, false, List, [], length, arith, refl, sym, ap, map, Result, Ok, Err, Vec, Global}
 use Rattle.toml_span_lex.specs.declared.stop.Stop.{Stop}
 use Rattle.toml_span_lex.specs.declared.stop.Stop.TheVariants as stops

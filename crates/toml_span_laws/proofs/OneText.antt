@@ -1,4 +1,4 @@
--- At most one text shows some places.
+-- Places have at most one output.
 use Rattle.toml_span_lex.proofs.Common.{common_steps, ◌≡◌, ◌<◌, ℕ, List, [], ◌∷◌, Option, flat_map, refl, sym, ap, subst, ◌∙◌, inl, inr, arith, AllByRecursion}
 use Rattle.toml_span_tree.specs.Path.{Path, key, position, Place}
 use Rattle.toml_span.specs.Ordered.{IsBefore}
@@ -23,9 +23,9 @@ step-one-way (position i) (key name) h g = h
 path-one-way : (p q : Path) → IsPathBefore p q → IsPathBefore q p → ⊥
 path-one-way p q h g = one-way IsStepBefore step-one-way p q h g
 
--- ---- lists that have the same entries
+-- ---- lists with the same entries
 
--- what all later entries are behind
+-- what comes before all later entries
 at-entry : (p : Path) (es : List PlaceAt) (e : PlaceAt) → AllByRecursion (λ f. IsPathBefore p f.0) es → IsIn e es → IsPathBefore p e.0
 at-entry p [] e h i = absurd i
 at-entry p (f ∷ es) e h i = grind (arith, common_steps, at-entry p es e)

@@ -1,4 +1,4 @@
--- Two trees in order that show the same are the same.
+-- Two trees that are in order and show the same places are equal.
 use Rattle.toml_span_lex.proofs.Common.{◌≡◌, ◌⊎◌, ℕ, suc, List, [], ◌∷◌, Option, Some, None, option_map, refl, sym, ap, ◌∙◌, subst, inl, inr, arith, option_and_then, none-some, same_Some, nat_tests, common_steps}
 use Rattle.toml_span_lex.specs.declared.span.Span.{Span}
 use Rattle.toml_span_tree.specs.Node.{Node, node, Inner, taken, scalar, array, table, Items, no_items, item, Members, no_members, member, entry_at, element_at}
@@ -10,7 +10,7 @@ use Rattle.toml_span_laws.specs.Document.{without_key, IsValueOf}
 abbrev pub At : Type 0
 At = Option Span × Node
 
--- what is shown behind a step
+-- what is shown after a step
 abbrev pub shown : Option At → Path → Option Place
 shown o p = option_map place_of (option_and_then (reached p) o)
 
@@ -38,7 +38,7 @@ each-before a b (member c at n ms) h each = (before-all a b c h each.0, each-bef
 pub not-again : (a : List ℕ) (at : Span) (n : Node) (ms : Members) → MembersOrdered (member a at n ms) → entry_at a ms ≡ None
 not-again a at n ms h = (one-each (node (table (member a at n ms)) at) h).0
 
--- nor is it behind one that is behind it
+-- nor is it after one that is after it
 not-there : (a b : List ℕ) (at : Span) (n : Node) (ms : Members) → IsNameBefore a b → MembersOrdered (member b at n ms) → entry_at a (member b at n ms) ≡ None
 not-there a b at n ms less h = not-again a at n (member b at n ms) ((less, each-before a b ms less h.0), h.1, h)
 
@@ -51,7 +51,7 @@ rest-shown : (a : List ℕ) (s t : Span) (n m : Node) (ms ls : Members) → entr
     → (k : List ℕ) (p : Path) → shown (entry_at k ms) p ≡ shown (entry_at k ls) p
 rest-shown a s t n m ms ls once single same k p = grind (arith, nat_tests, common_steps, later-entry k a s n ms, later-entry k a t m ls, same-name k a)
 
--- a key's span apart
+-- without the span of a key
 value-shown : (k l : Option Span) (n m : Node) → ((p : Path) → option_map place_of (reached p (k, n)) ≡ option_map place_of (reached p (l, m)))
     → (p : Path) → place_at p n ≡ place_at p m
 value-shown k l n m same [] = ap (λ x. Some (without_key x)) (same_Some (place_of (k, n)) (place_of (l, m)) (same []))

@@ -18,16 +18,16 @@ use Rattle.toml_span.specs.Paths.{with_key, with_position, enter, elements_added
 
 -- ---- lists of claims
 
--- what stands at a key, stands at that by which it is claimed; an entry stands at none
+-- a place with a key has the key by which it is claimed; an entry has none
 abbrev pub IsKeyed : Claim → Type 0
 IsKeyed c = (k : Span) → c.place.key_span ≡ Some k → (k ≡ c.mark.key) × (c.mark.sort ≡ TableElement → ⊥)
 
--- behind this claim these ones ascend, and start before j
+-- after this claim these ones ascend, and start before j
 abbrev pub Onward : Claim → List Claim → ℕ → Type 0
 Onward c [] j = IsKeyed c × (claim_start c < j)
 Onward c (d ∷ ds) j = IsKeyed c × Follows c d × Onward d ds j
 
--- from i to before j the claims ascend
+-- between i and j (exclusive) the claims ascend
 abbrev pub Rising : List Claim → ℕ → ℕ → Type 0
 Rising [] i j = i ≤ j
 Rising (c ∷ cs) i j = (i ≤ claim_start c) × Onward c cs j
@@ -49,7 +49,7 @@ onward-forward c (d ∷ ds) j h = omega (arith, follows-start c d h.1, onward-fo
 rising-forward : (cs : List Claim) (i j : ℕ) → Rising cs i j → i ≤ j
 rising-forward cs i j r = grind (arith, nat_tests, common_steps, onward-forward)
 
--- behind a claim, what rises
+-- ascending claims after a claim
 onward-rising : (c : Claim) (cs : List Claim) (i j : ℕ) → IsKeyed c → claim_start c < i → Rising cs i j → Onward c cs j
 onward-rising c cs i j a l r = grind (arith, nat_tests, common_steps)
 
@@ -75,7 +75,7 @@ all_claims-followed no_claims ys = refl
 all_claims-followed (claimed c xs) ys = ap (λ l. c ∷ l) (all_claims-followed xs ys)
 all_claims-followed (scope inner xs) ys = ap (λ l. all_claims inner ++ l) (all_claims-followed xs ys) ∙ sym (append_assoc (all_claims inner) (all_claims xs) (all_claims ys))
 
--- from i to before j the claims of every scope ascend
+-- between i and j (exclusive) the claims of all scopes ascend
 abbrev pub Rise : Claims → ℕ → ℕ → Type 0
 Rise cs i j = Rising (all_claims cs) i j
 
@@ -102,7 +102,7 @@ keyed c is plain k h = (sym (same_Some c.mark.key k (sym is ∙ h)), plain)
 unkeyed : (c : Claim) → c.place.key_span ≡ None → IsKeyed c
 unkeyed c is k h = absurd (none-some k (sym is ∙ h))
 
--- a key, and what its value claims
+-- a key, and the claims of its value
 key-rises : (q : Path) (parts : List SimpleKey) (v : ParsedValue) (inside : Path → Claims) (i a j : ℕ) → Ascend parts i a → ((r : Path) → Rise (inside r) a j)
     → Rise (key_claims q parts v inside) i j
 unfolding key_claims
@@ -115,7 +115,7 @@ key-rises q (k ∷ l ∷ more) v inside i a j h r =
 mutual
   unfolding value_claims inner_claims item_claims pair_claims
 
-  -- what stands in a value: from m to before n, where its bracket, if it has one, starts before m
+  -- the claims in a value: from m to before n; its bracket, if it has one, starts before m
   inner-rises : (x : ParsedInner) (s : Span) (q : Path) (text : List ℕ) (limit d i j m n : ℕ) → m ≤ n → j ≤ n → (s ≡ from_to i j → m ≤ i + 1) → InnerWith SpellsScalar x s text limit d i j
       → Rise (inner_claims x q) m n
   inner-rises (scalar y) s q text limit d i j m n l w f h = rise-none m n l
@@ -128,7 +128,7 @@ mutual
   value-rises (parsed x s) q text limit d i j h =
       inner-rises x s q text limit d i j i j (value_lies (parsed x s) text limit d i j h).1 (omega arith) (λ e. omega arith) h.1
 
-  -- an element, before the comma behind it or the closing bracket
+  -- an element, before the comma after it or the closing bracket
   element-rises : (v : ParsedValue) (q : Path) (rest : Claims) (text : List ℕ) (limit d i m j : ℕ) → Spells v text limit d i m → Rise rest (m + 1) j
       → Rise (claimed (element q v) (followed (value_claims v q) rest)) i j
   element-rises (parsed x s) q rest text limit d i m j h r =

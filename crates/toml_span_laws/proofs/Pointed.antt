@@ -1,4 +1,4 @@
--- What a pointer names in a document's tree is what stands there in the flat document.
+-- What a pointer names in a document's tree is what the flat document has there.
 use Rattle.toml_span_lex.proofs.Common.{◌≡◌, ◌↔◌, ℕ, zero, suc, List, [], ◌∷◌, ◌++◌, length, Option, Some, None, option_map, refl, sym, ap, ◌∙◌, subst, inl, inr, true≢false, ⊤, IfSome, option_and_then, cases_Bool, bytes_eq, arith, nat_tests, common_steps}
 use Rattle.toml_span_lex.specs.declared.span.Span.{Span}
 use Rattle.toml_span_tree.specs.Node.{Node, Items, no_items, item, Members, no_members, member, entry_at, element_at}
@@ -56,7 +56,7 @@ reached-ordered (s ∷ p) x h = step-ordered p (at_step s (inner_of x.1)) (below
 pub part-value : (places : Path → Option Place) (n : Node) (path : Path) (x : At) → IsValueOf places n → reached path (None, n) ≡ Some x → IsValueOf (subtree places path) x.1
 part-value places n path x h is = (rw is at (reached-ordered path (None, n) h.0), grind (arith, nat_tests, common_steps, reached-on))
 
--- ---- what stands at a path
+-- ---- the place at a path
 
 pub node-reached : (o : Option At) (m : Node) → option_map (λ r. r.1) o ≡ Some m → (k : Option Span) × (o ≡ Some (k, m))
 node-reached o m h = let (x, is, same) = mapped (λ r. r.1) o m h in (x.0, is ∙ ap (λ (n : Node). Some (x.0, n)) same)
@@ -69,7 +69,7 @@ stands pointer n m places shows is = grind (arith, nat_tests, common_steps, node
 names-value : (pointer : List ℕ) (n m : Node) (length : ℕ) (bs : List Block) → IsValueOf (flat length (claims bs)) n → pointed pointer n ≡ Some m → PointsAt pointer (flat length (claims bs)) m
 names-value pointer n m length bs h is = grind (arith, nat_tests, common_steps, node-reached, part-value (flat length (claims bs)) n, pointed-is pointer n m)
 
--- what stands at a path that the segments name is named
+-- the value at a path that the segments name is named
 found-there : (pointer : List ℕ) (names : List (List ℕ)) (path : Path) (place : Place) (n : Node) (length : ℕ) (bs : List Block) → Shows n (flat length (claims bs))
     → pointer_segments pointer ≡ Some names → NamesPath names path → flat length (claims bs) path ≡ Some place
     → (m : Node) × (k : Option Span) × (reached path (None, n) ≡ Some (k, m)) × (pointed pointer n ≡ Some m)

@@ -1,4 +1,4 @@
--- What is assigned in a document is read again from the text at its place, and its strings are what stands there.
+-- What is assigned in a document is read again from the text at its span, and its strings are what the text has there.
 use Rattle.toml_span_lex.proofs.Common.{◌≡◌, ℕ, List, [], ◌∷◌, Some, length, sym, ◌∙◌, ap, subst, inl, inr, arith, nat_tests, common_steps, ◌⊎◌, suc, ◌+◌, ◌≤◌, Bool, get_or, slice_range, cases_order}
 use Rattle.toml_span_lex.specs.declared.span.Span.{Span}
 use Rattle.toml_span_tree.specs.Node.{Scalar, text as text_scalar}
@@ -56,7 +56,7 @@ pub tree-again : (text : List ℕ) (limit : ℕ) (root : Value) (p : Path) (x : 
 tree-again text limit root p x s h at is =
     let (bs, has, tree) = h in flat-again text limit (length text) bs p x s (document_sound bs text limit has.0) (sym (tree.shows p) ∙ at) is
 
--- ---- the claims behind a claim are those of its value
+-- ---- the claims after a claim are those of its value
 
 spelled-again : (text : List ℕ) (limit : ℕ) (v : ParsedValue) → Spelled text limit v → ValueReadsAgain text limit v
 spelled-again text limit (parsed (scalar s) span) h = scalar-again s span text limit h.depth h.from h.to h.deep h.spells
@@ -76,7 +76,7 @@ all-again text limit (scope inner cs) h = (all-again text limit inner h.0, all-a
 pub document-again : (bs : List Block) (text : List ℕ) (limit : ℕ) → SpellsDocument bs text limit → AssignsAgain text limit (claims bs)
 document-again bs text limit h = all-again text limit (claims bs) (document-spelled bs text limit h)
 
--- ---- two quotes alone
+-- ---- two quotes with nothing between them
 
 two-quotes : (multi : Bool) (text : List ℕ) (i j from to : ℕ) (v : List ℕ) → ContentFrom multi text i from → length v + from ≤ to → suc to ≤ j → IsEmptyOnOneLine i j
     → (v ≡ []) × (content_span multi i from to ≡ record { start = i; end = i + 1 })
@@ -106,7 +106,7 @@ pub tree-string : (text : List ℕ) (limit : ℕ) (root : Value) (p : Path) (x :
     → x.shape ≡ shape_scalar (text_scalar v) → ShowsString text v x.span
 tree-string text limit root p x v h at is = shows text limit v x.span (tree-scalar text limit root p x (text_scalar v) h at is)
 
--- ---- strings that hold themselves
+-- ---- strings that are equal to their text
 
 no-change : (q : ℕ) (text : List ℕ) (i j : ℕ) → (HasChange quotation_mark text i j → ⊥) → HasChange q text i j → ⊥
 no-change q text i j none h = grind (arith, nat_tests, common_steps)

@@ -1,4 +1,5 @@
--- How the claims of a document stand in scopes: each has a parent in its scope, and each scope inside stands below an assigned claim.
+-- The scopes of a document's claims: each claim has a parent in its scope, and each scope inside is below a claim that
+-- assigns.
 use Rattle.toml_span_lex.proofs.Common.{◌≡◌, ℕ, zero, suc, ◌<◌, ◌⊎◌, Bool, true, false, List, [], ◌∷◌, ◌++◌, Option, Some, None, arith, refl, sym, ap, ◌∙◌, subst, append_assoc, append-nil, inl, inr, ⊤, if◌then◌else◌, cases_Bool, cases_lt, nat_tests, common_steps}
 use Rattle.toml_span_tree.specs.Path.{Path, Step, key, position}
 use Rattle.toml_span_read.specs.Data.{ParsedValue, parsed, scalar, array, inline, ParsedItems, no_items, item, ParsedPairs, no_pairs, pair, KeyValue, Block, SimpleKey}
@@ -14,11 +15,11 @@ use Rattle.toml_span_laws.proofs.Apart.{in-left, in-right}
 
 -- ---- paths
 
--- the path is further inside than the base
+-- the path is below the base
 abbrev pub IsUnder : Path → Path → Type 0
 IsUnder base p = (s : Step) × (rest : Path) × (p ≡ base ++ (s ∷ rest))
 
--- it is at the base or further inside
+-- the path is the base, or below it
 abbrev pub IsFrom : Path → Path → Type 0
 IsFrom base p = (r : Path) × (p ≡ base ++ r)
 
@@ -43,7 +44,7 @@ from-under base p (s, r, is) = (s ∷ r, is)
 pub under-from : (a p q : Path) → IsUnder a p → IsFrom p q → IsUnder a q
 under-from a p q (s, r, is) (t, on) = (s, r ++ t, on ∙ ap (λ l. l ++ t) is ∙ append_assoc a (s ∷ r) t)
 
--- the front of a path that is further inside than another one is there or further inside
+-- all but the last step of a path below another one is that path or below it
 front-from : (a p : Path) (s x : Step) (q : Path) → a ++ (s ∷ q) ≡ p ++ (x ∷ []) → IsFrom a p
 front-from [] p s x q h = (p, refl)
 front-from (y ∷ a) [] s x q h = absurd (nil-under a s q cc)
@@ -59,11 +60,11 @@ child-under : (base p : Path) (x : Step) → IsFrom base p → IsUnder base (p +
 child-under base p x ([], is) = (x, [], ap (λ l. l ++ (x ∷ [])) is ∙ append_assoc base [] (x ∷ []))
 child-under base p x (s ∷ r, is) = (s, r ++ (x ∷ []), ap (λ l. l ++ (x ∷ [])) is ∙ append_assoc base (s ∷ r) (x ∷ []))
 
--- The path is further inside than the base, and M holds of each path between them.
+-- The path is below the base, and M holds for each path between them.
 abbrev pub Above : (Path → Type 0) → Path → Path → Type 0
 Above M base p = IsUnder base p × ((q : Path) → IsUnder base q → IsUnder q p → M q)
 
--- The path is at the base or further inside, and M holds of it and of each path between them.
+-- The path is the base or below it, and M holds for it and for each path between them.
 abbrev pub Along : (Path → Type 0) → Path → Path → Type 0
 Along M base p = IsFrom base p × ((q : Path) → IsUnder base q → IsFrom q p → M q)
 
@@ -86,34 +87,34 @@ along-child M base p x on here =
 
 -- ---- one claim
 
--- among the claims one of this sort has this path
+-- one of the claims has this sort and this path
 abbrev pub Has : List Claim → Sort → Path → Type 0
 Has l sort p = (e : Claim) × IsIn e l × (e.mark.sort ≡ sort) × (e.path ≡ p)
 
--- one that assigns nothing has it
+-- one that does not assign has this path
 abbrev pub Makes : List Claim → Path → Type 0
 Makes l p = (e : Claim) × IsIn e l × (e.mark.sort ≡ Assigned → ⊥) × (e.path ≡ p)
 
--- a key's claim
+-- the claim of a key
 abbrev Keyed : Claim → Type 0
 Keyed c = ((p : Path) × (k : List ℕ) × (c.path ≡ p ++ (key k ∷ []))) × (c.mark.sort ≡ TableElement → ⊥)
 
--- an element's claim, in an array at the base
+-- the claim of an element, in an array at the base
 abbrev Element : Path → Claim → Type 0
 Element base c = (n : ℕ) × (c.path ≡ base ++ (position n ∷ [])) × (c.mark.sort ≡ Assigned)
 
--- a header's claim of an entry, or its passage through one
+-- a header's claim on an entry, or on one through which it passes
 abbrev Entry : Path → List Claim → Claim → Type 0
 Entry base earlier c =
     (base ≡ []) × ((p : Path) × (k : List ℕ) × (n : ℕ) × (c.path ≡ (p ++ (key k ∷ [])) ++ (position n ∷ []))) × (c.mark.sort ≡ Assigned → ⊥)
     × (c.mark.sort ≡ Passed → Has earlier TableElement c.path)
 
--- A claim of a scope with this base, behind these earlier ones of the scope, which make what stands between them.
+-- A claim of a scope with this base, after these earlier ones of the scope, which create the tables between them.
 pub record Fits (base : Path) (earlier : List Claim) (c : Claim) : Type 0 where
   pub above : Above (Makes earlier) base c.path
   pub kind : Keyed c ⊎ Element base c ⊎ Entry base earlier c
 
--- Each claim fits its scope, and each scope stands right behind a claim that assigns, at whose path it has its base.
+-- Each claim fits its scope, and each scope follows directly after a claim that assigns, whose path is its base.
 abbrev pub Scoped : Path → List Claim → Option Claim → Claims → Type 0
 Scoped base earlier last no_claims = ⊤
 Scoped base earlier last (claimed c cs) = Fits base earlier c × Scoped base (earlier ++ (c ∷ [])) (Some c) cs
@@ -121,7 +122,7 @@ Scoped base earlier None (scope inner cs) = ⊥
 Scoped base earlier (Some a) (scope inner cs) =
     (a.mark.sort ≡ Assigned) × IsUnder base a.path × Scoped a.path [] None inner × Scoped base earlier None cs
 
--- ---- claims behind others
+-- ---- claims after others
 
 pub has-on : (l more : List Claim) (sort : Sort) (p : Path) → Has l sort p → Has (l ++ more) sort p
 has-on l more sort p (e, here, is, on) = (e, in-left e l more here, is, on)
@@ -132,18 +133,18 @@ makes-on l more p (e, here, is, on) = (e, in-left e l more here, is, on)
 makes-of : (l : List Claim) (sort : Sort) (p : Path) → (sort ≡ Assigned → ⊥) → Has l sort p → Makes l p
 makes-of l sort p plain (e, here, is, on) = (e, here, (λ no. plain (sym is ∙ no)), on)
 
--- the last of the claims makes its path
+-- the last of the claims creates its path
 last-makes : (l : List Claim) (c : Claim) → (c.mark.sort ≡ Assigned → ⊥) → Makes (l ++ (c ∷ [])) c.path
 last-makes l c plain = (c, in-right c l (c ∷ []) (inl refl), plain, refl)
 
 pub fits-on : (base : Path) (l more : List Claim) (c : Claim) → Fits base l c → Fits base (l ++ more) c
 fits-on base l more c f = grind (arith, nat_tests, common_steps, above-on, has-on, makes-on)
 
--- a header passes through at a position where an entry stands
+-- a header passes through at a position only if there is an entry
 pub passed-entered : (base : Path) (l : List Claim) (c : Claim) (p : Path) (n : ℕ) → Fits base l c → c.mark.sort ≡ Passed → c.path ≡ p ++ (position n ∷ []) → Has l TableElement c.path
 passed-entered base l c p n f is on = grind (arith, nat_tests, common_steps)
 
--- an entry and a value are never on one path
+-- an entry and a value are never on the same path
 pub entry-value : (base : Path) (l : List Claim) (a e : Claim) → Fits base l a → Fits base l e → a.mark.sort ≡ Assigned → e.mark.sort ≡ TableElement → a.path ≡ e.path → ⊥
 entry-value base l a e fits there value is same = grind (arith, nat_tests, common_steps)
 
@@ -162,7 +163,7 @@ scoped-followed base earlier (Some a) (scope inner xs) ys h g = (h.0, h.1, h.2, 
 
 -- ---- keys and values
 
--- what stands at the path, and on the way to it, the scope has made
+-- the scope has created what is at the path, and on the way to it
 abbrev Stands : Path → List Claim → Path → Type 0
 Stands base l p = Along (Makes l) base p
 
@@ -221,7 +222,7 @@ key_values-scoped (e ∷ es) base earlier p stands =
     (λ k q l under. value-scoped e.value base l (assigned (with_key q k) k e.value) refl under))
     (key_values-scoped es base (earlier ++ own front) p (stands-on base earlier (own front) p stands))
 
--- ---- claims and what holds behind them
+-- ---- claims, and what holds after them
 
 pub own-followed : (xs ys : Claims) → own (followed xs ys) ≡ own xs ++ own ys
 unfolding followed
@@ -229,7 +230,7 @@ own-followed no_claims ys = refl
 own-followed (claimed c xs) ys = ap (λ l. c ∷ l) (own-followed xs ys)
 own-followed (scope inner xs) ys = own-followed xs ys
 
--- T holds of the claims behind these earlier ones, and P of all together
+-- T holds for the claims after these earlier ones, and P for all together
 pub record Walk (T : List Claim → Claims → Type 0) (P : List Claim → Type 0) (l : List Claim) (cs : Claims) : Type 0 where
   pub tree : T l cs
   pub all : P (l ++ own cs)
@@ -242,13 +243,13 @@ pub walk-followed : (T : List Claim → Claims → Type 0) (P Q : List Claim →
     → (P (l ++ own xs) → Walk T Q (l ++ own xs) ys) → Walk T Q l (followed xs ys)
 walk-followed T P Q joins l xs ys w more = grind (arith, nat_tests, common_steps, own-followed)
 
--- claims of a document
+-- the claims of a document
 abbrev Of : List Claim → Claims → Type 0
 Of l cs = Scoped [] l None cs
 
 -- ---- headers
 
--- an array of tables with so many entries
+-- an array of tables with n entries
 abbrev HasEntries : List Claim → Path → ℕ → Type 0
 HasEntries l p n = (m : ℕ) → m < n → Has l ArrayOfTables p × Has l TableElement (with_position p m)
 
@@ -258,7 +259,7 @@ entries-on l more p n h m few = (has-on l more ArrayOfTables p (h m few).0, has-
 array-stands : (l : List Claim) (p : Path) (k : SimpleKey) → Stands [] l p → Has l ArrayOfTables (with_key p k) → Stands [] l (with_key p k)
 array-stands l p k stands made = along-child (Makes l) [] p (key k.name) stands (makes-of l ArrayOfTables (with_key p k) (λ e. cc) made)
 
--- a claim of the document at a position of an array of tables
+-- a claim at a position of an array of tables of the document
 entry-fits : (earlier : List Claim) (p : Path) (k : SimpleKey) (n : ℕ) (c : Claim) → Stands [] earlier p → Has earlier ArrayOfTables (with_key p k) → c.path ≡ with_position (with_key p k) n
     → (c.mark.sort ≡ Assigned → ⊥) → (c.mark.sort ≡ Passed → Has earlier TableElement (with_position (with_key p k) n)) → Fits [] earlier c
 entry-fits earlier p k n c stands made on plain passed = record {
@@ -278,7 +279,7 @@ unfolding enter
 passed-stands zero l p k stands few made = along-child (Makes l) [] p (key k.name) stands made
 passed-stands (suc n) l p k stands few made = along-child (Makes l) [] (with_key p k) (position n) (array-stands l p k stands (few n (omega arith)).0) made
 
--- what a header leaves at its end, where its section begins
+-- what a header has created at its end, where its section begins
 abbrev Ends : Bool → List Claim → Path → ℕ → Type 0
 Ends true l p n = Has l ArrayOfTables p × Has l TableElement (with_position p n) × Stands [] l (with_position p n)
 Ends false l p n = Stands [] l p
@@ -365,7 +366,7 @@ counted-end : (array : Bool) (l : List Claim) (before : List Path) (t : Path) �
 counted-end true l before t counted ends = counted-array l before t counted ends
 counted-end false l before t counted ends = counted
 
--- what is opened by the header of a section
+-- what the header of a section opens
 abbrev Opened : Block → List Block → List Claim → Type 0
 Opened b blocks l = Stands [] l (section_path (elements_added (opened_by blocks)) b) × Counted l (elements_added (opened_by (b ∷ blocks)))
 
@@ -387,7 +388,7 @@ opened earlier b blocks (k ∷ parts) is headers counted =
       );
     }
 
--- what a section claims fits, and its entries are counted
+-- the claims of a section fit, and its entries are counted
 section-scoped : (earlier : List Claim) (b : Block) (blocks : List Block) → (b.header ≡ [] → b.array ≡ false) → Counted earlier (elements_added (opened_by blocks))
     → Walk Of (λ l. Counted l (elements_added (opened_by (b ∷ blocks)))) earlier (section_claims (elements_added (opened_by blocks)) b)
 unfolding section_claims

@@ -1,4 +1,4 @@
--- At each place of a text each form is read, or a fault is told.
+-- At each offset in a text each form is read, or there is a fault.
 use Rattle.toml_span_lex.proofs.Common.{◌≡◌, ℕ, zero, suc, ◌+◌, ◌<◌, ◌≤◌, Bool, true, false, List, length, arith, inl, inr, refl, Result, Ok, Err, nat_tests, common_steps, [], ◌∷◌, ◌++◌, get_or, Some, None, Option, ◌==◌, ◌||◌, is_some, if◌then◌else◌, codes, IsUtf8, IsCharBoundary, bytes_eq, or_parts}
 use Rattle.toml_span_lex.specs.declared.span.Span.{Span}
 use Rattle.toml_span_lex.specs.Laws.{SomethingStands}
@@ -28,14 +28,14 @@ use Rattle.toml_span_read.proofs.Places.{run_some, behind_byte}
 use Rattle.toml_span_laws.specs.code.Judged.{Onto, Judged}
 use Rattle.toml_span_laws.proofs.EarlierLaws.{every_key}
 
--- ---- something is read
+-- ---- there is a result
 
--- this holds of what is read
+-- P holds for what is read
 abbrev pub Holds : {A : Type 0} → (A → Type 0) → Result A Fault → Type 0
 Holds P (Ok a) = P a
 Holds P (Err e) = Unit {0}
 
--- reading gives something, and of what is read this holds
+-- reading has a result, and P holds for what is read
 abbrev pub Sure : {A : Type 0} → (A → Type 0) → Reading A → Type 0
 Sure {A = A} P m = (r : Result A Fault) × m r × Holds P r
 
@@ -60,7 +60,7 @@ something text i (inr (inr (j, e, h))) = (no_token e, (j, h))
 pub sure_standing : {A : Type 0} {P : A → Type 0} (text : List ℕ) (i : ℕ) {f : Standing → Result A Fault} → SomethingStands text i → ((t : Standing) → StandsAt text i t → Holds P (f t)) → Sure P (λ r. (t : Standing) × StandsAt text i t × (r ≡ f t))
 sure_standing text i {f = f} s p = let (t, h) = something text i s in (f t, (t, h, refl), p t h)
 
--- a turn of a loop goes on to a place behind this one
+-- a step of a loop moves to a later offset
 abbrev pub Turned : {X A : Type 0} → (ℕ → Type 0) → (A → Type 0) → ℕ → Turn (X × ℕ) A → Type 0
 Turned I P i (on s) = I s.1 × (i < s.1)
 Turned I P i (done a) = P a
@@ -74,11 +74,11 @@ loop_within : {X A : Type 0} (I : ℕ → Type 0) (P : A → Type 0) (n fuel : �
 loop_within I P n zero turn within each s h l = let w = within s.1 h in absurd (omega arith)
 loop_within I P n (suc fuel) turn within each s h l = turned I P turn s (each s h) (λ t k f. loop_within I P n fuel turn within each t k (omega arith))
 
--- what turns at places that go on, up to n, read
+-- a loop whose steps move forward, up to n, has a result
 pub sure_loop : {X A : Type 0} (I : ℕ → Type 0) (P : A → Type 0) (n : ℕ) (turn : X × ℕ → Reading (Turn (X × ℕ) A)) → ((i : ℕ) → I i → i ≤ n) → ((s : X × ℕ) → I s.1 → Sure (Turned I P s.1) (turn s)) → (s : X × ℕ) → I s.1 → Sure P (Loop turn s)
 sure_loop I P n turn within each s h = loop_within I P n (suc n) turn within each s h (omega arith)
 
--- the text is UTF-8, and each place between two characters is judged
+-- the text is UTF-8, and the forms at each character boundary are known
 abbrev pub AllJudged : List ℕ → Type 0
 AllJudged text = IsUtf8 text × ((i : ℕ) → IsCharBoundary text i → Judged text i)
 
@@ -91,7 +91,7 @@ Ends text i f = Onto text i f.1
 onto : (text : List ℕ) (h i j : ℕ) → h ≤ i → Onto text i j → Onto text h j
 onto text h i j l o = (omega (arith, l, o.0), o.1)
 
--- from each place something is skipped
+-- something is skipped from each offset
 abbrev Skips : List ℕ → (ℕ → ℕ → Type 0) → Type 0
 Skips text skipped = (i : ℕ) → IsCharBoundary text i → (j : ℕ) × skipped i j × Onto text i j
 
@@ -104,7 +104,7 @@ blanks text all i b = (all.1 i b).blank
 sure_behind : {A : Type 0} {P : A → Type 0} {skipped : ℕ → ℕ → Type 0} {next : ℕ → Reading A} (text : List ℕ) (h i : ℕ) → Skips text skipped → Onto text h i → ((k : ℕ) → Onto text h k → Sure P (next k)) → Sure P (behind skipped i next)
 sure_behind text h i skips o next = let (k, g, f) = skips i o.1 in sure_given k g (next k (onto text h i k o.0 f))
 
--- a sign of one byte
+-- a separator of one byte
 sure_sign : {A : Type 0} {P : A → Type 0} {this that : Reading A} (c : ℕ) (text : List ℕ) (h k : ℕ) → AllJudged text → (0 < c) × (c < 128) → Onto text h k → (Onto text (h + 1) (k + 1) → Sure P this) → Sure P that → Sure P (choice (get_or text k 0 == c) this that)
 sure_sign c text h k all s o this that =
     sure_choice _ (λ t. let e : get_or text k 0 ≡ c = byte_is _ c t in this (omega (arith, o.0), behind_byte text k all.0 (omega (arith, e, s.0)) (omega (arith, e, s.1)))) (λ t. that)
@@ -235,7 +235,7 @@ tail_sure : (text : List ℕ) (h i : ℕ) → AllJudged text → Onto text h i �
 tail_sure text h i all o (Ok j, (t, l, b)) = (Ok j, inl (j, t, refl), (omega (arith, o.0, l), b))
 tail_sure text h i all o (Err k, (n, b)) = let (r, g, p) = sure_missing {P = Onto text h} dues.Newline text k all b in (r, inr (k, n, g), p)
 
--- the lines end there, and are followed by a header or none
+-- the lines end there, where a header begins or the text ends
 abbrev pub Stopped : {A : Type 0} → List ℕ → ℕ → A × ℕ → Type 0
 Stopped text i f = Onto text i f.1 × (read.ends_lines text f.1 ≡ true)
 
@@ -276,7 +276,7 @@ section_sure : (text : List ℕ) (limit i : ℕ) → AllJudged text → get_or t
 section_sure text limit i all e =
     sure_after (header_sure text limit i all e) (λ h f. sure_after (lines_sure text limit h.end all f.1) (λ (es, j) g. sure_is _ ((omega (arith, f.0, g.0.0), g.0.1), g.1)))
 
--- a header stands here, or the text ends
+-- a header begins here, or the text ends
 abbrev Begins : List ℕ → ℕ → Type 0
 Begins text i = IsCharBoundary text i × (read.ends_lines text i ≡ true)
 

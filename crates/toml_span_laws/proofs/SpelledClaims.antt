@@ -1,4 +1,4 @@
--- What is assigned in a document is spelled, and the claims behind each are those of its value.
+-- What is assigned in a document is spelled, and the claims after each assignment are those of its value.
 use Rattle.toml_span_lex.proofs.Common.{◌≡◌, ℕ, zero, suc, true, List, [], ◌∷◌, refl, inl, inr, ⊤, cases_Bool, ◌+◌, ◌≤◌, ◌⊎◌, ◌++◌, length, arith, sym, ap, ◌∙◌, nat_tests, common_steps}
 use Rattle.toml_span_tree.specs.Path.{Path, shape_scalar}
 use Rattle.toml_span_read.specs.Keys.{SpellsKey}
@@ -15,15 +15,15 @@ use Rattle.toml_span.proofs.Grafts.{followed-assoc}
 use Rattle.toml_span.proofs.EachClaim.{Each}
 use Rattle.toml_span_laws.proofs.AscendLaws.{AreBlocks, document_blocks}
 
--- ---- what headers claim
+-- ---- the claims of headers
 
--- claims without scopes, and P of each
+-- claims without scopes, for each of which P holds
 abbrev pub Headed : (Claim → Type 0) → Claims → Type 0
 Headed P no_claims = ⊤
 Headed P (claimed c cs) = P c × Headed P cs
 Headed P (scope inner cs) = ⊥
 
--- so is what a header claims, if P holds of all that it may claim
+-- the same for the claims of a header, if P holds for all that it may make
 pub header-headed : (P : Claim → Type 0) (h : Head) → ((s : Sort) (q : Path) (k : SimpleKey) → by_header s ≡ true → P (header_claim h s q k)) → (e : Path → ℕ) (p : Path) (parts : List SimpleKey)
     → Headed P (header_claims e h p parts)
 unfolding header_claims end_claims
@@ -41,7 +41,7 @@ header-headed P h all e p (k ∷ l ∷ more) =
 
 -- ---- one claim
 
--- the text from one place to another spells the value
+-- the text from one offset to another spells the value
 pub record Spelled (text : List ℕ) (limit : ℕ) (v : ParsedValue) : Type 0 where
   pub depth : ℕ
   pub from : ℕ
@@ -56,7 +56,7 @@ pub record Assigns (text : List ℕ) (limit : ℕ) (c : Claim) : Type 0 where
   pub shape : c.place.shape ≡ value_shape (parsed_inner value)
   pub span : c.place.span ≡ parsed_span value
 
--- the claim assigns nothing: it makes a table or an array
+-- the claim does not assign: it creates a table or an array
 pub record Makes (c : Claim) : Type 0 where
   pub sort : c.mark.sort ≡ Assigned → ⊥
   pub shape : (s : Scalar) → c.place.shape ≡ shape_scalar s → ⊥
@@ -64,7 +64,8 @@ pub record Makes (c : Claim) : Type 0 where
 abbrev pub OfText : List ℕ → ℕ → Claim → Type 0
 OfText text limit c = Assigns text limit c ⊎ Makes c
 
--- Each claim assigns a value that is spelled, and right behind it stand the claims of that value; or it assigns nothing.
+-- Each claim assigns a value that is spelled, and is directly followed by the claims of that value; or it does not
+-- assign.
 abbrev pub AllSpelled : List ℕ → ℕ → Claims → Type 0
 AllSpelled text limit no_claims = ⊤
 AllSpelled text limit (claimed c cs) =
@@ -92,7 +93,7 @@ spelled-followed text limit (scope inner xs) ys h g = (h.0, spelled-followed tex
 no-scalar : (sort : Sort) (s : Scalar) → shape_claimed sort ≡ shape_scalar s → ⊥
 no-scalar sort s h = grind (arith, nat_tests, common_steps)
 
--- claims that assign nothing
+-- claims that do not assign
 made-spelled : (text : List ℕ) (limit : ℕ) (cs : Claims) → Headed Makes cs → AllSpelled text limit cs
 made-spelled text limit no_claims h = tt
 made-spelled text limit (claimed c cs) h = (inr h.0, made-spelled text limit cs h.1)

@@ -1,4 +1,4 @@
--- A key and a value as they are spelled, with an equals sign between them, are a document of one assignment.
+-- The spellings of a key and a value, with an equals sign between them, are a document of one assignment.
 use Rattle.toml_span_lex.proofs.Common.{◌≡◌, ℕ, ◌+◌, ◌<◌, ◌≤◌, true, false, List, [], ◌∷◌, ◌++◌, length, get_or, drop, arith, inr, sym, ◌∙◌, refl, ap, subst, append-nil, append_assoc, length-append, codes, ◌==◌, ◌||◌, or_parts, drop_more, get_or_past, encode_ascii, len_utf8_ascii, nat_tests, common_steps}
 use Rattle.toml_span_lex.specs.Bytes.{is_blank}
 use Rattle.toml_span_lex.specs.Text.{FirstPlace}
@@ -13,11 +13,11 @@ use Rattle.toml_span_read.proofs.Parts.{Part, same_part, back, tail, here, whole
 use Rattle.toml_span_read.proofs.GapStarts.{no_gap, key_starts, value_starts, nothing, blank_run}
 use Rattle.toml_span_laws.specs.Again.{SpellsAssignment}
 
--- a key's first byte
+-- the first byte of a key
 key_byte : (s : SimpleKey) (text : List ℕ) (i j : ℕ) → SpellsSimpleKey s text i j → (i < length text) × (get_or text i 0 < 128)
 key_byte s text i j h = grind (arith, nat_tests, common_steps)
 
--- no byte order mark stands there
+-- there is no byte order mark
 first_place : (s : SimpleKey) (text : List ℕ) (j : ℕ) → SpellsSimpleKey s text 0 j → FirstPlace text 0
 first_place s text j key =
     let b = key_byte s text 0 j key in

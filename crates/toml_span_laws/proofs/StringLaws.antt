@@ -23,7 +23,7 @@ span_cuts text i j span source value multi h other =
     let is = h.span_is ∙ span_is_content multi text i h.from h.to j h.begins h.content_is.to_is (omega (arith, a, f.0, f.1)) other in
     rw is (record { begins = h.begins; forward = omega (arith, f.0); ends = h.content_is.to_is; stands_for = h.content_is })
 
--- ---- strings that hold themselves
+-- ---- strings that are equal to their text
 
 joined : (text : List ℕ) (a b c : ℕ) → a ≤ b → b ≤ c → slice_range text a b ++ slice_range text b c ≡ slice_range text a c
 joined text a b c l m =
@@ -58,7 +58,7 @@ unchanged text i j span source value multi h other none =
     let same = cut_same q multi text span.start c.at c.pieces c.cut (no_change q text span.start span.start c.at span.end (omega arith) on none) in
     c.value_is ∙ (rw same (joined text span.start c.at span.end f on))
 
--- ---- strings that do not hold themselves
+-- ---- strings that are not
 
 no_backslash : (q c : ℕ) → (q ≡ 34) ⊎ (q ≡ 39) → c ≡ q → ((q ≡ 34) × (c ≡ 92)) ⊎ (c ≡ 13) → ⊥
 no_backslash q c u e h = grind (arith, nat_tests, common_steps)

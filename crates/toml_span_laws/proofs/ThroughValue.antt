@@ -1,4 +1,5 @@
--- The way of each key from the table of its section: a clear one goes through no value of its section, and a dotted key that goes through a value is never what is told first.
+-- The way of each key from the table of its section: a key of that section goes through none of its values, and a
+-- dotted key that goes through a value is never the first clash.
 use Rattle.toml_span_lex.proofs.Common.{◌≡◌, ℕ, suc, ◌+◌, List, [], ◌∷◌, ◌++◌, length, map, refl, sym, ap, ◌∙◌, subst, append_assoc, append-nil, inl, inr, ⊤, append_cancel_left, arith, nat_tests, common_steps, ◌<◌, ◌≤◌, ◌⊎◌, Bool, true, false, if◌then◌else◌}
 use Rattle.toml_span_tree.specs.Path.{Path, key}
 use Rattle.toml_span_read.specs.Data.{ParsedValue, parsed, scalar, array, inline, ParsedItems, no_items, item, ParsedPairs, no_pairs, pair, KeyValue, Block, first_block, SimpleKey}
@@ -28,7 +29,7 @@ use Rattle.toml_span_laws.proofs.Order.{document-rises}
 abbrev pub IsDotted : List Claim → Path → Type 0
 IsDotted l p = Has l Dotted p × (q : Path) × (k : List ℕ) × (p ≡ q ++ (key k ∷ []))
 
--- From a table at the base the path goes on, and each table on the way is claimed by a dotted key.
+-- From a table at the base the path continues, and each table on the way is claimed by a dotted key.
 abbrev pub Way : List Claim → Path → Path → Type 0
 Way l base p = Above (IsDotted l) base p
 
@@ -38,12 +39,12 @@ dotted-on l more p (made, q, k, is) = (has-on l more Dotted p made, q, k, is)
 pub way-on : (l more : List Claim) (base p : Path) → Way l base p → Way (l ++ more) base p
 way-on l more base p way = above-on (IsDotted l) (IsDotted (l ++ more)) base p (dotted-on l more) way
 
--- Tables at which sections begin: none is further inside than another one and claimed by a dotted key.
+-- Tables at which sections begin: none is below another one and claimed by a dotted key.
 pub record Bases (R : List Claim → Path → Type 0) : Type 0 where
   pub more : (l m : List Claim) (p : Path) → R l p → R (l ++ m) p
   pub apart : (l : List Claim) (a b : Path) → R l a → R l b → IsUnder a b → IsDotted l b → Peaceful l → ⊥
 
--- two ways to one path begin at one table
+-- two ways to the same path begin at the same table
 one-base : (R : List Claim → Path → Type 0) (laws : Bases R) (l : List Claim) (a b p : Path) → R l a → R l b → Peaceful l → Way l a p → Way l b p → a ≡ b
 one-base R laws l a b p ra rb peace (above, way) (below, other) =
     elim (on-one-way a b (above.0 ∷ above.1) (below.0 ∷ below.1) (sym above.2 ∙ below.2)) [
@@ -57,7 +58,7 @@ one-base R laws l a b p ra rb peace (above, way) (below, other) =
 abbrev keys : List SimpleKey → Path
 keys parts = map key (part_names parts)
 
--- The path is that of no assignment but for one of these.
+-- The path is not that of an assignment, except for these.
 abbrev pub Bars : Path → List KeyValue → Path → Type 0
 Bars base es p = (names : List (List ℕ)) → NoneAt names es → p ≡ base ++ map key names → ⊥
 
@@ -75,7 +76,7 @@ pub record Traced (R : List Claim → Path → Type 0) (l : List Claim) (p : Pat
   pub root : R l base
   pub way : Way l base p
 
--- Each value has such a way, and if it begins at this base, then the value's path is that of one of these assignments.
+-- Each value has such a way, and if it begins at this base, the value's path is that of one of these assignments.
 abbrev pub Known : (List Claim → Path → Type 0) → Path → List KeyValue → List Claim → Type 0
 Known R base es l =
     (c : Claim) → IsIn c l → c.mark.sort ≡ Assigned → (t : Traced R l c.path) × (t.base ≡ base → Peaceful l → Bars base es c.path)
@@ -83,7 +84,7 @@ Known R base es l =
 traced-on : (R : List Claim → Path → Type 0) (laws : Bases R) (l more : List Claim) (p : Path) → Traced R l p → Traced R (l ++ more) p
 traced-on R laws l more p t = record { base = t.base; root = laws.more l more t.base t.root; way = way-on l more t.base p t.way }
 
--- behind claims that assign nothing, but for one that assigns this
+-- after claims that do not assign, except for one that assigns this
 known-on : (R : List Claim → Path → Type 0) (laws : Bases R) (base : Path) (es fs : List KeyValue) (l more : List Claim) → Known R base es l → ((names : List (List ℕ)) → NoneAt names fs → NoneAt names es)
     → ((c : Claim) → IsIn c more → c.mark.sort ≡ Assigned → Traced R (l ++ more) c.path × Bars base fs c.path) → Known R base fs (l ++ more)
 unfolding traced-on
@@ -94,7 +95,7 @@ known-on R laws base es fs l more known wide new c here is = elim (in-cases c l 
   | inr behind ↦ let (t, there) = new c behind is in (t, λ same peace. there)
 ]
 
--- ---- a clear key
+-- ---- a key that goes through no value
 
 not-clear : (base : Path) (es : List KeyValue) (next : KeyValue) (outer : List SimpleKey) (k m : SimpleKey) (more : List SimpleKey) (p : Path) → Clear es next → next.parts ≡ outer ++ (k ∷ m ∷ more)
     → Bars base es p → p ≡ base ++ keys (outer ++ (k ∷ [])) → ⊥
@@ -111,7 +112,7 @@ key-names (x ∷ xs) (y ∷ ys) h = grind (arith, nat_tests, common_steps, key-n
 
 -- ---- claims
 
--- No dotted key's claim is on the path of an earlier value of its scope, where the earlier claims don't clash.
+-- A dotted key's claim is never on the path of an earlier value of its scope, if the earlier claims do not clash.
 abbrev pub Guarded : List Claim → Claims → Type 0
 Guarded earlier no_claims = ⊤
 Guarded earlier (claimed c cs) =
@@ -124,11 +125,11 @@ guarded-followed earlier no_claims ys h g = subst (λ l. Guarded l ys) (append-n
 guarded-followed earlier (claimed c xs) ys h g = grind (arith, nat_tests, common_steps, guarded-followed (earlier ++ (c ∷ [])) xs)
 guarded-followed earlier (scope inner xs) ys h g = (h.0, guarded-followed earlier xs ys h.1 g)
 
--- claims behind these earlier ones, with the values of these assignments
+-- claims after these earlier ones, with the values of these assignments
 abbrev pub Walked : (List Claim → Path → Type 0) → Path → List KeyValue → List Claim → Claims → Type 0
 Walked R base es l cs = Walk Guarded (Known R base es) l cs
 
--- the path of a part behind outer ones
+-- the path of a part after outer ones
 part-at : (base p : Path) (outer : List SimpleKey) (k : SimpleKey) → p ≡ base ++ keys outer → with_key p k ≡ base ++ keys (outer ++ (k ∷ []))
 part-at base p outer k on = grind (arith, nat_tests, common_steps)
 
@@ -179,7 +180,7 @@ value-own v p = refl
 abbrev IsAt : Path → List Claim → Path → Type 0
 IsAt p l q = q ≡ p
 
--- a key of this base whose walk begins
+-- a key with this base, whose walk begins
 begun : (R : List Claim → Path → Type 0) (laws : Bases R) (base : Path) (es : List KeyValue) (next : KeyValue) (l : List Claim) → Clear es next → R l base → Known R base es l
     → ((q : Path) (m : List Claim) → Guarded m (value_claims next.value q)) → Walked R base (es ++ (next ∷ [])) l (key_claims base next.parts next.value (value_claims next.value))
 begun R laws base es next l clear root known inner =
@@ -228,12 +229,12 @@ key_values-walk R laws base (e ∷ evs) before l text limit i j (m, n, k, h, tai
 
 -- ---- tables at which sections begin
 
--- the root, a table that a header opens, or an entry that was counted
+-- the root, a table that a header opens, or an entry that has been counted
 abbrev Opened : (Path → ℕ) → List Claim → Path → Type 0
 Opened e l p =
     (p ≡ []) ⊎ ((q : Path) × (k : List ℕ) × (p ≡ q ++ (key k ∷ [])) × Has l StandardTable p) ⊎ ((q : Path) × (n : ℕ) × (p ≡ with_position q n) × (n < e q))
 
--- a table that is opened and made by a dotted key
+-- a table that is both opened and created by a dotted key
 twice-made : (l : List Claim) (p : Path) → Peaceful l → Has l StandardTable p → Has l Dotted p → ⊥
 twice-made l p peace (c, here, is, on) (d, there, made, at) =
     peaceful-two l c d peace (two-of l c d here there (λ same. let no : StandardTable ≡ Dotted = sym is ∙ same ∙ made in cc))

@@ -1,4 +1,5 @@
--- An array in brackets or an inline table is a document of its own, which has below its one key what the value has below its path.
+-- An array in brackets or an inline table is a document of its own, which has the same places below its only key as the
+-- value has below its path.
 use Rattle.toml_span_lex.proofs.Common.{◌≡◌, ℕ, List, [], ◌∷◌, ◌++◌, Option, Some, None, refl, sym, ap, ◌∙◌, subst, append-nil, inl, inr, cases_Bool, arith, nat_tests, common_steps, suc, option_map, append_assoc, append_cancel_left, length, codes}
 use Rattle.toml_span_tree.specs.Node.{Scalar}
 use Rattle.toml_span_tree.specs.Path.{Path, shape_scalar, Step, key, position, Place, place_at}
@@ -33,7 +34,7 @@ use Rattle.toml_span_laws.specs.Document.{subtree, without_key}
 use Rattle.toml_span_laws.proofs.OneSpelled.{document_unique}
 use Rattle.toml_span_laws.proofs.SpelledClaims.{followed-none}
 
--- ---- where no two claims clash, a claim that assigns in brackets stands alone on its path, with its value's claims below it
+-- ---- if no two claims clash, a claim that assigns in brackets is alone on its path, with its value's claims below it
 
 -- ---- claims at a path
 
@@ -53,8 +54,8 @@ at-right q xs ys h = at-append q xs ys ∙ ap (λ l. l ++ claims_at q ys) (at-no
 
 -- ---- the claim and its value
 
--- The claim's value is read again, nothing clashes in it, all its claims are below the claim, and nothing else is on the claim's
--- path or below.
+-- The claim's value is read again, without clashes, all its claims are below the claim, and there is nothing else on
+-- the claim's path or below it.
 pub record Alone (text : List ℕ) (limit : ℕ) (c : Claim) (cs : Claims) : Type 0 where
   pub value : ParsedValue
   pub again : ValueReadsAgain text limit value
@@ -65,7 +66,7 @@ pub record Alone (text : List ℕ) (limit : ℕ) (c : Claim) (cs : Claims) : Typ
   pub below : (d : Claim) → IsIn d (all_claims (value_claims value c.path)) → IsUnder c.path d.path
   pub only : (r : Path) → claims_at (c.path ++ r) (all_claims cs) ≡ claims_at (c.path ++ r) (c ∷ all_claims (value_claims value c.path))
 
--- the same among more claims
+-- the same among other claims
 among-more : (text : List ℕ) (limit : ℕ) (c : Claim) (cs more : Claims) → Alone text limit c cs → ((r : Path) → claims_at (c.path ++ r) (all_claims more) ≡ claims_at (c.path ++ r) (all_claims cs)) → Alone text limit c more
 among-more text limit c cs more a same = grind (arith, nat_tests, common_steps)
 
@@ -126,11 +127,11 @@ document-alone text limit bs c h ok here value brackets =
     let scene = document-scene text limit bs h ok in
     (alone text limit [] [] None (claims bs) c scene (document-again bs text limit h) here value brackets, scoped-under [] [] None (claims bs) c scene.scoped here)
 
--- ---- what a moved value claims is what the value claims, moved
+-- ---- the claims of a moved value are those of the value, moved
 
 -- ---- claims
 
--- two paths with one end behind the one and the other start
+-- two paths with the same end, one after each start
 abbrev pub Beside : Path → Path → Path → Path → Type 0
 Beside p r q s = (tail : Path) × (q ≡ p ++ tail) × (s ≡ r ++ tail)
 
@@ -208,7 +209,7 @@ all-moved from to p r _ _ none_moved = no_more
 all-moved from to p r _ _ (claim_moved x y xs ys m h) = one_more x y (all_claims xs) (all_claims ys) m (all-moved from to p r xs ys h)
 all-moved from to p r _ _ (scope_moved a b xs ys i h) = append-moved from to p r (all_claims a) (all_claims b) (all_claims xs) (all_claims ys) (all-moved from to p r a b i) (all-moved from to p r xs ys h)
 
--- from which claim one is moved
+-- the claim from which a claim was moved
 pub source : (from to : ℕ) (p r : Path) (xs ys : List Claim) (y : Claim) → AllMoved from to p r xs ys → IsIn y ys → (x : Claim) × IsIn x xs × Moves from to p r x y
 source from to p r _ _ y no_more here = absurd here
 source from to p r _ _ y (one_more x z xs ys m h) (inl same) = (x, inl refl, subst (λ w. Moves from to p r x w) (sym same) m)
@@ -219,7 +220,7 @@ unfolding same_path
 same-front [] t q = refl
 same-front (s ∷ p) t q = rw (same_step-self s) (same-front p t q)
 
--- claims at one path, and the moved ones at the other
+-- the claims at one path, and the moved ones at the other
 pub at-moved : (from to : ℕ) (p r : Path) (xs ys : List Claim) (q : Path) → AllMoved from to p r xs ys → AllMoved from to p r (claims_at (p ++ q) xs) (claims_at (r ++ q) ys)
 unfolding claims_at
 at-moved from to p r _ _ q no_more = no_more
@@ -277,7 +278,7 @@ resolves-moved from to p r _ _ e f (scope_moved a b xs ys i h) g ok = (resolves-
 
 -- ---- the other document
 
--- the one assignment of the value that is read again
+-- the only assignment of the value that is read again
 abbrev again_block : ParsedValue → List Block
 again_block v = first_block (key_value_again v (parsed_span v).start (parsed_span v).end ∷ [])
 
@@ -294,13 +295,13 @@ again-claims : (v : ParsedValue) → claims (again_block v) ≡ claimed (x_claim
 unfolding claims_behind section_claims header_claims key_value_claims key_claims followed target opened_by
 again-claims v = grind (arith, nat_tests, common_steps, followed-none)
 
--- ---- what stands at one path
+-- ---- the place at a path
 
 flat-at : (n : ℕ) (cs : Claims) (s : Step) (p q : Path) → q ≡ s ∷ p → flat n cs q ≡ option_map (λ c. c.place) (deciding_claim (claims_at q (all_claims cs)))
 unfolding flat
 flat-at n cs s p q is = rw is refl
 
--- a value, and claims below it: on its path the value decides, and below it these claims
+-- a value, and claims below it: the value decides on its path, and these claims below it
 value-decides : (c : Claim) (l : List Claim) → c.mark.sort ≡ Assigned → ((d : Claim) → IsIn d l → IsUnder c.path d.path) → deciding_claim (claims_at c.path (c ∷ l)) ≡ Some c
 unfolding claims_at first_claim_by_header
 value-decides c l value under = grind (arith, nat_tests, common_steps, at-none, longer, path-self)
@@ -343,7 +344,7 @@ x_resolves c v ok =
     let inside = resolves-moved (parsed_span v).start 4 c.path at_x (value_claims v c.path) (x_inside v) [] [] (x_moved c v) no_more ok in
     none-behind [] (claims (again_block v)) (subst (λ cs. AreFree [] cs) (sym (again-claims v)) (free-of [] (x_claim v) (λ c here. absurd here), any-earlier (moved (parsed_span v).start 4 v) at_x [] (x_claim v ∷ []) inside))
 
--- the claim's own place stands at its path
+-- the claim's own place is at its path
 alone-place : (text : List ℕ) (limit : ℕ) (c : Claim) (cs : Claims) (s : Step) (p : Path) (n : ℕ) → Alone text limit c cs → c.mark.sort ≡ Assigned → c.path ≡ s ∷ p → flat n cs c.path ≡ Some c.place
 alone-place text limit c cs s p n a value path =
     let l = c ∷ all_claims (value_claims a.value c.path) in
@@ -378,7 +379,7 @@ pub flat-place : (text : List ℕ) (limit n : ℕ) (bs : List Block) (c : Claim)
 flat-place text limit n bs c h ok (here, value, brackets) =
     let (a, (s, p, path)) = document-alone text limit bs c h ok here value brackets in alone-place text limit c (claims bs) s p n a value path
 
--- the value of the claim is a document of its own, and what stands in it is what stands in the claim's document
+-- the value of the claim is a document of its own, with the same places as in the claim's document
 pub flat-again : (text : List ℕ) (limit : ℕ) (bs : List Block) (c : Claim) → SpellsDocument bs text limit → Resolves (claims bs) → AssignsBrackets bs c
     → (again : List Block) × HasOutcome (text_again text c.place.span) limit (resolved again)
     × StandsMoved c.place.span.start 4 (flat (length text) (claims bs)) c.path (flat (length (text_again text c.place.span)) (claims again)) at_x

@@ -1,4 +1,5 @@
--- What spells a document within a limit spells it within a greater one, and what spells it without dates spells it with them.
+-- What spells a document within a limit spells it within a higher one, and what spells it without dates spells it with
+-- them.
 use Rattle.toml_span_lex.proofs.Common.{◌≡◌, ℕ, ◌+◌, ◌≤◌, false, List, [], ◌∷◌, ◌++◌, length, get_or, arith, inl, inr, refl, ◌==◌, nat_tests, common_steps}
 use Rattle.toml_span_lex.specs.declared.span.Span.{Span}
 use Rattle.toml_span_lex.specs.Bytes.{is_blank}
@@ -11,9 +12,9 @@ use Rattle.toml_span_read.proofs.NumberLemmas.{is_false, byte_is, clash}
 use Rattle.toml_span_laws.specs.Undated.{UndatedScalar, SpellsUndated, SpellsUndatedDocument}
 use Rattle.toml_span_read.proofs.Undated.{no_date}
 
--- ---- what stands behind a value in brackets, or an assignment, is no colon
+-- ---- there is no colon after a value in brackets, or after an assignment
 
--- before a colon there is no gap
+-- no gap precedes a colon
 gap_none : (text : List ℕ) (ns : List ℕ) (i j : ℕ) → get_or text i 0 ≡ 58 → GapBy text i ns j → i ≡ j
 gap_none text [] i j h e = e
 gap_none text (n ∷ ns) i j h (inl p, more) = absurd (clash is_blank (get_or text i 0) 58 p.0 h refl)
@@ -27,7 +28,7 @@ no_colon c text i j n g h = grind (arith, nat_tests, common_steps, byte_is, clas
 tail_no_colon : (text : List ℕ) (i j : ℕ) → Tail text i j → (get_or text i 0 == 58) ≡ false
 tail_no_colon text i j (k, s, e) = grind (arith, nat_tests, common_steps)
 
--- ---- values and the document, where Q holds of the places at which no colon stands
+-- ---- values and the document, where Q holds for the offsets at which there is no colon
 
 module _ (S S' : Scalars) (text : List ℕ) (limit wider : ℕ) (more : limit ≤ wider) (Q : ℕ → Type 0) (free : (j : ℕ) → (get_or text j 0 == 58) ≡ false → Q j)
     (scalars : (s : Scalar) (span : Span) (i j : ℕ) → Q j → S s span text i j → S' s span text i j) where
@@ -86,7 +87,7 @@ module _ (S S' : Scalars) (text : List ℕ) (limit wider : ℕ) (more : limit �
   pub document : (bs : List Block) → DocumentWith S bs text limit → DocumentWith S' bs text wider
   document bs d = grind (arith, nat_tests, common_steps, lines, lines d.first d.start d.end d.lines, sections, sections d.rest d.end d.sections)
 
--- ---- within a greater limit
+-- ---- within a higher limit
 
 pub value_wider : (v : ParsedValue) (text : List ℕ) (limit wider d i j : ℕ) → limit ≤ wider → Spells v text limit d i j → Spells v text wider d i j
 value_wider v text limit wider d i j l h = value SpellsScalar SpellsScalar text limit wider l (λ j. Unit {0}) (λ j n. tt) (λ s span i j q x. x) v d i j tt h

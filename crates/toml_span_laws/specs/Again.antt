@@ -1,4 +1,4 @@
--- What is spelled at one place of a text, read again at another place of another text.
+-- Spellings in one text, read again at another place in another text.
 use Rattle.std.specs.Prelude.{◌≡◌, ℕ, ◌+◌, ◌-◌, List, [], ◌∷◌, ◌++◌, map, slice_range, codes}
 use Rattle.toml_span_lex.specs.declared.span.Span.{Span}
 use Rattle.toml_span_tree.specs.Node.{Scalar, text, integer, float, boolean, datetime, Node}
@@ -9,7 +9,7 @@ use Rattle.toml_span_read.specs.Earlier.{part_names}
 use Rattle.toml_span_read.specs.Grammar.{SpellsDocument}
 use Rattle.toml_span_read.specs.Again.{HasValue}
 
--- a span, moved so that what stood at `from` stands at `to`
+-- a span, moved by as much as it takes from `from` to `to`
 abbrev pub moved_span : ℕ → ℕ → Span → Span
 moved_span from to span = record { start = (span.start + to) - from; end = (span.end + to) - from }
 
@@ -35,12 +35,12 @@ abbrev mutual
   moved_pairs from to (pair parts v extent ps) =
       pair (moved_parts from to parts) (moved from to v) (moved_span from to extent) (moved_pairs from to ps)
 
--- a document of one assignment: `x = `, and behind it the text from i to j
+-- a document of one assignment: `x = `, followed by the text from i to j
 abbrev pub assigned_again : List ℕ → ℕ → ℕ → List ℕ
 assigned_again t i j = codes "x = " ++ slice_range t i j
 
--- that assignment: its key is x, its value is that which was spelled from i to j, moved to 4, and its extent is the
--- whole text
+-- That assignment: its key is x, its value is the one spelled from i to j, moved to 4, and its extent is the whole
+-- text.
 abbrev pub key_value_again : ParsedValue → ℕ → ℕ → KeyValue
 key_value_again v i j =
     record {
@@ -49,15 +49,15 @@ key_value_again v i j =
       extent = record { start = 0; end = (j + 4) - i };
     }
 
--- the text from i to j spells the value again: behind `x = ` it is a document of that assignment alone
+-- The text from i to j spells the value again: after `x = ` it is a document of only that assignment.
 abbrev pub SpellsAgain : ParsedValue → List ℕ → ℕ → ℕ → ℕ → Type 0
 SpellsAgain v t limit i j = SpellsDocument (first_block (key_value_again v i j ∷ [])) (assigned_again t i j) limit
 
--- the text at the value's span spells it again
+-- The text at the value's span spells it again.
 abbrev pub ReadsAgain : List ℕ → ℕ → ParsedValue → Type 0
 ReadsAgain t limit v = SpellsAgain v t limit (parsed_span v).start (parsed_span v).end
 
--- The span of a string is its content's, without the quotes.
+-- Strings are left out, since their spans are without the quotes.
 abbrev pub ScalarReadsAgain : List ℕ → ℕ → Scalar → Span → Type 0
 ScalarReadsAgain t limit (text value) span = Unit {0}
 ScalarReadsAgain t limit (integer n) span = ReadsAgain t limit (parsed (scalar (integer n)) span)
@@ -65,7 +65,7 @@ ScalarReadsAgain t limit (float x) span = ReadsAgain t limit (parsed (scalar (fl
 ScalarReadsAgain t limit (boolean b) span = ReadsAgain t limit (parsed (scalar (boolean b)) span)
 ScalarReadsAgain t limit (datetime d) span = ReadsAgain t limit (parsed (scalar (datetime d)) span)
 
--- a value and the values in it, at every nesting, read again, but for strings
+-- A value and the values in it, at any depth, read again, except for strings.
 abbrev mutual
   pub AllReadAgain : List ℕ → ℕ → ParsedValue → Type 0
   AllReadAgain t limit (parsed k span) = InnerReadAgain t limit k span
@@ -83,7 +83,7 @@ abbrev mutual
   PairsReadAgain t limit no_pairs = Unit {0}
   PairsReadAgain t limit (pair parts v extent ps) = AllReadAgain t limit v × PairsReadAgain t limit ps
 
--- so do the values of these assignments, and those of these sections
+-- So do the values of these assignments, and those of these sections.
 abbrev pub KeyValuesReadAgain : List ℕ → ℕ → List KeyValue → Type 0
 KeyValuesReadAgain t limit [] = Unit {0}
 KeyValuesReadAgain t limit (e ∷ es) = AllReadAgain t limit e.value × KeyValuesReadAgain t limit es
@@ -94,7 +94,7 @@ BlocksReadAgain t limit (b ∷ bs) = KeyValuesReadAgain t limit b.key_values × 
 
 -- ---- what is spelled
 
--- the text is a document of one assignment: its key is one part with this name, its value is this one
+-- The text is a document of one assignment, whose key is one part with this name, and whose value is this one.
 abbrev pub SpellsAssignment : List ℕ → Node → List ℕ → ℕ → Type 0
 SpellsAssignment name n t limit =
     (e : KeyValue) × SpellsDocument (first_block (e ∷ [])) t limit × (part_names e.parts ≡ name ∷ [])

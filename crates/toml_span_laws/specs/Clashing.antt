@@ -1,19 +1,19 @@
--- Claims of one scope: which of them clash, and which two are the first by the places of their keys.
+-- Claims of one scope: which of them clash, and which two clash first by the offsets of their keys.
 use Rattle.std.specs.Prelude.{◌≡◌, ◌<◌, ◌⊎◌, List, [], ◌∷◌, ◌++◌, Some}
 use Rattle.toml_span.specs.Claims.{Claim, Claims, no_claims, claimed, scope}
 use Rattle.toml_span.specs.Clashes.{NamedClash, clash}
 use Rattle.toml_span_laws.specs.Order.{claim_start}
 
--- the claim stands in the list
+-- The claim is in the list.
 abbrev pub IsIn : Claim → List Claim → Type 0
 IsIn c [] = ⊥
 IsIn c (d ∷ ds) = (c ≡ d) ⊎ IsIn c ds
 
--- an earlier claim clashes with a later one
+-- An earlier claim clashes with a later one.
 abbrev pub DoClash : Claim → Claim → Type 0
 DoClash c d = (t : NamedClash) × (clash c d ≡ Some t)
 
--- Behind these earlier claims of the scope, or in a scope inside, a claim clashes with an earlier one of its scope.
+-- After these earlier claims of the scope, or in a scope inside, a claim clashes with an earlier one of its scope.
 abbrev pub IsPair : List Claim → Claims → Claim → Claim → Type 0
 IsPair earlier no_claims c d = ⊥
 IsPair earlier (claimed x cs) c d = ((d ≡ x) × IsIn c earlier × DoClash c d) ⊎ IsPair (earlier ++ (x ∷ [])) cs c d
@@ -41,6 +41,6 @@ ShareInside (claimed x cs) c d = ShareInside cs c d
 ShareInside (scope inner cs) c d = (IsIn c (own inner) × IsIn d (own inner)) ⊎ ShareInside inner c d
     ⊎ ShareInside cs c d
 
--- two claims of one scope, the outer one or one inside
+-- two claims of the same scope, be it the outer one or one inside
 abbrev pub ShareScope : Claims → Claim → Claim → Type 0
 ShareScope cs c d = (IsIn c (own cs) × IsIn d (own cs)) ⊎ ShareInside cs c d

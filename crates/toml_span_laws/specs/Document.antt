@@ -1,4 +1,4 @@
--- What callers say of a text that is read.
+-- What callers can state about a text that they read.
 use Rattle.std.specs.Prelude.{◌≡◌, ℕ, List, [], ◌∷◌, ◌++◌, length, Option, Some, None, Ok, option_map}
 use Rattle.toml_span_tree.specs.Path.{Path, Place}
 use Rattle.toml_span_tree.specs.Pointer.{pointer_segments, NamesPath}
@@ -10,13 +10,13 @@ use Rattle.toml_span.specs.Clashes.{Resolves}
 use Rattle.toml_span.specs.Flat.{flat, Shows}
 use Rattle.toml_span.specs.Ordered.{IsOrdered}
 
--- Reading the text gives sections of which no two claims clash, and P holds of their flat document.
+-- Reading the text results in sections whose claims do not clash, and P holds for their flat document.
 abbrev pub IsDocument : List ℕ → ((Path → Option Place) → Type 0) → Type 0
 IsDocument text P =
     (blocks : List Block) × document text depth_limit (Ok blocks) × Resolves (claims blocks)
     × P (flat (length text) (claims blocks))
 
--- At a path whose steps the pointer's segments name stands a place of which P holds.
+-- There is a path whose steps the pointer's segments name, and a place there for which P holds.
 abbrev pub StandsAt : List ℕ → (Path → Option Place) → (Place → Type 0) → Type 0
 StandsAt pointer places P =
     (names : List (List ℕ)) × (path : Path) × (place : Place) × (pointer_segments pointer ≡ Some names)
@@ -24,20 +24,21 @@ StandsAt pointer places P =
 
 -- ---- the part of a flat document below a path, and the value that shows it
 
--- A value shows its own place without the span of the key at which it stands.
+-- A value shows its own place without the span of its key.
 abbrev pub without_key : Place → Place
 without_key x = record { shape = x.shape; key_span = None; span = x.span }
 
--- what stands at a path and below it, seen from there
+-- the places at a path and below it, with paths that begin there
 abbrev pub subtree : (Path → Option Place) → Path → Path → Option Place
 subtree places path [] = option_map without_key (places path)
 subtree places path (s ∷ p) = places (path ++ (s ∷ p))
 
--- The value shows just these places, and its tables are in the order of their names. There is one such value at most.
+-- The value shows exactly these places, and its tables are in the order of their names. There is at most one such
+-- value.
 abbrev pub IsValueOf : (Path → Option Place) → Node → Type 0
 IsValueOf places n = IsOrdered n × Shows n places
 
--- the pointer's segments name the steps of a path, and this is the value of what stands there
+-- The pointer's segments name the steps of a path, and this is the value at that path.
 abbrev pub PointsAt : List ℕ → (Path → Option Place) → Node → Type 0
 PointsAt pointer places n =
     (names : List (List ℕ)) × (path : Path) × (pointer_segments pointer ≡ Some names) × NamesPath names path

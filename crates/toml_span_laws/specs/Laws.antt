@@ -1,4 +1,4 @@
--- What the laws cite.
+-- Definitions that the laws cite.
 use Rattle.std.specs.Prelude.{◌≡◌, ⊤, ℕ, suc, ◌+◌, Bool, List, [], ◌∷◌}
 use Rattle.toml_span_lex.specs.declared.span.Span.{Span}
 use Rattle.toml_span_lex.specs.Strings.{IsString, IsEmptyOnOneLine}
@@ -10,14 +10,14 @@ use Rattle.toml_span_laws.specs.Again.{ReadsAgain, ScalarReadsAgain}
 use Rattle.toml_span.specs.declared.claims.Sort.TheVariants.{Assigned}
 use Rattle.toml_span.specs.Claims.{Claims, no_claims, claimed, scope, followed, parsed_inner, value_claims, value_shape}
 
--- how many keys a path has
+-- the number of keys in a path
 abbrev pub keys_in : Path → ℕ
 keys_in [] = 0
 keys_in (key name ∷ p) = suc (keys_in p)
 keys_in (position i ∷ p) = keys_in p
 
--- The text from i to j is a string with this value. The span is all that stands between its quotes, or, of two quotes
--- alone, the first of them.
+-- The text from i to j is a string with this value. The span is everything between its quotes, or the first of two
+-- quotes with nothing between them.
 pub record ShowsString (text value : List ℕ) (span : Span) : Type 0 where
   pub i : ℕ
   pub j : ℕ
@@ -27,7 +27,7 @@ pub record ShowsString (text value : List ℕ) (span : Span) : Type 0 where
   pub content : (IsEmptyOnOneLine i j → ⊥) → CutsContent text i j span value multi
   pub opening : IsEmptyOnOneLine i j → (value ≡ []) × (span ≡ record { start = i; end = i + 1 })
 
--- the text at the value's span is read again as that value; of a string nothing is said
+-- The text at the value's span is read again as that value. For a string nothing is stated.
 abbrev pub ValueReadsAgain : List ℕ → ℕ → read.ParsedValue → Type 0
 ValueReadsAgain text limit (read.parsed (read.scalar s) span) = ScalarReadsAgain text limit s span
 ValueReadsAgain text limit (read.parsed (read.array items) span) =
@@ -35,7 +35,7 @@ ValueReadsAgain text limit (read.parsed (read.array items) span) =
 ValueReadsAgain text limit (read.parsed (read.inline pairs) span) =
     ReadsAgain text limit (read.parsed (read.inline pairs) span)
 
--- What a claim assigns is read again as a value, and the claims right behind it are what that value claims.
+-- What a claim assigns is read again as a value, and the claims that follow directly are those of that value.
 abbrev pub AssignsAgain : List ℕ → ℕ → Claims → Type 0
 AssignsAgain text limit no_claims = ⊤
 AssignsAgain text limit (claimed c cs) =

@@ -1,4 +1,5 @@
--- What is read again from the text at its span: the same at another path of other places, with its spans moved.
+-- What is read again from the text at its span: the same places at another path of another document, with their spans
+-- moved.
 use Rattle.std.specs.Prelude.{◌≡◌, ◌≢◌, ℕ, List, [], ◌∷◌, Option, codes, option_map}
 use Rattle.toml_span_lex.specs.declared.span.Span.{Span}
 use Rattle.toml_span_tree.specs.Node.{Scalar}
@@ -11,25 +12,26 @@ use Rattle.toml_span.specs.Flat.{all_claims}
 use Rattle.toml_span_laws.specs.Clashing.{IsIn}
 use Rattle.toml_span_laws.specs.Document.{subtree}
 
--- the place with its spans moved, so that what stood at `from` stands at `to`
+-- the place with its spans moved by as much as it takes from `from` to `to`
 abbrev pub moved_place : ℕ → ℕ → Place → Place
 moved_place from to x =
     record { shape = x.shape; key_span = option_map (moved_span from to) x.key_span; span = moved_span from to x.span }
 
--- What stands at the path and below stands at the other path of the other places, with its spans moved, also of keys.
+-- The places at the path and below it are also at the other path of the other document, with their spans moved, those
+-- of keys included.
 abbrev pub StandsMoved : ℕ → ℕ → (Path → Option Place) → Path → (Path → Option Place) → Path → Type 0
 StandsMoved from to places path others other =
     (p : Path) → subtree others other p ≡ option_map (moved_place from to) (subtree places path p)
 
--- of these sections the claim assigns an array in brackets or an inline table
+-- A claim in these sections assigns an array in brackets or an inline table.
 abbrev pub AssignsBrackets : List Block → Claim → Type 0
 AssignsBrackets blocks c =
     IsIn c (all_claims (claims blocks)) × (c.mark.sort ≡ Assigned) × ((s : Scalar) → c.place.shape ≢ shape_scalar s)
 
--- `x = `, and behind it the text at the span
+-- `x = `, followed by the text at the span
 abbrev pub text_again : List ℕ → Span → List ℕ
 text_again text span = assigned_again text span.start span.end
 
--- the path of its one assignment
+-- the path of its only assignment
 abbrev pub at_x : Path
 at_x = key (codes "x") ∷ []

@@ -5,12 +5,12 @@ use Rattle.toml_span_tree.specs.Path.{Path, Place}
 use Rattle.toml_span.specs.Claims.{Claim}
 use Rattle.toml_span.specs.declared.claims.Sort.TheVariants.{ArrayOfTables, TableElement}
 
--- where the key starts that claims, or the element
+-- the start of the key that makes the claim, or of the element
 abbrev pub claim_start : Claim → ℕ
 claim_start c = c.mark.key.start
 
--- the second claim starts behind the first; or the first is an array of tables and the second its element, which one
--- key claims
+-- The second claim starts after the first; or the first is an array of tables and the second its element, which are
+-- claimed by the same key.
 abbrev pub Follows : Claim → Claim → Type 0
 Follows c d =
     (claim_start c < claim_start d)
@@ -22,11 +22,11 @@ Ascends [] = ⊤
 Ascends (c ∷ []) = ⊤
 Ascends (c ∷ d ∷ cs) = Follows c d × Ascends (d ∷ cs)
 
--- where the key at a path stands, if what stands there has one
+-- the span of the key at a path, if there is a key
 abbrev pub key_at : (Path → Option Place) → Path → Option Span
 key_at places p = option_and_then (λ x. x.key_span) (places p)
 
--- no two keys start at one place
+-- No two keys start at the same offset.
 abbrev pub KeysApart : (Path → Option Place) → Type 0
 KeysApart places =
     (p q : Path) (k l : Span) → key_at places p ≡ Some k → key_at places q ≡ Some l → k.start ≡ l.start → p ≡ q

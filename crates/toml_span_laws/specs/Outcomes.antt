@@ -1,4 +1,4 @@
--- Answers that are alike.
+-- Results that are alike.
 use Rattle.std.specs.Prelude.{◌≡◌, ⊤, Result, Ok, Err}
 use Rattle.toml_span_lex.specs.declared.stop.Stop.{Stop}
 use Rattle.toml_span_lex.specs.declared.stop.Stop.TheVariants as stops
@@ -7,8 +7,8 @@ use Rattle.toml_span_tree.specs.declared.value.Value.{Value}
 use Rattle.toml_span_tree.specs.Error.{content_of}
 use Rattle.toml_span_tree.specs.Value.{view}
 
--- Both are trees, equal as data, or both are errors, which tell the same. Want of memory is like
--- each answer.
+-- Both are trees that are equal as data, or both are errors with the same contents. A failed allocation is like any
+-- result.
 abbrev pub IsAlike : Result Value (Stop Error) → Result Value (Stop Error) → Type 0
 IsAlike (Ok root) (Ok other) = view root ≡ view other
 IsAlike (Ok root) (Err (stops.Memory f)) = ⊤

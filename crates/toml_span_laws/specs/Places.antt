@@ -1,4 +1,4 @@
--- Where headers, keys, values and their brackets stand: one behind the other, and between the quotes of a string.
+-- The spans of headers, keys, values and brackets: their order in the text, and those between the quotes of a string.
 use Rattle.std.specs.Prelude.{◌≡◌, ℕ, ◌≤◌, Bool, List, [], ◌∷◌, ◌++◌, slice_index}
 use Rattle.toml_span_lex.specs.declared.span.Span.{Span}
 use Rattle.toml_span_lex.specs.Strings.{ContentFrom, IsContent, content_end}
@@ -6,31 +6,32 @@ use Rattle.toml_span_read.specs.Data.{KeyValue, Block, ParsedValue, parsed, Pars
 use Rattle.toml_span_read.specs.Data.{ParsedItems, no_items, item, ParsedPairs, no_pairs, pair, SimpleKey}
 use Rattle.toml_span_read.specs.Places.{Ascend, Inside}
 
--- ---- one behind the other
+-- ---- in the order of the text
 
--- from i to j stand these assignments, each behind the one before it: the parts of its key ascend, and its value stands
--- behind them
+-- Between i and j there are these assignments, each after the one before it: the parts of its key ascend, and its value
+-- comes after them.
 abbrev pub KeyValuesAscend : List KeyValue → ℕ → ℕ → Type 0
 KeyValuesAscend [] i j = i ≤ j
 KeyValuesAscend (ev ∷ evs) i j =
     (i ≤ ev.extent.start) × (a : ℕ) × Ascend ev.parts ev.extent.start a × Inside ev.value a ev.extent.end
     × KeyValuesAscend evs ev.extent.end j
 
--- from i to j stand these sections, each behind the one before it, and in each its header and then its assignments
+-- Between i and j there are these sections, each after the one before it, and in each its header comes before its
+-- assignments.
 abbrev pub BlocksAscend : List Block → ℕ → ℕ → Type 0
 BlocksAscend [] i j = i ≤ j
 BlocksAscend (b ∷ bs) i j =
     (i ≤ b.header_span.start) × Ascend b.header b.header_span.start b.header_span.end
     × KeyValuesAscend b.key_values b.header_span.end b.extent.end × BlocksAscend bs b.extent.end j
 
--- ---- where keys start
+-- ---- the starts of keys
 
--- of the parts of a key
+-- those of the parts of a key
 abbrev pub part_starts : List SimpleKey → List ℕ
 part_starts [] = []
 part_starts (p ∷ ps) = p.span.start ∷ part_starts ps
 
--- of the parts of the keys in a value, at every nesting
+-- those of the parts of the keys in a value, at any depth
 abbrev mutual
   pub key_starts : ParsedValue → List ℕ
   key_starts (parsed k span) = inner_key_starts k
@@ -48,20 +49,20 @@ abbrev mutual
   pair_key_starts no_pairs = []
   pair_key_starts (pair ss v extent ps) = part_starts ss ++ (key_starts v ++ pair_key_starts ps)
 
--- of the parts of the keys of assignments and of the keys in their values
+-- those of the parts of the keys of assignments, and of the keys in their values
 abbrev pub key_value_key_starts : List KeyValue → List ℕ
 key_value_key_starts [] = []
 key_value_key_starts (e ∷ es) = part_starts e.parts ++ (key_starts e.value ++ key_value_key_starts es)
 
--- of the parts of all headers and of all keys in sections
+-- those of the parts of all headers and keys in sections
 abbrev pub block_key_starts : List Block → List ℕ
 block_key_starts [] = []
 block_key_starts (b ∷ bs) = part_starts b.header ++ (key_value_key_starts b.key_values ++ block_key_starts bs)
 
--- ---- where keys and brackets start
+-- ---- the starts of keys and brackets
 
--- of the arrays, the inline tables and the parts of keys in a value, and of the value itself where it is an array or an
--- inline table
+-- those of the arrays, inline tables and key parts in a value, and of the value itself if it is an array or an inline
+-- table
 abbrev mutual
   pub starts : ParsedValue → List ℕ
   starts (parsed k span) = inner_starts k span
@@ -79,25 +80,25 @@ abbrev mutual
   pair_starts no_pairs = []
   pair_starts (pair ss v extent ps) = part_starts ss ++ (starts v ++ pair_starts ps)
 
--- of assignments: the parts of each key, and what stands in its value
+-- those of assignments: the parts of each key, followed by those in its value
 abbrev pub key_value_starts : List KeyValue → List ℕ
 key_value_starts [] = []
 key_value_starts (e ∷ es) = part_starts e.parts ++ (starts e.value ++ key_value_starts es)
 
--- of a header: its first bracket and its parts; assignments before the first header have none
+-- those of a header: its first bracket and its parts; the section before the first header has none
 abbrev pub header_starts : List SimpleKey → Span → List ℕ
 header_starts [] span = []
 header_starts (p ∷ ps) span = span.start ∷ part_starts (p ∷ ps)
 
--- of sections: each header, and what stands in the assignments behind it
+-- those of sections: each header, followed by those in its assignments
 abbrev pub block_starts : List Block → List ℕ
 block_starts [] = []
 block_starts (b ∷ bs) = header_starts b.header b.header_span ++ (key_value_starts b.key_values ++ block_starts bs)
 
 -- ---- between the quotes of a string
 
--- The span is all that stands between the quotes of the string from i to j, but for a line end right behind three
--- opening quotes, and the value is what it stands for.
+-- The span is everything between the quotes of the string from i to j, except for a line end directly after three
+-- opening quotes, and the value is what it denotes.
 pub record CutsContent (text : List ℕ) (i j : ℕ) (span : Span) (value : List ℕ) (multi : Bool) : Type 0 where
   pub begins : ContentFrom multi text i span.start
   pub forward : span.start ≤ span.end

@@ -1,4 +1,4 @@
--- The grammar without dates (TOML 1.1, less "Offset Date-Time" to "Local Time"): a number is read also where a date
+-- The grammar without dates (TOML 1.1 without "Offset Date-Time" to "Local Time"): a number is read even where a date
 -- would begin, and no value is a date.
 use Rattle.std.specs.Prelude.{◌≡◌, ℕ, Bool, List}
 use Rattle.toml_span_lex.specs.declared.span.Span.{Span}
@@ -10,7 +10,7 @@ use Rattle.toml_span_read.specs.Data.{ParsedValue, Block, from_to}
 use Rattle.toml_span_read.specs.Grammar.{truth_text, SpellsWith, DocumentWith}
 use Rattle.toml_span_read.specs.Numbers.{IsNumber}
 
--- The text from i to j is this string, number or truth value, with this span: of a string its content's.
+-- The text from i to j is this string, number or boolean, with this span. The span of a string is that of its content.
 abbrev pub UndatedScalar : Scalar → Span → List ℕ → ℕ → ℕ → Type 0
 UndatedScalar (text value) span t i j = (source : List ℕ) × (multi : Bool) × IsString t i j span source value multi
 UndatedScalar (boolean b) span t i j = RunAt is_keylike t i j (truth_text b) × (span ≡ from_to i j)

@@ -1,2 +1,2 @@
--- How the functions of the code share the work: no clause of a public result rests on it.
+-- How the functions share the work. No clause of a public result depends on it.
 pub mod Judged

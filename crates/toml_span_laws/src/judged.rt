@@ -1,6 +1,6 @@
-//! Laws of what stands at a place of a text.
+//! Laws about what is at an offset in a text.
 //!
-//! The bodies judge single forms: they are the proof.
+//! The bodies examine single forms: they are the proof.
 ghost use Rattle.std.specs.Prelude.{◌≡◌, ℕ, true, Result};
 ghost use Rattle.std.specs.Str.{IsCharBoundary};
 ghost use Rattle.toml_span_tree.specs.Node.{Scalar};
@@ -14,7 +14,7 @@ use toml_span_lex::laws::something_stands;
 use toml_span_read::dates::{begins_date, date};
 use toml_span_read::gaps::{dot, gap_end, line_rest};
 
-/// Where a date begins, one is read, or a fault is told.
+/// Where a date begins, either a date is read, or there is a fault.
 pub fn date_or_fault(text: &str, at: usize)
     requires { IsCharBoundary text.now at }
     ensures { date_spec.begins_date text.now at ≡ true
@@ -25,7 +25,7 @@ pub fn date_or_fault(text: &str, at: usize)
     }
 }
 
-/// Each form that is read without a look at other forms stands at a place, or another thing does.
+/// Each form that is read without regard to other forms is at the offset, or something else is.
 pub fn place_is_judged(text: &str, at: usize)
     requires { IsCharBoundary text.now at }
     ensures { Judged text.now at }
@@ -39,7 +39,7 @@ pub fn place_is_judged(text: &str, at: usize)
     date_or_fault(text, at);
 }
 
-/// So it is at each place of a text.
+/// The same holds at each offset in a text.
 pub fn places_are_judged(text: &str)
     ensures { (i : ℕ) → IsCharBoundary text.now i → Judged text.now i }
 {

@@ -1,11 +1,11 @@
-//! Laws of keys.
+//! Laws about keys.
 ghost use Rattle.std.specs.Prelude.{◌≡◌, ◌≤◌, ◌↔◌, ℕ, Bool, List, [], length, Result, Ok};
 ghost use Rattle.toml_span_read.specs.declared.fault.Fault.{Fault};
 ghost use Rattle.toml_span_read.specs.Keys.{SpellsSimpleKey, SpellsKey};
 ghost use Rattle.toml_span_read.specs.Data.{SimpleKey};
 ghost use Rattle.toml_span_read.specs.Read as read;
 
-/// A key is read, as it is, exactly where one of at most so many parts stands.
+/// A key is read exactly where the text spells it, if it has at most `limit` parts.
 pub fn keys_are_read()
     ensures single { (text : List ℕ) (i j : ℕ) (p : SimpleKey)
         → read.simple_key_at text i (Ok (p, j)) ↔ SpellsSimpleKey p text i j }
@@ -13,7 +13,7 @@ pub fn keys_are_read()
         → read.key header text limit [] i (Ok (ps, j)) ↔ (SpellsKey ps text i j × (length ps ≤ limit)) }
 {}
 
-/// Reading a key gives one thing, a key or a fault.
+/// Reading a key has exactly one result, a key or a fault.
 pub fn one_key()
     ensures single { (text : List ℕ) (i : ℕ) (r s : Result (SimpleKey × ℕ) Fault) → read.simple_key_at text i r
         → read.simple_key_at text i s → r ≡ s }
@@ -21,7 +21,7 @@ pub fn one_key()
         → read.key header text limit [] i r → read.key header text limit [] i s → r ≡ s }
 {}
 
-/// At most one dotted key stands at a place.
+/// At most one dotted key is spelled at an offset.
 pub fn one_dotted_key()
     ensures { (text : List ℕ) (i j k : ℕ) (ps qs : List SimpleKey) → SpellsKey ps text i j → SpellsKey qs text i k
         → (ps ≡ qs) × (j ≡ k) }

@@ -1,10 +1,10 @@
-//! Laws of the places of keys.
+//! Laws about the spans of keys.
 ghost use Rattle.std.specs.Prelude.{ℕ, ◌≤◌, List, length};
 ghost use Rattle.toml_span_read.specs.Keys.{SpellsKey};
 ghost use Rattle.toml_span_read.specs.Data.{SimpleKey};
 ghost use Rattle.toml_span_read.specs.Places.{Ascend};
 
-/// The parts of a dotted key stand one behind the other, within it, and it within the text.
+/// The parts of a dotted key follow each other within it, and it is within the text.
 pub fn parts_ascend()
     ensures { (parts : List SimpleKey) (text : List ℕ) (i j : ℕ) → SpellsKey parts text i j
         → Ascend parts i j × (j ≤ length text) }

@@ -1,4 +1,4 @@
-//! Laws of the grammar, of reading and of `parse`: what follows from the definitions that contracts cite.
+//! Laws about the grammar, reading and `parse`: what follows from the definitions that contracts cite.
 #![tactic(auto)]
 
 pub mod again;

@@ -1,4 +1,4 @@
-//! Laws of documents and limits.
+//! Laws about documents and limits.
 ghost use Rattle.std.specs.Prelude.{◌≤◌, ℕ, List, Vec, Result, Ok, map};
 ghost use Rattle.std.specs.Global.{Global};
 ghost use Rattle.toml_span_lex.specs.declared.stop.Stop.{Stop};
@@ -9,22 +9,21 @@ ghost use Rattle.toml_span_read.specs.Grammar.{SpellsDocument};
 ghost use Rattle.toml_span_read.specs.Limits.{WithinSections};
 ghost use Rattle.toml_span_read.specs.Reading.{ReadsDocument, AreRead};
 
-/// A text that spells a document within a limit spells the same document within each greater one.
+/// A text that spells a document within a limit spells the same document within any higher one.
 pub fn wider_document()
     ensures { (text : List ℕ) (limit wider : ℕ) (blocks : List Block) → limit ≤ wider → SpellsDocument blocks text limit
         → SpellsDocument blocks text wider }
 {}
 
-/// A text that is read within a limit is read within each greater one, and as the same sections, unless
-/// memory runs out.
+/// A text that is read within a limit is read as the same sections within any higher one, unless an allocation fails.
 pub fn read_within_wider()
     ensures { (text : List ℕ) (limit wider : ℕ) (found : Vec Section Global)
         (result : Result (Vec Section Global) (Stop Error)) → limit ≤ wider → ReadsDocument text limit (Ok found)
         → ReadsDocument text wider result → AreRead (map block found.items) result }
 {}
 
-/// Every header and every dotted key of the sections that a text spells has at most as many parts as the limit,
-/// and no value is deeper.
+/// In the sections that a text spells, every header and every dotted key has at most as many parts as the limit, and no
+/// value is nested deeper.
 pub fn sections_within_the_limit()
     ensures { (text : List ℕ) (limit : ℕ) (sections : List Section) → SpellsDocument (map block sections) text limit
         → WithinSections limit sections }

@@ -1,4 +1,4 @@
-//! Laws of lines, headers, sections and the document.
+//! Laws about lines, headers, sections and documents.
 ghost use Rattle.std.specs.Prelude.{◌≡◌, ◌↔◌, ℕ, Bool, false, List, length, map, slice_index, Result, Ok, Err, Vec};
 ghost use Rattle.std.specs.Global.{Global};
 ghost use Rattle.toml_span_lex.specs.declared.stop.Stop.{Stop};
@@ -16,13 +16,14 @@ ghost use Rattle.toml_span_read.specs.Grammar.{SpellsDocument, SpellsHeader, Spe
 ghost use Rattle.toml_span_read.specs.Read as read;
 ghost use Rattle.toml_span_read.specs.Reading.{ReadsDocument, AreRead};
 
-/// A document is read, as it is, exactly where the text spells it.
+/// A document is read exactly if the text spells it.
 pub fn documents_are_read()
     ensures { (text : List ℕ) (limit : ℕ) (blocks : List Block)
         → read.document text limit (Ok blocks) ↔ SpellsDocument blocks text limit }
 {}
 
-/// What is read as one section, with a header or before the first, is spelled so, within the limit and the text.
+/// A section that is read, with a header or before the first, is spelled by the text, within the limit, and is inside
+/// the text.
 pub fn sections_are_read()
     ensures section { (text : List ℕ) (limit i j : ℕ) (s : Section) → slice_index text i ≡ left_bracket
         → read.section text limit i (Ok (block s, j)) → SpellsSection (block s) text limit i j
@@ -39,32 +40,32 @@ pub fn one_document()
         → SpellsDocument others text limit → blocks ≡ others }
 {}
 
-/// Where a text spells a document, no fault is told in it.
+/// A text that spells a document has no fault.
 pub fn document_or_fault()
     ensures { (text : List ℕ) (limit : ℕ) (blocks : List Block) (fault : Fault) → SpellsDocument blocks text limit
         → read.document text limit (Err fault) → ⊥ }
 {}
 
-/// What spells a document is read as it, unless memory runs out.
+/// If the text spells a document, reading results in it, unless an allocation fails.
 pub fn read_where_spelled()
     ensures { (text : List ℕ) (limit : ℕ) (result : Result (Vec Section Global) (Stop Error)) (blocks : List Block)
         → ReadsDocument text limit result → SpellsDocument blocks text limit → AreRead blocks result }
 {}
 
-/// At most one header stands at a place.
+/// At most one header is spelled at an offset.
 pub fn one_header()
     ensures { (text : List ℕ) (limit i j k : ℕ) (ps qs : List SimpleKey) (array other : Bool)
         → SpellsHeader ps array text limit i j → SpellsHeader qs other text limit i k
         → (ps ≡ qs) × (array ≡ other) × (j ≡ k) }
 {}
 
-/// Where a header stands, no fault is told.
+/// Reading a header that is spelled has no fault.
 pub fn header_or_fault()
     ensures { (text : List ℕ) (limit i j : ℕ) (ps : List SimpleKey) (array : Bool) (fault : Fault)
         → SpellsHeader ps array text limit i j → read.header text limit i (Err fault) → ⊥ }
 {}
 
-/// What stands before a form is blank lines, and the spaces and tabs before it.
+/// The gap before a key or a header consists of blank lines, and of spaces and tabs.
 pub fn blank_lines()
     ensures before { (text : List ℕ) (i j : ℕ) → MaximalGap text i j → BehindLines text j
         → (ends : List ℕ) × (k : ℕ) × BlankLines text i ends k × MaximalRun is_blank text k j }
@@ -72,13 +73,13 @@ pub fn blank_lines()
         → MaximalRun is_blank text k j → begins_gap text j ≡ false → MaximalGap text i j }
 {}
 
-/// The headers, the keys and the values that a text spells stand one behind the other.
+/// The headers, keys and values that a text spells follow each other.
 pub fn document_ascends()
     ensures { (text : List ℕ) (limit : ℕ) (blocks : List Block) → SpellsDocument blocks text limit
         → BlocksAscend blocks 0 (length text) }
 {}
 
-/// Their keys and headers stand inside the text, those of inline tables too.
+/// Its keys and headers are inside the text, including those of inline tables.
 pub fn sections_inside_the_text()
     ensures { (text : List ℕ) (limit : ℕ) (sections : List Section) → SpellsDocument (map block sections) text limit
         → SectionsInside (length text) sections }

@@ -1,4 +1,4 @@
-//! Laws of numbers.
+//! Laws about numbers.
 ghost use Rattle.std.specs.Prelude.{◌≡◌, ◌||◌, ◌==◌, ℕ, true, List, Ok, slice_index};
 ghost use Rattle.toml_span_lex.specs.Bytes.{is_keylike, plus};
 ghost use Rattle.toml_span_tree.specs.Node.{Scalar};
@@ -6,8 +6,8 @@ ghost use Rattle.toml_span_read.specs.Numbers.{IsNumber};
 ghost use Rattle.toml_span_read.specs.Numerals.{number};
 ghost use Rattle.toml_span_read.specs.code.Gaps.{Further};
 
-/// A number that is spelled is read, as it is. What is read where a letter, a digit, a dash, an underscore or a plus
-/// stands is spelled.
+/// A number that is spelled is read. What is read at a letter, a digit, a dash, an underscore or a plus sign is spelled
+/// there.
 pub fn numbers_are_read()
     ensures read { (text : List ℕ) (i j : ℕ) (s : Scalar) → IsNumber s text i j → number text i ≡ Ok (s, j) }
     ensures spelled { (text : List ℕ) (i j : ℕ) (s : Scalar)
@@ -15,12 +15,12 @@ pub fn numbers_are_read()
         → IsNumber s text i j }
 {}
 
-/// It ends behind where it begins, between two characters.
+/// A number is not empty, and ends at a character boundary.
 pub fn number_ends(text: &str)
     ensures { (i j : ℕ) (s : Scalar) → IsNumber s text.now i j → Further text.now i j }
 {}
 
-/// At most one number stands at a place.
+/// At most one number is spelled at an offset.
 pub fn one_number()
     ensures { (text : List ℕ) (i j k : ℕ) (s t : Scalar) → IsNumber s text i j → IsNumber t text i k
         → (s ≡ t) × (j ≡ k) }

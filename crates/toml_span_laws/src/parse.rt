@@ -1,4 +1,4 @@
-//! Laws of claims, and of what a text is answered.
+//! Laws about claims, and about the results for a text.
 ghost use Rattle.std.specs.Prelude.{◌≡◌, ◌≢◌, ◌≤◌, ◌↔◌, ⊤, ◌*◌, ◌⊎◌, ◌++◌, ◌∷◌, ℕ, false, true, List, [], length};
 ghost use Rattle.std.specs.Prelude.{slice_range, Option, Some, option_map, Result, Ok, Err, IsOk};
 ghost use Rattle.toml_span_lex.specs.Bytes.{quotation_mark};
@@ -39,15 +39,15 @@ pub mod clashes;
 use crate::reading::reading_gives;
 use toml_span_typed::Deserialize;
 
-/// All answers to a text are alike, want of memory aside: a text that has a tree is not refused, all its trees are
-/// equal as data, and all errors that refuse it tell the same.
+/// All results for a text are alike, except for failed allocations: a text that has a tree is not refused, all its
+/// trees are equal as data, and all errors for which it is refused have the same contents.
 pub fn one_answer()
     ensures { (text : List ℕ) (limit : ℕ) (result other : Result Value (Stop Error)) → Answers text limit result
         → Answers text limit other → IsAlike result other }
 {}
 
-/// Each text has one outcome within a limit: sections of which no two claims clash, sections and their first
-/// clash, or the fault that is told.
+/// Each text has exactly one outcome within a limit: sections whose claims do not clash, sections and their first
+/// clash, or a fault.
 pub fn one_outcome(text: &str)
     ensures some { (limit : ℕ) → (outcome : Outcome) × HasOutcome text.now limit outcome }
     ensures one { (limit : ℕ) (outcome other : Outcome) → HasOutcome text.now limit outcome
@@ -56,15 +56,15 @@ pub fn one_outcome(text: &str)
     reading_gives(text);
 }
 
-/// The outcome of a text decides its answer, want of memory aside: the tree of the sections, or an error that
-/// tells the clash or the fault.
+/// The outcome of a text determines its result, except for failed allocations: the tree of the sections, or an error
+/// that reports the clash or the fault.
 pub fn outcome_decides()
     ensures { (text : List ℕ) (limit : ℕ) (outcome : Outcome) (result : Result Value (Stop Error))
         → HasOutcome text limit outcome → Answers text limit result → IsAnswerOf text outcome result }
 {}
 
-/// Nothing is taken in a tree that shows the flat document of some sections: no path leads to what is taken,
-/// and the tree is whole if no name stands twice in a table.
+/// Nothing has been taken from a tree that shows the flat document of some sections: no path leads to a taken value,
+/// and the tree is whole if no name occurs twice in a table.
 pub fn shown_is_whole()
     ensures filled { (n : Node) (length : ℕ) (blocks : List Block) → Shows n (flat length (claims blocks))
         → (path : Path) (m : Node) → node_at path n ≡ Some m → is_taken m ≡ false }
@@ -72,13 +72,13 @@ pub fn shown_is_whole()
         → is_whole n ≡ true }
 {}
 
-/// In no table of a tree that is in order a name stands twice.
+/// In a tree that is in order, no name occurs twice in a table.
 pub fn ordered_has_one_each()
     ensures { (n : Node) → IsOrdered n → HasOneEach n }
 {}
 
-/// No path of a document that is spelled within a limit has more keys than a header and an assignment may
-/// have together, and none has more than three steps for each level; so it is with each value of its tree.
+/// The paths of a document within a limit have at most as many keys as a header and an assignment may have together,
+/// and at most three steps per level. The same holds for the paths of its tree.
 pub fn paths_within()
     ensures keys { (text : List ℕ) (limit n : ℕ) (blocks : List Block) (path : Path) (place : Place)
         → SpellsDocument blocks text limit → flat n (claims blocks) path ≡ Some place → keys_in path ≤ 2 * limit }
@@ -88,14 +88,15 @@ pub fn paths_within()
         → node_at path (view root) ≡ Some m → (keys_in path ≤ 2 * limit) × (length path ≤ 3 * limit) }
 {}
 
-/// The claims of a document, of every scope, stand in the order of the text: each starts behind the one
-/// before it, but for an array of tables and its element, which one key claims.
+/// The claims of a document, of all scopes, are in the order of the text: each starts after the one before it, except
+/// for an array of tables and its element, which are claimed by the same key.
 pub fn claims_ascend()
     ensures { (text : List ℕ) (limit : ℕ) (blocks : List Block) → SpellsDocument blocks text limit
         → Ascends (all_claims (claims blocks)) }
 {}
 
-/// No two keys of the flat document, or of the tree, start at one place: so no two names of one table do.
+/// No two keys of the flat document, or of the tree, start at the same offset, and neither do two names of the same
+/// table.
 pub fn keys_stand_apart()
     ensures flat { (text : List ℕ) (limit n : ℕ) (blocks : List Block) → SpellsDocument blocks text limit
         → KeysApart (flat n (claims blocks)) }
@@ -106,8 +107,8 @@ pub fn keys_stand_apart()
         → KeysApart (λ path. place_at path (view root)) }
 {}
 
-/// Each number, truth value and date of a document, and of a text's tree, is spelled again by the text at
-/// its span: behind `x = ` it is a document of one assignment of that value.
+/// Each number, boolean and date of a document, and of a text's tree, is spelled again by the text at its span: after
+/// `x = ` it is a document of one assignment of that value.
 pub fn scalars_read_again()
     ensures flat { (text : List ℕ) (limit n : ℕ) (blocks : List Block) (path : Path) (place : Place) (s : Scalar)
         → SpellsDocument blocks text limit → flat n (claims blocks) path ≡ Some place → place.shape ≡ shape_scalar s
@@ -117,9 +118,9 @@ pub fn scalars_read_again()
         → ScalarReadsAgain text limit s place.span }
 {}
 
-/// The span of each string of a document, and of a text's tree, is what stands between its quotes, and its
-/// value is what that stands for; of two quotes alone the span is the first. Where neither a backslash nor a
-/// carriage return stands in the span, the value is the text at the span, or it is empty.
+/// The span of each string of a document, and of a text's tree, is everything between its quotes, and its value is what
+/// that denotes; the span of two quotes with nothing between them is the first one. If the span contains neither a
+/// backslash nor a carriage return, the value is empty or the text at the span.
 pub fn strings_show_the_text()
     ensures flat { (text : List ℕ) (limit n : ℕ) (blocks : List Block) (path : Path) (place : Place) (value : List ℕ)
         → SpellsDocument blocks text limit → flat n (claims blocks) path ≡ Some place
@@ -133,17 +134,17 @@ pub fn strings_show_the_text()
         → (value ≡ []) ⊎ (value ≡ slice_range text place.span.start place.span.end) }
 {}
 
-/// Whatever a claim assigns, also an array or an inline table, is spelled again by the text at its span, but
-/// for strings; and what the value claims that is read there, stands right behind it.
+/// Whatever a claim assigns, arrays and inline tables included, is spelled again by the text at its span, except for
+/// strings; and the claims of the value that is read there follow directly.
 pub fn brackets_read_again()
     ensures { (text : List ℕ) (limit : ℕ) (blocks : List Block) → SpellsDocument blocks text limit
         → AssignsAgain text limit (claims blocks) }
 {}
 
-/// An array in brackets, or an inline table, is a value of its own. Its claim says what stands at its path. Behind
-/// `x = ` the text at its span is a document of which no two claims clash, and what stands there at `/x` and below is
-/// what stands at the path and below: the same kinds, keys and values, with each span, also of a key, moved as the
-/// text is. So it is with the trees of the two texts.
+/// An array in brackets or an inline table is independent of its context. Its claim determines the place at its path.
+/// After `x = `, the text at the span is a document whose claims do not clash, and the places at `/x` and below are
+/// those at the path and below: the same kinds, keys and values, with all spans, including those of keys, moved with
+/// the text. The same holds for the trees of the two texts.
 pub fn bracketed_values_stand_alone()
     ensures place { (text : List ℕ) (limit n : ℕ) (blocks : List Block) (c : Claim) → SpellsDocument blocks text limit
         → Resolves (claims blocks) → AssignsBrackets blocks c → flat n (claims blocks) c.path ≡ Some c.place }
@@ -159,8 +160,8 @@ pub fn bracketed_values_stand_alone()
         (λ path. place_at path (view other)) at_x }
 {}
 
-/// One value at most, whose tables are in order, shows given places: so the tree of a text is the value of its flat
-/// document, and whatever is a function of a tree, as its JSON value or what a type reads, is one of the flat
+/// At most one value whose tables are in order shows given places. So the tree of a text is the value of its flat
+/// document, and any function of a tree, such as its JSON value or what a type reads, is a function of the flat
 /// document.
 pub fn one_tree()
     ensures value { (places : Path → Option Place) (n m : Node) → IsValueOf places n → IsValueOf places m → n ≡ m }
@@ -168,8 +169,8 @@ pub fn one_tree()
         → SpellsDocument blocks text limit → IsValueOf (flat (length text) (claims blocks)) (view root) }
 {}
 
-/// In the tree that `parse` gives of a text a pointer names a value exactly where its segments name the path
-/// of something in the flat document, and the value is the one that shows what stands there and below.
+/// In the tree that `parse` returns for a text, a pointer names a value exactly if its segments name a path at which
+/// the flat document has a place, and the value is the one that shows the places there and below.
 pub fn pointers_name_places()
     ensures some { (text : List ℕ) (limit : ℕ) (root : Value) (blocks : List Block) (pointer : List ℕ)
         → IsTree text limit root → SpellsDocument blocks text limit
@@ -180,8 +181,7 @@ pub fn pointers_name_places()
         → (pointed pointer (view root) ≡ Some m) ↔ PointsAt pointer (flat (length text) (claims blocks)) m }
 {}
 
-/// A helper opens on a value exactly where the flat document has a table there, and holds the entries of that
-/// table.
+/// A helper opens on a value exactly if the flat document has a table there, and has the entries of that table.
 pub fn helper_opens_on_a_table()
     ensures some { (places : Path → Option Place) (m : Node) → IsValueOf places m → ((s : State) × OpensTable m (Ok s))
         ↔ (option_map (λ x. x.shape) (places []) ≡ Some shape_table) }
@@ -189,8 +189,8 @@ pub fn helper_opens_on_a_table()
         → IsOver places s × (s.asked ≡ []) × (s.errors ≡ []) }
 {}
 
-/// `required` reads the value that shows what the flat document has below the key, and `MissingField` comes
-/// exactly where it has nothing there. The helper stays over its table.
+/// `required` reads the value that shows the places of the flat document below the key, and fails with `MissingField`
+/// exactly if the flat document has nothing there. The helper remains one for its table.
 pub fn required_reads_the_document<'de, T: Deserialize<'de>>()
     ensures reads { (places : Path → Option Place) (name : List ℕ) (before after : State)
         (answer : Result T (Stop Error)) → IsOver places before → Requires T.reads name before answer after
@@ -200,7 +200,7 @@ pub fn required_reads_the_document<'de, T: Deserialize<'de>>()
         → IsOver places after }
 {}
 
-/// `optional` does so too: it gives None and keeps nothing exactly where the flat document has nothing there.
+/// The same for `optional`: it returns None and keeps no error exactly if the flat document has nothing there.
 pub fn optional_reads_the_document<'de, T: Deserialize<'de>>()
     ensures reads { (places : Path → Option Place) (name : List ℕ) (before after : State)
         (answer : Result (Option T) AllocError) → IsOver places before → Tries T.reads name before answer after
@@ -210,9 +210,9 @@ pub fn optional_reads_the_document<'de, T: Deserialize<'de>>()
         → IsOver places after }
 {}
 
-/// `finalize(None)` is Ok exactly where no error was kept and the flat document has no key in the table but
-/// those that were asked for. Else its errors are those that were kept and, behind them, that of the other
-/// keys; memory runs out only where there are other keys.
+/// `finalize(None)` is `Ok` exactly if no error was kept and the table in the flat document has only the keys that were
+/// asked for. Otherwise its errors are those that were kept, followed by the one for the other keys; an allocation
+/// fails only if there are other keys.
 pub fn finalize_ends_the_table()
     ensures ok { (places : Path → Option Place) (s : State) (answer : Result (Unit {0}) Unfinished) → IsOver places s
         → Refuses s answer → IsOk answer ↔ ((s.errors ≡ []) × HasNoKeyBut s.asked places) }

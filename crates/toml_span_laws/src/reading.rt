@@ -1,4 +1,4 @@
-//! Laws of reading: each text is read as one thing, or one fault is told.
+//! Laws about reading: each text has exactly one result or fault.
 ghost use Rattle.std.specs.Prelude.{◌≡◌, ◌+◌, ℕ, Bool, List, [], Result};
 ghost use Rattle.std.specs.Str.{IsCharBoundary};
 ghost use Rattle.toml_span_lex.specs.Bytes.{is_blank, MaximalRun};
@@ -11,7 +11,7 @@ ghost use Rattle.toml_span_read.specs.Read as read;
 use crate::judged::places_are_judged;
 use toml_span_lex::tokenizer::first_place;
 
-/// Reading gives one thing: of a value, of an assignment, of the rest of its line, of a header and of a document.
+/// Reading has at most one result: for a value, an assignment, the rest of its line, a header and a document.
 pub fn one_reading()
     ensures value { (text : List ℕ) (limit left n i : ℕ) (r s : Result read.ValueEnd Fault)
         → read.value text limit left n i r → read.value text limit left n i s → r ≡ s }
@@ -25,7 +25,7 @@ pub fn one_reading()
         → read.document text limit s → r ≡ s }
 {}
 
-/// Reading gives something: of a key and of a value at each place of a text, and of each text.
+/// Reading has a result: for a key and a value at each offset of a text, and for each text.
 pub fn reading_gives(text: &str)
     ensures key { (header : Bool) (limit i : ℕ) → IsCharBoundary text.now i
         → (found : Result read.Parts Fault) × read.key header text.now limit [] i found }
@@ -37,7 +37,7 @@ pub fn reading_gives(text: &str)
     let _ = first_place(text);
 }
 
-/// A token that stands where another one is due is called as the lexer calls it.
+/// A token that is found where another one is expected has the same name as in the lexer.
 pub fn one_wording()
     ensures { (token : Lexeme) → found_words (found_of token) ≡ words token }
 {}

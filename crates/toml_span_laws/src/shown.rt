@@ -1,4 +1,4 @@
-//! Laws of what is shown.
+//! Laws about the output.
 ghost use Rattle.std.specs.Prelude.{◌≡◌, ℕ, Bool, true, nat_lt, List, Option, Some};
 ghost use Rattle.toml_span_tree.specs.Error.{content_of};
 ghost use Rattle.toml_span_tree.specs.Path.{Path, Place};
@@ -9,14 +9,14 @@ ghost use Rattle.toml_span_lines.specs.Lines.{error_line};
 ghost use Rattle.toml_span_lines.specs.Run.{IsAnswer, Runs};
 ghost use Rattle.toml_span_lines.specs.Shown.{ShowsDocument, ShowsRefusal, ShowsPlaces};
 
-/// One text shows some places.
+/// Places have at most one output.
 pub fn one_text()
     ensures { (places : Path → Option Place) (text other : List ℕ) → ShowsPlaces places text → ShowsPlaces places other
         → text ≡ other }
 {}
 
-/// Bytes that are a document are shown by one text, and are not refused. Whatever they are refused for,
-/// one text tells it, which is the line of the error.
+/// Bytes that are a document have one output, and are not refused. Bytes that are refused have one output, which is the
+/// line of the error.
 pub fn one_answer()
     ensures document { (bytes : List ℕ) (limit : ℕ) (text other : List ℕ) → ShowsDocument bytes limit text
         → ShowsDocument bytes limit other → text ≡ other }
@@ -28,9 +28,9 @@ pub fn one_answer()
         → ShowsRefusal bytes limit other → text ≡ other }
 {}
 
-/// The bytes that are read decide the status and the text, want of memory and failing ends aside: bytes have
-/// one answer, and two runs over the same input, of which neither wants memory and no read or write fails, end
-/// with the same status and write the same.
+/// The bytes that are read determine the status and the output, except for failed allocations, reads and writes: bytes
+/// have one answer, and two runs over the same input, in which none of these fails, end with the same status and write
+/// the same.
 pub fn one_output()
     ensures answer { (bytes : List ℕ) (limit status other : ℕ) (text last : List ℕ) → IsAnswer bytes limit status text
         → IsAnswer bytes limit other last → (status ≡ other) × (text ≡ last) }

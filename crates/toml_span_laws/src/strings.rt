@@ -1,4 +1,4 @@
-//! Laws of the spans of strings.
+//! Laws about the spans of strings.
 ghost use Rattle.std.specs.Prelude.{◌≡◌, ◌↔◌, ℕ, Bool, List, Ok, slice_index, slice_range};
 ghost use Rattle.std.specs.Cow.{cow_str_bytes, IsBorrowedStr};
 ghost use Rattle.toml_span_lex.specs.declared.span.Span.{Span};
@@ -7,30 +7,29 @@ ghost use Rattle.toml_span_read.specs.declared.strings.StringToken.{StringToken}
 ghost use Rattle.toml_span_laws.specs.Places.{CutsContent};
 ghost use Rattle.toml_span_read.specs.code.Strings.{StringReads};
 
-/// The span of a string or of a quoted key, other than the empty one on one line, is what stands between its
-/// quotes.
+/// The span of a string or quoted key, other than an empty single-line one, is everything between its quotes.
 pub fn span_is_the_content()
     ensures { (text : List ℕ) (i j : ℕ) (span : Span) (source value : List ℕ) (multi : Bool)
         → IsString text i j span source value multi → (IsEmptyOnOneLine i j → ⊥)
         → CutsContent text i j span value multi }
 {}
 
-/// Where no backslash between quotation marks and no carriage return is in it, its value is the text at
-/// its span.
+/// If it contains no carriage return, and no backslash unless it is a literal string, its value is the text at its
+/// span.
 pub fn unchanged_is_the_text()
     ensures { (text : List ℕ) (i j : ℕ) (span : Span) (source value : List ℕ) (multi : Bool)
         → IsString text i j span source value multi → (IsEmptyOnOneLine i j → ⊥)
         → (HasChange (slice_index text i) text span.start span.end → ⊥) → value ≡ slice_range text span.start span.end }
 {}
 
-/// A string that is read is borrowed exactly where its value is the text at its span.
+/// A string that is read is borrowed exactly if its value is the text at its span.
 pub fn borrowed_is_the_text()
     ensures { (text : List ℕ) (i : ℕ) (token : StringToken) → StringReads text i (Ok token)
         → (IsEmptyOnOneLine i token.end → ⊥) → IsBorrowedStr token.content
         ↔ (cow_str_bytes token.content ≡ slice_range text token.span.start token.span.end) }
 {}
 
-/// So it is borrowed exactly where no backslash between quotation marks and no carriage return is in it.
+/// So it is borrowed exactly if it contains no carriage return, and no backslash unless it is a literal string.
 pub fn borrowed_where_unchanged()
     ensures { (text : List ℕ) (i : ℕ) (token : StringToken) → StringReads text i (Ok token)
         → (IsEmptyOnOneLine i token.end → ⊥) → IsBorrowedStr token.content

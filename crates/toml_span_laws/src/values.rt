@@ -1,4 +1,4 @@
-//! Laws of values.
+//! Laws about values.
 ghost use Rattle.std.specs.Prelude.{◌≡◌, ◌≤◌, ◌↔◌, ◌+◌, ◌-◌, ℕ, List, Ok, length};
 ghost use Rattle.toml_span_read.specs.Data.{ParsedValue};
 ghost use Rattle.toml_span_read.specs.Grammar.{Spells};
@@ -6,27 +6,26 @@ ghost use Rattle.toml_span_read.specs.Limits.{Within};
 ghost use Rattle.toml_span_read.specs.Places.{Inside};
 ghost use Rattle.toml_span_read.specs.Read as read;
 
-/// A value is read, as it is, exactly where it is spelled within the limit.
+/// A value is read exactly where it is spelled within the limit.
 pub fn values_are_read()
     ensures { (text : List ℕ) (limit depth i j : ℕ) (v : ParsedValue)
         → read.value text limit ((limit + 1) - depth) 0 i (Ok (v, j)) ↔ Spells v text limit depth i j }
 {}
 
-/// At most one value is spelled at a place.
+/// At most one value is spelled at an offset.
 pub fn one_value()
     ensures { (text : List ℕ) (limit depth i j k : ℕ) (v w : ParsedValue) → Spells v text limit depth i j
         → Spells w text limit depth i k → (v ≡ w) × (j ≡ k) }
 {}
 
-/// A value that is spelled within a limit is spelled within each greater one.
+/// A value that is spelled within a limit is spelled within any higher one.
 pub fn wider_limit()
     ensures { (text : List ℕ) (limit wider depth i j : ℕ) (v : ParsedValue) → limit ≤ wider
         → Spells v text limit depth i j
         → Spells v text wider depth i j }
 {}
 
-/// The spans of a value and of all values and keys in it lie within the text that spells it, one behind the
-/// other.
+/// The spans of a value and of all values and keys in it are within the text that spells it, in the order of the text.
 pub fn spans_within()
     ensures { (text : List ℕ) (limit depth i j : ℕ) (v : ParsedValue) → Spells v text limit depth i j
         → Inside v i j × (i ≤ j) × (j ≤ length text) }

@@ -42,7 +42,7 @@ pub where_same : {Z : Type 0} (text : List ℕ) (i from to : ℕ) (m : Bool) (va
     → IsBorrowedStr val → cow_str_bytes val ≡ slice_range text from to → BorrowsWhereSame text (content_span m i from to) val
 where_same text i from to m val quote b e = grind (arith, nat_tests, common_steps)
 
--- a byte that stands for another one is no quote
+-- a byte that differs from its value is not a quote
 no_quote : (text : List ℕ) (q from k : ℕ) → k ≡ from → ((q ≡ 34) × (get_or text k 0 ≡ 92)) ⊎ (get_or text k 0 ≡ 13) → (get_or text from 0 ≡ 34) ⊎ (get_or text from 0 ≡ 39) → ⊥
 no_quote text q from k e c h = grind arith
 
@@ -66,6 +66,6 @@ scanned text q i from at j m ps qe me h b cut closes =
     let is : IsContent q m text from v to j = record { pieces = ps; at = at; cut = cut; closes = closes; to_is = refl; value_is = refl } in
     (content_span m i from to, slice_range text i j, v, rw (← me) (is_string text q i from to j m _ _ v v qe me h b is refl refl refl))
 
--- a string that was read stands there
+-- a string that was read is in the text
 pub string_stands : (text : List ℕ) (i j : ℕ) (span : Span) (token : Token) → StringGives text i (Ok (span, token, j)) → Stands text i j span (lexeme token)
 string_stands text i j span token h = grind (arith, nat_tests, common_steps)

@@ -11,7 +11,8 @@ use Rattle.std.proofs.lemmas.Nat.Bits.{bit_at-trailing_zeros}
 use Rattle.std.specs.Int.{bit_at}
 use Rattle.std.proofs.lemmas.Simd.{bit_mask_l, length-chunk, mask_l-mod, none_from_empty_mask, splat_is_map, zip2_of_maps, zip2_splat, zip2_splat_left, run_in_chunk_fails, run_in_chunk_le, run_in_chunk_stops, trailing_mask_l}
 
--- the lanes of bytes v: themselves or what an operator makes of them, beside those of other such vectors, or beside c
+-- the lanes of bytes v: the bytes, or what an operator makes of them together with those of another such vector or with
+-- c
 pub each : (f : ℕ → ℕ → ℕ) (g h : ℕ → ℕ) (v xs ys : List ℕ) → xs ≡ map g v → ys ≡ map h v → zip2 f xs ys ≡ map (λ x. f (g x) (h x)) v
 each f g h v xs ys = zip2_of_maps f g h v
 

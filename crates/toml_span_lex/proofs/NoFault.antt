@@ -1,4 +1,4 @@
--- Where a token stands, no fault does.
+-- Where a token begins, no fault occurs.
 use Rattle.toml_span_lex.proofs.Common.{◌≡◌, ℕ, ◌⊎◌, true, false, Ok, Err, List, get_or, arith, inl, inr, sym, ◌∙◌, refl, ◌==◌, nat_tests, false≢true}
 use Rattle.toml_span_lex.specs.declared.tokens.Error.{Error}
 use Rattle.toml_span_lex.specs.declared.span.Span.{Span}

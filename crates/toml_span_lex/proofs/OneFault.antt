@@ -1,4 +1,4 @@
--- At a place of a string one piece, its close or one fault stands.
+-- At an offset in a string there is one piece, its close, or one fault.
 use Rattle.toml_span_lex.proofs.Common.{common_steps, ◌≡◌, ℕ, ◌+◌, ◌<◌, ◌≤◌, ◌⊎◌, Bool, true, false, min, Option, Some, None, Result, Ok, Err, List, [], ◌∷◌, ◌++◌, length, get_or, drop, arith, inl, inr, sym, ◌∙◌, refl, ap, ◌==◌, ◌&&◌, not, slice_range, IsScalar, false≢true, nat_tests, get_or_past, encode_same}
 use Rattle.toml_span_lex.specs.declared.span.Span.{Span}
 use Rattle.toml_span_lex.specs.declared.tokens.Error.{Error}
@@ -33,7 +33,7 @@ char_unique text i c d j k (inr a) (inr b) =
 pair_same : {A B : Type 0} (x y : A × B) → x.0 ≡ y.0 → x.1 ≡ y.1 → x ≡ y
 pair_same (a, b) (c, d) e f = rw (e, f) refl
 
--- what is told of the text's end at a place, or of the character there
+-- the fault of the end of the text at an offset, or of the character there
 abbrev EndOr : {T : Type 0} → List ℕ → ℕ → T → (ℕ → ℕ → T) → T → Type 0
 EndOr text i end char r = ((i ≡ length text) × (r ≡ end)) ⊎ ((x : ℕ × ℕ) × CharAt text i x.0 x.1 × (r ≡ char x.0 x.1))
 
@@ -42,7 +42,7 @@ end_one text i end char = one_either (one_where one_is) (one_given (λ x y a b. 
 
 -- ---- escapes
 
--- reading n digits behind the letter at i, as told by the place where they stop
+-- reading n digits after the letter at i, stated by the offset where they stop
 abbrev HexReads : ℕ → List ℕ → ℕ → ℕ → Result (ℕ × ℕ) (Error × ℕ) → Type 0
 HexReads start text i n r = (b : ℕ) × Stop (λ k. is_hex (get_or text k 0)) ((i + 1) + n) (i + 1) b
     × (((b < (i + 1) + n) × EndOr text b (Err (errors.UnterminatedString start, b)) (λ c j. Err (errors.InvalidHexEscape b c, j)) r)
@@ -105,7 +105,7 @@ module _ (q : ℕ) (m : Bool) (start : ℕ) (text : List ℕ) (i : ℕ) where
   abbrev Quoted : Result (Option Piece × ℕ) (Error × ℕ) → Type 0
   Quoted = Choice m (λ r. (k : ℕ) × MaximalRun (λ c. c == q) text i k × (((k < i + 3) × (r ≡ Ok (Some pieces.Quotes, k))) ⊎ ((i + 3 ≤ k) × (r ≡ Ok (None, min k (i + 5)))))) (λ r. r ≡ Ok (None, i + 1))
 
-  -- behind a backslash that drops what follows
+  -- after a backslash that drops what follows
   abbrev Dropping : Result (Option Piece × ℕ) (Error × ℕ) → Type 0
   Dropping r = (k : ℕ) × MaximalRun is_blank text (i + 1) k × (((l : ℕ) × LineEnd text k l × ((j : ℕ) × WsAndNewlines text l j × (r ≡ Ok (Some pieces.Dropped, j)))) ⊎ (NoLineEnd text k × (r ≡ Err (drop_fault start text i k, k))))
 
@@ -232,7 +232,7 @@ content_unique q m text v w i s t j k u a b =
 
 -- ---- strings
 
--- what stands at a place: a token with its span and end, or a fault and where it ends
+-- what begins at an offset: a token with its span and end, or a fault and its end
 abbrev pub Outcome : Type 0
 Outcome = Result (Span × Lexeme × ℕ) (Error × ℕ)
 

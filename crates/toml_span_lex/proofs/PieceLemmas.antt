@@ -40,7 +40,7 @@ two_value text a r =
     (rw (get_or-take, get_or-drop) (hex_digit (get_or text (a + 0) 0) (r.digits (a + 0) (omega arith) (omega arith))))
     (rw (get_or-take, get_or-drop) (hex_digit (get_or text (a + 1) 0) (r.digits (a + 1) (omega arith) (omega arith))))
 
--- what an escape stands for is shorter than it
+-- the value of an escape is shorter than the escape
 pub escape_shorter : (text : List ℕ) (i c j : ℕ) → IsEscape text (i + 1) c j → length (encode_utf8 c) + i < j
 escape_shorter text i c j (inl h) = let small = simple_value (get_or text (i + 1) 0) c h.0 in grind (arith, length-encode, len_utf8_ascii)
 escape_shorter text i c j (inr h) =
@@ -66,7 +66,7 @@ dropped_shorter text i j (k, l, run, line, gap) = let f = line_forward text k l 
 pub blanks_forward : (text : List ℕ) (i j : ℕ) → i < length text → is_ws_or_newline text i ≡ true → MaximalRun is_blank text i j → NoLineEnd text j → i < j
 blanks_forward text i j l gap run none = grind (arith, nat_tests, run.stops, run.forward)
 
--- a backslash or a carriage return here is a change from every place before it to every place behind it
+-- a backslash or a carriage return here is a change between any offset before it and any offset after it
 pub change_at : (q : ℕ) (text : List ℕ) (from at next : ℕ) → from ≤ at → at < next → ((q ≡ quotation_mark) × (get_or text at 0 ≡ backslash)) ⊎ (get_or text at 0 ≡ carriage_return) → HasChange q text from next
 change_at q text from at next f on is = (at, f, on, is)
 

@@ -5,15 +5,15 @@ use Rattle.toml_span_lex.specs.Text.{is_crlf, CharAt, NoLineEnd}
 use Rattle.toml_span_lex.specs.Pieces.{is_ws_or_newline, is_plain}
 use Rattle.toml_span_lex.specs.Tokens.{begins_token}
 
--- a byte that is not 0 stands within the text
+-- a byte that is not 0 is within the text
 pub read_within : (text : List ℕ) (i : ℕ) → 0 < get_or text i 0 → i < length text
 read_within text i h = grind (arith, common_steps)
 
--- behind an ASCII byte
+-- after an ASCII byte
 pub behind : (text : List ℕ) (i j : ℕ) → j ≡ i + 1 → IsUtf8 text → i < length text → get_or text i 0 < 128 → IsCharBoundary text j
 behind text i j e u l a = rw e (IsCharBoundary-after_ascii text i u l a)
 
--- behind places of ASCII bytes
+-- after ASCII bytes
 boundary_behind : (text : List ℕ) (i j : ℕ) → IsUtf8 text → IsCharBoundary text i → i ≤ j → j ≤ length text → ((k : ℕ) → i ≤ k → k < j → get_or text k 0 < 128) → IsCharBoundary text j
 boundary_behind text i j u b f w low =
     elim (cases_lt i j) [
@@ -43,7 +43,7 @@ char_within text i c j h = grind (arith, common_steps, nat_tests, length-encode,
 gap_ascii : (text : List ℕ) (i : ℕ) → is_ws_or_newline text i ≡ true → get_or text i 0 < 128
 gap_ascii text i h = grind (arith, nat_tests)
 
--- behind a carriage return with a line feed
+-- after a carriage return with a line feed
 pub behind_line : (text : List ℕ) (i : ℕ) → IsUtf8 text → is_crlf text i ≡ true → IsCharBoundary text (i + 2)
 behind_line text i u h =
     let nl : get_or text (i + 1) 0 ≡ 10 = grind arith in
@@ -68,7 +68,7 @@ neither a b h k = rw h k
 pub past_ascii : (c : ℕ) → 128 ≤ c → begins_token c ≡ false
 past_ascii c h = grind (arith, nat_tests)
 
--- A character is its first byte, or both are past ASCII, but for a line end of two bytes.
+-- A character is its first byte, or both are past ASCII, except for a line end of two bytes.
 char_byte : (text : List ℕ) (i c j : ℕ) → is_crlf text i ≡ false → CharAt text i c j → (c ≡ get_or text i 0) ⊎ ((128 ≤ c) × (128 ≤ get_or text i 0))
 char_byte text i c j f (inl h) = absurd (false≢true (sym f ∙ h.0))
 char_byte text i c j f (inr h) =
@@ -85,7 +85,7 @@ char_byte text i c j f (inr h) =
       )
     ]
 
--- So a test that says one thing of all past ASCII says of the byte what it says of the character.
+-- So a test that has one result for everything past ASCII has the same result for the byte and for the character.
 char_same : (p : ℕ → Bool) (text : List ℕ) (i c j : ℕ) → ((d : ℕ) → 128 ≤ d → p d ≡ p 128) → is_crlf text i ≡ false → CharAt text i c j → p c ≡ p (get_or text i 0)
 char_same p text i c j past f h = elim (char_byte text i c j f h) [ inl e ↦ ap p e | inr high ↦ past c high.0 ∙ sym (past (get_or text i 0) high.1) ]
 

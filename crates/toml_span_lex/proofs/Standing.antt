@@ -1,4 +1,4 @@
--- What a walk finds, stands.
+-- What a walk finds is in the text.
 use Rattle.toml_span_lex.proofs.Common.{arith, common_steps, nat_tests, ℕ, List, Result, Ok, Err, inl, inr}
 use Rattle.toml_span_lex.specs.declared.tokens.Token.{Token}
 use Rattle.toml_span_lex.specs.declared.tokens.Error.{Error}
@@ -8,7 +8,7 @@ use Rattle.toml_span_lex.specs.Tokens.{Lexeme, string, lexeme, IsToken, Stands}
 use Rattle.toml_span_lex.specs.code.Tokens.{Finds}
 use Rattle.toml_span_lex.specs.Laws.{SomethingStands}
 
--- a token that is no string, with its span
+-- a token other than a string, with its span
 pub token_stands : (text : List ℕ) (i j : ℕ) (l : Lexeme) → IsToken text i j l → Stands text i j (record { start = i; end = j }) l
 token_stands text i j l h = grind (arith, nat_tests, common_steps)
 

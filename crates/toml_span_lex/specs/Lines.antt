@@ -2,8 +2,8 @@
 use Rattle.std.specs.Prelude.{◌≡◌, ℕ, ◌+◌, ◌<◌, ◌≤◌, ◌⊎◌, false, ◌==◌, List, take, slice_index, count_by}
 use Rattle.toml_span_lex.specs.Bytes.{line_feed}
 
--- The place i stands in this line at this column, both counted from 0: so many line feeds stand before it, and so
--- many bytes behind the last of them, or behind the start of the text.
+-- The line and the column of the offset i, both counted from 0: the number of line feeds before i, and the number of
+-- bytes since the last of them, or since the start of the text.
 pub record IsLineInfo (text : List ℕ) (i line column : ℕ) : Type 0 where
   pub start : ℕ
   pub line_is : line ≡ count_by (λ c. c == line_feed) (take i text)

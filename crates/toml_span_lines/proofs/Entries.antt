@@ -1,4 +1,4 @@
--- The entries of a tree: each node with its path, before those of what it holds.
+-- The entries of a tree: each node with its path, before those inside it.
 use Rattle.toml_span_lex.proofs.Common.{ℕ, suc, List, [], ◌∷◌, ◌++◌, Option, Some, None}
 use Rattle.toml_span_lex.specs.declared.span.Span.{Span}
 use Rattle.toml_span_tree.specs.Node.{Node, node, Inner, taken, scalar, array, table, Items, no_items, item, Members, no_members, member}

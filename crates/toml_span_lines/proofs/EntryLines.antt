@@ -17,7 +17,7 @@ lines-under : (path : List ℕ) (s : Step) (es : List PlaceAt) → flat_map (lin
 lines-under path s [] = refl
 lines-under path s (e ∷ es) = grind (arith, nat_tests, common_steps, lines-under path s es)
 
--- the lines below a step, and then others
+-- the lines below a step, followed by others
 joined : (path lines more : List ℕ) (s : Step) (es fs : List PlaceAt) → lines ≡ flat_map (line_below (path ++ segment s)) es → more ≡ flat_map (line_below path) fs →
     lines ++ more ≡ flat_map (line_below path) (under s es ++ fs)
 joined path lines more s es fs h g = grind (arith, nat_tests, common_steps, lines-under path s es)

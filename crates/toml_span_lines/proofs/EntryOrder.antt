@@ -1,4 +1,4 @@
--- The entries of a tree stand in the order of their paths.
+-- The entries of a tree are in the order of their paths.
 use Rattle.toml_span_lex.proofs.Common.{◌≤◌, ℕ, suc, List, [], ◌∷◌, ◌++◌, Option, Some, None, refl, inl, inr, arith, AllByRecursion}
 use Rattle.toml_span_lex.specs.declared.span.Span.{Span}
 use Rattle.toml_span_tree.specs.Node.{Node, node, Inner, taken, scalar, array, table, Items, no_items, item, Members, no_members, member}
@@ -7,7 +7,7 @@ use Rattle.toml_span.specs.Ordered.{EachName, IsOrdered, HoldsOrdered, AreOrdere
 use Rattle.toml_span_lines.specs.Shown.{PlaceAt, PathsAscend, IsPathBefore, IsStepBefore}
 use Rattle.toml_span_lines.proofs.Entries.{under, node_entries, inner_entries, items_entries, members_entries}
 
--- P holds of the path of each entry
+-- P holds for the path of each entry
 abbrev pub Each : (Path → Type 0) → List PlaceAt → Type 0
 Each P es = AllByRecursion (λ e. P e.0) es
 
@@ -36,12 +36,12 @@ each-member P Q (member name at n ms) h f =
     each-append P (under (key name) (node_entries (Some at) n)) (members_entries ms)
     (each-under P (key name) (node_entries (Some at) n) (λ p. f name p h.0)) (each-member P Q ms h.1 f)
 
--- all names are names
+-- the trivial property holds for all names
 any-name : (ms : Members) → EachName (λ name. Unit {0}) ms
 any-name no_members = tt
 any-name (member name at n ms) = (tt, any-name ms)
 
--- the root of a walk is before what it holds
+-- the root of a walk is before what is inside it
 root-first : (i : Inner) → Each (λ p. IsPathBefore [] p) (inner_entries i)
 root-first taken = tt
 root-first (scalar s) = tt
@@ -52,7 +52,7 @@ before-under : (s : Step) (p : Path) (es : List PlaceAt) → Each (λ q. IsPathB
 before-under s p [] h = tt
 before-under s p (e ∷ es) h = (inr (refl, h.0), before-under s p es h.1)
 
--- the first step of the path is behind a step
+-- the first step of the path is after a step
 abbrev StartsBehind : Step → Path → Type 0
 StartsBehind s [] = ⊥
 StartsBehind s (t ∷ p) = IsStepBefore s t
@@ -61,7 +61,7 @@ before-behind : (s : Step) (p q : Path) → StartsBehind s q → IsPathBefore (s
 before-behind s p [] h = h
 before-behind s p (t ∷ q) h = inl h
 
--- entries below a step, and then entries behind it
+-- entries below a step, followed by entries after it
 ascends-behind : (s : Step) (es fs : List PlaceAt) → PathsAscend es → Each (λ q. StartsBehind s q) fs → PathsAscend fs → PathsAscend (under s es ++ fs)
 ascends-behind s [] fs h b g = g
 ascends-behind s (e ∷ es) fs h b g = (

@@ -1,4 +1,4 @@
--- The entries of a tree are what stands at its paths.
+-- The entries of a tree are its places.
 use Rattle.toml_span_lex.proofs.Common.{nat_tests, common_steps, ◌≡◌, ◌+◌, ◌⊎◌, ℕ, zero, suc, Bool, false, cond, List, [], ◌∷◌, ◌++◌, Option, Some, None, option_map, refl, sym, ap, subst, ◌∙◌, inl, inr, arith, option_and_then, bytes_eq, cases_Bool, bytes_eq-Decides, none-some, same_Some}
 use Rattle.toml_span_lex.specs.declared.span.Span.{Span}
 use Rattle.toml_span_tree.specs.Node.{Node, node, Inner, taken, scalar, array, table, Items, no_items, item, Members, no_members, member, entry_at, element_at}
@@ -33,9 +33,9 @@ from-under s q x [] h = absurd h
 from-under s q x (e ∷ es) (inl is) = (e.0, ap (λ f. f.0) is, inl (ap (λ f. (e.0, f.1)) is))
 from-under s q x (e ∷ es) (inr h) = let found = from-under s q x es h in (found.0, found.1, inr found.2)
 
--- ---- what stands below
+-- ---- what is below
 
--- what a path finds behind a step
+-- what a path finds after a step
 abbrev found : Path → Option (Option Span × Node) → Option Place
 found p o = option_map place_of (option_and_then (reached p) o)
 
@@ -79,14 +79,14 @@ mutual
             in-right (key name ∷ p, x) (under (key other) (node_entries (Some at) n)) (members_entries ms) (in-members ms name p x (sym (ap stands off) ∙ h))
       ]
 
--- a name that is behind another is not that one
+-- a name that is after another differs from it
 name-apart : (name other : List ℕ) → IsNameBefore name other → bytes_eq other name ≡ false
 name-apart name other h = elim (cases_Bool (bytes_eq other name)) [
   | inl same ↦ absurd (not-before name (subst (λ (l : List ℕ). IsNameBefore name l) (bytes_same other name same) h))
   | inr off ↦ off
 ]
 
--- ---- what is an entry stands there
+-- ---- each entry is a place
 
 -- an entry of the elements from i on
 abbrev IsItem : Items → ℕ → Path → Place → Type 0
@@ -96,7 +96,7 @@ IsItem ns i q x = (j : ℕ) × (k : ℕ) × (p : Path) × (j ≡ i + k) × (q �
 abbrev IsMember : Members → Path → Place → Type 0
 IsMember ms q x = (name : List ℕ) × (p : Path) × (q ≡ key name ∷ p) × (found p (entry_at name ms) ≡ Some x)
 
--- what holds of each name holds of one that leads somewhere
+-- what holds for each name holds for one that leads somewhere
 each-found : (P : List ℕ → Type 0) (ms : Members) (name : List ℕ) (p : Path) (x : Place) → EachName P ms → found p (entry_at name ms) ≡ Some x → P name
 each-found P no_members name p x e h = grind (arith, nat_tests, common_steps)
 each-found P (member other at n ms) name p x e h = grind (arith, nat_tests, common_steps, bytes_same name other, each-found P ms name p x)
@@ -153,6 +153,6 @@ mutual
         (it.0, it.1, it.2, ap (λ (b : Bool). found it.1 (cond b (Some (Some at, n)) (entry_at it.0 ms))) apart ∙ it.3)
   ]
 
--- at each path stands what the entries have there
+-- at each path there is what the entries have there
 pub node-places : (n : Node) → IsOrdered n → HasPlaces (λ p. place_at p n) (node_entries None n)
 node-places n o p x = (in-node None n p x, from-node None n p x o)

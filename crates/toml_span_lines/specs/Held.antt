@@ -1,16 +1,16 @@
--- Of a text the first bytes are written, and the rest is held.
+-- A text whose first bytes have been written, while the rest is buffered.
 use Rattle.std.specs.Prelude.{◌≡◌, ℕ, Bool, true, false, List, ◌++◌, Option, Result, Ok, Err}
 use Rattle.std.specs.Io.KnownBytes.{Appends}
 use Rattle.toml_span_lines.specs.declared.held.Unwritten.{Unwritten}
 use Rattle.toml_span_lines.specs.declared.held.Unwritten.TheVariants.{Failed, Memory}
 use Rattle.toml_span_lines.specs.Run.{HasWritten}
 
--- a front of the text was written, and what is held is the rest
+-- A prefix of the text has been written, and the buffer has the rest.
 abbrev pub HoldsRest : Option (List ℕ) → Option (List ℕ) → List ℕ → List ℕ → Type 0
 HoldsRest old new text held = (front : List ℕ) × Appends old new front × (front ++ held ≡ text)
 
--- What is written before and after, whether a write failed, and the text: a front was written and the rest is held, or
--- it is told why not, and a front was written.
+-- Given what was written before and after, whether a write failed, and the text: a prefix has been written and the rest
+-- is buffered; or the result says why not, and a prefix has been written.
 abbrev pub Streams : {A : Type 0} → Result A Unwritten → Option (List ℕ) → Option (List ℕ) → Bool → List ℕ → List ℕ
     → Type 0
 Streams (Ok done) old new failed text held = (failed ≡ false) × HoldsRest old new text held

@@ -6,7 +6,7 @@ use Rattle.toml_span_lines.specs.declared.run.Cut.TheVariants.{Failed, Memory}
 use Rattle.toml_span_lines.specs.Shown.{ShowsDocument, ShowsRefusal}
 use Rattle.std.specs.Io.KnownBytes.{Appends, Consumes, IsAtEnd, Keeps}
 
--- the most bytes that a document may have
+-- the maximum length of a document in bytes
 abbrev pub bound : ℕ
 bound = 16777216
 
@@ -15,50 +15,50 @@ abbrev pub IsShown : List ℕ → ℕ → ℕ → List ℕ → Type 0
 IsShown bytes limit status text =
     ((status ≡ 0) × ShowsDocument bytes limit text) ⊎ ((status ≡ 1) × ShowsRefusal bytes limit text)
 
--- The status and the text for the bytes of an input: more than the bound, no text, or a document or none within the
--- limit.
+-- The status and the output for an input: it is longer than the maximum, it is not UTF-8, or it is a document or has an
+-- error within the limit.
 pub record IsAnswer (bytes : List ℕ) (limit : ℕ) (status : ℕ) (text : List ℕ) : Type 0 where
   pub too_long : bound < length bytes → (status ≡ 2) × (text ≡ codes "error too-long\n")
   pub no_text : length bytes ≤ bound → ¬ (IsUtf8 bytes) → (status ≡ 2) × (text ≡ codes "error not-utf-8\n")
   pub shown : length bytes ≤ bound → IsUtf8 bytes → IsShown bytes limit status text
 
--- these bytes were read: no more than the bound and one
+-- These bytes were read, at most one more than the maximum.
 abbrev pub HasRead : Option (List ℕ) → Option (List ℕ) → List ℕ → Type 0
 HasRead old new bytes = Consumes old new bytes × (length bytes ≤ bound + 1)
 
--- all there is was read, or more than the bound
+-- The whole input was read, or more than the maximum.
 abbrev pub HasReadAll : Option (List ℕ) → Option (List ℕ) → List ℕ → Type 0
 HasReadAll old new bytes = HasRead old new bytes × ((length bytes ≡ bound + 1) ⊎ IsAtEnd new)
 
--- the first n bytes of a text were written
+-- The first n bytes of a text were written.
 abbrev pub HasWritten : Option (List ℕ) → Option (List ℕ) → List ℕ → Type 0
 HasWritten old new text = (n : ℕ) × (n ≤ length text) × Appends old new (take n text)
 
--- a run within a limit: what is left to read before and after, whether reading failed, what is written before and
--- after, whether writing failed, and the status
+-- A run with this limit: what is left to read before and after, whether a read failed, what is written before and
+-- after, whether a write failed, and the status.
 pub record Runs (limit : ℕ) (left left' : Option (List ℕ)) (unread : Bool) (written written' : Option (List ℕ))
     (unwritten : Bool) (status : ℕ) : Type 0 where
-  -- never more than the bound and one byte are read
+  -- at most one byte more than the maximum is read
   pub reads : (bytes : List ℕ) × HasRead left left' bytes
-  -- status 3 exactly where one of the two failed
+  -- status 3 exactly if a read or a write failed
   pub failed : (status ≡ 3) ↔ IsTrue (unread || unwritten)
-  -- after a failed read, and without memory, nothing is written
+  -- nothing is written after a failed read or a failed allocation
   pub silent : IsTrue (unread || nat_eq status 4) → Keeps written written'
-  -- after a failed write a prefix of an answer is written
+  -- after a failed write a prefix of an answer has been written
   pub cut : IsTrue unwritten → (bytes text : List ℕ) × (answered : ℕ) × HasReadAll left left' bytes
       × IsAnswer bytes limit answered text × HasWritten written written' text
-  -- else the answer's status and its text
+  -- otherwise the status and the whole text of the answer
   pub answers : nat_lt status 3 ≡ true → (bytes text : List ℕ) × HasReadAll left left' bytes
       × IsAnswer bytes limit status text × Appends written written' text
   pub known : status ≤ 4
 
--- the first bytes of a text were written: all of it where no write failed
+-- The first bytes of a text were written, or all of it if no write failed.
 pub record WritesOut (old new : Option (List ℕ)) (text : List ℕ) (failed : Bool) (all : Bool) : Type 0 where
   pub written : HasWritten old new text
   pub whole : all ≡ true → Appends old new text
   pub told : failed ≡ not all
 
--- reading stopped: a read failed, or memory did
+-- Reading stopped, since a read or an allocation failed.
 abbrev pub HasCut : Option (List ℕ) → Option (List ℕ) → Bool → Cut → Type 0
 HasCut old new failed (Failed error) = (failed ≡ true) × ((bytes : List ℕ) × HasRead old new bytes)
 HasCut old new failed Memory = (failed ≡ false) × ((bytes : List ℕ) × HasRead old new bytes)

@@ -1,5 +1,4 @@
--- What is shown of a text: a line for each node of its flat document, in the order of their paths, or the line of an
--- error.
+-- The output for a text: a line for each node of its flat document, in the order of the paths, or the line of an error.
 use Rattle.std.specs.Prelude.{◌≡◌, ◌<◌, ◌↔◌, ◌⊎◌, ⊤, ℕ, List, [], ◌∷◌, length, Option, Some, Ok, codes}
 use Rattle.std.specs.List.{flat_map, AllByRecursion}
 use Rattle.toml_span_tree.specs.declared.error.Error.{Error}
@@ -19,7 +18,7 @@ use Rattle.toml_span_lines.specs.Lines.{key_segment, position_segment, line, err
 
 -- ---- the order of paths
 
--- keys by their bytes, and positions by their numbers
+-- keys in the order of their bytes, and positions in numeric order
 abbrev pub IsStepBefore : Step → Step → Type 0
 IsStepBefore (key name) (key other) = IsNameBefore name other
 IsStepBefore (position i) (position j) = i < j
@@ -31,7 +30,7 @@ IsPathBefore p q = IsBefore IsStepBefore p q
 
 -- ---- places
 
--- a path, and what stands there
+-- a path and the place there
 abbrev pub PlaceAt : Type 0
 PlaceAt = Path × Place
 
@@ -39,12 +38,12 @@ abbrev pub IsIn : PlaceAt → List PlaceAt → Type 0
 IsIn e [] = ⊥
 IsIn e (f ∷ fs) = (e ≡ f) ⊎ IsIn e fs
 
--- each path is before those of all later entries
+-- Each path is before those of all later entries.
 abbrev pub PathsAscend : List PlaceAt → Type 0
 PathsAscend [] = ⊤
 PathsAscend (e ∷ es) = AllByRecursion (λ f. IsPathBefore e.0 f.0) es × PathsAscend es
 
--- at each path stands what the list has there, and nothing where it has nothing
+-- At each path there is the place that the list has there, or nothing if it has none.
 abbrev pub HasPlaces : (Path → Option Place) → List PlaceAt → Type 0
 HasPlaces places es = (p : Path) (x : Place) → (places p ≡ Some x) ↔ IsIn (p, x) es
 
@@ -69,9 +68,9 @@ entry_line e = line (flat_map segment e.0) (shape_name e.1.shape) e.1.span.start
 abbrev pub ShowsPlaces : (Path → Option Place) → List ℕ → Type 0
 ShowsPlaces places text = (es : List PlaceAt) × PathsAscend es × HasPlaces places es × (text ≡ flat_map entry_line es)
 
--- ---- texts
+-- ---- whole texts
 
--- Reading the bytes gives sections within the limit, no two of their claims clash, and the text shows their flat
+-- Reading the bytes results in sections within the limit, no two of their claims clash, and the output shows their flat
 -- document.
 pub record ShowsDocument (bytes : List ℕ) (limit : ℕ) (text : List ℕ) : Type 0 where
   pub blocks : List Block
@@ -79,8 +78,8 @@ pub record ShowsDocument (bytes : List ℕ) (limit : ℕ) (text : List ℕ) : Ty
   pub resolves : Resolves (claims blocks)
   pub shown : ShowsPlaces (flat (length bytes) (claims blocks)) text
 
--- A fault is told of the bytes or, where they spell sections within the limit, two claims clash. The text is the line
--- of such a fault, or of the first clash.
+-- Reading the bytes results in a fault; or in sections within the limit, two claims of which clash. The output is the
+-- line of that fault, or of the first clash.
 abbrev pub ShowsRefusal : List ℕ → ℕ → List ℕ → Type 0
 ShowsRefusal bytes limit text =
     (error : Error) × IsRefusal bytes limit (stops.Fault error) × (text ≡ error_line (content_of error))

@@ -1,4 +1,4 @@
-//! Bytes that are held until there are many.
+//! A buffer in front of a writer.
 ghost use Rattle.std.specs.Prelude.{◌≡◌, false};
 ghost use Rattle.toml_span_lines.specs.Held.{Streams};
 ghost use Rattle.toml_span_lines.specs.declared.held.Unwritten.TheVariants.{Memory};
@@ -7,13 +7,13 @@ use crate::run::write_bytes;
 use crate::sink::Sink;
 use std::alloc::AllocError;
 
-/// How many bytes are written at once.
+/// The number of bytes at which the buffer is written.
 const MANY: usize = 65_536;
 
-/// Why not all was written.
+/// Why not everything was written.
 #[derive(Clone, Copy, PartialEq, Eq, Drop)]
 pub enum Unwritten {
-    /// Memory was refused.
+    /// An allocation failed.
     Memory,
     /// A write failed.
     Failed,
@@ -27,7 +27,8 @@ impl From<AllocError> for Unwritten {
     }
 }
 
-/// Writes what is held, where it is at least 64 KiB, and then holds nothing. After an error a front of it was written.
+/// Writes the buffer and clears it, if at least 64 KiB are in it. After an error a prefix of the buffer has been
+/// written.
 pub fn write_held<W: Sink>(writer: &mut W, held: &mut Vec<u8>) -> Result<(), Unwritten>
     requires { W.failed writer.old ≡ false }
     ensures { Streams result (W.contents writer.old) (W.contents writer.new) (W.failed writer.new)

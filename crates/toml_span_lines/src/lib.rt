@@ -1,5 +1,4 @@
-//! The tree of a TOML document as lines, one for each node with the bytes at which it stands, and the program that
-//! writes them.
+//! Prints the tree of a TOML document as lines, one for each node with its span, and has the program that does so.
 #![tactic(auto)]
 
 pub mod held;

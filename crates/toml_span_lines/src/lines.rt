@@ -1,4 +1,4 @@
-//! The lines that are shown.
+//! The lines of the output.
 ghost use Rattle.std.specs.Prelude.{◌≡◌, ◌<◌, ◌++◌, OnOk, IfOk, false};
 ghost use Rattle.std.specs.Fmt.{decimal};
 ghost use Rattle.toml_span_tree.specs.Value.{view, items_view, members_view};
@@ -13,7 +13,7 @@ use std::alloc::{AllocError, Global};
 use toml_span::value::{Table, Value, ValueInner};
 use toml_span::{Error, Span};
 
-/// Adds a number in decimal digits.
+/// Appends a number in decimal digits. Fails if an allocation fails.
 fn push_number(out: &mut Vec<u8>, number: usize) -> Result<(), AllocError>
     ensures { OnOk result (out.new.items ≡ out.old.items ++ decimal number) }
 {
@@ -24,7 +24,7 @@ fn push_number(out: &mut Vec<u8>, number: usize) -> Result<(), AllocError>
     Ok(())
 }
 
-/// Adds a span, as `start..end`.
+/// Appends a span, as `start..end`. Fails if an allocation fails.
 fn push_span(out: &mut Vec<u8>, span: Span) -> Result<(), AllocError>
     ensures { OnOk result (out.new.items ≡ out.old.items ++ spec.shown_span span.start span.end) }
 {
@@ -33,7 +33,7 @@ fn push_span(out: &mut Vec<u8>, span: Span) -> Result<(), AllocError>
     push_number(out, span.end)
 }
 
-/// Adds a place, as `line:column`.
+/// Appends a position, as `line:column`. Fails if an allocation fails.
 fn push_place(out: &mut Vec<u8>, place: (usize, usize)) -> Result<(), AllocError>
     ensures { OnOk result (out.new.items ≡ out.old.items ++ spec.shown_place place) }
 {
@@ -42,14 +42,14 @@ fn push_place(out: &mut Vec<u8>, place: (usize, usize)) -> Result<(), AllocError
     push_number(out, place.1)
 }
 
-/// Whether a byte stands for itself in a path: it is printed, and neither a slash nor a percent sign.
+/// Returns whether a byte is written as it is in a path: it is printable, and neither a slash nor a percent sign.
 fn is_plain(byte: u8) -> bool
     ensures { result ≡ spec.stands_for_itself byte }
 {
     0x21 <= byte && byte <= 0x7e && byte != b'/' && byte != b'%'
 }
 
-/// The upper-case hexadecimal digit of a number below 16.
+/// Returns the upper-case hexadecimal digit of a number below 16.
 fn hex_digit(number: u8) -> u8
     requires { number < 16 }
     ensures { result ≡ spec.hex_digit number }
@@ -61,7 +61,8 @@ fn hex_digit(number: u8) -> u8
     }
 }
 
-/// Adds a byte of a path's segment, as itself or as a percent sign and two hexadecimal digits.
+/// Appends a byte of a segment, as itself or as a percent sign and two hexadecimal digits. Fails if an allocation
+/// fails.
 fn push_byte(out: &mut Vec<u8>, byte: u8) -> Result<(), AllocError>
     ensures { OnOk result (out.new.items ≡ out.old.items ++ spec.shown_byte byte) }
 {
@@ -72,7 +73,7 @@ fn push_byte(out: &mut Vec<u8>, byte: u8) -> Result<(), AllocError>
     out.extend_from_slice(&[b'%', hex_digit(byte / 16), hex_digit(byte % 16)])
 }
 
-/// Adds the segment of a key to a path.
+/// Appends the segment of a key to a path. Fails if an allocation fails.
 fn push_key(path: &mut Vec<u8>, name: &str) -> Result<(), AllocError>
     ensures { OnOk result (path.new.items ≡ path.old.items ++ spec.key_segment name.now) }
 {
@@ -83,7 +84,7 @@ fn push_key(path: &mut Vec<u8>, name: &str) -> Result<(), AllocError>
     Ok(())
 }
 
-/// Adds the segment of a position to a path.
+/// Appends the segment of a position to a path. Fails if an allocation fails.
 fn push_position(path: &mut Vec<u8>, position: usize) -> Result<(), AllocError>
     ensures { OnOk result (path.new.items ≡ path.old.items ++ spec.position_segment position) }
 {
@@ -91,7 +92,7 @@ fn push_position(path: &mut Vec<u8>, position: usize) -> Result<(), AllocError>
     push_number(path, position)
 }
 
-/// Adds the line of a node.
+/// Appends the line of a node. Fails if an allocation fails.
 fn push_line(out: &mut Vec<u8>, path: &[u8], kind: &str, span: Span) -> Result<(), AllocError>
     ensures { OnOk result (out.new.items ≡ out.old.items ++ spec.line path.now kind.now span.start span.end) }
 {
@@ -108,7 +109,7 @@ fn push_line(out: &mut Vec<u8>, path: &[u8], kind: &str, span: Span) -> Result<(
     Ok(())
 }
 
-/// Adds the line of a node, and writes what is held where that is much.
+/// Appends the line of a node, and writes the buffer if it is large. Fails if a write or an allocation fails.
 fn write_line<W: Sink>(
     writer: &mut W,
     held: &mut Vec<u8>,
@@ -124,7 +125,8 @@ fn write_line<W: Sink>(
     write_held(writer, held)
 }
 
-/// Writes the lines of a value, its own before those of what it holds. A value that is taken has none.
+/// Writes the lines of a value: its own, followed by those of the values inside it. A value that has been taken has
+/// none. Fails if a write or an allocation fails.
 #[cycle(write_value)]
 fn write_value<W: Sink>(
     writer: &mut W,
@@ -149,7 +151,7 @@ fn write_value<W: Sink>(
     }
 }
 
-/// Writes the lines of an array's elements.
+/// Writes the lines of an array's elements. Fails if a write or an allocation fails.
 #[cycle(write_value)]
 fn write_elements<W: Sink>(
     writer: &mut W,
@@ -171,7 +173,7 @@ fn write_elements<W: Sink>(
     Ok(())
 }
 
-/// Writes the lines of a table's entries.
+/// Writes the lines of a table's entries. Fails if a write or an allocation fails.
 #[cycle(write_value)]
 fn write_entries<W: Sink>(
     writer: &mut W,
@@ -193,8 +195,8 @@ fn write_entries<W: Sink>(
     Ok(())
 }
 
-/// Writes what is held and then the lines of a tree: one for each node, in the order of the paths. The last lines,
-/// fewer than 64 KiB, are held. After an error a front of what is held and of the lines was written.
+/// Writes the buffer, followed by the lines of a tree: one for each node, in the order of the paths. The last lines,
+/// fewer than 64 KiB, stay in the buffer. After an error a prefix has been written.
 pub fn write_lines<W: Sink>(
     alloc: Global,
     writer: &mut W,
@@ -208,7 +210,7 @@ pub fn write_lines<W: Sink>(
     write_value(writer, held, &mut Vec::new(alloc), root)
 }
 
-/// The lines of a tree: one for each node, in the order of the paths. Only want of memory is refused.
+/// Returns the lines of a tree: one for each node, in the order of the paths. Fails only if an allocation fails.
 pub fn tree_lines(alloc: Global, root: &Value<'_>) -> Result<Vec<u8>, AllocError>
     ensures { IfOk result (λ out. out.items ≡ spec.tree_lines (view root.now)) }
 {
@@ -222,7 +224,7 @@ pub fn tree_lines(alloc: Global, root: &Value<'_>) -> Result<Vec<u8>, AllocError
     Ok(out)
 }
 
-/// The line of an error.
+/// Returns the line of an error. Fails if an allocation fails.
 pub(crate) fn error_line(alloc: Global, error: &Error<'_>) -> Result<Vec<u8>, AllocError>
     ensures { IfOk result (λ out. out.items ≡ spec.error_line (content_of error.now)) }
 {

@@ -1,4 +1,4 @@
-//! The run of the program.
+//! The program: reads a document and writes its lines.
 ghost use Rattle.std.specs.Prelude.{◌≡◌, ◌≤◌, IfOk, IfErr, false};
 ghost use Rattle.toml_span_lines.specs.Run.{HasReadAll, HasCut, Runs, WritesOut, IsAnswer, IsShown};
 ghost use Rattle.toml_span_read.specs.Data.{depth_limit};
@@ -11,22 +11,22 @@ use std::io;
 use toml_span::Stop;
 use toml_span::de::parse_with_limit;
 
-/// The most bytes that a document may have.
+/// The maximum length of a document in bytes.
 pub const BOUND: usize = 16_777_216;
 
-/// How deep a value, a header and a dotted key of a document may be.
+/// The limit on the depth of values and on the parts of headers and dotted keys.
 const LIMIT: usize = 128;
 
-/// Why not all was read.
+/// Why not everything was read.
 #[derive(Clone, Copy, Drop)]
 pub enum Cut {
-    /// Memory was refused.
+    /// An allocation failed.
     Memory,
     /// A read failed.
     Failed(io::Error),
 }
 
-/// Reads all there is, but no more than the bound and one byte. After an error some was read, and is lost.
+/// Reads the whole input, but at most one byte more than the maximum. What was read before an error is lost.
 pub fn read_bytes<R: Source>(alloc: Global, reader: &mut R) -> Result<Vec<u8>, Cut>
     requires { R.failed reader.old ≡ false }
     ensures ok { IfOk result (λ v. HasReadAll (R.remaining reader.old) (R.remaining reader.new) v.items
@@ -50,7 +50,7 @@ pub fn read_bytes<R: Source>(alloc: Global, reader: &mut R) -> Result<Vec<u8>, C
     Ok(bytes)
 }
 
-/// Writes a text, up to a write that fails. Whether all was written.
+/// Writes a text up to the first write that fails. Returns whether all of it was written.
 pub fn write_bytes<W: Sink>(writer: &mut W, text: &[u8]) -> bool
     requires { W.failed writer.old ≡ false }
     ensures { WritesOut (W.contents writer.old) (W.contents writer.new) text.now (W.failed writer.new) result }
@@ -66,7 +66,8 @@ pub fn write_bytes<W: Sink>(writer: &mut W, text: &[u8]) -> bool
     true
 }
 
-/// The status and the text for a document: 0 and its tree, or 1 and its error.
+/// Returns the status and the output for a text: 0 and the lines of its tree, or 1 and the line of its error. Fails if
+/// an allocation fails.
 fn answer_text(alloc: Global, text: &str, limit: usize) -> Result<(u8, Vec<u8>), AllocError>
     requires some { 1 ≤ limit }
     requires small { limit ≤ depth_limit }
@@ -79,7 +80,7 @@ fn answer_text(alloc: Global, text: &str, limit: usize) -> Result<(u8, Vec<u8>),
     }
 }
 
-/// The status and the text for the bytes of an input.
+/// Returns the status and the output for the bytes of an input. Fails if an allocation fails.
 fn answer(alloc: Global, bytes: &[u8], limit: usize) -> Result<(u8, Vec<u8>), AllocError>
     requires some { 1 ≤ limit }
     requires small { limit ≤ depth_limit }
@@ -96,9 +97,9 @@ fn answer(alloc: Global, bytes: &[u8], limit: usize) -> Result<(u8, Vec<u8>), Al
 
 /// Reads a document, and writes its tree or its error and nothing else. The limit is that of `parse_with_limit`.
 ///
-/// Answers the status with which the program ends: 0 for a tree, 1 for an error of the text, 2 for bytes that are too
-/// many or no UTF-8, 3 where reading broke off, of which nothing is written, or writing, of which a front of the text
-/// is written, 4 for want of memory, of which nothing is written.
+/// Returns the exit status: 0 for a tree; 1 for an error in the text; 2 for an input that is too long or not UTF-8; 3
+/// if a read failed, when nothing is written, or a write, when a prefix of the output is written; 4 if an allocation
+/// failed, when nothing is written.
 pub fn run_with_limit<R: Source, W: Sink>(
     alloc: Global,
     limit: usize,
@@ -127,7 +128,7 @@ pub fn run_with_limit<R: Source, W: Sink>(
     }
 }
 
-/// The run with the limit 128 (see `parse_with_limit`).
+/// Runs the program with the limit 128 (see `run_with_limit`).
 pub fn run<R: Source, W: Sink>(alloc: Global, reader: &mut R, writer: &mut W) -> u8
     requires reader { R.failed reader.old ≡ false }
     requires writer { W.failed writer.old ≡ false }

@@ -1,4 +1,4 @@
-//! What is read from.
+//! Readers.
 ghost use Rattle.std.specs.Prelude.{◌≡◌, ℕ, Bool, List, Option};
 ghost use Rattle.std.specs.Io.{ReadsAtMost};
 ghost use Rattle.std.specs.Io.KnownBytes.{ReadConsumes};
@@ -6,22 +6,22 @@ ghost use Rattle.toml_span_lines.specs.Ends.{after_read};
 
 use std::io;
 
-/// A reader that tells whether it has failed.
+/// A reader that knows whether it has failed.
 pub trait Source {
-    /// The bytes that reads will give, where they are known.
+    /// The bytes that reads will return, if they are known.
     ghost remaining: { Self → Option (List ℕ) };
 
-    /// A read has answered an error.
+    /// Whether a read has returned an error.
     ghost failed: { Self → Bool };
 
-    /// Reads bytes into the front of the buffer, and answers how many. 0 is the end of what there is,
-    /// unless the buffer is empty. `has_failed` then tells whether this or an earlier read has answered an error.
+    /// Reads bytes into the front of the buffer, and returns how many. 0 means the end of the input, unless the buffer
+    /// is empty. Afterwards `has_failed` returns whether this or an earlier read has returned an error.
     fn read(&mut self, buf: &mut [u8]) -> io::Result<usize>
         ensures bound { ReadsAtMost result buf.new }
         ensures bytes { ReadConsumes (remaining self.old) (remaining self.new) result buf.new }
         ensures failed_after { failed self.new ≡ after_read (failed self.old) result };
 
-    /// Whether a read has answered an error.
+    /// Returns whether a read has returned an error.
     fn has_failed(&self) -> bool
         ensures { result ≡ failed self.now };
 }

@@ -8,7 +8,7 @@ use crate::source::Source;
 use std::io;
 use std::io::{ErrorKind, Read, Write};
 
-/// A reader or a writer of std that tells whether it has failed. What a signal interrupts is tried again.
+/// A reader or writer of std that knows whether it has failed. Calls that a signal interrupts are repeated.
 #[derive(Drop)]
 pub struct Told<T> {
     inner: T,
@@ -16,7 +16,7 @@ pub struct Told<T> {
 }
 
 impl<T> Told<T> {
-    /// One that has not failed.
+    /// Wraps a reader or writer, which counts as not failed.
     pub fn new(inner: T) -> Self
         ensures inner { result.inner ≡ inner }
         ensures failed { result.failed ≡ false }
@@ -27,7 +27,7 @@ impl<T> Told<T> {
         }
     }
 
-    /// The reader or writer.
+    /// Returns the reader or writer.
     pub fn into_inner(self) -> T
         ensures { result ≡ self.inner }
     {
@@ -36,7 +36,7 @@ impl<T> Told<T> {
     }
 }
 
-/// A read that no signal interrupts.
+/// Reads, and repeats the call while signals interrupt it.
 fn read_again<R: Read>(reader: &mut R, buf: &mut [u8]) -> io::Result<usize>
     ensures bound { ReadsAtMost result buf.new }
     ensures bytes { ReadConsumes (R.remaining reader.old) (R.remaining reader.new) result buf.new }
@@ -50,7 +50,7 @@ fn read_again<R: Read>(reader: &mut R, buf: &mut [u8]) -> io::Result<usize>
     Err(io::Error::from(ErrorKind::Interrupted))
 }
 
-/// A write that no signal interrupts.
+/// Writes, and repeats the call while signals interrupt it.
 fn write_again<W: Write>(writer: &mut W, buf: &[u8]) -> io::Result<usize>
     ensures bound { WritesAtMost result buf.now }
     ensures bytes { WriteAppends (W.contents writer.old) (W.contents writer.new) result buf.now }

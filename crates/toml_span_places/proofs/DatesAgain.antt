@@ -1,4 +1,4 @@
--- Dates and times as they are spelled are read again.
+-- The spellings of dates and times are read again.
 use Rattle.toml_span_lex.proofs.Common.{◌≡◌, ℕ, ◌+◌, ◌-◌, ◌<◌, ◌⊎◌, true, false, List, [], ◌∷◌, ◌++◌, length, get_or, drop, arith, inl, inr, sym, refl, length-append, length-drop, ◌==◌, ◌||◌, ◌&&◌, is_ascii_digit, cases_lt, or_cases, and_parts, and_from, or_left, or_right, and_right, get_or_append_left, get_or-append_right, nat_tests, common_steps}
 use Rattle.std.proofs.lemmas.Bool.{eqb-true}
 use Rattle.toml_span_read.proofs.NumberLemmas.{clash}
@@ -23,11 +23,11 @@ digit_some c h = grind (arith, nat_tests, common_steps)
 either_date : (c k l : ℕ) → is_date_byte k ≡ true → is_date_byte l ≡ true → (c == k || c == l) ≡ true → is_date_byte c ≡ true
 either_date c k l d e h = elim (or_cases (c == k) (c == l) h) [ inl x ↦ this_date c k d x | inr x ↦ this_date c l e x ]
 
--- the byte at k is one that dates are written with, and so are all of a list
+-- the byte at k is one that dates are written with, and so is each byte of a list
 abbrev At : List ℕ → ℕ → Type 0
 At xs k = is_date_byte (get_or xs k 0) ≡ true
 
--- two digits more, or this byte
+-- two more digits, or this byte
 pair : (xs : List ℕ) (n : ℕ) → ((k : ℕ) → k < n → At xs k) → (is_ascii_digit (get_or xs n 0) ≡ true) × (is_ascii_digit (get_or xs (n + 1) 0) ≡ true) → (k : ℕ) → k < (n + 1) + 1 → At xs k
 pair xs n f d = below_more (At xs) (n + 1) (below_more (At xs) n f (digit_date (get_or xs n 0) d.0)) (digit_date (get_or xs (n + 1) 0) d.1)
 
@@ -60,7 +60,7 @@ appended xs ys f g k l = elim (cases_lt k (length xs)) [
 two : (low high : ℕ) (xs : List ℕ) (i : ℕ) → is_two_digits low high xs i ≡ true → (is_ascii_digit (get_or xs i 0) ≡ true) × (is_ascii_digit (get_or xs (i + 1) 0) ≡ true)
 two low high xs i h = and_parts _ _ (and_parts _ _ (and_parts _ _ h).0).0
 
--- how a date or a time begins
+-- a date or a time begins at the front
 abbrev Begins : List ℕ → Type 0
 Begins xs = begins_date xs 0 ≡ true
 
@@ -135,7 +135,7 @@ time : (d : List ℕ) (more : List ℕ) → is_partial_time d ≡ true → (more
 time d more p (inl e) = rw e (appended d [] (partial d p).0 (none [] refl))
 time d more p (inr h) = appended d more (partial d p).0 (offset more h)
 
--- a date that begins in a text begins where the text stands in another
+-- a date that begins in a text begins wherever another text contains it
 begins_in : (xs text : List ℕ) (i : ℕ) → ((k : ℕ) → k < length xs → get_or xs k 0 ≡ get_or text (i + k) 0) → Begins xs → begins_date text i ≡ true
 begins_in xs text i same b = date_carried xs text 0 i (length xs) (λ m l h. (
     let z : 0 + m ≡ m = omega arith in
@@ -149,12 +149,12 @@ begins_in xs text i same b = date_carried xs text 0 i (length xs) (λ m l h. (
 begins_before : (xs ys : List ℕ) → Begins xs → Begins (xs ++ ys)
 begins_before xs ys b = begins_in xs (xs ++ ys) 0 (λ k l. (let z : 0 + k ≡ k = omega arith in rw z (sym (get_or_append_left xs ys 0 k l)))) b
 
--- ---- where it stands
+-- ---- where it is
 
 begins_at : {text rest : List ℕ} {i j : ℕ} (xs : List ℕ) → Begins xs → Part text xs rest i j → begins_date text i ≡ true
 begins_at {text} {rest} {i} xs b p = begins_in xs text i (λ k l. sym (byte p k l)) b
 
--- bytes that dates are written with, from a place of the part on to its end
+-- bytes that dates are written with, from an offset in the part to its end
 run_to : {text rest : List ℕ} {i j : ℕ} (xs : List ℕ) → All xs → is_date_byte (get_or rest 0 0) ≡ false → Part text xs rest i j → MaximalRun is_date_byte text i j
 run_to {text} {rest} {i} {j} xs all off p = grind (arith, nat_tests, common_steps, byte_at p, next p, within, within p)
 

@@ -1,4 +1,4 @@
--- Integers and floats as they are spelled are read again.
+-- The spellings of integers and floats are read again.
 use Rattle.toml_span_lex.proofs.Common.{◌≡◌, ℕ, zero, suc, ℤ, pos, negsuc, ◌+◌, ◌-◌, ◌^◌, ◌<◌, ◌≤◌, Bool, true, false, List, [], ◌∷◌, length, get_or, filter, arith, inl, sym, ◌∙◌, refl, ap, decimal, signed_decimal, is_ascii_digit, AllDigits, nat_tests, decimal_is_IsNumeral, digits_value-decimal, decimal_digit, first_decimal, IsNumeralModel, numerals_by_weight, tells_digits, digit_at, common_steps}
 use Rattle.std.specs.Int.{IsInRange}
 use lib.Signed.{mag}
@@ -27,7 +27,7 @@ all_kept p (x ∷ xs) h =
     let e : p x ≡ true = h 0 (omega arith) in
     rw e (ap (λ (l : List ℕ). x ∷ l) (all_kept p xs (λ k l. h (suc k) (omega arith))))
 
--- a number of 64 bits in decimal digits, as it stands in a text
+-- a number of 64 bits in decimal digits, in a text
 record Decimal (text : List ℕ) (n i j : ℕ) : Type 0 where
   some : i < j
   digits : (k : ℕ) → i ≤ k → k < j → is_ascii_digit (get_or text k 0) ≡ true

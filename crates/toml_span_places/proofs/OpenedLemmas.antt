@@ -1,4 +1,4 @@
--- The elements of arrays of tables, as they are kept in a map.
+-- The elements of arrays of tables, in the map that counts them.
 use Rattle.toml_span_lex.proofs.Common.{◌≡◌, ℕ, ◌+◌, Bool, true, cond, List, [], ◌∷◌, map, Some, Vec, Global, refl, sym, arith, is_eq, lookup, insert_entry, slice_cmp, is_eq-slice_cmp, nat_tests, common_steps}
 use Rattle.std.specs.Cmp.{both_tied}
 use Rattle.std.proofs.Math.Path.{fun_ext}
@@ -54,13 +54,13 @@ inserted : (es : List Entry) (k : Vec SortedStep Global) (v : ℕ) (p : Path) �
 inserted [] k v p = refl
 inserted (e ∷ es) k v p = grind (arith, nat_tests, common_steps, inserted es k v p, path_tie k.items e.0.items, same_path-eq, same_path-sym)
 
--- one more of the array at a path
+-- one more element of the array at a path
 pub counts_put : (es new : List Entry) (k : Vec SortedStep Global) (v : ℕ) (p : Path) → sorted_steps k ≡ p →
     v ≡ counts_in es p + 1 → new ≡ insert_entry (λ a b. slice_cmp order.ghosts.cmp a.items b.items) es k v →
     counts_in new ≡ one_more (counts_in es) p
 counts_put es new k v p at more new_is = grind (arith, nat_tests, common_steps, fun_ext, inserted, same_path-eq, same_path-sym)
 
--- behind a section
+-- after a section
 pub counts_next : (counts counts' : Path → ℕ) (earlier : List Block) (b : Block) → counts' ≡ counts_behind counts b →
     counts ≡ elements_added (opened_by earlier) → counts' ≡ elements_added (opened_by (b ∷ earlier))
 unfolding opened_by

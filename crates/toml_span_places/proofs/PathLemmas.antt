@@ -1,4 +1,4 @@
--- Paths of headers and the elements of arrays of tables, a step at a time; and what keys name.
+-- Paths of headers and the elements of arrays of tables, one step at a time; and what keys name.
 use Rattle.toml_span_lex.proofs.Common.{◌≡◌, ℕ, zero, suc, ◌-◌, ◌<◌, true, false, List, [], ◌∷◌, ◌++◌, Option, Some, Vec, Global, map, take, drop, length, get_or, refl, arith, ◌≤◌, ◌==◌, Result, IfOk, nat_tests, common_steps, OnOk}
 use Rattle.toml_span_lex.specs.declared.key.Key.{Key}
 use Rattle.toml_span_tree.specs.declared.nodes.Step.{Step as Lent}

@@ -1,4 +1,4 @@
--- A string and a key as they are spelled are read again.
+-- The spellings of strings and keys are read again.
 use Rattle.toml_span_lex.proofs.Common.{◌≡◌, ℕ, ◌/◌, ◌%◌, ◌+◌, ◌-◌, ◌<◌, ◌≤◌, ◌⊎◌, Bool, true, false, cond, not, Option, Some, None, Result, Ok, Err, IfOk, String, string_bytes, List, [], ◌∷◌, ◌++◌, length, get_or, take, drop, arith, inl, inr, sym, ◌∙◌, refl, ap, subst, append-nil, append_assoc, encode_utf8, codes, chars, flat_map, IsUtf8, ◌==◌, ◌&&◌, slice_range, Global, list_all, list_any, digit_char, cases_lt, false≢true, and_parts, or_parts, true_from_ne_false, not-true, nat_tests, list_any_at, list_all_at, encodes-chars, length-encode, len_utf8_bounds, common_steps, encode_ascii, digit_value-digit_char, inside_one}
 use lib.Utf8.{encodes, low_scalar}
 use Rattle.toml_span_lex.specs.Bytes.{is_keylike, MaximalRun}
@@ -20,18 +20,18 @@ use Rattle.toml_span_places.specs.Quoted.{letter_of, letter_or, is_control, numb
 use Rattle.toml_span_read.proofs.Parts.{Part, between, same_part, front, back, tail, here, next, range, within, each, empty_range}
 use Rattle.std.proofs.lemmas.Bool.{lt-ltb}
 
--- ---- pieces between quotation marks
+-- ---- pieces of basic strings
 
--- what the pieces from i on, which end at j, stand for
+-- the value of the pieces from i on, which end at j
 abbrev Pieces : List ℕ → ℕ → ℕ → List ℕ → Type 0
 Pieces text i j value = (ps : List (Piece × ℕ)) × Cut 34 false text i ps j × (content text i ps ≡ value)
 
--- bytes from i to k that stand for themselves, and pieces behind them that don't begin with such a byte
+-- unescaped bytes from i to k, and pieces after them that do not begin with such a byte
 run_first : (text : List ℕ) (i k j : ℕ) (ps : List (Piece × ℕ)) → i < k → ((n : ℕ) → i ≤ n → n < k → is_plain 34 (get_or text n 0) ≡ true) → is_plain 34 (get_or text k 0) ≡ false → k ≤ length text
     → Cut 34 false text k ps j → Pieces text i j (slice_range text i k ++ content text k ps)
 run_first text i k j ps l h stop w cut = ((pieces.Plain, k) ∷ ps, ((l, record { forward = omega arith; within = w; passes = h; stops = λ x. stop }), cut), refl)
 
--- bytes from i to k that stand for themselves, and pieces behind them
+-- unescaped bytes from i to k, and pieces after them
 plain_first : (text : List ℕ) (i k j : ℕ) (ps : List (Piece × ℕ)) → i < k → ((n : ℕ) → i ≤ n → n < k → is_plain 34 (get_or text n 0) ≡ true) → is_plain 34 (get_or text j 0) ≡ false → j ≤ length text → Cut 34 false text k ps j
     → Pieces text i j (slice_range text i k ++ content text k ps)
 plain_first text i k j [] l h stop w e = run_first text i k j [] l h (rw e stop) (omega arith) e
@@ -57,12 +57,12 @@ plain_first text i k j ((pieces.Quotes, m) ∷ ps) l h stop w (quotes, more) = a
 plain_first text i k j ((pieces.LineEnd, m) ∷ ps) l h stop w (line, more) = absurd (false≢true line.0)
 plain_first text i k j ((pieces.Dropped, m) ∷ ps) l h stop w (dropped, more) = absurd (false≢true dropped.1)
 
--- ---- how a character is spelled between quotation marks
+-- ---- the spelling of a character in a basic string
 
 pub digit_hex : (d : ℕ) → d < 16 → is_hex (digit_char d) ≡ true
 digit_hex d h = rw (digit_value-digit_char d (omega arith)) (lt-ltb d 16 h)
 
--- a character that stands for itself
+-- a character that needs no escape
 pub plain_byte : (c k : ℕ) → letter_of c ≡ None → is_control c ≡ false → k < length (encode_utf8 c) → is_plain 34 (get_or (encode_utf8 c) k 0) ≡ true
 plain_byte c k none free h = elim (cases_lt (get_or (encode_utf8 c) k 0) 128) [
   | inl low ↦
@@ -74,7 +74,7 @@ plain_byte c k none free h = elim (cases_lt (get_or (encode_utf8 c) k 0) 128) [
 
 -- ---- one character
 
--- an escape from i to k, and pieces behind it
+-- an escape from i to k, and pieces after it
 escape_first : (text : List ℕ) (i k j c : ℕ) (ps : List (Piece × ℕ)) → get_or text i 0 ≡ 92 → IsEscape text (i + 1) c k → Cut 34 false text k ps j → Pieces text i j (encode_utf8 c ++ content text k ps)
 escape_first text i k j c ps e h more = ((pieces.Escape c, k) ∷ ps, ((refl, e, h), more), refl)
 
@@ -142,14 +142,14 @@ chars_cut (c ∷ cs) text rest i j p =
     subst (λ (v : List ℕ). Pieces text i j (encode_utf8 c ++ v)) is
     (char_first text (flat_map basic_char cs ++ (34 ∷ rest)) i (i + length (basic_char c)) j c ps (omega (arith, length-encode c, (len_utf8_bounds c).0)) stop (within p) first cut)
 
--- ---- what may stand behind
+-- ---- what may follow
 
 pub off_parts : (rest : List ℕ) → parts_off rest ≡ true → (is_date_byte (get_or rest 0 0) ≡ false) × (is_quote (get_or rest 0 0) ≡ false) × (continues_date rest 0 ≡ false)
 off_parts rest h = grind (arith, nat_tests, common_steps)
 
 -- ---- strings
 
--- a string whose content stands from i + 1 to k
+-- a string whose content is from i + 1 to k
 closed : (text rest value : List ℕ) (q i k j : ℕ) (ps : List (Piece × ℕ)) → (q ≡ 34) ⊎ (q ≡ 39) → get_or text i 0 ≡ q → get_or text k 0 ≡ q → k < length text → j ≡ k + 1 → Cut q false text (i + 1) ps k → content text (i + 1) ps ≡ value
     → ((get_or text (i + 1) 0 == get_or text i 0) ≡ false) ⊎ ((get_or text (i + 2) 0 == get_or text i 0) ≡ false)
     → (span : Span) × IsString text i j span (slice_range text i j) value false
@@ -169,7 +169,7 @@ closed text rest value q i k j ps quote first last w e cut is other =
 plain_other : (q c : ℕ) → is_plain q c ≡ true → (c == q) ≡ false
 plain_other q c h = grind (arith, nat_tests)
 
--- the pieces, or what is behind their end, show that three quotes do not stand at i
+-- from the pieces, or from what follows them, it follows that there are not three quotes at i
 one_quote : (text : List ℕ) (i k : ℕ) (ps : List (Piece × ℕ)) → get_or text i 0 ≡ 34 → Cut 34 false text (i + 1) ps k → is_quote (get_or text (k + 1) 0) ≡ false
     → ((get_or text (i + 1) 0 == get_or text i 0) ≡ false) ⊎ ((get_or text (i + 2) 0 == get_or text i 0) ≡ false)
 one_quote text i k [] q e off = let at : k + 1 ≡ i + 2 = omega arith in inr (rw q (or_parts (get_or text (i + 2) 0 == 34) _ (rw at at off)).0)
@@ -197,7 +197,7 @@ basic_again s text rest i j utf8 off p =
     let past : is_quote (get_or text (k + 1) 0) ≡ false = rw (sym e, next p) off in
     closed text rest s 34 i k j ps (inl refl) first (here 34 [] end) (omega arith) e cut (is ∙ encodes-chars s utf8) (one_quote text i k ps first cut past)
 
--- ---- between apostrophes
+-- ---- literal strings
 
 none_unliteral : (s : List ℕ) → list_any is_unliteral s ≡ false → (k : ℕ) → k < length s → is_plain 39 (get_or s k 0) ≡ true
 none_unliteral s h k l = grind (arith, nat_tests, common_steps, list_any_at is_unliteral s k 0 l)
@@ -264,7 +264,7 @@ reads_key name utf8 before rest off =
     let o = off_parts rest off in
     key_again name (before ++ (key_text name ++ rest)) rest (length before) (length before + length (key_text name)) utf8 o.0 o.1 (between before (key_text name) rest)
 
--- what holds of a text holds of what is that text
+-- what holds for a text holds for a result equal to it
 pub if_text : {E : Type 0} (P : List ℕ → Type 0) (r : Result (String Global) E) (s : List ℕ) → P s → IfOk r (λ out. string_bytes out ≡ s) → IfOk r (λ out. P (string_bytes out))
 if_text P (Ok out) s h e = subst P (sym e) h
 if_text P (Err error) s h e = tt

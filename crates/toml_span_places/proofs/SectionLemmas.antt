@@ -1,4 +1,4 @@
--- What sections name, a section further on.
+-- The mentions of sections, one section at a time.
 use Rattle.toml_span_lex.proofs.Common.{◌≡◌, ◌∙◌, ℕ, ◌+◌, ◌<◌, Bool, List, ◌∷◌, ◌++◌, map, drop, length, get_or, ap, drop_more, arith, nat_tests, common_steps}
 use Rattle.toml_span_tree.specs.Path.{Path}
 use Rattle.toml_span_read.specs.Data.{Block, block}

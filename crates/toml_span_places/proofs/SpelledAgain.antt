@@ -1,4 +1,4 @@
--- A value as it is spelled is read again.
+-- The spelling of a value is read again.
 use Rattle.toml_span_lex.proofs.Common.{◌≡◌, ℕ, ◌+◌, ◌<◌, ◌≤◌, ◌⊎◌, Bool, true, false, Result, Ok, Err, IfOk, OnOk, String, string_bytes, List, [], ◌∷◌, ◌++◌, length, get_or, arith, inl, inr, sym, ◌∙◌, refl, ap, subst, append_assoc, codes, IsUtf8, slice_range, Global, list_all, false≢true, and_parts, nat_tests, common_steps}
 use Rattle.toml_span_lex.specs.Bytes.{is_keylike}
 use Rattle.toml_span_lex.specs.declared.span.Span.{Span}
@@ -28,7 +28,7 @@ use Rattle.toml_span_read.proofs.Undated.{no_date}
 
 -- ---- what can be spelled
 
--- it is whole, within the limit, and the text of each float in it spells the float by itself
+-- the value is whole and within the limit, and the text of each float in it is itself a spelling of that float
 abbrev CanBeSpelled : ℕ → ℕ → Node → Type 0
 CanBeSpelled limit d n = (is_whole n ≡ true) × IsWithin limit d n × HasFloatTexts n
 
@@ -66,7 +66,7 @@ ScalarAt text s i j = (span : Span) × SpellsScalar s span text i j
 special : {text rest : List ℕ} {k j : ℕ} (word : List ℕ) (i : ℕ) → length word ≡ 3 → is_date_byte (get_or rest 0 0) ≡ false → behind_sign text i ≡ k → Part text word rest k j → SpecialFloat word text i j
 special {text} {rest} {k} {j} word i some off e p = grind (arith, nat_tests, common_steps, next, off_bytes, range, stands_alone, within)
 
--- a word behind a dash, or without one
+-- a word, after a dash or without one
 minus_word : {text rest : List ℕ} {i j : ℕ} (word : List ℕ) → length word ≡ 3 → is_date_byte (get_or rest 0 0) ≡ false → Part text (45 ∷ word) rest i j → (begins_date text i ≡ false) × SpecialFloat word text i j × (true ≡ is_negative text i)
 minus_word {i = i} word some off p = let first = here 45 word p in (rw first refl, special word i some off (rw first refl) (tail 45 word p), rw first refl)
 
@@ -91,13 +91,13 @@ scalar_again {text} {rest} {i} {j} (datetime d) held is off p = let o = off_part
 
 -- ---- arrays and tables
 
--- what of the elements follows the opening bracket, or one comma and a space
+-- the elements after the opening bracket, or after a comma and a space
 abbrev Inside : Items → Type 0
 Inside ns =
     (text rest : List ℕ) (limit d i j : ℕ) → AreHeld ns → ItemsCanBeSpelled limit d ns → Part text (items_text true ns ++ (93 ∷ [])) rest i j
     → (vs : ParsedItems) × ItemsWith SpellsScalar vs text limit d i j × HaveValues vs ns × (begins_gap text i ≡ false)
 
--- what of the elements follows another one
+-- the elements after another one
 abbrev Behind : Items → Type 0
 Behind ns =
     (text rest : List ℕ) (limit d i j : ℕ) → AreHeld ns → ItemsCanBeSpelled limit d ns → Part text (items_text false ns ++ (93 ∷ [])) rest i j
@@ -151,7 +151,7 @@ members_off (member name key n ms) rest = refl
 regroup : (k v m e : List ℕ) → ((k ++ codes " = ") ++ (v ++ m)) ++ e ≡ k ++ (32 ∷ 61 ∷ 32 ∷ (v ++ (m ++ e)))
 regroup k v m e = append_assoc (k ++ codes " = ") (v ++ m) e ∙ (append_assoc k (codes " = ") ((v ++ m) ++ e) ∙ ap (λ (l : List ℕ). k ++ (32 ∷ 61 ∷ 32 ∷ l)) (append_assoc v m e))
 
--- a key, a space, an equals sign and a space, where a value begins behind them
+-- a key, a space, an equals sign and a space, after which a value begins
 record Front (text : List ℕ) (s : SimpleKey) (i b : ℕ) : Type 0 where
   end : ℕ
   key : SpellsKey (s ∷ []) text i end
@@ -188,7 +188,7 @@ ValueAt text n limit d i j = (v : ParsedValue) × Spells v text limit d i j × H
 abbrev InnerAt : List ℕ → Inner → ℕ → ℕ → ℕ → ℕ → Type 0
 InnerAt text k limit d i j = (x : ParsedInner) × (span : Span) × InnerWith SpellsScalar x span text limit d i j × HoldsValue x k
 
--- an element, and those behind it
+-- an element, and those after it
 joined_items : (n : Node) (ns : Items) (text rest : List ℕ) (limit d i j : ℕ)
     → (Part text (value_text n) ((items_text false ns ++ (93 ∷ [])) ++ rest) i (i + length (value_text n)) → ValueAt text n limit d i (i + length (value_text n))) → Behind ns → AreHeld ns → ItemsCanBeSpelled limit d ns
     → Part text (items_text true (item n ns) ++ (93 ∷ [])) rest i j → (vs : ParsedItems) × ItemsWith SpellsScalar vs text limit d i j × HaveValues vs (item n ns) × (begins_gap text i ≡ false)
@@ -199,7 +199,7 @@ joined_items n ns text rest limit d i j first others held can p =
     let (vs, f, more) = others text rest limit d m j held can (back (value_text n) (items_text false ns ++ (93 ∷ [])) q) in
     (item_read v vs, (m, h, more), (e, f), value_starts v text limit d i m h)
 
--- a pair, and those behind it
+-- a pair, and those after it
 joined_pairs : (name : List ℕ) (key : Span) (n : Node) (ms : Members) (text rest : List ℕ) (es : List KeyValue) (limit d i j : ℕ) → IsUtf8 name → d + 1 ≤ limit
     → ((b : ℕ) → Part text (value_text n) ((members_text false ms ++ (125 ∷ [])) ++ rest) b (b + length (value_text n)) → ValueAt text n limit (d + 1) b (b + length (value_text n))) → BehindPair ms → MembersHeld ms → MembersCanBeSpelled limit d ms
     → Part text (members_text true (member name key n ms) ++ (125 ∷ [])) rest i j → (ps : ParsedPairs) × PairsWith SpellsScalar ps es text limit d i j × HaveEntries ps (member name key n ms) × (begins_gap text i ≡ false)

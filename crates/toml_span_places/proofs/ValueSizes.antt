@@ -1,4 +1,4 @@
--- How many parts a value has, a measure of how far down a walk can go; and what is listed of elements, one further on.
+-- The number of parts of a value, which bounds the depth of a walk; and the mentions in elements, one at a time.
 use Rattle.toml_span_lex.proofs.Common.{◌≡◌, ◌≤◌, ◌<◌, ℕ, suc, ◌+◌, List, [], ◌∷◌, ◌++◌, nat_tests, common_steps, map, drop, length, get_or, arith}
 use Rattle.toml_span_tree.specs.Path.{Path, position}
 use Rattle.toml_span_read.specs.Data.{ParsedValue, parsed, ParsedInner, scalar, array, inline, ParsedItems, no_items, item}
@@ -30,12 +30,12 @@ elements_size vs = items_size (onto (map view vs) no_items)
 abbrev pub assigned_size : List Assignment → ℕ
 assigned_size es = pairs_size (pairs_onto (map key_value es) no_pairs)
 
--- one of so many elements, and those behind it
+-- an element, and those after it
 pub elements_small : (i : ℕ) (vs : List Val) (v : Val) (all : ℕ) → i < length vs → get_or vs i v ≡ v → elements_size (drop i vs) ≤ all →
     elements_size (drop (i + 1) vs) ≤ all
 elements_small i vs v all below here before = grind (arith, nat_tests, common_steps)
 
--- ---- what is listed of elements and of assignments
+-- ---- the mentions in elements and in assignments
 
 abbrev pub elements_mentions : Path → ℕ → List Val → List Mentioned
 elements_mentions p i vs = item_mentions p i (onto (map view vs) no_items)
@@ -43,7 +43,7 @@ elements_mentions p i vs = item_mentions p i (onto (map view vs) no_items)
 abbrev pub assigned_mentions : Path → List Assignment → List Mentioned
 assigned_mentions p es = pair_mentions p (pairs_onto (map key_value es) no_pairs)
 
--- one element further on
+-- the next element
 pub elements_next : (p : Path) (i : ℕ) (vs : List Val) (v : Val) (before now all : List Mentioned) → i < length vs → get_or vs i v ≡ v →
     now ≡ before ++ value_mentions (p ++ (position i ∷ [])) (view v) →
     before ++ elements_mentions p i (drop i vs) ≡ all → now ++ elements_mentions p (i + 1) (drop (i + 1) vs) ≡ all

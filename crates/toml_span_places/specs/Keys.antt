@@ -13,7 +13,7 @@ use Rattle.toml_span_places.specs.declared.keys.Role.{Role}
 abbrev pub is_quote : ℕ → Bool
 is_quote c = c == quotation_mark || c == apostrophe
 
--- The span with the quotes around it. An empty string has its opening quote's span, and the closing one is next.
+-- The span including the quotes. An empty string has the span of its opening quote, which the closing one follows.
 abbrev pub with_quotes : List ℕ → Span → Span
 with_quotes text span =
     if nat_lt span.end (length text) && (nat_lt 0 span.start && is_quote (slice_index text (span.start - 1)))

@@ -1,4 +1,4 @@
--- Values as they are spelled: strings with the quotes round them.
+-- The literals of values: strings with their quotes.
 use Rattle.std.specs.Prelude.{ℕ, ◌+◌, ◌-◌, Bool, not, ◌==◌, ◌&&◌, nat_lt, List, length, slice_index, if◌then◌else◌}
 use Rattle.std.specs.Prelude.{Option, Some, None}
 use Rattle.toml_span_lex.specs.Bytes.{line_feed, carriage_return}
@@ -7,24 +7,25 @@ use Rattle.toml_span_tree.specs.Node.{Node}
 use Rattle.toml_span_tree.specs.Value.{inner_of, span_of, text_in}
 use Rattle.toml_span_places.specs.Keys.{is_quote}
 
--- the byte so many before a place, and 0 where there is none
+-- the byte `back` bytes before an offset, or 0 before the start
 abbrev pub byte_before : List ℕ → ℕ → ℕ → ℕ
 byte_before text at back = if nat_lt at back then 0 else slice_index text (at - back)
 
--- where the opening quotes end of a string whose content begins at a place: before a line end that is dropped
+-- the end of the opening quotes of a string whose content begins at an offset: before the line end that is dropped, if
+-- there is one
 abbrev pub behind_quotes : List ℕ → ℕ → ℕ
 behind_quotes text from =
     if not (byte_before text from 1 == line_feed) then from
     else if byte_before text from 2 == carriage_return then from - 2
     else from - 1
 
--- three quotes stand before a place, or one does
+-- the number of quotes before an offset: three or one
 abbrev pub quotes_before : List ℕ → ℕ → ℕ
 quotes_before text at =
     let quote = byte_before text at 1 in
     if is_quote quote && (byte_before text at 2 == quote && byte_before text at 3 == quote) then 3 else 1
 
--- The span of a string with its quotes. An empty one on one line has its opening quote's.
+-- The span of a string with its quotes. An empty single-line string has the span of its opening quote.
 abbrev pub string_literal : List ℕ → Span → Bool → Span
 string_literal text span empty =
     if not (nat_lt span.end (length text)) then span
@@ -38,6 +39,6 @@ abbrev pub string_or_span : List ℕ → Span → Option (List ℕ) → Span
 string_or_span text span (Some string) = string_literal text span (length string == 0)
 string_or_span text span None = span
 
--- the span of a value as it is spelled
+-- the span of a value's literal
 abbrev pub literal_span : List ℕ → Node → Span
 literal_span text n = string_or_span text (span_of n) (text_in (inner_of n))

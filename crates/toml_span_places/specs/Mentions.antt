@@ -1,5 +1,5 @@
--- Where a text names the tables and values of its document: those of the sections that the grammar reads, in the order
--- of the text. Keys, tables and sections are picked from this list.
+-- Where a text names the tables and values of its document: the mentions in the sections that the grammar reads, in the
+-- order of the text. Keys, tables and sections are picked from this list.
 use Rattle.std.specs.Prelude.{ℕ, zero, suc, Bool, if◌then◌else◌, List, [], ◌∷◌, ◌++◌, map, Option, Some, None, Vec}
 use Rattle.std.specs.Global.{Global}
 use Rattle.toml_span_lex.specs.declared.span.Span.{Span}
@@ -16,7 +16,7 @@ use Rattle.toml_span_places.specs.declared.keys.Role.TheVariants as roles
 use Rattle.toml_span_places.specs.declared.tables.TableForm.{TableForm}
 use Rattle.toml_span_places.specs.declared.tables.TableForm.TheVariants as forms
 
--- a path of borrowed names and a mention, as plain data
+-- a path of borrowed names, and a mention, as plain data
 abbrev pub steps_of : Vec Lent Global → Path
 steps_of path = map step_of path.items
 
@@ -26,7 +26,7 @@ Mentioned = Path × Details
 abbrev pub mentioned : Mention → Mentioned
 mentioned m = (steps_of m.path, m.details)
 
--- the path of what is named: that of the key, or the element of the array there
+-- the path of the key, or of an element of the array there
 abbrev pub inside : Path → Option ℕ → Path
 inside p None = p
 inside p (Some i) = with_position p i
@@ -44,7 +44,7 @@ abbrev pub by_header : Block → Option ℕ → Option Role → Option TableForm
 by_header b e role form key =
     record { element = e; role = role; form = form; key = key; span = b.header_span; extent = b.extent }
 
--- a standard table, or a new element of the array
+-- a standard table, or a new element of an array
 abbrev pub last_mention : (Path → ℕ) → Block → Path → SimpleKey → Mentioned
 last_mention counts b p k =
     let role = Some roles.HeaderLast in (
@@ -53,8 +53,8 @@ last_mention counts b p k =
           else by_header b None role (Some forms.Header) k.span,
     )
 
--- Each part but the last passes through a table: the latest element, where an array of tables stands there. No header
--- is that of the root.
+-- Each part but the last passes through a table, which is the latest element if there is an array of tables. A section
+-- without a header is that of the root.
 abbrev pub header_mentions : (Path → ℕ) → Block → Path → List SimpleKey → List Mentioned
 header_mentions counts b p [] = (p, by_header b None None None b.header_span) ∷ []
 header_mentions counts b p (k ∷ []) = last_mention counts b (with_key p k) k ∷ []
@@ -69,7 +69,7 @@ abbrev pub by_value : Option Role → Option TableForm → Span → Span → Det
 by_value role form key span =
     record { element = None; role = role; form = form; key = key; span = span; extent = span }
 
--- the parts of a key in an assignment of this extent
+-- the parts of a key in an assignment with this extent
 abbrev pub parts_mentions : Span → Path → List SimpleKey → List Mentioned
 parts_mentions extent p [] = []
 parts_mentions extent p (k ∷ []) = (with_key p k, by_value (Some roles.Last) None k.span extent) ∷ []
@@ -77,13 +77,13 @@ parts_mentions extent p (k ∷ l ∷ more) =
     (with_key p k, by_value (Some roles.Dotted) (Some forms.Dotted) k.span extent)
     ∷ parts_mentions extent (with_key p k) (l ∷ more)
 
--- the path of these parts
+-- the path with these parts appended
 abbrev pub below : Path → List SimpleKey → Path
 below p [] = p
 below p (k ∷ ks) = below (with_key p k) ks
 
 abbrev mutual
-  -- the braces and keys in a value at a path, at every depth
+  -- the braces and keys in a value at a path, at any depth
   pub value_mentions : Path → ParsedValue → List Mentioned
   value_mentions p (parsed i span) = inner_mentions p span i
 
@@ -92,7 +92,7 @@ abbrev mutual
   inner_mentions p span (array vs) = item_mentions p 0 vs
   inner_mentions p span (inline ps) = (p, by_value None (Some forms.Inline) span span) ∷ pair_mentions p ps
 
-  -- the elements from a position on
+  -- the elements, beginning at a position
   pub item_mentions : Path → ℕ → ParsedItems → List Mentioned
   item_mentions p i no_items = []
   item_mentions p i (item v vs) = value_mentions (with_position p i) v ++ item_mentions p (suc i) vs
@@ -105,19 +105,19 @@ abbrev mutual
 
 -- ---- sections
 
--- a section's header and its assignments, where `counts` counts the elements of each array of tables before it
+-- a section's header and its assignments, where `counts` is the number of elements of each array of tables before it
 abbrev pub section_mentions : Bool → (Path → ℕ) → Block → List Mentioned
 section_mentions with_assignments counts b =
     header_mentions counts b [] b.header
     ++ (if with_assignments then pair_mentions (section_path counts b) (pairs_onto b.key_values no_pairs) else [])
 
--- those of sections after these earlier ones, the nearest first
+-- those of sections that follow the earlier ones, which are listed with the nearest first
 abbrev pub mentions_after : Bool → List Block → List Block → List Mentioned
 mentions_after with_assignments earlier [] = []
 mentions_after with_assignments earlier (b ∷ bs) =
     section_mentions with_assignments (elements_added (opened_by earlier)) b
     ++ mentions_after with_assignments (b ∷ earlier) bs
 
--- all that these sections name
+-- all mentions in these sections
 abbrev pub mentions : Bool → List Block → List Mentioned
 mentions with_assignments bs = mentions_after with_assignments [] bs

@@ -4,11 +4,11 @@ use Rattle.toml_span_lex.specs.declared.key.Key.{Key}
 use Rattle.toml_span_tree.specs.Value.{view, span_of}
 use Rattle.toml_span_tree.specs.declared.nodes.Visited.{Visited}
 
--- what starts at a place, and maybe has a key
+-- the start of a value or of its key, if it has one, whichever is first
 abbrev pub or_key : ℕ → Option Key → ℕ
 or_key start None = start
 or_key start (Some key) = min start key.span.start
 
--- where a value or its key starts, whichever is first
+-- the same for a visited value
 abbrev pub start_of : Visited → ℕ
 start_of node = or_key (span_of (view node.value.now)).start (option_map (λ key. key.now) node.key)

@@ -1,4 +1,4 @@
--- A text with parts of it replaced.
+-- A text with spans of it replaced.
 use Rattle.std.specs.Prelude.{◌≡◌, ℕ, suc, Bool, ◌&&◌, ◌||◌, nat_le, nat_lt, List, [], ◌∷◌, ◌++◌, drop, length}
 use Rattle.std.specs.Prelude.{slice_index, slice_range, if◌then◌else◌, Option, Some, None, Result, Ok, Err, String, ⊤}
 use Rattle.std.specs.Prelude.{string_bytes}
@@ -11,23 +11,23 @@ use Rattle.toml_span_places.specs.declared.replace.Replacement.{Replacement}
 use Rattle.toml_span_places.specs.declared.replace.SpanFault.{SpanFault}
 use Rattle.toml_span_places.specs.declared.replace.SpanFault.TheVariants as faults
 
--- a span, and what is written over it
+-- a span, and the text that replaces it
 abbrev pub Edit : Type 0
 Edit = Span × List ℕ
 
 abbrev pub edit_of : Replacement → Edit
 edit_of r = (r.span, r.text.now)
 
--- the text from a place on, with each span's own text in its place, and all between as it is
+-- the text from an offset on, with each span replaced, and everything between unchanged
 abbrev pub edited : List ℕ → ℕ → List Edit → List ℕ
 edited text from [] = drop from text
 edited text from ((s, with) ∷ es) = slice_range text from s.start ++ (with ++ edited text s.end es)
 
--- a byte that continues a character is 0x80 to 0xBF
+-- bytes that continue a character are 0x80 to 0xBF
 abbrev pub is_boundary : List ℕ → ℕ → Bool
 is_boundary text at = nat_lt (slice_index text at) 0x80 || nat_le 0xC0 (slice_index text at)
 
--- what is wrong with a span after one with this end
+-- what is wrong with a span that follows one with this end
 abbrev pub fault_of : List ℕ → ℕ → Span → Option SpanFault
 fault_of text from s =
     if nat_lt s.end s.start then Some faults.Reversed
@@ -40,13 +40,13 @@ abbrev pub or_later : ℕ → Option SpanFault → Option ReplaceError → Optio
 or_later index (Some fault) later = Some (record { index = index; fault = fault })
 or_later index None later = later
 
--- the first edit that is wrong, counted from an index
+-- the first invalid edit and its index
 abbrev pub first_fault : List ℕ → ℕ → ℕ → List Edit → Option ReplaceError
 first_fault text index from [] = None
 first_fault text index from ((s, with) ∷ es) =
     or_later index (fault_of text from s) (first_fault text (suc index) s.end es)
 
--- all edits are made, or the first wrong one is the error
+-- All edits are applied, or the first invalid one is the error.
 abbrev pub Replaces : List ℕ → List Edit → Result (String Global) (Stop ReplaceError) → Type 0
 Replaces text es (Ok new) = (first_fault text 0 0 es ≡ None) × (string_bytes new ≡ edited text 0 es)
 Replaces text es (Err (stops.Fault e)) = first_fault text 0 0 es ≡ Some e

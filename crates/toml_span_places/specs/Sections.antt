@@ -13,7 +13,7 @@ use Rattle.toml_span_places.specs.declared.sections.SectionPlace.{SectionPlace}
 use Rattle.toml_span_places.specs.declared.tables.TableForm.{TableForm}
 use Rattle.toml_span_places.specs.declared.tables.TableForm.TheVariants as tables
 
--- a section: the path of its table, how it begins, its header's line and the lines of its assignments
+-- a section: the path of its table, how it begins, the line of its header, and the lines of its assignments
 pub record StandingSection : Type 0 where
   pub path : Path
   pub form : SectionForm
@@ -25,14 +25,14 @@ abbrev pub standing_section : SectionPlace → StandingSection
 standing_section place =
     record { path = map step_of place.path.items; form = place.form; header = place.header; body = place.body }
 
--- A section begins where the last part of a header is named, or the root, which alone among headers has no form.
+-- A section begins where the last part of a header, or the root, is mentioned; only the root has no form.
 abbrev pub form_of : Option TableForm → Option SectionForm
 form_of None = Some forms.Root
 form_of (Some tables.Header) = Some forms.Table
 form_of (Some tables.Element) = Some forms.Element
 form_of (Some _) = None
 
--- where the assignments begin: after the header's line, or at the line of the first one
+-- the start of the assignments: after the header's line, or at the line of the first one
 abbrev pub body_start : List ℕ → SectionForm → Details → ℕ
 body_start text forms.Root d = blanks_start text d.extent.start
 body_start text forms.Table d = d.span.end

@@ -1,4 +1,4 @@
--- The tables of a document, one for each place that names one, in the order of the text.
+-- The tables of a document, one for each mention, in the order of the text.
 use Rattle.std.specs.Prelude.{true, List, map, filter, filter_map, Option, option_map}
 use Rattle.toml_span_lex.specs.declared.span.Span.{Span}
 use Rattle.toml_span_tree.specs.Nodes.{step_of}
@@ -9,7 +9,7 @@ use Rattle.toml_span_places.specs.Mentions.{Mentioned, mentions, path_of}
 use Rattle.toml_span_places.specs.declared.tables.TableForm.{TableForm}
 use Rattle.toml_span_places.specs.declared.tables.TablePlace.{TablePlace}
 
--- a table at a place that names it: its path, in which way, and where
+-- a mention of a table: its path, how it is named, and where
 pub record StandingTable : Type 0 where
   pub path : Path
   pub form : TableForm
@@ -26,6 +26,6 @@ table_of m = option_map (λ form. record { path = path_of m; form = form; span =
 abbrev pub document_tables : List Block → List StandingTable
 document_tables bs = filter_map table_of (mentions true bs)
 
--- in which ways those at a path are named
+-- how the mentions of the table at a path name it
 abbrev pub forms_at : Path → List StandingTable → List TableForm
 forms_at p tables = map (λ t. t.form) (filter (λ t. same_path t.path p) tables)

@@ -15,22 +15,22 @@ use toml_span_tree::nodes::Step;
 /// What a key is part of.
 #[derive(Clone, Copy, Debug, PartialEq, Eq)]
 pub enum Role {
-    /// A part of a header before its last one.
+    /// A header, not as its last part.
     Header,
-    /// The last part of a header.
+    /// A header, as its last part.
     HeaderLast,
-    /// A part of an assignment's key before its last one.
+    /// An assignment's key, not as its last part.
     Dotted,
-    /// The last part of an assignment's key, also in an inline table.
+    /// An assignment's key, as its last part; also in inline tables.
     Last,
 }
 
-/// A key, with its place in the text.
+/// A key and where it is in the text.
 #[derive(Drop)]
 pub struct KeyPlace<'t> {
-    /// The steps from the root to what the key names, the last of which is the key itself.
+    /// The path from the root to what the key names. The key itself is the last step.
     pub path: Vec<Step<'t>>,
-    /// The key without its quotes. For an empty key, its opening quote.
+    /// The key without its quotes, or the opening quote of an empty key.
     pub span: Span,
     /// The key with its quotes.
     pub whole: Span,
@@ -43,10 +43,9 @@ pub(crate) fn is_quote(byte: u8) -> bool
     byte == b'"' || byte == b'\''
 }
 
-/// Returns the span of a key, or of a string on one line, with its quotes. A bare key has none, and its span is
-/// returned.
+/// Returns the span of a key or of a single-line string with its quotes. The span of a bare key is returned unchanged.
 ///
-/// `span` is the one in the tree: the content's, or the opening quote's where the string is empty.
+/// `span` is the span in the tree: that of the content, or of the opening quote if the string is empty.
 pub fn with_quotes(text: &str, span: Span) -> Span
     ensures { result ≡ spec.with_quotes text.now span }
 {
@@ -65,7 +64,7 @@ pub fn with_quotes(text: &str, span: Span) -> Span
     }
 }
 
-/// The key of a mention, if it has one.
+/// Returns the key of a mention, if it has one.
 fn key_of<'t>(text: &str, mention: Mention<'t>) -> Option<KeyPlace<'t>>
     ensures { option_map standing result ≡ spec.key_of text.now (mentioned mention.entry) }
 {
@@ -84,8 +83,8 @@ fn key_of<'t>(text: &str, mention: Mention<'t>) -> Option<KeyPlace<'t>>
 /// Lists the keys of these sections in the order of the text: the parts of each header, and those of each assignment
 /// before the keys in its value.
 ///
-/// `sections` are those that `read_sections` returns for the text. Takes memory for the list and the steps, and for the
-/// path of each array of tables.
+/// `sections` are those that `read_sections` returns for the text. Fails if an allocation fails: for the list, its
+/// paths, and the path of each array of tables.
 pub fn key_places<'t, 'de>(
     alloc: Global,
     text: &str,

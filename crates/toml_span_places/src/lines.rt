@@ -1,4 +1,4 @@
-//! The lines on which assignments stand.
+//! The lines of assignments and sections.
 ghost use Rattle.std.specs.Prelude.{◌≡◌};
 ghost use Rattle.toml_span_read.specs.Data.{block, key_value};
 ghost use Rattle.toml_span_places.specs.Lines as spec;
@@ -8,7 +8,7 @@ use toml_span_lex::span::Span;
 use toml_span_read::gaps::byte_at;
 use toml_span_read::{Assignment, Section};
 
-/// Where the blanks begin that end at a place.
+/// Returns the start of the spaces and tabs that end at `at`.
 pub(crate) fn blanks_start(text: &str, at: usize) -> usize
     ensures { result ≡ spec.blanks_start text.now at }
 {
@@ -19,7 +19,7 @@ pub(crate) fn blanks_start(text: &str, at: usize) -> usize
     start
 }
 
-/// What is behind the next line feed from a place on, or the end of the text.
+/// Returns the offset after the next line feed at or after `from`, or the end of the text.
 fn behind_line(text: &str, from: usize) -> usize
     ensures { result ≡ spec.behind_line text.now from }
 {
@@ -32,17 +32,17 @@ fn behind_line(text: &str, from: usize) -> usize
     bytes.len().max(from)
 }
 
-/// The extent of an assignment.
+/// Returns the extent of an assignment.
 fn extent_of(assignment: &Assignment<'_>) -> Span
     ensures { result ≡ (key_value assignment.now).extent }
 {
     assignment.extent
 }
 
-/// The lines on which an assignment stands, with the blanks before it, a comment behind it and the line end: what is
-/// cut to take it out.
+/// Returns the lines of an assignment, with the spaces and tabs before it, a comment after it and the line end: what to
+/// delete in order to remove it.
 ///
-/// `assignment` is one of a section that `read_sections` gives of the text, not a pair of an inline table.
+/// `assignment` must be one of a section that `read_sections` returns for the text, not a pair of an inline table.
 pub fn assignment_lines(text: &str, assignment: &Assignment<'_>) -> Span
     ensures { result ≡ spec.lines_of text.now (key_value assignment.now).extent }
 {
@@ -53,7 +53,7 @@ pub fn assignment_lines(text: &str, assignment: &Assignment<'_>) -> Span
     }
 }
 
-/// Where the own lines end of a section with this header and this extent.
+/// Returns the end of the lines of a section's own assignments, given the spans of its header and its extent.
 pub(crate) fn body_end(text: &str, header: Span, extent: Span) -> usize
     ensures { result ≡ spec.body_end text.now header extent }
 {
@@ -64,9 +64,10 @@ pub(crate) fn body_end(text: &str, header: Span, extent: Span) -> usize
     }
 }
 
-/// The lines of a section: from that of its header, or of its first assignment, to behind that of its last one.
+/// Returns the lines of a section: from that of its header, or of its first assignment, to the end of that of its last
+/// assignment.
 ///
-/// `section` is one that `read_sections` gives of the text.
+/// `section` must be one that `read_sections` returns for the text.
 pub fn section_lines(text: &str, section: &Section<'_>) -> Span
     ensures { result ≡ spec.section_lines text.now (block section.now) }
 {

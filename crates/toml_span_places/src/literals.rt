@@ -1,4 +1,4 @@
-//! Values as they are spelled.
+//! The literals of values.
 ghost use Rattle.std.specs.Prelude.{◌≡◌};
 ghost use Rattle.toml_span_tree.specs.Value.{view};
 ghost use Rattle.toml_span_places.specs.Literals as spec;
@@ -8,7 +8,7 @@ use toml_span_lex::span::Span;
 use toml_span_read::gaps::byte_at;
 use toml_span_tree::Value;
 
-/// The byte so many before a place.
+/// Returns the byte `back` bytes before `at`, or 0 before the start.
 pub(crate) fn byte_before(text: &str, at: usize, back: usize) -> u8
     ensures { result ≡ spec.byte_before text.now at back }
 {
@@ -19,7 +19,8 @@ pub(crate) fn byte_before(text: &str, at: usize, back: usize) -> u8
     }
 }
 
-/// Where the opening quotes end of a string whose content begins at a place: before a line end that is dropped.
+/// Returns the end of the opening quotes of a string whose content begins at `from`: before the line end that is
+/// dropped, if there is one.
 fn behind_quotes(text: &str, from: usize) -> usize
     ensures { result ≡ spec.behind_quotes text.now from }
 {
@@ -32,7 +33,7 @@ fn behind_quotes(text: &str, from: usize) -> usize
     }
 }
 
-/// How many quotes there are before a place: three or one.
+/// Returns the number of quotes before `at`: three or one.
 fn quotes_before(text: &str, at: usize) -> usize
     ensures { result ≡ spec.quotes_before text.now at }
 {
@@ -44,7 +45,7 @@ fn quotes_before(text: &str, at: usize) -> usize
     }
 }
 
-/// The span of a string with its quotes.
+/// Returns the span of a string with its quotes.
 fn string_literal(text: &str, span: Span, is_empty: bool) -> Span
     ensures { result ≡ spec.string_literal text.now span is_empty }
 {
@@ -66,10 +67,10 @@ fn string_literal(text: &str, span: Span, is_empty: bool) -> Span
     }
 }
 
-/// The span of a value as it is spelled: of a string with its quotes, and with the line end that is dropped behind
-/// three of them; of another value its own.
+/// Returns the span of a value's literal. For a string that includes the quotes, and the line end that is dropped after
+/// three of them; for any other value it is the value's own span.
 ///
-/// `value` is one of the tree that `parse` gives of the text.
+/// `value` must be one of the tree that `parse` returns for the text.
 pub fn literal_span(text: &str, value: &Value<'_>) -> Span
     ensures { result ≡ spec.literal_span text.now (view value.now) }
 {

@@ -17,32 +17,32 @@ use toml_span_lex::span::Span;
 use toml_span_read::{Assignment, Section, Val, ValKind};
 use toml_span_tree::nodes::Step;
 
-/// What a mention has besides its path.
+/// A mention without its path.
 #[derive(Clone, Copy)]
 pub(crate) struct Details {
-    /// The position of the table that is named, where the path leads to an array of tables.
+    /// The position of the table that is named, if the path leads to an array of tables.
     pub element: Option<usize>,
-    /// What the key is part of. The root and braces have none.
+    /// What the key is part of, or `None` for the root and for braces.
     pub role: Option<Role>,
-    /// How a table is named. The root and a key that a value is assigned to have none.
+    /// How a table is named, or `None` for the root and for a key to which a value is assigned.
     pub form: Option<TableForm>,
-    /// The key without its quotes, or `span` where there is none.
+    /// The key without its quotes, or, without a key, `span`.
     pub key: Span,
-    /// The header's line, the assignment from its key to the end of its value, or the braces and what is between them.
+    /// The header's line; the assignment, from its key to the end of its value; or the braces and what is between them.
     pub span: Span,
-    /// The header's section. Without a header the same as `span`.
+    /// The header's section, or, without a header, `span`.
     pub extent: Span,
 }
 
 /// A place in a text that names a table or a value.
 #[derive(Drop)]
 pub(crate) struct Mention<'t> {
-    /// The steps from the root to what the key names.
+    /// The path from the root to what the key names.
     pub path: Vec<Step<'t>>,
     pub details: Details,
 }
 
-/// Adds a mention of a path.
+/// Appends a mention of a path. Fails if an allocation fails.
 fn push<'t>(
     alloc: Global,
     path: &[Step<'t>],
@@ -89,7 +89,7 @@ fn by_value(role: Option<Role>, form: Option<TableForm>, key: Span, span: Span) 
     }
 }
 
-/// Adds what the last part of a header names at a path.
+/// Appends what the last part of a header names. Fails if an allocation fails.
 fn push_last<'t, 'de>(
     alloc: Global,
     section: &Section<'_>,
@@ -118,7 +118,7 @@ fn push_last<'t, 'de>(
     push(alloc, path, details, out)
 }
 
-/// Adds what the parts of a header name, from one of them on, and returns the path of the last one.
+/// Appends what these parts of a header name, and returns the path of the last one. Fails if an allocation fails.
 fn push_header<'t, 'de>(
     alloc: Global,
     section: &Section<'_>,
@@ -151,7 +151,8 @@ fn push_header<'t, 'de>(
     push_header(alloc, section, rest, opened, inside, out)
 }
 
-/// Adds what the parts of an assignment's key name, from one of them on, and returns the path of the last one.
+/// Appends what these parts of an assignment's key name, and returns the path of the last one. Fails if an allocation
+/// fails.
 fn push_parts<'t, 'de>(
     alloc: Global,
     extent: Span,
@@ -179,7 +180,7 @@ fn push_parts<'t, 'de>(
     push_parts(alloc, extent, rest, last, path_below, out)
 }
 
-/// Adds what assignments name below a path.
+/// Appends what assignments below a path name. Fails if an allocation fails.
 #[cycle(push_value)]
 fn push_pairs<'t, 'de>(
     alloc: Global,
@@ -196,7 +197,7 @@ fn push_pairs<'t, 'de>(
     Ok(())
 }
 
-/// Adds what an assignment's key and its value name.
+/// Appends what an assignment's key and its value name. Fails if an allocation fails.
 #[cycle(push_value)]
 fn push_pair<'t, 'de>(
     alloc: Global,
@@ -214,7 +215,7 @@ fn push_pair<'t, 'de>(
     push_value(alloc, &pair.value, path_below.as_slice(), out)
 }
 
-/// Adds what a value at a path names.
+/// Appends what a value at a path names. Fails if an allocation fails.
 #[cycle(push_value)]
 fn push_value<'t, 'de>(
     alloc: Global,
@@ -240,7 +241,7 @@ fn push_value<'t, 'de>(
     }
 }
 
-/// Adds what the elements of an array name.
+/// Appends what the elements of an array name. Fails if an allocation fails.
 #[cycle(push_value)]
 fn push_items<'t, 'de>(
     alloc: Global,
@@ -258,7 +259,8 @@ fn push_items<'t, 'de>(
     Ok(())
 }
 
-/// Adds what a section names: by its header, and `with_assignments` by those too.
+/// Appends what a section's header names and, `with_assignments`, what its assignments name. Fails if an allocation
+/// fails.
 fn push_section<'t, 'de>(
     alloc: Global,
     section: &'t Section<'de>,
@@ -284,9 +286,10 @@ fn push_section<'t, 'de>(
     )
 }
 
-/// What these sections name, in the order of the text: by their headers, and `with_assignments` by those too.
+/// Lists what the headers of these sections name and, `with_assignments`, what their assignments name, in the order of
+/// the text.
 ///
-/// Takes memory for the list and the steps, and for the path of each array of tables.
+/// Fails if an allocation fails: for the list, its paths, and the path of each array of tables.
 pub(crate) fn mentions<'t, 'de>(
     alloc: Global,
     sections: &'t [Section<'de>],

@@ -1,4 +1,4 @@
-//! How many elements headers added to each array of tables.
+//! The number of elements that headers have added to each array of tables.
 ghost use Rattle.std.specs.Prelude.{◌≡◌, ◌∷◌, [], IfOk, OnOk, map};
 ghost use Rattle.toml_span_tree.specs.Nodes.{step_of};
 ghost use Rattle.toml_span_places.specs.Mentions.{steps_of};
@@ -10,14 +10,14 @@ use std::alloc::{AllocError, Global};
 use std::collections::BTreeMap;
 use toml_span_tree::nodes::Step;
 
-/// A step, in an order by which paths are looked up.
+/// A step that is ordered, so that paths can be looked up.
 #[derive(Clone, Copy, PartialEq, Eq, PartialOrd, Ord)]
 enum SortedStep<'t> {
     Key(&'t str),
     Position(usize),
 }
 
-/// How many elements were added to each array of tables so far, by its path.
+/// The number of elements added so far to each array of tables, by its path.
 #[derive(Drop)]
 pub(crate) struct Opened<'t> {
     elements: BTreeMap<Vec<SortedStep<'t>>, usize>,
@@ -32,7 +32,7 @@ fn sorted_step<'t>(step: Step<'t>) -> SortedStep<'t>
     }
 }
 
-/// The path as it is looked up.
+/// Converts a path so that it can be looked up. Fails if an allocation fails.
 fn sorted_path<'t>(alloc: Global, path: &[Step<'t>]) -> Result<Vec<SortedStep<'t>>, AllocError>
     ensures { IfOk result (λ sorted. map spec.sorted_step sorted.items ≡ map step_of path.now) }
 {
@@ -44,7 +44,7 @@ fn sorted_path<'t>(alloc: Global, path: &[Step<'t>]) -> Result<Vec<SortedStep<'t
 }
 
 impl<'t> Opened<'t> {
-    /// No elements yet.
+    /// Returns an empty map.
     pub fn new(alloc: Global) -> Self
         ensures { counts_of result ≡ spec.no_counts }
     {
@@ -54,7 +54,7 @@ impl<'t> Opened<'t> {
     }
 }
 
-/// How many elements of the array of tables at a path were added so far.
+/// Returns the number of elements added so far to the array of tables at a path. Fails if an allocation fails.
 pub(crate) fn elements_of<'t>(
     alloc: Global,
     opened: &Opened<'t>,
@@ -69,7 +69,7 @@ pub(crate) fn elements_of<'t>(
     }
 }
 
-/// Puts one more element of the array of tables at a path on record. Behind an error nothing is known of it.
+/// Counts another element of the array of tables at a path. If an allocation fails, the counts are unspecified.
 pub(crate) fn add<'t>(
     alloc: Global,
     opened: &mut Opened<'t>,
@@ -86,7 +86,8 @@ pub(crate) fn add<'t>(
     Ok(())
 }
 
-/// The path below which a section assigns, of its header's. One in double brackets is put on record.
+/// Returns the path below which a section assigns, given the path of its header. With double brackets the new element
+/// is counted. Fails if an allocation fails.
 pub(crate) fn section_path<'t>(
     alloc: Global,
     array: bool,

@@ -9,7 +9,7 @@ use std::alloc::{AllocError, Global};
 use toml_span_tree::Value;
 use toml_span_tree::nodes::{Visited, nodes};
 
-/// Where a value or its key starts, whichever is first.
+/// Returns the start of a value or of its key, whichever is first.
 fn first_start(node: &Visited<'_, '_>) -> usize
     ensures { result ≡ start_of node.now }
 {
@@ -20,11 +20,11 @@ fn first_start(node: &Visited<'_, '_>) -> usize
     }
 }
 
-/// Lists all values of a tree, as `nodes` does, in the order in which they start in the text: each by its key or its
+/// Lists all values of a tree, like `nodes`, but in the order in which they start in the text: each by its key or its
 /// span, whichever starts first. A table starts with the first header that names it.
 ///
-/// Values that start at the same byte, as the array and its first element at `[[a]]`, come in the order of `nodes`:
-/// each before those in it. Takes memory for the list and for the steps of each value.
+/// Values that start at the same byte, such as the array and its first element in `[[a]]`, are in the order of `nodes`:
+/// each before those inside it. Fails if an allocation fails: for the list and its paths.
 pub fn nodes_in_text_order<'t, 'de>(
     alloc: Global,
     value: &'t Value<'de>,

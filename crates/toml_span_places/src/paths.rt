@@ -12,7 +12,7 @@ use std::alloc::{AllocError, Global};
 use toml_span_lex::key::Key;
 use toml_span_tree::nodes::Step;
 
-/// The path with one more step.
+/// Returns the path followed by a step. Fails if an allocation fails.
 pub(crate) fn extended<'t>(
     mut path: Vec<Step<'t>>,
     step: Step<'t>,
@@ -23,7 +23,7 @@ pub(crate) fn extended<'t>(
     Ok(path)
 }
 
-/// The path with a key.
+/// Returns the path followed by a key. Fails if an allocation fails.
 pub(crate) fn with_key<'t, 'de>(
     path: Vec<Step<'t>>,
     key: &'t Key<'de>,
@@ -33,7 +33,7 @@ pub(crate) fn with_key<'t, 'de>(
     extended(path, Step::Key(key.name.as_ref()))
 }
 
-/// A copy of the steps.
+/// Copies a path. Fails if an allocation fails.
 pub(crate) fn copied<'t>(alloc: Global, path: &[Step<'t>]) -> Result<Vec<Step<'t>>, AllocError>
     ensures { IfOk result (λ steps. steps_of steps ≡ map step_of path.now) }
 {
@@ -41,7 +41,7 @@ pub(crate) fn copied<'t>(alloc: Global, path: &[Step<'t>]) -> Result<Vec<Step<'t
     Ok(steps)
 }
 
-/// The path of an array's element, of the array's.
+/// Returns the path of an element, given that of the array. Fails if an allocation fails.
 pub(crate) fn element_path<'t>(
     alloc: Global,
     path: &[Step<'t>],
@@ -70,7 +70,7 @@ fn same_step(step: &Step<'_>, other: &Step<'_>) -> bool
 }
 
 #[tactic(auto, unfolding(toml_span::specs::Paths::same_path))]
-/// Whether two paths have the same steps.
+/// Returns whether two paths have the same steps.
 pub(crate) fn same_path(path: &[Step<'_>], other: &[Step<'_>]) -> bool
     ensures { result ≡ spec.same_path (map step_of path.now) (map step_of other.now) }
 {
@@ -83,7 +83,8 @@ pub(crate) fn same_path(path: &[Step<'_>], other: &[Step<'_>]) -> bool
     same_step(step, other_step) && same_path(path_rest, other_rest)
 }
 
-/// The position of the latest element of the array of tables at a path, where one stands there.
+/// Returns the position of the latest element of the array of tables at a path, if it has elements. Fails if an
+/// allocation fails.
 pub(crate) fn latest<'t>(
     alloc: Global,
     opened: &Opened<'t>,
@@ -95,7 +96,7 @@ pub(crate) fn latest<'t>(
     Ok(added.checked_sub(1))
 }
 
-/// The path into an element of the array of tables that it leads to, if one is meant.
+/// Returns the path followed by the position of an element, if there is one. Fails if an allocation fails.
 pub(crate) fn entered<'t>(
     path: Vec<Step<'t>>,
     element: Option<usize>,

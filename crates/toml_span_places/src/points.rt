@@ -1,4 +1,4 @@
-//! Where an assignment can be put into a table.
+//! Where an assignment can be inserted into a table.
 ghost use Rattle.std.specs.Prelude.{◌≡◌, IfOk, fold, map};
 ghost use Rattle.toml_span_read.specs.Data.{block};
 ghost use Rattle.toml_span_tree.specs.Nodes.{step_of};
@@ -14,16 +14,17 @@ use toml_span_read::Section;
 use toml_span_read::gaps::byte_at;
 use toml_span_tree::nodes::Step;
 
-/// A place at which a line can be put in.
+/// An offset at which a line can be inserted.
 #[derive(Clone, Copy, Debug, PartialEq, Eq)]
 pub struct InsertionPoint {
-    /// In bytes, from the beginning of the text.
+    /// The byte offset in the text.
     pub offset: usize,
-    /// Whether the line before it has no line end, so that one has to be written first. Only at the end of the text.
+    /// Whether the line before it has no line end, so that one must be written first. This occurs only at the end of
+    /// the text.
     pub needs_line_end: bool,
 }
 
-/// The beginning of a text, behind a byte order mark.
+/// Returns the start of a text, after a byte order mark.
 fn text_start(text: &str) -> usize
     ensures { result ≡ spec.text_start text.now }
 {
@@ -33,7 +34,7 @@ fn text_start(text: &str) -> usize
     if is_marked { 3 } else { 0 }
 }
 
-/// Where a line can be put in where no section assigns: at the root the beginning of the text.
+/// Returns where a line can be inserted if no section assigns at the path: at the root, the start of the text.
 fn without_section(text: &str, path: &[Step<'_>]) -> Option<InsertionPoint>
     ensures { result ≡ spec.without_section text.now (map step_of path.now) }
 {
@@ -46,7 +47,7 @@ fn without_section(text: &str, path: &[Step<'_>]) -> Option<InsertionPoint>
     })
 }
 
-/// The place behind the last line of a section with this body.
+/// Returns the insertion point after the last line of a section with this body.
 fn behind_body(text: &str, body: Span) -> InsertionPoint
     ensures { result ≡ spec.behind_body text.now body }
 {
@@ -56,7 +57,7 @@ fn behind_body(text: &str, body: Span) -> InsertionPoint
     }
 }
 
-/// The place behind the last one of these sections that assigns in the table at a path, or else this one.
+/// Returns the insertion point after the last of these sections that assigns in the table at a path, or else `point`.
 fn last_point(
     text: &str,
     path: &[Step<'_>],
@@ -74,15 +75,16 @@ fn last_point(
     point
 }
 
-/// Where a line `key = value` can be put in at the end of the own body of the table at a path: behind the last line of
-/// the section that has its header, or behind the header's line where that has no assignment.
+/// Returns where a line `key = value` can be inserted at the end of the own body of the table at a path: after the last
+/// line of the section that has its header, or after the header's line if it has no assignment.
 ///
-/// At the root that is behind the last assignment before the first header, or the beginning of the text where there is
-/// none, behind a byte order mark. The path of an array's element ends with its position. None where the table has no
-/// body of its own: one that only longer headers or dotted keys name, one in braces, an array, and where no table is.
+/// At the root that is after the last assignment before the first header, or, without such assignments, at the start of
+/// the text, after a byte order mark. The path of an array's element ends with its position. Returns `None` if the
+/// table has no body of its own: if it is named only by longer headers or dotted keys, is an inline table or an array,
+/// or does not exist.
 ///
-/// Write the line with a line end behind it, and one before it where `needs_line_end` says so. `sections` are those
-/// that `read_sections` gives of the text.
+/// Write the line with a line end after it, and one before it if `needs_line_end` is set. `sections` are those that
+/// `read_sections` returns for the text. Fails if an allocation fails.
 pub fn insertion_point<'t, 'de>(
     alloc: Global,
     text: &str,

@@ -1,4 +1,4 @@
-//! Keys and strings as they are written.
+//! Keys and strings as TOML source.
 ghost use Rattle.std.specs.Prelude.{◌≡◌, ◌<◌, ◌++◌, IfOk, OnOk, string_bytes, encode_utf8};
 ghost use Rattle.std.specs.Char.{digit_char};
 ghost use Rattle.std.specs.List.{list_all, list_any};
@@ -9,7 +9,7 @@ ghost use Rattle.toml_span_places.specs.Quoted as spec;
 use std::alloc::{AllocError, Global};
 use toml_span_lex::bytes::is_keylike;
 
-/// The letter behind the backslash of a character's escape, where it has one (TOML 1.1, String).
+/// Returns the letter after the backslash of a character's escape, if it has one (TOML 1.1, String).
 fn letter_of(c: char) -> Option<char>
     ensures { result ≡ spec.letter_of c }
 {
@@ -24,14 +24,14 @@ fn letter_of(c: char) -> Option<char>
     }
 }
 
-/// A control character other than a tab.
+/// Returns whether the character is a control character other than a tab.
 fn is_control(c: char) -> bool
     ensures { result ≡ spec.is_control c }
 {
     (c < ' ' && c != '\t') || c == '\u{7f}'
 }
 
-/// Adds a digit in base 16.
+/// Appends a hexadecimal digit. Fails if an allocation fails.
 fn push_digit(out: &mut String, digit: u32) -> Result<(), AllocError>
     requires { digit < 16 }
     ensures { OnOk result (string_bytes out.new ≡ string_bytes out.old ++ encode_utf8 (digit_char digit)) }
@@ -39,7 +39,7 @@ fn push_digit(out: &mut String, digit: u32) -> Result<(), AllocError>
     out.push(char::from_digit(digit, 16).unwrap_or('0'))
 }
 
-/// Adds the two digits of a character's number.
+/// Appends the escape of a character by the two digits of its number. Fails if an allocation fails.
 fn push_number(out: &mut String, c: char) -> Result<(), AllocError>
     requires { c < 256 }
     ensures { OnOk result (string_bytes out.new ≡ string_bytes out.old ++ spec.number_escape c) }
@@ -49,7 +49,7 @@ fn push_number(out: &mut String, c: char) -> Result<(), AllocError>
     push_digit(out, c as u32 % 16)
 }
 
-/// Adds a letter behind a backslash.
+/// Appends a backslash and a letter. Fails if an allocation fails.
 fn push_letter(out: &mut String, letter: char) -> Result<(), AllocError>
     ensures { OnOk result (string_bytes out.new ≡ string_bytes out.old ++ spec.letter_escape letter) }
 {
@@ -57,7 +57,7 @@ fn push_letter(out: &mut String, letter: char) -> Result<(), AllocError>
     out.push(letter)
 }
 
-/// Adds a character as it stands between quotation marks.
+/// Appends a character as basic strings contain it. Fails if an allocation fails.
 fn push_char(out: &mut String, c: char) -> Result<(), AllocError>
     ensures { OnOk result (string_bytes out.new ≡ string_bytes out.old ++ spec.basic_char c) }
 {
@@ -68,7 +68,7 @@ fn push_char(out: &mut String, c: char) -> Result<(), AllocError>
     }
 }
 
-/// Adds a text as it stands between quotation marks.
+/// Appends a text as basic strings contain it. Fails if an allocation fails.
 fn push_basic(out: &mut String, text: &str) -> Result<(), AllocError>
     ensures { OnOk result (string_bytes out.new ≡ string_bytes out.old ++ spec.basic text.now) }
 {
@@ -78,14 +78,14 @@ fn push_basic(out: &mut String, text: &str) -> Result<(), AllocError>
     Ok(())
 }
 
-/// Whether a byte can't stand between quotation marks as it is.
+/// Returns whether basic strings must escape the byte.
 fn is_escaped(byte: u8) -> bool
     ensures { result ≡ spec.is_escaped byte }
 {
     byte == b'"' || byte == b'\\'
 }
 
-/// Whether a byte can't stand between apostrophes.
+/// Returns whether literal strings must not contain the byte.
 fn is_unliteral(byte: u8) -> bool
     ensures { result ≡ spec.is_unliteral byte }
 {
@@ -104,14 +104,14 @@ fn has_unliteral(bytes: &[u8]) -> bool
     bytes.iter().any(|byte| is_unliteral(*byte))
 }
 
-/// Whether a text is shorter between apostrophes.
+/// Returns whether the text is shorter as a literal string.
 fn is_literal(text: &str) -> bool
     ensures { result ≡ spec.is_literal text.now }
 {
     has_escaped(text.as_bytes()) && !has_unliteral(text.as_bytes())
 }
 
-/// A string between quotation marks or apostrophes.
+/// Returns a text as a basic or literal string. Fails if an allocation fails.
 fn spelled_string(alloc: Global, text: &str) -> Result<String, AllocError>
     ensures { IfOk result (λ out. string_bytes out ≡ spec.quoted text.now) }
 {
@@ -128,9 +128,9 @@ fn spelled_string(alloc: Global, text: &str) -> Result<String, AllocError>
     Ok(out)
 }
 
-/// The shortest spelling of a string on one line: between quotation marks with the escapes that it needs, or between
-/// apostrophes, where that is shorter and can be. Wherever it stands in a text, it is read as this string, if
-/// nothing behind it goes on with it (`parts_off`).
+/// Returns the shortest spelling of a string on one line: a basic string with the escapes that it needs, or a literal
+/// string if that is possible and shorter. Wherever it occurs in a text, it is read as this string, unless it continues
+/// after that (`parts_off`). Fails if an allocation fails.
 ///
 /// `basic-string = quotation-mark *basic-char quotation-mark`,
 /// `literal-string = apostrophe *literal-char apostrophe` (TOML 1.1, String)
@@ -147,14 +147,14 @@ fn all_keylike(bytes: &[u8]) -> bool
     bytes.iter().all(|byte| is_keylike(*byte))
 }
 
-/// Whether a name can be written without quotes.
+/// Returns whether a name can be written without quotes.
 fn is_bare(name: &str) -> bool
     ensures { result ≡ spec.is_bare name.now }
 {
     !name.is_empty() && all_keylike(name.as_bytes())
 }
 
-/// A key as it is, or as a string.
+/// Returns a name as a bare key or as a string. Fails if an allocation fails.
 fn spelled_key(alloc: Global, name: &str) -> Result<String, AllocError>
     ensures { IfOk result (λ out. string_bytes out ≡ spec.key_text name.now) }
 {
@@ -165,9 +165,9 @@ fn spelled_key(alloc: Global, name: &str) -> Result<String, AllocError>
     }
 }
 
-/// The shortest spelling of a key: as it is where letters, digits, dashes and underscores alone are in it, or as a
-/// string. Wherever it stands in a text, it is read as one simple key with this name, if nothing behind it goes on with
-/// it (`parts_off`).
+/// Returns the shortest spelling of a key: as it is if it consists of letters, digits, dashes and underscores, or as a
+/// string. Wherever it occurs in a text, it is read as one simple key with this name, unless it continues after that
+/// (`parts_off`). Fails if an allocation fails.
 ///
 /// `simple-key = quoted-key / unquoted-key` (TOML 1.1, Keys)
 pub fn quote_key(alloc: Global, name: &str) -> Result<String, AllocError>

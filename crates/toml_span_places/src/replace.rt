@@ -1,4 +1,4 @@
-//! A text with parts of it replaced.
+//! Replaces spans of a text.
 ghost use Rattle.std.specs.Prelude.{◌≡◌, ◌≤◌, ◌++◌, IfOk, OnOk, map, option_map, slice_range, string_bytes};
 ghost use Rattle.std.specs.Str.{IsCharBoundary};
 ghost use Rattle.toml_span_places.specs.Replace as spec;
@@ -10,7 +10,7 @@ use toml_span_lex::span::Span;
 use toml_span_lex::stop::Stop;
 use toml_span_read::gaps::byte_at;
 
-/// A span of a text, in bytes, and the text to write over it. An empty span is a place to insert the text at.
+/// A byte span of a text, and the text that replaces it. With an empty span the text is inserted.
 #[derive(Clone, Copy, Debug, PartialEq, Eq)]
 pub struct Replacement<'r> {
     pub span: Span,
@@ -30,16 +30,16 @@ pub enum SpanFault {
     InsideCharacter,
 }
 
-/// Why a text is not replaced: the first replacement with a wrong span.
+/// Why a text is not changed: the first replacement with an invalid span.
 #[derive(Clone, Copy, Debug, PartialEq, Eq, Error)]
 #[error("replacement {index}: {fault}")]
 pub struct ReplaceError {
-    /// Counted from 0.
+    /// The index of the replacement, counted from 0.
     pub index: usize,
     pub fault: SpanFault,
 }
 
-/// Whether no character that began before a place goes on there.
+/// Returns whether no character continues at `at` that began before it.
 fn is_boundary(text: &str, at: usize) -> bool
     ensures { result ≡ spec.is_boundary text.now at }
 {
@@ -47,7 +47,7 @@ fn is_boundary(text: &str, at: usize) -> bool
     byte < 0x80 || byte >= 0xC0
 }
 
-/// What is wrong with a span that follows one with this end.
+/// Returns what is wrong with a span that follows one which ends at `from`, if anything.
 fn fault_of(text: &str, from: usize, span: Span) -> Option<SpanFault>
     ensures { result ≡ spec.fault_of text.now from span }
 {
@@ -64,7 +64,7 @@ fn fault_of(text: &str, from: usize, span: Span) -> Option<SpanFault>
     }
 }
 
-/// Adds a part of a text, and then another text.
+/// Appends a part of a text, followed by another text. Fails if an allocation fails.
 fn push_part(
     new: &mut String,
     text: &str,
@@ -81,10 +81,10 @@ fn push_part(
     new.push_str(then)
 }
 
-/// Returns the text with each replacement made, and all bytes outside of their spans as they are.
+/// Returns the text with all replacements made. Bytes outside their spans are unchanged.
 ///
-/// The spans are in the order of the text, and none starts before the end of the one before it. The first that is wrong
-/// is the error (`Stop::Fault`).
+/// The spans must be in the order of the text, and must not overlap. Fails with the first one that is invalid
+/// (`Stop::Fault`), or if an allocation fails.
 pub fn replace_all(
     alloc: Global,
     text: &str,
@@ -106,7 +106,7 @@ pub fn replace_all(
     Ok(new)
 }
 
-/// These spans, each with this text.
+/// Returns a replacement of each span by this text. Fails if an allocation fails.
 fn with_each<'r>(
     alloc: Global,
     spans: &[Span],
@@ -121,7 +121,8 @@ fn with_each<'r>(
     Ok(list)
 }
 
-/// Returns the text with `with` in place of each of these spans, as `replace_all` does. None where a span is wrong.
+/// Returns the text with `with` in place of each of these spans, like `replace_all`, or `None` if a span is invalid.
+/// Fails if an allocation fails.
 pub fn replaced(
     alloc: Global,
     text: &str,

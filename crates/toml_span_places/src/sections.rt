@@ -17,28 +17,28 @@ use toml_span_tree::nodes::Step;
 /// How a section begins.
 #[derive(Clone, Copy, Debug, PartialEq, Eq)]
 pub enum SectionForm {
-    /// With the first assignment of the text, before the first header.
+    /// With the first assignment of the text, before any header.
     Root,
-    /// With the header of a standard table, in brackets.
+    /// With the header of a standard table, in single brackets.
     Table,
     /// With the header of an array's element, in double brackets.
     Element,
 }
 
-/// A section, with its place in the text.
+/// A section and where it is in the text.
 #[derive(Drop)]
 pub struct SectionPlace<'t> {
-    /// The steps from the root to the table in which the section assigns. Below a header in double brackets the last
-    /// one is the position of the element that the header adds.
+    /// The path from the root to the table in which the section assigns. For a header in double brackets, the last step
+    /// is the position of the element that the header adds.
     pub path: Vec<Step<'t>>,
     pub form: SectionForm,
-    /// From the header's first bracket to the end of its line, line end included. `0..0` where there is no header.
+    /// The header's line, from its first bracket to the end, line end included. `0..0` without a header.
     pub header: Span,
     /// The lines of its assignments, line ends included. Without assignments it is empty, after the header's line.
     pub body: Span,
 }
 
-/// How a section begins whose header, or the root, is named so.
+/// Returns how a section begins, given how its header or the root is named.
 fn form_of(named: Option<TableForm>) -> Option<SectionForm>
     ensures { result ≡ spec.form_of named }
 {
@@ -50,7 +50,7 @@ fn form_of(named: Option<TableForm>) -> Option<SectionForm>
     }
 }
 
-/// The lines of a section's assignments.
+/// Returns the span of the lines of a section's assignments.
 fn body_of(text: &str, form: SectionForm, details: Details) -> Span
     ensures { result ≡ spec.body_of text.now form details }
 {
@@ -62,7 +62,7 @@ fn body_of(text: &str, form: SectionForm, details: Details) -> Span
     Span { start, end }
 }
 
-/// The section that a mention begins, if it does.
+/// Returns the section that begins with a mention, if there is one. Fails if an allocation fails.
 fn section_of<'t>(text: &str, mention: Mention<'t>) -> Result<Option<SectionPlace<'t>>, AllocError>
     ensures { IfOk result (λ place. option_map standing_section place
         ≡ spec.section_of text.now (mentioned mention.entry)) }
@@ -85,7 +85,7 @@ fn section_of<'t>(text: &str, mention: Mention<'t>) -> Result<Option<SectionPlac
 /// Lists these sections in the order of the text, each with the path of its table.
 ///
 /// `sections` are those that `read_sections` returns for the text. The root has one only if there is an assignment
-/// before the first header. Takes memory for the list and the steps.
+/// before the first header. Fails if an allocation fails: for the list and its paths.
 pub fn section_places<'t, 'de>(
     alloc: Global,
     text: &str,

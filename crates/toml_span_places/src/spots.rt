@@ -1,4 +1,4 @@
-//! The key or value at a byte of a text.
+//! The key or value at a byte offset in a text.
 ghost use Rattle.std.specs.Prelude.{◌≡◌, IfOk, Some, option_map};
 ghost use Rattle.toml_span_tree.specs.Nodes.{seen};
 ghost use Rattle.toml_span_tree.specs.Value.{view};
@@ -12,22 +12,22 @@ use toml_span_lex::span::Span;
 use toml_span_tree::Value;
 use toml_span_tree::nodes::{Step, Visited, nodes};
 
-/// Which part of an entry or an element.
+/// A part of an entry or an element.
 #[derive(Clone, Copy, Debug, PartialEq, Eq)]
 pub enum Part {
     Key,
     Value,
 }
 
-/// A key or a value of a tree, with its place in the text.
+/// A key or a value of a tree, and where it is in the text.
 #[derive(Drop)]
 pub struct NodePlace<'t, 'de> {
-    /// The steps from the root to the value, or to the value that has the key.
+    /// The path from the root to the value, or to the value that has the key.
     pub path: Vec<Step<'t>>,
     pub part: Part,
-    /// Of the key or the value, with its quotes.
+    /// The span of the key or the value, with its quotes.
     pub span: Span,
-    /// The value at the path, also where `part` is its key.
+    /// The value at the path, even if `part` is its key.
     pub value: &'t Value<'de>,
 }
 
@@ -37,7 +37,8 @@ fn holds(span: Span, offset: usize) -> bool
     span.start <= offset && offset < span.end
 }
 
-/// Of a value and its key the one that holds the offset, and of both the one that starts last. The spans have quotes.
+/// Returns the value or its key, whichever contains the offset, with its span. If both do, the one that starts last.
+/// The spans include quotes.
 fn chosen(offset: usize, literal: Span, quoted: Option<Span>) -> (Part, Span)
     ensures { result ≡ spec.chosen offset literal quoted }
 {
@@ -52,7 +53,7 @@ fn chosen(offset: usize, literal: Span, quoted: Option<Span>) -> (Part, Span)
     }
 }
 
-/// A value or its key, if one of them holds the offset.
+/// Returns a value or its key, if one of them contains the offset.
 fn spot_of<'t, 'de>(text: &str, offset: usize, node: Visited<'t, 'de>) -> Option<NodePlace<'t, 'de>>
     ensures { option_map spot result ≡ spec.spot_of text.now offset (seen node.entry) }
 {
@@ -70,7 +71,7 @@ fn spot_of<'t, 'de>(text: &str, offset: usize, node: Visited<'t, 'de>) -> Option
     })
 }
 
-/// The one that starts last, and the second where both start at one place.
+/// Returns the one that starts last, or `place` if both start at the same offset.
 fn later<'t, 'de>(best: Option<NodePlace<'t, 'de>>, place: NodePlace<'t, 'de>) -> NodePlace<'t, 'de>
     ensures { Some (spot result) ≡ spec.later (option_map spot best.entry) (spot place.entry) }
 {
@@ -80,12 +81,13 @@ fn later<'t, 'de>(best: Option<NodePlace<'t, 'de>>, place: NodePlace<'t, 'de>) -
     }
 }
 
-/// Returns the innermost key or value of a tree at a byte of the text, with its path. None at the end of the text and
-/// after it.
+/// Returns the innermost key or value of a tree at a byte of the text, with its path, or `None` at or after the end of
+/// the text.
 ///
-/// Of those whose span holds the byte, quotes included, it is the one that starts last, and of several that start there
-/// the one furthest down. In a header that names a table again, for which the tree has no key, it is the table. `root`
-/// is the tree that `parse` returns for the text. Takes memory for the steps of each value.
+/// Among the keys and values whose span contains the byte, quotes included, it is the one that starts last; if several
+/// start there, the one deepest in the tree. In a header that names a table again, for which the tree has no key, it is
+/// the table. `root` must be the tree that `parse` returns for the text. Fails if an allocation fails: for the path of
+/// each value.
 pub fn node_at<'t, 'de>(
     alloc: Global,
     root: &'t Value<'de>,

@@ -16,30 +16,31 @@ use toml_span_tree::nodes::Step;
 /// How a text names a table.
 #[derive(Clone, Copy, Debug, PartialEq, Eq)]
 pub enum TableForm {
-    /// By the header of a standard table: `a.b` of `[a.b]`.
+    /// By the header of a standard table: `a.b` in `[a.b]`.
     Header,
-    /// By a header in double brackets, which adds it to an array: the new element of `a.b` of `[[a.b]]`.
+    /// By a header in double brackets, which adds it to an array: the new element of `a.b` in `[[a.b]]`.
     Element,
-    /// By the header of a table in it: `a` of `[a.b]` and `[[a.b]]`. Alone this makes it an implicit table.
+    /// By the header of a table inside it: `a` in `[a.b]` and `[[a.b]]`. If this is the only way, it is an implicit
+    /// table.
     Passed,
-    /// By a dotted key: `a` of `a.b = 1`.
+    /// By a dotted key: `a` in `a.b = 1`.
     Dotted,
-    /// In braces: `a` of `a = {b = 1}`.
+    /// By braces: `a` in `a = {b = 1}`.
     Inline,
 }
 
-/// A table, and a place of the text that names it.
+/// A table, and a place in the text that names it.
 #[derive(Drop)]
 pub struct TablePlace<'t> {
-    /// The steps from the root to the table.
+    /// The path from the root to the table.
     pub path: Vec<Step<'t>>,
     pub form: TableForm,
-    /// The line of the header, the assignment of a dotted key from the key to the end of the value, or the braces with
-    /// what is between them.
+    /// The line of the header; the assignment with the dotted key, from the key to the end of the value; or the braces
+    /// and what is between them.
     pub span: Span,
 }
 
-/// The table of a mention, if it has one.
+/// Returns the table of a mention, if it has one. Fails if an allocation fails.
 fn table_of<'t>(mention: Mention<'t>) -> Result<Option<TablePlace<'t>>, AllocError>
     ensures { IfOk result (λ place. option_map standing_table place ≡ spec.table_of (mentioned mention.entry)) }
 {
@@ -52,11 +53,12 @@ fn table_of<'t>(mention: Mention<'t>) -> Result<Option<TablePlace<'t>>, AllocErr
     Ok(Some(TablePlace { path, form, span }))
 }
 
-/// Lists the tables of these sections in the order of the text, one for each place that names one. The root has none.
+/// Lists the tables of these sections in the order of the text, one for each place that names one. The root is not
+/// listed.
 ///
-/// A table is listed as often as headers, keys and braces name it: with `[a]`, `b.c = 1` and `[a.b.d]` the table `a`
-/// has a header and is passed, and `a.b` is dotted and passed. `sections` are those that `read_sections` returns for
-/// the text. Takes memory for the list and the steps.
+/// A table is listed each time a header, a key or braces name it: with `[a]`, `b.c = 1` and `[a.b.d]`, the table `a` is
+/// listed as a header and as passed, and `a.b` as dotted and as passed. `sections` are those that `read_sections`
+/// returns for the text. Fails if an allocation fails: for the list and its paths.
 pub fn table_places<'t, 'de>(
     alloc: Global,
     sections: &'t [Section<'de>],
@@ -72,7 +74,7 @@ pub fn table_places<'t, 'de>(
     Ok(out)
 }
 
-/// How these places name the table at a path.
+/// Returns how these places name the table at a path. Fails if an allocation fails.
 fn forms_of(
     alloc: Global,
     places: &[TablePlace<'_>],
@@ -90,10 +92,10 @@ fn forms_of(
     Ok(forms)
 }
 
-/// Returns how the text names the table at a path, a form for each place, in the order of the text. Empty at the root
-/// and where there is no table.
+/// Returns how the text names the table at a path, one form per place, in the order of the text. The list is empty at
+/// the root, and if the table does not exist.
 ///
-/// `sections` are those that `read_sections` returns for the text.
+/// `sections` are those that `read_sections` returns for the text. Fails if an allocation fails.
 pub fn table_forms<'t, 'de>(
     alloc: Global,
     sections: &'t [Section<'de>],

@@ -1,4 +1,4 @@
--- What is put together is borrowed as its parts are.
+-- What consists of parts is borrowed correctly if its parts are.
 use Rattle.toml_span_lex.proofs.Common.{arith, common_steps, nat_tests, ◌≡◌, ℕ, true, false, List, [], ◌∷◌, ◌++◌, map, get_or, rules, sym, ap, ◌∙◌, Ok, false≢true, cow_str_bytes, AllByRecursion}
 use Rattle.toml_span_lex.specs.declared.key.Key.{Key}
 use Rattle.toml_span_lex.specs.declared.span.Span.{Span}
@@ -53,7 +53,7 @@ assignment_written_is a = search (rules, the_lemmas)
 no_array : (k : ParsedInner) (s : Scalar) → is_scalar k ≡ false → k ≡ scalar s → ⊥
 no_array k s a e = false≢true (sym a ∙ ap is_scalar e)
 
--- a scalar that is no text has no string in it
+-- a scalar that is not a string contains none
 plain_written : (kind : ValKind) (s : Scalar) (span : Span) → kind_view kind ≡ scalar s → ((v : List ℕ) → s ≡ text_scalar v → ⊥) → kind_written kind span ≡ []
 plain_written kind s span e other = go (out-ValKind kind) (search (rules, the_lemmas))
   where
@@ -76,7 +76,7 @@ plain_written kind s span e other = go (out-ValKind kind) (search (rules, the_le
 not_text : (v text : List ℕ) (s : Scalar) (span : Span) (i j : ℕ) → begins_bare (get_or text i 0) ≡ true → s ≡ text_scalar v → SpellsScalar s span text i j → ⊥
 not_text v text s span i j b e h = grind (arith, nat_tests, common_steps)
 
--- a number, a truth value or a date has none
+-- neither does a number, a boolean or a date
 pub scalar_right : (ws : List Written) (kind : ValKind) (span : Span) (text : List ℕ) (i j : ℕ) → begins_bare (get_or text i 0) ≡ true → ScalarGives (read.bare text i) (Ok (kind, j)) → ws ≡ kind_written kind span → AreWrittenRight text ws
 scalar_right ws kind span text i j b (s, e, h) is = rw (is, plain_written kind s span e (λ v same. not_text v text s (from_to i j) i j b same (bare_sound s text i j b h))) tt
 

@@ -1,4 +1,4 @@
--- Where the fault of a key that goes through an earlier value stands.
+-- The span of the fault of a key that goes through an earlier value.
 use Rattle.toml_span_lex.proofs.Common.{ℕ, ◌+◌, ◌-◌, ◌≤◌, List, [], ◌∷◌, ◌++◌, length, arith, Ok, Err}
 use Rattle.std.specs.List.{AllByRecursion}
 use Rattle.toml_span_lex.specs.declared.stop.Stop.{Stop}
@@ -20,7 +20,7 @@ use Rattle.toml_span_read.proofs.SpanLaws.{value_lies}
 
 -- ---- the parts of a key
 
--- each part starts at n or before
+-- each part starts at n or before it
 abbrev StartBefore : ℕ → List SimpleKey → Type 0
 StartBefore n ps = AllByRecursion (λ p. p.span.start ≤ n) ps
 
@@ -37,7 +37,7 @@ IsSpanned e j = (x : ℕ) × StartBefore x e.parts × (x ≤ (parsed_span e.valu
 value_ends : (v : ParsedValue) (text : List ℕ) (limit d i j : ℕ) → Spells v text limit d i j → (i ≤ (parsed_span v).end) × ((parsed_span v).end ≤ j)
 value_ends (parsed k span) text limit d i j h = let l = value_lies (parsed k span) text limit d i j h in (omega (arith, l.0.0, l.0.1), l.0.2)
 
--- an assignment or a pair that is read, where what is skipped goes on
+-- an assignment or a pair that is read, if what may be skipped moves forward
 pub key_value_spanned : (e : KeyValue) (text : List ℕ) (limit d : ℕ) (skipped : ℕ → ℕ → Type 0) (value : ℕ → ℕ → Reading ValueEnd) (i j : ℕ) → ((a b : ℕ) → skipped a b → a ≤ b) → PartsSound text limit d value
     → read.keyval text limit skipped value i (Ok (e, j)) → IsSpanned e j
 key_value_spanned e text limit d skipped value i j on sound h =

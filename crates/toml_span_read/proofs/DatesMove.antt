@@ -1,4 +1,4 @@
--- A date that begins in a part of a text begins in its copy.
+-- A date that begins in a part of a text begins in a copy of that part.
 use Rattle.toml_span_lex.proofs.Common.{◌≡◌, ℕ, ◌+◌, ◌<◌, ◌≤◌, true, List, get_or, arith, inl, inr, sym, refl, ◌==◌, ◌&&◌, is_ascii_digit, or_cases, and_parts}
 use Rattle.std.proofs.lemmas.Bool.{eqb-true}
 use Rattle.toml_span_read.specs.Dates.{begins_date, is_date_byte}
@@ -10,7 +10,7 @@ digit_date c h = rw (decimal_keylike c h) refl
 pub this_date : (c k : ℕ) → is_date_byte k ≡ true → (c == k) ≡ true → is_date_byte c ≡ true
 this_date c k d h = rw (eqb-true c k h) d
 
--- a date begins in another text too, if such bytes go on to a place before which the texts are the same
+-- a date begins in another text too, if bytes of dates extend to an offset up to which the texts are equal
 pub date_carried : (a b : List ℕ) (i k end : ℕ) → ((m : ℕ) → m ≤ end → is_date_byte (get_or a (i + m) 0) ≡ true → (m < end) × (get_or a (i + m) 0 ≡ get_or b (k + m) 0)) → begins_date a i ≡ true → begins_date b k ≡ true
 date_carried a b i k end step h =
     let zi : i + 0 ≡ i = omega arith in

@@ -1,4 +1,4 @@
--- What is known of the earlier values.
+-- What is stored of the earlier values.
 use Rattle.toml_span_lex.proofs.Common.{common_steps, nat_tests, ◌≡◌, ℕ, ◌+◌, ◌<◌, ◌≤◌, ◌⊎◌, inl, inr, List, [], ◌∷◌, ◌++◌, map, length, length-map, take, get_or, append_assoc, Option, Some, None, arith, refl, sym, ap, subst, ◌∙◌, unwrap_or, take-append-le, map_more, take-map, cases_Bool}
 use Rattle.toml_span_lex.specs.declared.span.Span.{Span}
 use Rattle.toml_span_read.specs.declared.earlier.Earlier.{Earlier}
@@ -41,7 +41,7 @@ tells_same : (names : Path) (key_values : List KeyValue) (e : KeyValue) (inner :
     → TellsEarliest names key_values o → TellsEarliest names (key_values ++ (e ∷ [])) (Some (unwrap_or o last.span))
 tells_same names key_values e inner last o same key h = grind (arith, nat_tests, common_steps)
 
--- what the tree tells, once an assignment more is put in
+-- what the tree stores once another assignment is inserted
 pub tells_more : (key_values : List KeyValue) (e : KeyValue) (inner : List SimpleKey) (last : SimpleKey) (f g : Holds) → e.parts ≡ inner ++ (last ∷ [])
     → ((names : Path) → TellsEarliest names key_values (f names)) → Puts (part_names (inner ++ (last ∷ []))) last.span f g → (names : Path) → TellsEarliest names (key_values ++ (e ∷ [])) (g names)
 tells_more key_values e inner last f g key tells puts names = elim (same_path (part_names e.parts) names) [
@@ -55,7 +55,7 @@ none_shorter : (n : ℕ) (names : Path) (key_values : List KeyValue) → EachLon
 none_shorter n names [] h short = tt
 none_shorter n names (e ∷ es) h short = grind (arith, length-map, none_shorter n names es)
 
--- a key that has no more inner parts than each of the others is clear of them
+-- a key with no more inner parts than any other goes through none of their values
 pub clear_short : (key_values : List KeyValue) (next : KeyValue) (inner : List SimpleKey) (last : SimpleKey) (n : ℕ) → next.parts ≡ inner ++ (last ∷ []) → EachLonger n key_values → length inner ≤ n → Clear key_values next
 clear_short key_values next inner last n key long short = grind (arith, nat_tests, common_steps, clear_of, none_shorter)
 
@@ -67,7 +67,7 @@ longer_than : (n m : ℕ) (key_values : List KeyValue) → m ≤ n → EachLonge
 longer_than n m [] le h = tt
 longer_than n m (x ∷ xs) le h = (omega (arith, h.0), longer_than n m xs le h.1)
 
--- ---- what is known
+-- ---- what is stored
 
 -- one more key is counted
 pub knows_more : (old new : Earlier) (key_values : List KeyValue) (next : KeyValue) (inner : List SimpleKey) (last : SimpleKey) → next.parts ≡ inner ++ (last ∷ [])
@@ -117,7 +117,7 @@ tells_next values i v inner keys last f g below at same key tells puts names =
     let more : map key_value (take (i + 1) values) ≡ map key_value (take i values) ++ (key_value v ∷ []) = grind (arith, map_more) in
     rw more (tells_more (map key_value (take i values)) (key_value v) (map simple_key inner) (simple_key last) f g (sym key) tells (rw (← same) at puts) names)
 
--- where all are in the tree, it tells of all of them
+-- once all are in the tree, it stores all of them
 pub tells_all : (new : Earlier) (values : List Assignment) → Knows new (map key_value values) → new.known ≡ length values → (names : Path) → TellsEarliest names (map key_value values) (holds new.tree names)
 tells_all new values h known names = grind (arith, nat_tests, common_steps)
 

@@ -3,7 +3,7 @@ use Rattle.toml_span_lex.proofs.Common.{arith, common_steps, nat_tests, ◌≡�
 use Rattle.toml_span_read.specs.Data.{SimpleKey, KeyValue}
 use Rattle.toml_span_read.specs.Earlier.{part_names, NoneThrough, Clear}
 
--- whichever of the parts is taken, the path that ends with it has the property
+-- every path that ends with one of the parts has the property
 abbrev pub Through : (List (List ℕ) → Type 0) → List SimpleKey → Type 0
 Through P parts = (outer : List SimpleKey) (p : SimpleKey) (rest : List SimpleKey) → parts ≡ outer ++ (p ∷ rest) → P (part_names (outer ++ (p ∷ [])))
 
@@ -15,10 +15,10 @@ pub through_more : (P : List (List ℕ) → Type 0) (x : SimpleKey) (xs : List S
 through_more P x xs here on [] p rest e = grind arith
 through_more P x xs here on (y ∷ outer) p rest e = grind (arith, on outer p rest)
 
--- the front and the last of a list
+-- all but the last item of a list, and the last one
 pub snoc_same : {A : Type 0} (xs ys : List A) (x y : A) → xs ++ (x ∷ []) ≡ ys ++ (y ∷ []) → (xs ≡ ys) × (x ≡ y)
 snoc_same xs ys x y e = grind (arith, nat_tests, common_steps)
 
--- the parts of a key but for the last
+-- the parts of a key except the last
 pub clear_of : (key_values : List KeyValue) (next : KeyValue) (inner : List SimpleKey) (last : SimpleKey) → next.parts ≡ inner ++ (last ∷ []) → NoneThrough inner key_values → Clear key_values next
 clear_of key_values next inner last h h2 = grind (arith, nat_tests, common_steps)

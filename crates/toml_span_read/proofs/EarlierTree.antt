@@ -1,4 +1,4 @@
--- The tree of the earlier values, level by level.
+-- The tree of the earlier values, one level at a time.
 use Rattle.toml_span_lex.proofs.Common.{common_steps, nat_tests, ◌≡◌, ℕ, ◌-◌, ◌≤◌, ◌++◌, length, take, drop, get_or, arith, Bool, true, false, cond, List, [], ◌∷◌, map, Option, Some, None, option_map, is_some, BTreeMap, Ordering, is_eq, nat_cmp, refl, sym, ap, ◌∙◌, rules, unwrap_or, cow_str_bytes, slice_cmp, set_value, insert_entry, cases_Bool, false≢true, nat_list_cmp_total, none-some}
 use Rattle.toml_span_read.specs.Data.{SimpleKey, simple_key}
 use Rattle.toml_span_read.proofs.EarlierLemmas.{through_none, through_more}
@@ -51,7 +51,7 @@ same-sym k l = grind (arith, cases_Bool, same-back, false≢true)
 
 -- ---- children
 
--- the children after a child was put under the name k
+-- the children after a child was inserted under the name k
 abbrev pub PutsChild : List ℕ → Tree → Children → Children → Type 0
 PutsChild k w es fs = (l : List ℕ) → child l fs ≡ cond (same k l) (Some w) (child l es)
 
@@ -63,9 +63,9 @@ pub puts-insert : (key : Key) (w : Tree) (es : Children) → PutsChild (cow_str_
 puts-insert key w [] l = ap (λ b. cond b (Some w) None) (same-sym l (cow_str_bytes key.name))
 puts-insert key w (e ∷ es) l = grind (arith, puts-insert key w es, same_name, same-sym)
 
--- ---- what is put
+-- ---- what is inserted
 
--- the child of a name is another one
+-- the child with a name is another one
 pub puts-below : (a b : Node-F Tree) (k : List ℕ) (w : Tree) → b.value ≡ a.value → PutsChild k w a.below.entries b.below.entries
     → PutsBelow k (holds w) (holds (roll-Node a)) (holds (roll-Node b))
 puts-below a b k w value puts = (
@@ -74,7 +74,7 @@ puts-below a b k w value puts = (
   λ l rest ne. grind (arith, nat_tests, same_name k l, holds-below a l rest, holds-below b l rest, puts l),
 )
 
--- what is put into a child is put under its name
+-- what is inserted into a child is inserted under its name
 pub puts-child : (k : List ℕ) (names : List (List ℕ)) (first : Span) (x w old new : Holds) → ((rest : List (List ℕ)) → old (k ∷ rest) ≡ x rest)
     → PutsBelow k w old new → Puts names first x w → Puts (k ∷ names) first old new
 puts-child k names first x w old new was (under_k, here, beside) (at, apart) =
@@ -95,11 +95,11 @@ puts-here x b first value entries none = (holds-here b ∙ value ∙ ap (λ o. S
 pub holds-value : (x : Tree) → holds x [] ≡ (out-Node x).value
 holds-value x = ap (λ n. holds n []) (sym (roll-out x)) ∙ holds-here (out-Node x)
 
--- what the tree holds below a name is what the name's child holds
+-- what the tree stores below a name is what the child with that name stores
 pub holds-under : (n : Tree) (k : List ℕ) (names : List (List ℕ)) (o : Option Tree) → child k (out-Node n).below.entries ≡ o → holds n (k ∷ names) ≡ below (option_map holds o) names
 holds-under n k names o is = ap (λ m. holds m (k ∷ names)) (sym (roll-out n)) ∙ holds-below (out-Node n) k names ∙ ap (λ o. below (option_map holds o) names) is
 
--- puts in the child that is found under a name
+-- inserts into the child that is found under a name
 pub puts-found : (n : Tree) (b : Node-F Tree) (k : List ℕ) (names : List (List ℕ)) (first : Span) (x w : Tree)
     → child k (out-Node n).below.entries ≡ Some x → b.value ≡ (out-Node n).value → b.below.entries ≡ set_value (is_named k) (out-Node n).below.entries w
     → Puts names first (holds x) (holds w) → Puts (k ∷ names) first (holds n) (holds (roll-Node b))
@@ -107,7 +107,7 @@ puts-found n b k names first x w found value written =
     puts-child k names first (holds x) (holds w) (holds n) (holds (roll-Node b)) (λ rest. holds-under n k rest (Some x) found)
     (grind (arith, roll-out n, puts-below (out-Node n) b k w value, puts-set_value k w x (out-Node n).below.entries found))
 
--- puts a new child under a name that is missing
+-- inserts a new child under a name that is missing
 pub puts-missing : (n : Tree) (lent : BTreeMap Key Tree) (k : List ℕ) (names : List (List ℕ)) (first : Span) (fresh w new : Holds)
     → lent ≡ (out-Node n).below → child k (out-Node n).below.entries ≡ None → fresh ≡ nothing → Puts names first fresh w
     → PutsBelow k w (holds (roll-Node (record { value = (out-Node n).value; below = lent }))) new → Puts (k ∷ names) first (holds n) new
@@ -129,7 +129,7 @@ none_is o h = grind (arith, false≢true)
 pub puts-full : (x : Tree) (first : Span) (o : Option Span) → (out-Node x).value ≡ o → is_some o ≡ true → Puts [] first (holds x) (holds x)
 puts-full x first o is h = grind (arith, false≢true, holds-value)
 
--- the parts of a key, the first of which is at hand
+-- the parts of a key, beginning with the one at hand
 pub parts-front : (xs : List Key) (key d last : Key) → 1 ≤ length xs → key ≡ get_or xs 0 d
     → part_names (map simple_key xs ++ (simple_key last ∷ [])) ≡ cow_str_bytes key.name ∷ part_names (map simple_key (take (length xs - 1) (drop 1 xs)) ++ (simple_key last ∷ []))
 parts-front xs key d last some same = grind (arith, nat_tests, common_steps)

@@ -1,4 +1,4 @@
--- What is told where another token stands than the one that is due, and where.
+-- The fault that another token than the expected one is at an offset, and its span.
 use Rattle.toml_span_lex.proofs.Common.{common_steps, nat_tests, ◌≡◌, ℕ, false, List, length, get_or, arith, inl, inr, ap, sym, Err}
 use Rattle.toml_span_lex.specs.declared.stop.Stop.{Stop}
 use Rattle.toml_span_lex.specs.declared.stop.Stop.TheVariants as stops
@@ -15,7 +15,7 @@ use Rattle.toml_span_read.specs.Read as read
 use Rattle.toml_span_read.specs.Read.{Standing, StandsAt, token, text_end, no_token, string_of}
 use Rattle.toml_span_read.specs.code.Wanted.{IsFound}
 
--- of a fault this holds; of want of memory nothing is said
+-- P holds for a fault; nothing is stated about a failed allocation
 abbrev pub OfFault : (Fault → Type 0) → Stop Fault → Type 0
 OfFault P (stops.Memory e) = Unit {0}
 OfFault P (stops.Fault e) = P e
@@ -23,7 +23,7 @@ OfFault P (stops.Fault e) = P e
 pub so_told : (P Q : Fault → Type 0) (stop : Stop Fault) → OfFault P stop → ((e : Fault) → P e → Q e) → OfFault Q stop
 so_told P Q stop h go = grind (arith)
 
--- ---- what stands there
+-- ---- what is at the offset
 
 pub found_stands : (text : List ℕ) (i j : ℕ) (due : Due) (found : Found) → IsFound text i j found → (standing : Standing) × StandsAt text i standing × (wanted_fault due found i ≡ read.wanted due i standing)
 found_stands text i j due found (inl (end, at, is)) = (text_end, end, ap (λ x. wanted_fault due x i) is)
@@ -33,12 +33,12 @@ token_of : (text : List ℕ) (i j : ℕ) (found : Found) (s : Span) (l : Lexeme)
     → read.string_value text i (Err (record { kind = kinds.Wanted dues.Value found; span = record { start = i; end = j } }))
 token_of text i j found s l o h is = (token s l j, h, rw is (sym (grind (arith, nat_tests, common_steps))))
 
--- no_value asks first whether the text ends
+-- `no_value` first tests whether the text ends
 pub other_token : (text : List ℕ) (i j : ℕ) (found : Found) → opens_string (get_or text i 0) ≡ false → (i ≡ length text → ⊥) → IsFound text i j found → read.string_value text i (Err (record { kind = kinds.Wanted dues.Value found; span = record { start = i; end = j } }))
 other_token text i j found o n (inl h) = absurd (n h.0)
 other_token text i j found o n (inr (s, l, h, is)) = token_of text i j found s l o h is
 
--- a token that is no string stands with a span
+-- a token that is not a string has a span
 pub token_stands : (text : List ℕ) (i j : ℕ) (l : Lexeme) → IsToken text i j l → (s : Span) × Stands text i j s l
 token_stands text i j (string src v m) h = absurd h
 token_stands text i j l h = (record { start = i; end = j }, grind (arith))

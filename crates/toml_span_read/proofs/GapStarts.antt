@@ -12,7 +12,7 @@ use Rattle.toml_span_read.specs.Numerals.{is_digit_in, behind_sign, radix_at}
 use Rattle.toml_span_read.proofs.NumberLemmas.{digit_keylike, slice_first}
 use Rattle.toml_span_read.proofs.ShortIntegers.{decimal_keylike}
 
--- ---- what begins a value or a key begins no gap
+-- ---- the first byte of a value or a key begins no gap
 
 abbrev pub NoGap : ℕ → Type 0
 NoGap c = ((is_blank c || c == 10) ≡ false) × ((c == 13) ≡ false) × ((c == 35) ≡ false)
@@ -26,7 +26,7 @@ no_gap_is text i c e h = no_gap text i (rw e h)
 pub keylike_no_gap : (c : ℕ) → is_keylike c ≡ true → NoGap c
 keylike_no_gap c h = grind (arith, nat_tests, common_steps)
 
--- a sign, or what stands without one
+-- a sign, or what there is without one
 signed_no_gap : (text : List ℕ) (i : ℕ) → (behind_sign text i ≡ i → is_keylike (get_or text i 0) ≡ true) → NoGap (get_or text i 0)
 signed_no_gap text i h = grind (arith, nat_tests, common_steps)
 
@@ -36,7 +36,7 @@ digits_no_gap text i h = signed_no_gap text i (λ at. digit_keylike 10 (get_or t
 radix_no_gap : (text : List ℕ) (i radix : ℕ) → radix_at text i ≡ Some radix → NoGap (get_or text i 0)
 radix_no_gap text i radix h = grind (arith, nat_tests, common_steps)
 
--- the text of a special float, behind its sign
+-- the text of a special float, after its sign
 word_no_gap : (text : List ℕ) (i j c : ℕ) (cs : List ℕ) → SpecialFloat (c ∷ cs) text i j → is_keylike c ≡ true → NoGap (get_or text i 0)
 word_no_gap text i j c cs h k = signed_no_gap text i (λ at. rw ((slice_first text i j c cs (rw at at h.some) h.within (rw at at h.letters)).0) k)
 

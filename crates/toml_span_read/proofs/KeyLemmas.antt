@@ -1,4 +1,4 @@
--- How dotted keys are put together.
+-- How dotted keys are composed.
 use Rattle.toml_span_lex.proofs.Common.{common_steps, nat_tests, ◌≡◌, ℕ, zero, suc, ◌+◌, ◌-◌, ◌<◌, ◌≤◌, ◌⊎◌, Bool, true, false, List, [], ◌∷◌, ◌++◌, length, map, get_or, arith, inl, inr, refl, ◌∙◌, ap, length-append, append_assoc, Result, Ok, Err, IsErrAnd, map-append}
 use Rattle.toml_span_lex.specs.declared.key.Key.{Key}
 use Rattle.toml_span_lex.specs.declared.stop.Stop.{Stop}
@@ -19,7 +19,7 @@ use Rattle.toml_span_read.specs.code.Faults.{Gives, IsPlacedStop}
 use Rattle.toml_span_read.specs.code.Strings.{StringReads}
 use Rattle.toml_span_read.specs.code.Wanted.{WantedGives}
 
--- an error that `?` hands on
+-- the error that `?` returns
 pub handed_on : {T E : Type 0} (r : Result T E) (x : E) → IsErrAnd r (λ y. y ≡ x) → r ≡ Err x
 handed_on r x h = grind (arith, nat_tests, common_steps)
 
@@ -56,7 +56,7 @@ part_stops stop header text limit n i h placed = grind (arith, key_stops)
 pub part_placed : (stop : Stop Fault) (header : Bool) (text : List ℕ) (limit n i : ℕ) → PartGives header text limit n i (Err stop) → IsPlacedStop text stop
 part_placed stop header text limit n i h = grind (arith, nat_tests, common_steps)
 
--- whatever is read at m behind these parts is read from i on
+-- whatever is read at m after these parts is read from i on
 abbrev pub Behind : Bool → List ℕ → ℕ → ℕ → List Key → ℕ → Type 0
 Behind header text limit i ps m =
     (n : ℕ) (r : Result Parts Fault) → length ps + n ≡ limit → read.key header text n (map simple_key ps) m r → read.key header text limit [] i r
@@ -86,22 +86,22 @@ parts_length inner last = grind (arith, nat_tests, common_steps)
 
 -- ---- what is read is spelled
 
--- what is read behind something else is read behind what that gave
+-- what is read after something else is read after its result
 pub after_gives : {X B : Type 0} {Q : Fault → Type 0} {b : B} → X ⊎ ((e : Fault) × Q e × (◌≡◌ {A = Result B Fault} (Ok b) (Err e))) → X
 after_gives h = grind (arith)
 
--- where something is read, nothing is missing
+-- if something is read, nothing is missing
 pub not_missing : {A X N : Type 0} {S : Standing → Type 0} {f : Standing → Fault} {a : A} → X ⊎ (N × ((standing : Standing) × S standing × (◌≡◌ {A = Result A Fault} (Ok a) (Err (f standing))))) → X
 not_missing h = grind (arith)
 
--- what is read is what is given
+-- what is read is the result
 pub same_read : {A : Type 0} (P : A → Type 0) {x y : A} → ◌≡◌ {A = Result A Fault} (Ok x) (Ok y) → P y → P x
 same_read P u h = grind arith
 
 pub simple_sound : (s : SimpleKey) (text : List ℕ) (i m : ℕ) → read.simple_key_at text i (Ok (s, m)) → SpellsSimpleKey s text i m
 simple_sound s text i m h = grind (arith, nat_tests, common_steps)
 
--- behind these parts others are spelled
+-- other parts are spelled after these
 abbrev KeyBehind : List SimpleKey → List ℕ → ℕ → ℕ → Parts → Type 0
 KeyBehind ps text left i f = (ts : List SimpleKey) × (f.0 ≡ ps ++ ts) × SpellsKey ts text i f.1 × (length ts ≤ left)
 

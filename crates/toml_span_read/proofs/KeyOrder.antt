@@ -1,4 +1,4 @@
--- The parts of a dotted key stand one behind the other.
+-- The parts of a dotted key follow each other.
 use Rattle.toml_span_lex.proofs.Common.{common_steps, ◌≡◌, ℕ, ◌<◌, ◌≤◌, Bool, false, List, [], ◌∷◌, length, get_or, arith, inl, inr, refl, nat_tests}
 use Rattle.toml_span_lex.specs.declared.span.Span.{Span}
 use Rattle.toml_span_lex.specs.Strings.{IsString}
@@ -7,7 +7,7 @@ use Rattle.toml_span_read.specs.Keys.{SpellsSimpleKey, Onward, SpellsKey}
 use Rattle.toml_span_read.specs.Data.{SimpleKey}
 use Rattle.toml_span_read.specs.Places.{Ascend}
 
--- the span is not turned round and lies from i to j, which is within the text
+-- the span is within i..j, which is within the text, and does not end before it starts
 pub record Lies (text : List ℕ) (i j : ℕ) (s : Span) : Type 0 where
   pub begins : i ≤ s.start
   pub forward : s.start ≤ s.end

@@ -25,7 +25,7 @@ end_is (v ∷ w ∷ ws) (suc k) n a l e = end_is (w ∷ ws) k (key_value v).exte
 
 -- ---- lines
 
--- whatever is read behind these assignments is read from the first line on
+-- whatever is read after these assignments is read from the first line on
 abbrev pub LinesFrom : List ℕ → ℕ → ℕ → List KeyValue → ℕ → Type 0
 LinesFrom text limit from es at = (r : Result Pairs Fault) → Loop (read.next_assignment text limit) (es, at) r → read.lines text limit from r
 
@@ -47,7 +47,7 @@ opened true text limit i m r (here, two, e) h = inl (same_byte _ _ two, rw e at 
 
 -- ---- the document
 
--- whatever is read behind these sections is the document
+-- whatever is read after these sections completes the document
 abbrev pub DocumentFrom : List ℕ → ℕ → List Block → ℕ → Type 0
 DocumentFrom text limit bs at = (r : Result (List Block) Fault) → Loop (read.next_section text limit) (bs, at) r → read.document text limit r
 

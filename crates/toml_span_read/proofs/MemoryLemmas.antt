@@ -1,4 +1,4 @@
--- Memory is wanted only where there is something to keep.
+-- An allocation can fail only if there is something to store.
 use Rattle.toml_span_lex.proofs.Common.{common_steps, nat_tests, ◌≡◌, ℕ, ◌<◌, ◌≤◌, List, [], ◌∷◌, ◌++◌, length, arith, Err, Some}
 use Rattle.toml_span_lex.specs.declared.stop.Stop.{Stop}
 use Rattle.toml_span_lex.specs.Text.{FirstPlace}
@@ -13,7 +13,7 @@ use Rattle.toml_span_read.proofs.InsideLemmas.{ascend_forward, tail_inside}
 use Rattle.toml_span_read.proofs.KeyOrder.{dotted_ascend}
 use Rattle.toml_span_read.proofs.SpanLaws.{value_lies}
 
--- a key stands before the end of the text
+-- a key begins before the end of the text
 key_within : (ps : List SimpleKey) (text : List ℕ) (i j : ℕ) → SpellsKey ps text i j → (i < length text) × (i ≤ j)
 key_within ps text i j h = grind (arith, dotted_ascend, ascend_forward)
 
@@ -25,7 +25,7 @@ key_values_forward [] before text limit i j h = omega (arith, h)
 key_values_forward (e ∷ es) before text limit i j (m, n, k, h, t, c, g, r) =
     omega (arith, key_value_forward e text limit i m h, (tail_inside text m n t).0, g.forward, key_values_forward es (before ++ (e ∷ [])) text limit k j r)
 
--- where a gap from the start of the text ends, at or before a place
+-- the gap at the start of the text ends at or before an offset
 abbrev pub Begun : List ℕ → ℕ → Type 0
 Begun text at = (start k : ℕ) × FirstPlace text start × MaximalGap text start k × (k ≤ at)
 
@@ -39,7 +39,7 @@ pub keeps : (A E : Type 0) → (stop : Stop E) (text : List ℕ) (at : ℕ) → 
     → (start : ℕ) × FirstPlace text start × OnlyFormsTakeMemory {A = A} {E = E} text start (Err stop)
 keeps A E stop text at h under = grind (arith)
 
--- whatever is not read for want of memory
+-- whatever is not read since an allocation failed
 pub forms_keep : {E : Type 0} (A : Type 0) (stop : Stop E) (text : List ℕ) (i : ℕ) → HoldsForm text i → OnlyFormsTakeMemory {A = A} {E = E} text i (Err stop)
 forms_keep A stop text i h = grind (arith, nat_tests, common_steps)
 
@@ -47,7 +47,7 @@ pub keeps_same : {E : Type 0} (A B : Type 0) (stop : Stop E) (text : List ℕ) �
     → (start : ℕ) × FirstPlace text start × OnlyFormsTakeMemory {A = B} {E = E} text start (Err stop)
 keeps_same A B stop text start = grind (arith)
 
--- assignments before the first header are something to keep
+-- assignments before the first header are something to store
 pub lines_keep : (s : Section) (es : List KeyValue) (text : List ℕ) (limit start at : ℕ) → first_blocks (Some s) ≡ first_block es → FirstPlace text start
     → SpellsLines es text limit start at → (i : ℕ) × FirstPlace text i × HoldsForm text i
 lines_keep s es text limit start at is first h = grind (arith, key_within)

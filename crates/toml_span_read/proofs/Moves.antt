@@ -1,9 +1,9 @@
--- A form that stands in one text stands in another: how forms are built of others, and what stands in a part of a text.
+-- A form in one text has an equal form in another: how forms consist of others, and what is in a part of a text.
 use Rattle.toml_span_lex.proofs.Common.{◌≡◌, ℕ, ◌+◌, ◌-◌, ◌<◌, ◌≤◌, ◌⊎◌, Bool, true, false, List, length, get_or, take, drop, arith, inl, inr, sym, ◌∙◌, length-take, length-drop, slice_range, cases_lt, false≢true, false_from_ne_true, get_or-take, ext_get_or, nat_tests, common_steps}
 use Rattle.std.proofs.lemmas.List.{get_or-drop}
 use Rattle.toml_span_lex.specs.Bytes.{MaximalRun}
 
--- what is R between two places is S between those that answer them
+-- where R holds between two offsets, S holds between the corresponding ones
 pub record Moves (At R S : ℕ → ℕ → Type 0) : Type 0 where
   pub on : (i j : ℕ) → R i j → i ≤ j
   pub to : (i j k l : ℕ) → At i k → At j l → R i j → S k l
@@ -11,19 +11,19 @@ pub record Moves (At R S : ℕ → ℕ → Type 0) : Type 0 where
 pub either : {At R S P Q : ℕ → ℕ → Type 0} → Moves At R S → Moves At P Q → Moves At (λ i j. R i j ⊎ P i j) (λ k l. S k l ⊎ Q k l)
 either x y = grind (arith, nat_tests, common_steps)
 
--- said otherwise
+-- the same for equivalent relations
 pub said : {At R S P Q : ℕ → ℕ → Type 0} → ((i j : ℕ) → P i j → R i j) → ((k l : ℕ) → S k l → Q k l) → Moves At R S → Moves At P Q
 said f g x = record { on = λ i j h. x.on i j (f i j h); to = λ i j k l u v h. g k l (x.to i j k l u v (f i j h)) }
 
--- and what holds where it stands
+-- and for what holds where the form is
 pub also : {At R S P Q : ℕ → ℕ → Type 0} → Moves At R S → ((i j k l : ℕ) → i ≤ j → At i k → At j l → R i j → P i j → Q k l) → Moves At (λ i j. R i j × P i j) (λ k l. S k l × Q k l)
 also x f = record { on = λ i j h. x.on i j h.0; to = λ i j k l u v h. (x.to i j k l u v h.0, f i j k l (x.on i j h.0) u v h.0 h.1) }
 
--- and what holds anywhere
+-- and for what holds anywhere
 pub given : {At R S : ℕ → ℕ → Type 0} {P Q : Type 0} → (P → Q) → Moves At R S → Moves At (λ i j. P × R i j) (λ k l. Q × S k l)
 given f x = record { on = λ i j h. x.on i j h.1; to = λ i j k l u v h. (f h.0, x.to i j k l u v h.1) }
 
--- one behind the other, where what is between two places that are answered is answered
+-- one after the other, if any offset between two that have counterparts has one
 pub joined : {At R S P Q : ℕ → ℕ → Type 0} → ((i j k l m : ℕ) → i ≤ m → m ≤ j → At i k → At j l → (n : ℕ) × At m n) → Moves At R S → Moves At P Q
     → Moves At (λ i j. (m : ℕ) × R i m × P m j) (λ k l. (m : ℕ) × S k m × Q m l)
 joined between x y = record {
@@ -33,14 +33,14 @@ joined between x y = record {
 
 -- ---- a copy
 
--- From t to n stands in b what stands in a from s on, and behind it in b the byte c.
+-- From t to n, b has the bytes that a has from s on, and after them the byte c.
 pub record Copied (a b : List ℕ) (s t n c : ℕ) : Type 0 where
   pub same : (i k : ℕ) → s ≤ i → i + t ≡ k + s → k < n → get_or a i 0 ≡ get_or b k 0
   pub fits : n + s ≤ length a + t
   pub within : n ≤ length b
   pub next : get_or b n 0 ≡ c
 
--- the place i in a is k in b, with e more places to the end of the copy
+-- the offset i in a is k in b, with at least e more bytes to the end of the copy
 pub record At (s t n e i k : ℕ) : Type 0 where
   pub after : s ≤ i
   pub moved : i + t ≡ k + s
@@ -65,7 +65,7 @@ module _ {a b : List ℕ} {s t n c : ℕ} (w : Copied a b s t n c) where
   pub byte : {A : Type 0} {e i k : ℕ} (p : ℕ → A) (x : A) → At s t n e i k → k < n → p (get_or a i 0) ≡ x → p (get_or b k 0) ≡ x
   byte {i = i} {k} p x u l h = rw (w.same i k u.after u.moved l) at h
 
-  -- a byte that c is not stands before the end
+  -- a byte that differs from c is before the end
   pub before_end : (p : ℕ → Bool) (k : ℕ) → p c ≡ false → k ≤ n → p (get_or b k 0) ≡ true → k < n
   before_end p k off l h = elim (cases_lt k n) [ inl x ↦ x | inr x ↦ let e : k ≡ n = omega arith in absurd (false≢true (sym off ∙ (rw (e, w.next) at h))) ]
 
@@ -75,7 +75,7 @@ module _ {a b : List ℕ} {s t n c : ℕ} (w : Copied a b s t n c) where
   pub stays : {e i k : ℕ} (p : ℕ → Bool) → At s t n e i k → p c ≡ false → p (get_or a i 0) ≡ false → p (get_or b k 0) ≡ false
   stays p u off h = false_from_ne_true _ (λ y. false≢true (sym h ∙ back p u off y))
 
-  -- a byte, and a form behind it
+  -- a byte, and a form after it
   pub first : {A : Type 0} {e : ℕ} {R S : ℕ → ℕ → Type 0} (p : ℕ → A) (x : A) → Moves (At s t n e) R S → Moves (At s t n e) (λ i j. (p (get_or a i 0) ≡ x) × R (i + 1) j) (λ k l. (p (get_or b k 0) ≡ x) × S (k + 1) l)
   first p x m = grind (arith, nat_tests, common_steps)
 

@@ -25,7 +25,7 @@ digits_with_run radix text i k j b r a g d n = grind (arith, nat_tests, figure_k
 run_of : (radix : ℕ) (text : List ℕ) (i j : ℕ) → Digits radix text i j → is_keylike (get_or text j 0) ≡ false → run_end text i ≡ j
 run_of radix text i j d n = run_is text i j (record { forward = d.run.forward; within = d.run.within; passes = digits_keylike radix text i j d; stops = λ l. n })
 
--- a letter of an exponent is a byte of the run
+-- the letter of an exponent is a byte of the run
 before_end : (text : List ℕ) (m b : ℕ) → m ≤ b → is_keylike (get_or text b 0) ≡ false → is_exponent (get_or text m 0) ≡ true → m < b
 before_end text m b l n x = grind (arith, nat_tests)
 
@@ -143,7 +143,7 @@ begun text i k q n = elim (bool_cases (get_or text i 0 == 43)) [
   | inr p ↦ (i, begun_here text i p (grind (arith, nat_tests, no_sign text i p)) (grind (arith, nat_tests, no_sign text i p)))
 ]
 
--- what begins with a digit is no inf or nan
+-- what begins with a digit is neither `inf` nor `nan`
 decimal_read : (text : List ℕ) (i a : ℕ) → Begun text i a → is_digit_in 10 (get_or text (behind_sign text i) 0) ≡ true → numeral text i ≡ decimal text i a (run_end text a)
 unfolding unsigned
 decimal_read text i a g d =

@@ -1,4 +1,4 @@
--- Steps of reading numbers, and what they come to.
+-- Steps of reading numbers, and their results.
 use Rattle.toml_span_lex.proofs.Common.{common_steps, ◌≡◌, ℕ, ◌+◌, ◌-◌, ◌<◌, ◌≤◌, ◌⊎◌, Bool, true, false, drop, take, zero, suc, Option, Some, None, is_some, Ok, Err, List, ◌∷◌, length, get_or, arith, inl, inr, refl, sym, ◌∙◌, length-drop, length-take, drop_more, get_or_past, prefix_len-le-length, prefix_len_passes, prefix_len_stops, prefix_len, list_all, range_with_len, ◌*◌, ◌^◌, filter, slice_range, not, ◌==◌, ◌||◌, ◌&&◌, cases_lt, and_parts, and_from, or_from, or_right, false≢true, nat_tests, digit_value}
 use Rattle.std.proofs.Math.Nat.{pow-succ', one-le-pow, le-mul_of_pos_right}
 use Rattle.std.proofs.lemmas.List.{get_or-drop}
@@ -57,13 +57,13 @@ digit_no_underscore radix c h e = clash (is_digit_in radix) c 95 h e refl
 figure_underscore : (radix c : ℕ) → is_figure radix c ≡ true → is_digit_in radix c ≡ false → c ≡ 95
 figure_underscore radix c h d = grind (arith, nat_tests)
 
--- a byte that passes stands in the text
+-- a byte that passes is in the text
 pub here : (p : ℕ → Bool) (text : List ℕ) (i : ℕ) → p 0 ≡ false → p (get_or text i 0) ≡ true → i < length text
 here p text i z h = grind (arith, get_or_past)
 
 -- ---- runs
 
--- the run of what passes
+-- the run of bytes that pass
 pub run_found : (p : ℕ → Bool) (text : List ℕ) (i : ℕ) → i ≤ length text → MaximalRun p text i (i + prefix_len p (drop i text))
 run_found p text i w =
     let n : ℕ = prefix_len p (drop i text) in
@@ -100,7 +100,7 @@ digit_some radix c o h e = grind (arith, nat_tests, common_steps)
 pub digit_none : (radix c : ℕ) (o : Option ℕ) → DigitGives radix c o → is_some o ≡ false → is_digit_in radix c ≡ false
 digit_none radix c o h e = grind (arith, nat_tests, common_steps)
 
--- no digit and no underscore stands where digits end
+-- there is neither a digit nor an underscore where digits end
 pub digits_stop : (radix : ℕ) (text : List ℕ) (i j : ℕ) → Digits radix text i j → is_figure radix (get_or text j 0) ≡ false
 digits_stop radix text i j d = stops_with (is_figure radix) text i j refl d.run
 
@@ -128,7 +128,7 @@ are_spelled : (radix : ℕ) (text : List ℕ) (i j : ℕ) → Digits radix text 
 unfolding are_digits
 are_spelled radix text i j d = grind (arith, and_from, all_from, byte_is)
 
--- the digits that are read are those that stand
+-- the digits that are read are those in the text
 pub digits_sound : (radix : ℕ) (text : List ℕ) (start from end j : ℕ) → digits_end radix text start from end ≡ Ok j → Digits radix text from j
 unfolding digits_end
 digits_sound radix text start from end j h = grind (arith, nat_tests, digits_found radix text from)
@@ -140,13 +140,13 @@ digits_complete radix text start from end j d =
     let e : figures_end radix text from ≡ j = run_unique (is_figure radix) text from _ j (run_found (is_figure radix) text from (omega (arith, d.run.within))) d.run in
     grind (arith, nat_tests, are_spelled radix text from j d, digit_no_underscore radix (get_or text from 0) d.begins)
 
--- where none stand, the whole piece is told
+-- if there are none, the fault spans the whole piece
 pub digits_none : (radix : ℕ) (text : List ℕ) (start from end : ℕ) → (get_or text from 0 == 95) ≡ false → ((j : ℕ) → Digits radix text from j → ⊥)
     → digits_end radix text start from end ≡ Err (invalid_number start end)
 unfolding digits_end
 digits_none radix text start from end u n = grind (arith, is_false, digits_found)
 
--- digits and underscores are read from `from` to `at`, the last one a digit or not
+-- digits and underscores have been read from `from` to `at`; `was_digit` says whether the last one is a digit
 pub record Reading (radix : ℕ) (text : List ℕ) (from end at : ℕ) (was_digit : Bool) : Type 0 where
   pub first : from < end → (get_or text from 0 == 95) ≡ false
   pub figures : (l : ℕ) → from ≤ l → l < at → is_figure radix (get_or text l 0) ≡ true
@@ -193,7 +193,7 @@ digits_read radix text from end at r g w h =
       ];
     }
 
--- behind an underscore, or behind nothing, stands no digit
+-- after an underscore, or at the start, there is no digit
 no_digits_read : (radix : ℕ) (text : List ℕ) (from end at j : ℕ) → Reading radix text from end at false → from ≤ at → is_digit_in radix (get_or text at 0) ≡ false → Digits radix text from j → ⊥
 no_digits_read radix text from end at j r g h d = elim (cases_lt from at) [
   | inl x ↦ grind (arith, figure_underscore radix (get_or text (at - 1) 0), r.figures (at - 1), r.last (at - 1), digits_stop radix text from j d, r.figures j, d.between (at - 1), d.run.forward)
@@ -228,13 +228,13 @@ stands_alone text j k d = or_from _ _ k d
 
 -- ---- values
 
--- one digit more
+-- one more digit
 pub sum_step : (radix v c : ℕ) (cs : List ℕ) → is_digit_in radix c ≡ true
     → v * radix ^ length (filter (is_digit_in radix) (c ∷ cs)) + sum_of_digits radix (filter (is_digit_in radix) (c ∷ cs))
     ≡ (v * radix + digit_value c) * radix ^ length (filter (is_digit_in radix) cs) + sum_of_digits radix (filter (is_digit_in radix) cs)
 sum_step radix v c cs h = grind (arith, pow-succ')
 
--- v is what the digits before `rest` come to
+-- v is the number that the digits before `rest` denote
 abbrev pub Summed : ℕ → ℕ → List ℕ → List ℕ → Type 0
 Summed radix v rest all = v * radix ^ length (filter (is_digit_in radix) rest) + sum_of_digits radix (filter (is_digit_in radix) rest) ≡ sum_of_digits radix (filter (is_digit_in radix) all)
 
@@ -246,7 +246,7 @@ pub sum_passes : (radix v i : ℕ) (digits : List ℕ) → i < length digits →
     → Summed radix v (drop i digits) digits → Summed radix v (drop (i + 1) digits) digits
 sum_passes radix v i digits l h s = grind (arith, nat_tests, common_steps)
 
--- what is past 64 bits stays so, however many digits follow
+-- a number that exceeds 64 bits still does after more digits
 pub past_with_digits : (radix c n s k : ℕ) → is_digit_in radix c ≡ true → 2 ^ 64 ≤ n → 2 ^ 64 ≤ n * radix ^ k + s
 past_with_digits radix c n s k h l = grind (arith, nat_tests, one-le-pow, le-mul_of_pos_right)
 

@@ -1,4 +1,4 @@
--- What is read as a number is spelled, and a fault that is told stands in the text.
+-- A number that is read is spelled, and a fault is within the text.
 use Rattle.toml_span_lex.proofs.Common.{common_steps, nat_tests, ◌≡◌, ℕ, ◌+◌, ◌-◌, ◌<◌, ◌≤◌, ◌⊎◌, Bool, true, false, List, length, get_or, arith, Ok, Err, Option, Some, None, is_some, inl, inr, refl, subst, cases_lt, not-true, not-false, or_parts, eqb-false, ltb-false, false≢true, list_all_at, bytes_eq-Decides, list_all, option_map_or, ℤ, not, ◌==◌, ◌||◌, ◌&&◌, nat_lt, slice_range, codes, if◌then◌else◌, IsUtf8}
 use Rattle.std.proofs.lemmas.Bool.{ltb-true}
 use Rattle.toml_span_lex.specs.Bytes.{is_keylike}
@@ -19,7 +19,7 @@ use Rattle.toml_span_read.proofs.NumberLemmas.{bool_cases, byte_is, here, figure
 
 -- ---- steps that may fail
 
--- what holds of each value that is read, and each fault is placed
+-- what holds for each number that is read; each fault is within the text
 pub record Reads {A : Type 0} (text : List ℕ) (r : NumberRead A) (Q : A → Type 0) : Type 0 where
   pub given : (a : A) → r ≡ Ok a → Q a
   pub told : (e : Fault) → r ≡ Err e → StartsInside text e
@@ -27,7 +27,7 @@ pub record Reads {A : Type 0} (text : List ℕ) (r : NumberRead A) (Q : A → Ty
 pub done : {A : Type 0} (text : List ℕ) (a : A) (Q : A → Type 0) → Q a → Reads text (Ok a) Q
 done text a Q q = record { given = λ b e. (let s : a ≡ b = cc in subst (λ x. Q x) s q); told = λ e h. absurd cc }
 
--- a fault from s to e is placed
+-- a fault from s to e is within the text
 abbrev Placed : List ℕ → ℕ → ℕ → Type 0
 Placed text s e = (s ≤ e) × (s ≤ length text)
 
@@ -48,14 +48,14 @@ some_or text f o r Q h g = grind (arith, nat_tests, common_steps)
 
 -- ---- digits
 
--- a piece from start to end, which is a run or the end of one, and the digits in it from `from` on
+-- a piece from `start` to `end`, which is a run or the end of one, and the digits in it, which begin at `from`
 record Piece (text : List ℕ) (start from end : ℕ) : Type 0 where
   forward : start ≤ from
   to : from ≤ end
   within : end ≤ length text
   last : is_keylike (get_or text end 0) ≡ false
 
--- digits end before a byte of no run
+-- digits end before a byte that belongs to no run
 pub digits_to : (radix : ℕ) (text : List ℕ) (i j b : ℕ) → Digits radix text i j → i ≤ b → is_keylike (get_or text b 0) ≡ false → j ≤ b
 digits_to radix text i j b d g n = grind (arith, figure_keylike)
 
@@ -88,7 +88,7 @@ part_reads text start from end p =
 
 -- ---- exponents
 
--- what is read up to j is of this form, and its run ends there
+-- what is read up to j has this form, and its run ends there
 abbrev Whole : List ℕ → (ℕ → Type 0) → ℕ → Type 0
 Whole text Q j = Q j × (is_keylike (get_or text j 0) ≡ false)
 
@@ -171,7 +171,7 @@ radix_reads radix text start end p =
 
 -- ---- numbers without a prefix
 
--- a number begins at i, and its first run goes from a to b
+-- a number begins at i, and its first run is from a to b
 pub record First (text : List ℕ) (i a b : ℕ) : Type 0 where
   pub forward : i ≤ a
   pub some : a < b
@@ -235,7 +235,7 @@ special_reads text i a b n g h = grind (arith, choice, letters, not-true, fails)
 pub zero_first : (text : List ℕ) (i radix : ℕ) → radix_at text i ≡ Some radix → get_or text i 0 ≡ 48
 zero_first text i radix h = elim (bool_cases (get_or text i 0 == 48)) [ inl z ↦ byte_is (get_or text i 0) 48 z | inr n ↦ let e : None ≡ Some radix = rw n at h in absurd cc ]
 
--- no letter of a prefix
+-- not a letter of a prefix
 abbrev pub NoLetter : ℕ → Type 0
 NoLetter c = ((c == 120) ≡ false) × ((c == 111) ≡ false) × ((c == 98) ≡ false)
 
@@ -282,11 +282,11 @@ first_behind text i p k m n =
       prefixed = λ radix h. grind (arith, n);
     }
 
--- a digit, a letter, a dash, an underscore or a plus
+-- a digit, a letter, a dash, an underscore or a plus sign
 abbrev pub Starts : List ℕ → ℕ → Type 0
 Starts text i = (is_keylike (get_or text i 0) || get_or text i 0 == 43) ≡ true
 
--- a number is read only where one is spelled, and as that one
+-- a number is read only where it is spelled
 pub numeral_reads : (text : List ℕ) (i : ℕ) → Starts text i → Reads text (numeral text i) (Spelled text i)
 unfolding numeral
 numeral_reads text i begins =
@@ -313,7 +313,7 @@ word_keylike text word k j e h w l a b = grind (arith, range_at, range_length, b
 pub word_first : (text word : List ℕ) (k j : ℕ) → k < j → slice_range text k j ≡ word → get_or text k 0 ≡ get_or word 0 0
 word_first text word k j l e = grind (arith, range_at)
 
--- from i on something stands, whose last byte is of a run
+-- something begins at i, and its last byte belongs to a run
 record Ended (text : List ℕ) (i j : ℕ) : Type 0 where
   on : i < j
   last : is_keylike (get_or text (j - 1) 0) ≡ true
@@ -348,11 +348,11 @@ number_on s text i j h = grind (arith, number_ended, here)
 pub float_on : (text : List ℕ) (i j : ℕ) → FloatLiteral text i j → (i < j) × (j ≤ length text)
 float_on text i j f = grind (arith, number_ended, number_on)
 
--- behind a number the text may be cut
+-- the end of a number is a character boundary
 pub number_further : (s : Scalar) (text : List ℕ) (i j : ℕ) → IsUtf8 text → IsNumber s text i j → Further text i j
 number_further s text i j u h = grind (arith, number_ended, behind, here, keylike_ascii)
 
--- ---- what the code gives
+-- ---- what the code returns
 
 pub number_advances : (n : Numeral) (text : List ℕ) (i j : ℕ) → IsUtf8 text → Starts text i → numeral text i ≡ Ok (n, j) → Further text i j
 number_advances n text i j u b h = number_further (scalar_of n (slice_range text i j)) text i j u ((numeral_reads text i b).given (n, j) h)

@@ -1,4 +1,4 @@
--- A number that stands in a part of a text stands in its copy, behind which no byte goes on with it.
+-- A number in a part of a text is also in a copy of that part, unless the byte after the copy extends it.
 use Rattle.toml_span_lex.proofs.Common.{◌≡◌, ℕ, ℤ, ◌+◌, ◌-◌, ◌<◌, ◌≤◌, Bool, true, false, List, length, get_or, filter, arith, inl, inr, sym, ◌∙◌, ap, codes, ◌==◌, ◌||◌, Some, cases_lt, false≢true, or_from, nat_tests, common_steps}
 use Rattle.toml_span_lex.specs.Bytes.{is_keylike}
 use Rattle.toml_span_tree.specs.Node.{Scalar, text as text_scalar, integer, float, boolean, datetime, finite, infinite, not_a_number}

@@ -1,8 +1,8 @@
--- A part of a text: its bytes, and those behind it.
+-- A part of a text: its bytes, and those after it.
 use Rattle.toml_span_lex.proofs.Common.{◌≡◌, ℕ, ◌+◌, ◌-◌, ◌<◌, ◌≤◌, Bool, true, List, [], ◌∷◌, ◌++◌, length, get_or, drop, arith, sym, ◌∙◌, refl, ap, append-nil, append_assoc, length-append, slice_range, get_or_append_left, get_or-append-add, drop-drop, drop_at, nat_tests, common_steps}
 use Rattle.std.proofs.lemmas.List.{get_or-drop}
 
--- from i on the text is this part and the rest, and j is behind the part
+-- from i on the text is this part and the rest, and the part ends at j
 pub record Part (text part rest : List ℕ) (i j : ℕ) : Type 0 where
   pub is : drop i text ≡ part ++ rest
   pub on : j ≡ i + length part
@@ -33,7 +33,7 @@ back {text} {rest} {i} a b p =
       all = p.all;
     }
 
--- a byte and what is behind it
+-- a byte and what follows it
 pub tail : {text rest : List ℕ} {i j : ℕ} (c : ℕ) (cs : List ℕ) → Part text (c ∷ cs) rest i j → Part text cs rest (i + 1) j
 tail c cs p = back (c ∷ []) cs p
 
@@ -43,7 +43,7 @@ here {text} {rest} {i} c cs p = grind (arith, nat_tests, common_steps)
 pub byte : {text part rest : List ℕ} {i j : ℕ} → Part text part rest i j → (k : ℕ) → k < length part → get_or text (i + k) 0 ≡ get_or part k 0
 byte {text} {part} {rest} {i} p k h = sym (get_or-drop i text k 0) ∙ (ap (λ (l : List ℕ). get_or l k 0) p.is ∙ get_or_append_left part rest 0 k h)
 
--- the byte at a place of the part, by its place in the text
+-- the byte at an offset in the part, by its offset in the text
 pub byte_at : {text part rest : List ℕ} {i j : ℕ} → Part text part rest i j → (k : ℕ) → i ≤ k → k < j → get_or text k 0 ≡ get_or part (k - i) 0
 byte_at {text} {part} {rest} {i} p k a b = grind (arith, nat_tests, common_steps)
 
@@ -62,7 +62,7 @@ range {text} {part} {rest} {i} {j} p = grind (arith, nat_tests, common_steps)
 pub within : {text part rest : List ℕ} {i j : ℕ} → Part text part rest i j → j ≤ length text
 within p = let x = p.all in omega arith
 
--- what holds of each byte of the part
+-- what holds for each byte of the part
 pub each : {text part rest : List ℕ} {i j : ℕ} → Part text part rest i j → (p : ℕ → Bool) → ((k : ℕ) → k < length part → p (get_or part k 0) ≡ true) → (k : ℕ) → i ≤ k → k < j → p (get_or text k 0) ≡ true
 each {text} {part} {rest} {i} w p h k a b =
     let x = w.on in rw (byte_at w k a b) (h (k - i) (omega arith))

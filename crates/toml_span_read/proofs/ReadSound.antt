@@ -25,12 +25,12 @@ use Rattle.toml_span_read.proofs.Places.{run_some, read_within}
 
 -- ---- loops
 
--- a state of which the one holds, or an end of which the other does
+-- a state for which P holds, or a result for which Q holds
 abbrev Kept : {S A : Type 0} → (S → Type 0) → (A → Type 0) → Turn S A → Type 0
 Kept P Q (on s) = P s
 Kept P Q (done a) = Q a
 
--- what each turn keeps holds at the end
+-- what every step preserves holds at the end
 loop_sound : {S A : Type 0} (turn : S → Reading (Turn S A)) (P : S → Type 0) (Q : A → Type 0) → ((s : S) (t : Turn S A) → P s → turn s (Ok t) → Kept P Q t) → (s : S) (r : Result A Fault) (a : A) → P s → Loop turn s r → r ≡ Ok a → Q a
 loop_sound turn P Q keeps s r a p (ends s' b h) e = let same : b ≡ a = cc in rw same at (keeps s (done b) p h)
 loop_sound turn P Q keeps s r a p (stops s' x h) e = absurd cc
@@ -83,7 +83,7 @@ bare_sound s text i j b (inr (d, e)) = choose s text i j _ refl d b (sym e)
 
 -- ---- elements
 
--- whatever elements follow, they and those that are read are elements from k on
+-- any elements that follow, together with those read so far, are elements from k on
 abbrev ItemsFrom : List ℕ → ℕ → ℕ → ℕ → Elements → Type 0
 ItemsFrom text limit d k (vs, i) = (rest : ParsedItems) (j : ℕ) → ItemsWith SpellsScalar rest text limit d i j → ItemsWith SpellsScalar (onto vs rest) text limit d k j
 
@@ -147,7 +147,7 @@ pub pairs_onto_more : (es : List KeyValue) (p : KeyValue) (rest : ParsedPairs) �
 pairs_onto_more [] p rest = refl
 pairs_onto_more (e ∷ es) p rest = ap (λ z. pair_node e.parts e.value e.extent z) (pairs_onto_more es p rest)
 
--- under so many parts of a key
+-- with any number of key parts
 abbrev pub PartsSound : List ℕ → ℕ → ℕ → (ℕ → ℕ → Reading ValueEnd) → Type 0
 PartsSound text limit d value = (n : ℕ) → ValueSound text limit (d + n) (value n)
 
@@ -162,7 +162,7 @@ pair_spelled e text limit d value i j sound h =
     let r = key_value_sound e text limit (MaximalGap text) value i j h in
     (r.key_end, r.from, r.key, r.few, record { at = r.at; before = r.before; here = r.here; behind = r.behind }, sound (length e.parts) e.value r.from j r.given, r.extent)
 
--- what is added stands behind the others
+-- what is added comes after the others
 is_added : (es fs : List KeyValue) (e : KeyValue) → read.added es e (Ok fs) → Clear es e × (fs ≡ es ++ (e ∷ []))
 is_added es fs e h = grind (arith)
 
@@ -185,7 +185,7 @@ members_sound text limit d k value sound a h =
 
 -- ---- values
 
--- a value with so many levels left, where the values inside it are spelled
+-- a value with this many levels left, if the values inside it are spelled
 level_sound : (left : ℕ) (text : List ℕ) (limit d : ℕ) → d ≤ limit → PartsSound text limit (d + 1) (read.value text limit left) → ValueSound text limit d (read.value text limit (suc left) zero)
 unfolding read.value
 level_sound left text limit d l sound v i j (inl (here, (k, gap, h))) =
@@ -201,7 +201,7 @@ level_sound left text limit d l sound v i j (inr (none, inr (unbraced, inl (bare
     let ((s, m), found, is) = after_gives h in same_read (λ (v, j). Spells v text limit d i j) is (l, bare_sound s text i m bare found)
 level_sound left text limit d l sound v i j (inr (none, inr (unbraced, inr (other, h)))) = grind (arith, nat_tests, common_steps)
 
--- with so many levels left above the limit
+-- with this many levels left below the limit
 pub value_sound : (left : ℕ) (text : List ℕ) (limit d n : ℕ) → d + left ≡ limit + 1 → ValueSound text limit (d + n) (read.value text limit left n)
 unfolding read.value
 value_sound zero text limit d n e v i j (inl (test, is)) = absurd cc
@@ -231,11 +231,11 @@ key_value_spelled e text limit i j h =
 tail_sound : (text : List ℕ) (i j : ℕ) → read.tail text i (Ok j) → Tail text i j
 tail_sound text i j h = grind (arith, nat_tests, common_steps)
 
--- whatever assignments follow, they and those that are read stand from k on
+-- any assignments that follow, together with those read so far, are assignments from k on
 abbrev LinesFrom : List ℕ → ℕ → ℕ → Pairs → Type 0
 LinesFrom text limit k (es, i) = (rest : List KeyValue) (j : ℕ) → KeyValuesWith SpellsScalar rest es text limit i j → KeyValuesWith SpellsScalar (es ++ rest) [] text limit k j
 
--- the assignments stand from k on, and no other follows
+-- the assignments are spelled from k on, and no other follows
 abbrev LinesUpTo : List ℕ → ℕ → ℕ → Pairs → Type 0
 LinesUpTo text limit k (es, j) = KeyValuesWith SpellsScalar es [] text limit k j × (read.ends_lines text j ≡ true)
 
@@ -281,7 +281,7 @@ header_sound h text limit i here (inr (one, g)) = heading_sound false h text lim
 
 -- ---- sections
 
--- a section, behind which no assignment follows
+-- a section, after which no assignment follows
 ended_section : (b : Block) (text : List ℕ) (limit i j : ℕ) → get_or text i 0 ≡ 91 → read.section text limit i (Ok (b, j)) → SpellsSection b text limit i j × (read.ends_lines text j ≡ true)
 ended_section b text limit i j here found =
     let (h, g, more) = after_gives found in
@@ -295,7 +295,8 @@ section_sound b text limit i j here h = (ended_section b text limit i j here h).
 
 -- ---- the document
 
--- whatever sections follow, they and those that are read are the document, and one begins here, or the text ends
+-- any sections that follow, together with those read so far, are the document, and another section begins here, or the
+-- text ends
 abbrev DocumentFrom : List ℕ → ℕ → Blocks → Type 0
 DocumentFrom text limit (bs, i) = ((rest : List Block) → SectionsWith SpellsScalar rest text limit i → SpellsDocument (bs ++ rest) text limit) × (read.ends_lines text i ≡ true)
 

@@ -1,4 +1,4 @@
--- Integers of a few digits alone.
+-- Integers of a few digits only.
 use Rattle.toml_span_lex.proofs.Common.{common_steps, ◌≡◌, ℕ, ◌+◌, ◌-◌, ◌<◌, ◌≤◌, true, false, drop, List, length, get_or, arith, inl, inr, refl, sym, ◌∙◌, ℤ, ◌*◌, slice_range, ◌==◌, Ok, IsUtf8, IsCharBoundary, cases_lt, false≢true, or_left, nat_tests, is_ascii_digit, digit_value}
 use Rattle.toml_span_lex.specs.Bytes.{is_keylike}
 use Rattle.toml_span_lex.proofs.Runs.{boundary_after}
@@ -33,7 +33,7 @@ Decimals text i j = (k : ℕ) → i ≤ k → k < j → is_ascii_digit (get_or t
 
 -- ---- no date begins with them
 
--- where a decimal digit stands at k, k is among the digits
+-- if there is a decimal digit at k, k is among the digits
 among : (text : List ℕ) (i j k : ℕ) → is_keylike (get_or text j 0) ≡ false → k ≤ j → is_ascii_digit (get_or text k 0) ≡ true → k < j
 among text i j k n le h = grind (arith, cases_lt, false≢true, decimal_keylike)
 
@@ -47,9 +47,9 @@ date_no : (text : List ℕ) (i j : ℕ) → i < j → Decimals text i j → is_k
 date_no text i j l h n c b =
     grind (arith, among text i j (i + 1) n, among text i j (i + 2) n, among text i j (i + 3) n, no_colon text i j (i + 2) h c, no_dash text i j (i + 4) h n)
 
--- ---- what they come to
+-- ---- the number that they denote
 
--- the digits from `from` to `at` are read, and come to v
+-- the digits from `from` to `at` have been read, and denote v
 pub record FewDigits (text : List ℕ) (from at v : ℕ) : Type 0 where
   pub digits : Decimals text from at
   pub sum : (j : ℕ) → at ≤ j → j ≤ length text → Summed 10 v (drop (at - from) (slice_range text from j)) (slice_range text from j)

@@ -1,4 +1,4 @@
--- Strings on one line in which each character stands for itself.
+-- Single-line strings without escapes.
 use Rattle.toml_span_lex.proofs.Common.{common_steps, ◌≡◌, ℕ, ◌+◌, ◌-◌, ◌<◌, ◌⊎◌, false, List, [], ◌∷◌, length, get_or, arith, refl, append-nil, slice_range, IsUtf8, IsCharBoundary, cow_str_bytes, IsBorrowedStr, CowStr, nat_tests}
 use Rattle.toml_span_lex.specs.Bytes.{MaximalRun}
 use Rattle.toml_span_lex.specs.declared.pieces.Piece.TheVariants as pieces
@@ -23,7 +23,7 @@ plain_content text q i j l run e w = record {
 quote_byte : (q : ℕ) → (q ≡ 34) ⊎ (q ≡ 39) → (0 < q) × (q < 128)
 quote_byte q h = grind (arith, nat_tests, common_steps)
 
--- what reading such a string gives
+-- the result of reading such a string
 pub short_read : {Z : Type 0} (text : List ℕ) (q i j : ℕ) (val : CowStr Z) → IsUtf8 text → q ≡ get_or text i 0 → (get_or text i 0 ≡ 34) ⊎ (get_or text i 0 ≡ 39) → i + 1 < j
     → MaximalRun (is_plain q) text (i + 1) j → get_or text j 0 ≡ q → IsBorrowedStr val → cow_str_bytes val ≡ slice_range text (i + 1) j
     → ((source : List ℕ) × IsString text i (j + 1) (record { start = i + 1; end = j }) source (cow_str_bytes val) false × Borrows text i (j + 1) (record { start = i + 1; end = j }) val × Further text i (j + 1))

@@ -1,4 +1,4 @@
--- The spans of a value lie within the text that it is spelled by.
+-- The spans of a value are within the text that spells it.
 use Rattle.toml_span_lex.proofs.Common.{common_steps, nat_tests, ◌≡◌, ℕ, ◌+◌, ◌<◌, ◌≤◌, List, [], ◌∷◌, ◌++◌, length, arith, inl, inr}
 use Rattle.toml_span_lex.specs.declared.span.Span.{Span}
 use Rattle.toml_span_tree.specs.Node.{Scalar, text as text_scalar, integer, float, boolean, datetime}
@@ -31,7 +31,7 @@ sign_onward c text i j s = omega (arith, s.before.forward, s.behind.forward)
 closes_on : (c : ℕ) (text : List ℕ) (i j : ℕ) → 0 < c → Closes c text i j → (i ≤ j) × (j ≤ length text)
 closes_on c text i j l s = grind (arith, nat_tests, common_steps)
 
--- a value that lies from i on lies from n on, before it
+-- a value that begins at i or after it begins at n or after it, if n is not after i
 nearer : (v : ParsedValue) (n i j : ℕ) → n ≤ i → Inside v i j → Inside v n j
 nearer (parsed k span) n i j l (begins, forward, ends, inner) = (omega arith, forward, ends, inner)
 

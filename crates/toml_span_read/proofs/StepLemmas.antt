@@ -1,4 +1,4 @@
--- What is read section by section.
+-- What is read, section by section.
 use Rattle.toml_span_lex.proofs.Common.{arith, common_steps, nat_tests, ◌≡◌, sym, ap, ◌∙◌, ℕ, List, [], ◌∷◌, map, Ok, Option, Some, None, IfSome}
 use Rattle.toml_span_lex.specs.Text.{FirstPlace}
 use Rattle.toml_span_read.specs.declared.section.Section.{Section}
@@ -28,7 +28,7 @@ abbrev pub listed : Option Section → List Section
 listed None = []
 listed (Some s) = s ∷ []
 
--- a list of what stands before the first header
+-- the list of sections before the first header
 pub record Begins (text : List ℕ) (limit at : ℕ) (found : List Section) : Type 0 where
   pub borrows : AreWrittenRight text (sections_written found)
   pub whole : DocumentFrom text limit (map block found) at

@@ -1,4 +1,4 @@
--- Where a number stands and no colon is behind it, no date begins.
+-- Where there is a number that no colon follows, no date begins.
 use Rattle.toml_span_lex.proofs.Common.{◌≡◌, ℕ, ◌+◌, ◌<◌, ◌≤◌, ◌⊎◌, true, false, List, ◌∷◌, get_or, arith, inl, inr, refl, sym, ◌∙◌, ◌==◌, ◌&&◌, is_ascii_digit, cases_lt, false≢true, or_cases, and_parts, false_from_ne_true, nat_tests, common_steps}
 use Rattle.std.proofs.lemmas.Bool.{eqb-true}
 use Rattle.toml_span_tree.specs.Node.{Scalar, text as text_scalar, integer, float, boolean, datetime, finite, infinite, not_a_number}
@@ -16,7 +16,7 @@ behind_none text i h = no_sign text i (digit_other (get_or text i 0) 43 h refl) 
 decimal_figure : (c : ℕ) → is_ascii_digit c ≡ true → is_figure 10 c ≡ true
 decimal_figure c h = grind arith
 
--- digits go on over a digit, and end before a byte that is no figure
+-- digits extend over a digit, and end before a byte that is neither a digit nor an underscore
 on : (text : List ℕ) (i e k : ℕ) → Digits 10 text i e → k ≤ e → is_ascii_digit (get_or text k 0) ≡ true → k < e
 on text i e k d l h = elim (cases_lt k e) [
   | inl x ↦ x
@@ -29,7 +29,7 @@ ends text i e k c d o l h off = elim (cases_lt k e) [
   | inr x ↦ let z : e ≡ k = omega arith in rw z (eqb-true (get_or text k 0) c h)
 ]
 
--- digits where a date begins end before a colon or a dash
+-- digits end before a colon or a dash, if a date begins with them
 front_ends : (text : List ℕ) (i e : ℕ) → begins_date text i ≡ true → Digits 10 text i e → (get_or text e 0 ≡ 58) ⊎ (get_or text e 0 ≡ 45)
 front_ends text i e h d =
     let a = and_parts (is_ascii_digit (get_or text i 0) && is_ascii_digit (get_or text (i + 1) 0)) _ h in
@@ -46,7 +46,7 @@ front_ends text i e h d =
           inr (ends text i e (i + 4) 45 d (omega arith) (omega arith) f.1 refl)
     ]
 
--- an exponent's letter or a dot is neither a colon nor a dash
+-- the letter of an exponent, or a dot, is neither a colon nor a dash
 front_rest : (text : List ℕ) (m j : ℕ) → (get_or text m 0 ≡ 58) ⊎ (get_or text m 0 ≡ 45) → Exponent text m j ⊎ ((p : ℕ) × Fraction text m p × ((j ≡ p) ⊎ Exponent text p j)) → ⊥
 front_rest text m j h g = grind (arith, nat_tests, common_steps)
 

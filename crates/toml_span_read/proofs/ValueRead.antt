@@ -27,7 +27,7 @@ use Rattle.toml_span_read.proofs.NumberLemmas.{is_false, same_byte, byte_is, cla
 not_word : (word w : List ℕ) → (word ≡ w → ⊥) → bytes_eq word w ≡ false
 not_word word w n = is_false (bytes_eq word w) (λ t. n ((bytes_eq-Decides word w).0 t))
 
--- the run at a place, by where it ends
+-- the run at an offset, given its end
 run_here : (text bytes word : List ℕ) (i j : ℕ) → bytes ≡ text → MaximalRun is_keylike text i j → slice_range bytes i j ≡ word → (read.run_at text i ≡ word) × (run_end text i ≡ j)
 run_here text bytes word i j same run is = let e = run_is text i j run in (rw (e, ← same) is, e)
 
@@ -90,7 +90,7 @@ deep_plain : (text : List ℕ) (limit d i : ℕ) (r : Result ValueEnd Fault) →
     → read.after (read.string_value text i) (λ found r. r ≡ Err (fault_at kinds.ExceededDepthLimit i)) r → read.value text limit ((limit + 1) - d) zero i r
 deep_plain text limit d i r l n b h = past_limit text limit d i r l (inr (rw (n, b) refl, h))
 
--- at or past the limit, what stops a string stops the value
+-- at or past the limit, the fault of a string is the fault of the value
 pub plain_stops : (text : List ℕ) (limit d i : ℕ) (e : Fault) → opens_nested (get_or text i 0) ≡ false → begins_bare (get_or text i 0) ≡ false → read.string_value text i (Err e) → read.value text limit ((limit + 1) - d) zero i (Err e)
 plain_stops text limit d i e n b h = grind (arith, cases_lt limit d, deep_plain, plain_value)
 
@@ -130,7 +130,7 @@ nested_read text i k inner (Err e) gap h = (k, gap, inr (e, h, refl))
 abbrev pub below : List ℕ → ℕ → ℕ → ℕ → ℕ → Reading ValueEnd
 below text limit d = read.value text limit ((limit + 1) - (d + 1))
 
--- whatever is read behind these elements is read as the array at i
+-- whatever is read after these elements is read as the array at i
 abbrev pub ArrayFrom : List ℕ → ℕ → ℕ → ℕ → List ParsedValue → ℕ → Type 0
 ArrayFrom text limit d i vs n =
     (r : Result (ParsedInner × ℕ) Fault) → Loop (read.next_element text (below text limit d zero)) (vs, n) r → read.value text limit ((limit + 1) - d) zero i (nested_of i r)
@@ -149,8 +149,8 @@ pub table_begins : (text : List ℕ) (limit d i k : ℕ) → d ≤ limit → get
 unfolding read.value
 table_begins text limit d i k l here gap r h = within_limit text limit d i (nested_of i r) l (inr (rw here refl, inl (same_byte _ _ here, nested_read text i k (λ n. Loop (read.next_pair text limit (below text limit d)) ([], n)) r gap h)))
 
--- ---- views
+-- ---- conversions to plain data
 
--- one more at the end, seen so
+-- one more at the end, as plain data
 pub map_end : {A B : Type 0} (f : A → B) (xs ys : List A) (x : A) → ys ≡ xs ++ (x ∷ []) → map f ys ≡ map f xs ++ (f x ∷ [])
 map_end f xs ys x e = rw e (map-append f xs (x ∷ []))

@@ -1,4 +1,4 @@
--- The meanings of values and of assignments, opened one level.
+-- Values and assignments as plain data, one level at a time.
 use Rattle.toml_span_lex.proofs.Common.{◌≡◌, map, Vec, Global, rules}
 use Rattle.toml_span_read.specs.declared.value.Val.{Val}
 use Rattle.toml_span_read.specs.declared.value.ValKind.{Array, Inline, the_lemmas}

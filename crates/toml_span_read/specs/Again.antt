@@ -1,4 +1,4 @@
--- What is spelled, read again between any two texts.
+-- Spellings of values that read back as those values wherever they occur.
 use Rattle.std.specs.Prelude.{◌≡◌, ℕ, ◌+◌, ◌≤◌, Bool, true, false, not, ◌||◌, List, [], ◌∷◌, ◌++◌, length, slice_index}
 use Rattle.toml_span_lex.specs.Strings.{IsString}
 use Rattle.toml_span_lex.specs.declared.span.Span.{Span}
@@ -13,20 +13,20 @@ use Rattle.toml_span_read.specs.Earlier.{part_names}
 use Rattle.toml_span_read.specs.Grammar.{Spells, SpellsScalar}
 use Rattle.toml_span_read.specs.Keys.{SpellsSimpleKey, opens_string}
 
--- What may stand behind a spelling: the end of the text, or what goes on with no word, number, date or string, which
--- is no letter, digit, dash, underscore, colon, dot, plus or quote, and no space with a digit behind it.
+-- Whether a spelling may be followed by these bytes, which must not extend it: they do not begin with a letter, a
+-- digit, a quote or one of `-_:.+`, nor with a space and a digit. They may be empty.
 abbrev pub parts_off : List ℕ → Bool
 parts_off behind =
     not (is_date_byte (slice_index behind 0) || (opens_string (slice_index behind 0) || continues_date behind 0))
 
--- wherever the part stands in a text, it is one string on one line, from its first byte to its last, with this content
+-- Wherever this part occurs in a text, it is a single-line string with this content, from its first byte to its last.
 abbrev pub ReadsAsString : List ℕ → List ℕ → Type 0
 ReadsAsString content part =
     (before behind : List ℕ) → parts_off behind ≡ true
     → (span : Span)
     × IsString (before ++ (part ++ behind)) (length before) (length before + length part) span part content false
 
--- wherever the part stands in a text, it is one simple key with this name
+-- Wherever this part occurs in a text, it is a simple key with this name, from its first byte to its last.
 abbrev pub ReadsAsKey : List ℕ → List ℕ → Type 0
 ReadsAsKey name part =
     (before behind : List ℕ) → parts_off behind ≡ true
@@ -36,7 +36,7 @@ ReadsAsKey name part =
 
 -- ---- values
 
--- The value that is read is that of the tree, spans aside. Each key of its tables is read as one part.
+-- The value read equals the tree's value, apart from spans. Each key of its tables is read as one part.
 abbrev mutual
   pub HasValue : ParsedValue → Node → Type 0
   HasValue (parsed k span) (node i at) = HoldsValue k i
@@ -58,7 +58,7 @@ abbrev mutual
       (part_names parts ≡ name ∷ []) × HasValue v n × HaveEntries ps ms
   HaveEntries _ _ = ⊥
 
--- the text of a float with digits spells it by itself
+-- The text stored for a float with digits is itself a spelling of that float.
 abbrev pub IsFloatText : FloatValue → Type 0
 IsFloatText (finite digits) =
     SpellsScalar (float (finite digits)) (from_to 0 (length digits)) digits 0 (length digits)
@@ -69,7 +69,7 @@ abbrev pub IsScalarText : Scalar → Type 0
 IsScalarText (float x) = IsFloatText x
 IsScalarText _ = Unit {0}
 
--- so does that of each float in the value
+-- the same for each float in the value
 abbrev mutual
   pub HasFloatTexts : Node → Type 0
   HasFloatTexts (node i span) = InnerHasFloatTexts i
@@ -88,8 +88,8 @@ abbrev mutual
   MembersHaveFloatTexts no_members = Unit {0}
   MembersHaveFloatTexts (member name key n ms) = HasFloatTexts n × MembersHaveFloatTexts ms
 
--- The depth of a value is the number of brackets, braces and key parts round it: d of this one. No value in it, nor the
--- value itself, is deeper than the limit. An entry of a table has one key part.
+-- No value in this one, nor the value itself, is nested deeper than the limit. The depth of a value is the number of
+-- brackets, braces and key parts around it, and d is the depth of this value. An entry of a table has one key part.
 abbrev mutual
   pub IsWithin : ℕ → ℕ → Node → Type 0
   IsWithin limit d (node i span) = (d ≤ limit) × InnerIsWithin limit d i
@@ -108,7 +108,7 @@ abbrev mutual
   MembersAreWithin limit d no_members = Unit {0}
   MembersAreWithin limit d (member name key n ms) = IsWithin limit (d + 1) n × MembersAreWithin limit d ms
 
--- wherever the part stands in a text, it is one value, from its first byte to its last: this one of the tree
+-- Wherever this part occurs in a text, it is a value equal to this one of the tree, from its first byte to its last.
 abbrev pub ReadsAsValue : Node → List ℕ → Type 0
 ReadsAsValue n part =
     (limit depth : ℕ) → is_whole n ≡ true → IsWithin limit depth n → HasFloatTexts n

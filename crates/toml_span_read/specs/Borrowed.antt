@@ -1,4 +1,4 @@
--- Which of the strings and keys that are read are borrowed.
+-- Which strings and keys are borrowed from the text.
 use Rattle.std.specs.Global.{Global}
 use Rattle.std.specs.declared.borrow.CowStr.{CowStr}
 use Rattle.std.specs.Prelude.{ℕ, List, [], ◌∷◌, ◌++◌, map}
@@ -14,12 +14,12 @@ use Rattle.toml_span_read.specs.declared.value.ValKind.{ValKind}
 use Rattle.toml_span_read.specs.declared.value.Assignment.{Assignment}
 use Rattle.toml_span_read.specs.declared.section.Section.{Section}
 
--- what is written as a string value or as a key, with its span
+-- a string value or a key, with its span
 pub data Written : Type 0 where
   string : CowStr Global → Span → Written
   name : CowStr Global → Span → Written
 
--- borrowed exactly where it equals the text at its span
+-- It is borrowed exactly if it equals the text at its span.
 abbrev pub IsWrittenRight : List ℕ → Written → Type 0
 IsWrittenRight text (string s span) = BorrowsWhereSame text span s
 IsWrittenRight text (name s span) = BorrowsWhereSame text span s
@@ -27,7 +27,7 @@ IsWrittenRight text (name s span) = BorrowsWhereSame text span s
 abbrev pub AreWrittenRight : List ℕ → List Written → Type 0
 AreWrittenRight text ws = AllByRecursion (IsWrittenRight text) ws
 
--- one list behind the other
+-- the lists, concatenated
 abbrev pub joined : {A : Type 0} → List (List A) → List A
 joined [] = []
 joined (xs ∷ rest) = xs ++ joined rest
@@ -41,7 +41,8 @@ keys_written keys = map key_written keys
 abbrev pub dotted_written : DottedKey → List Written
 dotted_written key = keys_written key.inner.items ++ (key_written key.last ∷ [])
 
--- one level of each type, with what is written in each value inside; a string's span is its value's
+-- the strings and keys of one level of each type, with those of the values inside already collected; the span of a
+-- string is that of its value
 abbrev pub kind_step : ValKind-F (Span → List Written) (List Written) (List Written) → Span → List Written
 kind_step (ValKind-F.String s) span = string s span ∷ []
 kind_step (ValKind-F.Array v) span = joined v.items
@@ -54,7 +55,7 @@ val_step v = v.kind v.span
 abbrev pub assignment_step : Assignment-F (Span → List Written) (List Written) (List Written) → List Written
 assignment_step a = dotted_written a.parts ++ a.value
 
--- the strings and keys of a value, and of an assignment, in the order of the text
+-- the strings and keys of a value and of an assignment, in the order of the text
 abbrev pub written : Val → List Written
 written = fold-Val (Span → List Written) (List Written) (List Written) kind_step assignment_step val_step
 
@@ -68,7 +69,7 @@ assignment_written =
 abbrev pub assignments_written : List Assignment → List Written
 assignments_written found = joined (map assignment_written found)
 
--- those of a section, its header's parts first, and of all sections
+-- those of a section, beginning with the parts of its header, and those of all sections
 abbrev pub section_written : Section → List Written
 section_written s = keys_written s.header.items ++ assignments_written s.assignments.items
 

@@ -1,4 +1,4 @@
--- What is read, as plain data: a text is its bytes, and whether it is borrowed is no part of it.
+-- What the parser reads, as plain data. A string is its bytes; whether it is borrowed is left out.
 use Rattle.std.specs.Prelude.{ℕ, Bool, false, List, [], ◌∷◌, ◌++◌, map}
 use Rattle.std.specs.Cow.{cow_str_bytes}
 use Rattle.toml_span_lex.specs.declared.key.Key.{Key}
@@ -13,13 +13,13 @@ use Rattle.toml_span_read.specs.declared.value.ValKind.{ValKind}
 use Rattle.toml_span_read.specs.declared.value.Assignment.{Assignment}
 use Rattle.toml_span_read.specs.declared.section.Section.{Section}
 
--- a key by its name and its span
+-- a key: its name and its span
 pub record SimpleKey : Type 0 where
   pub name : List ℕ
   pub span : Span
 
 mutual
-  -- a value, with its span
+  -- a value and its span
   pub data ParsedValue : Type 0 where
     parsed : ParsedInner → Span → ParsedValue
 
@@ -33,7 +33,7 @@ mutual
     no_items : ParsedItems
     item : ParsedValue → ParsedItems → ParsedItems
 
-  -- the pairs of an inline table, in order: the parts of the key, the value and the extent
+  -- the pairs of an inline table, in order, each with the parts of its key, its value and its extent
   pub data ParsedPairs : Type 0 where
     no_pairs : ParsedPairs
     pair : List SimpleKey → ParsedValue → Span → ParsedPairs → ParsedPairs
@@ -44,13 +44,13 @@ pub record KeyValue : Type 0 where
   pub value : ParsedValue
   pub extent : Span
 
--- where a value stands
+-- the span of a value
 abbrev pub parsed_span : ParsedValue → Span
 parsed_span (parsed inner span) = span
 
--- A section as plain data: the parts of its header, none before the first header; whether the header stands in double
--- brackets; its line, with the rest of the line; where the section stands, from its header, or its first assignment, to
--- its last assignment; and its assignments.
+-- A section: the parts of its header, which are empty before the first header; whether the header has double brackets;
+-- the span of the header and the rest of its line; the extent from the header, or the first assignment, to the end of
+-- the last assignment; and its assignments.
 pub record Block : Type 0 where
   pub header : List SimpleKey
   pub array : Bool
@@ -58,17 +58,17 @@ pub record Block : Type 0 where
   pub extent : Span
   pub key_values : List KeyValue
 
--- from one place to another, not included
+-- the span from offset i to offset j (exclusive)
 abbrev pub from_to : ℕ → ℕ → Span
 from_to i j = record { start = i; end = j }
 
--- where the last of these assignments ends, or, without one, n
+-- the end of the last of these assignments, or else n
 abbrev pub last_end : ℕ → List KeyValue → ℕ
 last_end n [] = n
 last_end n (ev ∷ evs) = last_end ev.extent.end evs
 
--- The assignments before the first header, if there are any, are a section of their own: its header is empty and stands
--- at 0..0, and its extent goes from the first assignment to the end of the last.
+-- The assignments before the first header, if any, form a section with an empty header at 0..0. Its extent begins at
+-- the first assignment and ends after the last.
 abbrev pub first_block : List KeyValue → List Block
 first_block [] = []
 first_block (ev ∷ evs) =
@@ -80,13 +80,13 @@ first_block (ev ∷ evs) =
       key_values = ev ∷ evs;
     } ∷ []
 
--- the greatest limit that a call may set, and that of `parse`
+-- the highest limit that a caller may set, which is also the limit of `parse`
 abbrev pub depth_limit : ℕ
 depth_limit = 128
 
--- ---- what is read, seen so
+-- ---- the code's values as plain data
 
--- these values, and then those
+-- the list of values, followed by the items
 abbrev pub onto : List ParsedValue → ParsedItems → ParsedItems
 onto [] rest = rest
 onto (n ∷ ns) rest = item n (onto ns rest)
@@ -95,14 +95,14 @@ abbrev pub pairs_onto : List KeyValue → ParsedPairs → ParsedPairs
 pairs_onto [] rest = rest
 pairs_onto (p ∷ ps) rest = pair p.parts p.value p.extent (pairs_onto ps rest)
 
--- a key that is read, seen so, and the parts of a dotted key
+-- the code's key as plain data, and the same for the parts of a dotted key
 abbrev pub simple_key : Key → SimpleKey
 simple_key key = record { name = cow_str_bytes key.name; span = key.span }
 
 abbrev pub parts : DottedKey → List SimpleKey
 parts key = map simple_key key.inner.items ++ (simple_key key.last ∷ [])
 
--- one level of each type, with each value inside already seen as its meaning
+-- one level of each type, with the values inside already converted
 abbrev pub kind_step : ValKind-F ParsedInner KeyValue ParsedValue → ParsedInner
 kind_step (ValKind-F.String s) = scalar (text (cow_str_bytes s))
 kind_step (ValKind-F.Integer n) = scalar (integer n)

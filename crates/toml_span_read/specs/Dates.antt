@@ -3,8 +3,8 @@ use Rattle.std.specs.Prelude.{◌≡◌, ℕ, ◌+◌, ◌⊎◌, Bool, true, fa
 use Rattle.std.specs.Char.{is_ascii_digit}
 use Rattle.toml_span_lex.specs.Bytes.{is_keylike, MaximalRun, colon, dash, period, plus, space}
 
--- four digits and a dash, as every `full-date` begins, or two digits and a colon, as every `partial-time` does:
--- `date-fullyear = 4DIGIT`, `time-hour = 2DIGIT`
+-- Whether a date or a time begins here: four digits and a dash begin a `full-date`, two digits and a colon a
+-- `partial-time` (`date-fullyear = 4DIGIT`, `time-hour = 2DIGIT`).
 abbrev pub begins_date : List ℕ → ℕ → Bool
 begins_date text i =
     (is_ascii_digit (slice_index text i) && is_ascii_digit (slice_index text (i + 1)))
@@ -12,18 +12,18 @@ begins_date text i =
     || ((is_ascii_digit (slice_index text (i + 2)) && is_ascii_digit (slice_index text (i + 3)))
     && slice_index text (i + 4) == dash))
 
--- a letter, a digit, a dash, an underscore, a colon, a dot or a plus: what dates and times are written with, and
--- what may not stand right behind one
+-- the bytes that dates and times are written with, none of which may follow one directly: letters, digits, dashes,
+-- underscores, colons, dots and plus signs
 abbrev pub is_date_byte : ℕ → Bool
 is_date_byte c = ((is_keylike c || c == colon) || c == period) || c == plus
 
--- a space with a digit behind it: `time-delim = "T" / %x20`
+-- `time-delim = "T" / %x20`: a space that is followed by a digit
 abbrev pub continues_date : List ℕ → ℕ → Bool
 continues_date text i = slice_index text i == space && is_ascii_digit (slice_index text (i + 1))
 
--- The text from i to j is to be a date or a time: all such bytes from i on, and where ten of them are followed by a
--- space with a digit behind it, those from that digit on. Which of these texts are a `date-time` of the standard says
--- `IsDateText` of toml_span_tree.
+-- The text from i to j must be a date or a time: all these bytes from i on, and, if there are exactly ten of them
+-- before a space and a digit, also those from that digit on. `IsDateText` of toml_span_tree says which such texts are a
+-- `date-time`.
 abbrev pub IsCandidate : List ℕ → ℕ → ℕ → Type 0
 IsCandidate text i j =
     (MaximalRun is_date_byte text i j × (((j == i + 10) && continues_date text j) ≡ false))

@@ -1,4 +1,4 @@
--- Dotted keys that go through earlier values.
+-- Dotted keys that go through the values of earlier assignments.
 use Rattle.std.specs.Prelude.{◌≡◌, ℕ, List, [], ◌∷◌, ◌++◌, map}
 use Rattle.toml_span_lex.specs.declared.span.Span.{Span}
 use Rattle.toml_span_read.specs.Data.{SimpleKey, KeyValue, parsed_span}
@@ -9,12 +9,12 @@ use Rattle.toml_span_read.specs.declared.fault.FaultKind.TheVariants as kinds
 abbrev pub part_names : List SimpleKey → List (List ℕ)
 part_names parts = map (λ p. p.name) parts
 
--- the parts of none of the assignments have these names
+-- No assignment's key has exactly these names.
 abbrev pub NoneAt : List (List ℕ) → List KeyValue → Type 0
 NoneAt names [] = Unit {0}
 NoneAt names (e ∷ es) = (part_names e.parts ≡ names → ⊥) × NoneAt names es
 
--- the earliest of the assignments whose parts have these names has a last part with this span
+-- The earliest assignment whose key has exactly these names ends with a part that has this span.
 pub record EarliestAt (names : List (List ℕ)) (key_values : List KeyValue) (first : Span) : Type 0 where
   pub before : List KeyValue
   pub found : KeyValue
@@ -27,18 +27,18 @@ pub record EarliestAt (names : List (List ℕ)) (key_values : List KeyValue) (fi
   pub key : found.parts ≡ inner ++ (last ∷ [])
   pub span : first ≡ last.span
 
--- whichever of the parts is taken: none of the assignments is of the path that ends with it
+-- No assignment's key has the names of a prefix of these parts, all of them included.
 abbrev pub NoneThrough : List SimpleKey → List KeyValue → Type 0
 NoneThrough parts key_values =
     (outer : List SimpleKey) (p : SimpleKey) (rest : List SimpleKey) → parts ≡ outer ++ (p ∷ rest)
     → NoneAt (part_names (outer ++ (p ∷ []))) key_values
 
--- no inner part of the next key names the path of an earlier value
+-- No inner part of the next key (one that another part follows) leads to the path of an earlier value.
 abbrev pub Clear : List KeyValue → KeyValue → Type 0
 Clear earlier next =
     (inner : List SimpleKey) (last : SimpleKey) → next.parts ≡ inner ++ (last ∷ []) → NoneThrough inner earlier
 
--- an inner part of the next key, and none further out, names the path of an earlier value
+-- An inner part of the next key leads to the path of an earlier value, no part before it does, and this is the fault.
 pub record Crossing (earlier : List KeyValue) (next : KeyValue) (fault : Fault) : Type 0 where
   pub outer : List SimpleKey
   pub part : SimpleKey

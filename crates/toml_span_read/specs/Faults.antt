@@ -1,5 +1,4 @@
--- Faults: what is told of what is wrong in a text, and how a token is called where another one is due. Which fault is
--- told, and where, is in `Read`.
+-- Faults as errors, and the names of tokens in messages. `Read` says which fault a text has, and where.
 use Rattle.std.specs.Prelude.{◌≡◌, ℕ, ◌+◌, ◌≤◌, Bool, ◌||◌, ◌==◌, List, length}
 use Rattle.std.specs.Prelude.{if◌then◌else◌, Some, codes}
 use Rattle.std.specs.Char.{is_ascii_digit}
@@ -20,7 +19,7 @@ use Rattle.toml_span_read.specs.declared.fault.FaultKind.TheVariants as kinds
 
 -- ---- words
 
--- what is due, in the words of an error
+-- the name of the expected token in an error
 abbrev pub due_words : Due → List ℕ
 due_words dues.Value = codes "a value"
 due_words dues.TableKey = codes "a table key"
@@ -29,7 +28,7 @@ due_words dues.RightBracket = codes "a right bracket"
 due_words dues.Comma = codes "a comma"
 due_words dues.Newline = codes "newline"
 
--- what stands at a place, in the words of an error
+-- the name of the found token in an error
 abbrev pub found_words : Found → List ℕ
 found_words founds.EndOfText = codes "eof"
 found_words founds.Whitespace = codes "whitespace"
@@ -50,11 +49,11 @@ found_words founds.MultilineString = codes "a multiline string"
 
 -- ---- faults as errors
 
--- a fault of one byte
+-- a fault whose span is the one byte at this offset
 abbrev pub fault_at : FaultKind → ℕ → Fault
 fault_at kind at = record { kind = kind; span = record { start = at; end = at + 1 } }
 
--- what a fault is called among the errors of a document
+-- the kind of error that reports this fault
 abbrev pub error_kind : FaultKind → tree.Kind
 error_kind kinds.UnexpectedEof = tree.unexpected_eof
 error_kind kinds.ExceededDepthLimit = tree.exceeded_depth_limit
@@ -71,12 +70,12 @@ error_kind (kinds.Wanted expected found) = tree.wanted (due_words expected) (fou
 error_kind kinds.MultilineStringKey = tree.multiline_string_key
 error_kind (kinds.DottedKeyInvalidType first) = tree.dotted_key_invalid_type first
 
--- a fault starts within the text, and does not end before it starts
+-- The fault starts within the text, and does not end before it starts.
 pub record StartsInside (text : List ℕ) (fault : Fault) : Type 0 where
   pub within : fault.span.start ≤ length text
   pub forward : fault.span.start ≤ fault.span.end
 
--- the error tells this fault of this text
+-- The error reports this fault, with its line and column in the text.
 abbrev pub Tells : List ℕ → Fault → tree.ErrorContent → Type 0
 Tells text fault error =
     (line column : ℕ) × IsLineInfo text fault.span.start line column
@@ -84,7 +83,8 @@ Tells text fault error =
 
 -- ---- no token
 
--- the fault that a token's refusal is (a multi-line key and a wanted token are no token's fault, and don't occur here)
+-- The fault for an error of the tokenizer. Multi-line keys and unexpected tokens are not the tokenizer's own errors and
+-- don't occur here.
 abbrev pub token_fault : Error → Fault
 token_fault (errors.InvalidCharInString at c) = fault_at (kinds.InvalidCharInString c) at
 token_fault (errors.InvalidEscape at c) = fault_at (kinds.InvalidEscape c) at
@@ -98,9 +98,9 @@ token_fault (errors.MultilineStringKey start end) =
     record { kind = kinds.MultilineStringKey; span = record { start = start; end = end } }
 token_fault (errors.Wanted at expected found) = fault_at kinds.UnexpectedEof at
 
--- ---- another token than the one that is due
+-- ---- another token than the expected one
 
--- what a token is called where another one is due
+-- the name of a token that was found where another one was expected
 abbrev pub found_of : Lexeme → Found
 found_of (whitespace s) = founds.Whitespace
 found_of newline = founds.Newline
@@ -118,22 +118,22 @@ found_of (punctuator c) =
     else if c == left_bracket then founds.LeftBracket
     else founds.RightBracket
 
--- Where one token is due another one stands, or the text ends. The span is as long as the words for what is found, and
--- may end past the text.
+-- At i there is another token than the expected one, or the text ends. The span is as long as the name of what was
+-- found, and may end after the text.
 abbrev pub wanted_fault : Due → Found → ℕ → Fault
 wanted_fault expected found i =
     record { kind = kinds.Wanted expected found; span = record { start = i; end = i + length (found_words found) } }
 
 -- ---- how values begin
 
--- a byte of a bare run, or a plus
+-- the first byte of a bare value, which may be a plus sign
 abbrev pub begins_bare : ℕ → Bool
 begins_bare c = is_keylike c || c == plus
 
--- a bracket or a brace opens
+-- an opening bracket or brace
 abbrev pub opens_nested : ℕ → Bool
 opens_nested c = c == left_bracket || c == left_brace
 
--- a digit, a dash or a plus
+-- the first byte of a number: a digit, a dash or a plus sign
 abbrev pub begins_number : ℕ → Bool
 begins_number c = (is_ascii_digit c || c == dash) || c == plus

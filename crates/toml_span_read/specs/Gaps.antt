@@ -13,19 +13,19 @@ GapPiece text i j =
     ⊎ LineEnd text i j
     ⊎ ((slice_index text i ≡ hash) × MaximalRun is_printed text i j)
 
--- whether a piece of a gap begins at a place
+-- whether a space, a tab, a line end or a comment begins at i
 abbrev pub begins_gap : List ℕ → ℕ → Bool
 begins_gap text i =
     ((is_blank (slice_index text i) || slice_index text i == line_feed) || is_crlf text i) || slice_index text i == hash
 
--- pieces of a gap from i to j, with their ends
+-- such pieces, one after another, from i to j; the list has the end of each
 abbrev pub GapBy : List ℕ → ℕ → List ℕ → ℕ → Type 0
 GapBy text i [] j = i ≡ j
 GapBy text i (k ∷ ks) j = GapPiece text i k × GapBy text k ks j
 
--- All the spaces, tabs, line ends and comments from i on: `ws-comment-newline = *( wschar / [ comment ] newline )`, and
--- perhaps one more comment, which no line end follows. Behind that the text ends or has a control character, so that no
--- form can stand there.
+-- All spaces, tabs, line ends and comments from i on: `ws-comment-newline = *( wschar / [ comment ] newline )`, and
+-- possibly one more comment without a line end. After that one the text ends or has a control character, so nothing
+-- else can begin there.
 pub record MaximalGap (text : List ℕ) (i j : ℕ) : Type 0 where
   pub ends : List ℕ
   pub pieces : GapBy text i ends j
@@ -39,49 +39,49 @@ pub record Skipped (text : List ℕ) (i j : ℕ) : Type 0 where
   pub comment : ((slice_index text at ≡ hash) × MaximalRun is_printed text at j)
       ⊎ (((slice_index text at == hash) ≡ false) × (j ≡ at))
 
--- the rest of a line: `ws [ comment ]` and a line end or the end of the text
+-- the rest of a line: `ws [ comment ]`, then a line end or the end of the text
 abbrev pub Tail : List ℕ → ℕ → ℕ → Type 0
 Tail text i j = (k : ℕ) × Skipped text i k × (LineEnd text k j ⊎ ((k ≡ length text) × (j ≡ k)))
 
--- the rest of a line is due at i, and at k, behind its comment, another token stands
+-- After the spaces, tabs and comment from i to k, there is neither a line end nor the end of the text.
 abbrev pub NoTail : List ℕ → ℕ → ℕ → Type 0
 NoTail text i k = Skipped text i k × (k < length text) × NoLineEnd text k
 
--- `expression = ws [ comment ]`: from i to j stand lines, with these ends, that hold nothing else. A gap before a form
--- is blank lines and the spaces and tabs before it.
+-- `expression = ws [ comment ]`: from i to j there are only lines like this, and the list has the end of each. The gap
+-- before a key or a header consists of such lines and the spaces and tabs before it.
 abbrev pub BlankLines : List ℕ → ℕ → List ℕ → ℕ → Type 0
 BlankLines text i [] j = i ≡ j
 BlankLines text i (k ∷ ks) j = Tail text i k × BlankLines text k ks j
 
--- a character stands at i that a comment can hold, or the text ends there: no comment ends at a control character
--- before it
+-- The text ends at i, or the character there is one that comments may contain, so no comment ends before it at a
+-- control character.
 abbrev pub BehindLines : List ℕ → ℕ → Type 0
 BehindLines text i = (i ≡ length text) ⊎ (is_printed (slice_index text i) ≡ true)
 
--- ---- what separates and closes forms, with what may stand round it
+-- ---- separators and closing brackets, with the white space around them
 
--- a dot, with spaces and tabs round it: `dot-sep = ws %x2E ws`
+-- a dot, with spaces and tabs around it: `dot-sep = ws %x2E ws`
 pub record Dot (text : List ℕ) (i j : ℕ) : Type 0 where
   pub at : ℕ
   pub before : MaximalRun is_blank text i at
   pub here : slice_index text at ≡ period
   pub behind : MaximalRun is_blank text (at + 1) j
 
--- behind spaces and tabs stands no dot
+-- No dot follows, not even after spaces and tabs.
 pub record NoDot (text : List ℕ) (i : ℕ) : Type 0 where
   pub at : ℕ
   pub before : MaximalRun is_blank text i at
   pub here : (slice_index text at == period) ≡ false
 
--- this byte, with gaps round it: `array-sep = %x2C`, `inline-table-sep = %x2C`, and the `%x3D` of a pair, round
--- which the standard has only `ws`
+-- this byte, with gaps around it: `array-sep = %x2C`, `inline-table-sep = %x2C`, and the `%x3D` of a pair, around which
+-- the standard allows only `ws`
 pub record Separator (c : ℕ) (text : List ℕ) (i j : ℕ) : Type 0 where
   pub at : ℕ
   pub before : MaximalGap text i at
   pub here : slice_index text at ≡ c
   pub behind : MaximalGap text (at + 1) j
 
--- a closing bracket behind a gap: `ws-comment-newline array-close`, where `array-close = %x5D`, or
+-- a closing bracket after a gap: `ws-comment-newline array-close`, where `array-close = %x5D`, or
 -- `ws-comment-newline inline-table-close`, where `inline-table-close = %x7D`
 pub record Closes (c : ℕ) (text : List ℕ) (i j : ℕ) : Type 0 where
   pub at : ℕ
@@ -89,13 +89,13 @@ pub record Closes (c : ℕ) (text : List ℕ) (i j : ℕ) : Type 0 where
   pub here : slice_index text at ≡ c
   pub ends : j ≡ at + 1
 
--- behind a gap stands neither a comma nor this bracket
+-- After a gap, which ends at j, there is neither a comma nor this bracket.
 pub record Neither (c : ℕ) (text : List ℕ) (i j : ℕ) : Type 0 where
   pub before : MaximalGap text i j
   pub no_comma : (slice_index text j == comma) ≡ false
   pub no_bracket : (slice_index text j == c) ≡ false
 
--- an equals sign, with spaces and tabs round it: `keyval-sep = ws %x3D ws`
+-- an equals sign, with spaces and tabs around it: `keyval-sep = ws %x3D ws`
 pub record Equals (text : List ℕ) (i j : ℕ) : Type 0 where
   pub at : ℕ
   pub before : MaximalRun is_blank text i at

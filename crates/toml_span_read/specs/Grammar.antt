@@ -26,8 +26,8 @@ abbrev pub truth_text : Bool → List ℕ
 truth_text true = codes "true"
 truth_text false = codes "false"
 
--- The text from i to j is this string, number, truth value or date, with this span: of a string its content's. A number
--- is read where no date begins.
+-- The text from i to j is this string, number, boolean or date, with this span. The span of a string is that of its
+-- content. A number is read only where no date begins.
 --
 -- `string = ml-basic-string / basic-string / ml-literal-string / literal-string`, `boolean = true / false`,
 -- `date-time = offset-date-time / local-date-time / local-date / local-time`
@@ -40,13 +40,14 @@ SpellsScalar (datetime date) span t i j =
 SpellsScalar (integer n) span t i j = (begins_date t i ≡ false) × IsNumber (integer n) t i j × (span ≡ from_to i j)
 SpellsScalar (float x) span t i j = (begins_date t i ≡ false) × IsNumber (float x) t i j × (span ≡ from_to i j)
 
--- which scalars the text spells from one place to another, with their spans
+-- a relation that says which scalars the text from one offset to another spells, with their spans
 abbrev pub Scalars : Type 1
 Scalars = Scalar → Span → List ℕ → ℕ → ℕ → Type 0
 
 abbrev mutual
-  -- The text from i to j spells this value, with its spans, where S says which scalars it spells. d is the number of
-  -- brackets and braces open round it plus that of the parts of its own key and of those round it, at most the limit.
+  -- The text from i to j spells this value, with its spans; S says which scalars a text spells. The depth d counts the
+  -- brackets and braces open around the value, the parts of its own key and those of the keys around it. It is at most
+  -- the limit.
   --
   -- `val = string / boolean / array / inline-table / date-time / float / integer`
   pub SpellsWith : Scalars → ParsedValue → List ℕ → ℕ → ℕ → ℕ → ℕ → Type 0
@@ -63,9 +64,9 @@ abbrev mutual
       (slice_index t i ≡ left_brace) × (span ≡ from_to i j) × (k : ℕ) × MaximalGap t (i + 1) k
       × PairsWith S ps [] t limit (d + 1) k j
 
-  -- values with commas between them, one more comma or none, and the closing bracket
+  -- values separated by commas, an optional trailing comma, and the closing bracket
   --
-  -- `array-values =  ws-comment-newline val ws-comment-newline array-sep array-values`
+  -- `array-values = ws-comment-newline val ws-comment-newline array-sep array-values`
   -- `array-values =/ ws-comment-newline val ws-comment-newline [ array-sep ]`
   pub ItemsWith : Scalars → ParsedItems → List ℕ → ℕ → ℕ → ℕ → ℕ → Type 0
   ItemsWith S no_items t limit d i j = (slice_index t i ≡ right_bracket) × (j ≡ i + 1)
@@ -74,12 +75,12 @@ abbrev mutual
       × (((vs ≡ no_items) × Closes right_bracket t m j)
       ⊎ ((p : ℕ) × Separator comma t m p × ItemsWith S vs t limit d p j))
 
-  -- Pairs behind these earlier ones, each a key of at most limit parts that goes through the value of no earlier pair,
-  -- and its value, with commas between them, one more comma or none, and the closing brace. Unlike the standard's
-  -- `keyval = key keyval-sep val`, where `keyval-sep = ws %x3D ws`, a pair may have line ends and comments round its
-  -- equals sign. The pair's extent runs from its key to behind its value.
+  -- Pairs separated by commas, an optional trailing comma, and the closing brace. The pairs of `es` come before them.
+  -- Each key has at most `limit` parts and goes through the value of no earlier pair. Unlike in the standard's
+  -- `keyval = key keyval-sep val`, where `keyval-sep = ws %x3D ws`, there may be line ends and comments around the
+  -- equals sign. The extent of a pair runs from its key to the end of its value.
   --
-  -- `inline-table-keyvals =  ws-comment-newline keyval ws-comment-newline inline-table-sep inline-table-keyvals`
+  -- `inline-table-keyvals = ws-comment-newline keyval ws-comment-newline inline-table-sep inline-table-keyvals`
   -- `inline-table-keyvals =/ ws-comment-newline keyval ws-comment-newline [ inline-table-sep ]`
   pub PairsWith : Scalars → ParsedPairs → List KeyValue → List ℕ → ℕ → ℕ → ℕ → ℕ → Type 0
   PairsWith S no_pairs es t limit d i j = (slice_index t i ≡ right_brace) × (j ≡ i + 1)
@@ -92,13 +93,13 @@ abbrev mutual
       ⊎ ((p : ℕ) × Separator comma t m p
       × PairsWith S ps (es ++ (record { parts = ss; value = v; extent = extent } ∷ [])) t limit d p j))
 
--- TOML's own values: with dates
+-- the values of TOML, which include dates
 abbrev pub Spells : ParsedValue → List ℕ → ℕ → ℕ → ℕ → ℕ → Type 0
 Spells = SpellsWith SpellsScalar
 
 -- ---- assignments
 
--- the text from i to j is this assignment: `keyval = key keyval-sep val`
+-- The text from i to j is this assignment: `keyval = key keyval-sep val`.
 pub record KeyValueWith (S : Scalars) (ev : KeyValue) (text : List ℕ) (limit i j : ℕ) : Type 0 where
   pub key_end : ℕ
   pub from : ℕ
@@ -108,8 +109,8 @@ pub record KeyValueWith (S : Scalars) (ev : KeyValue) (text : List ℕ) (limit i
   pub spelled : SpellsWith S ev.value text limit (length ev.parts) from j
   pub extent : ev.extent ≡ record { start = i; end = j }
 
--- From i to j stand these assignments, each with the rest of its line and the blank lines behind it. No key goes
--- through one of the earlier values of its section.
+-- From i to j there are these assignments, each with the rest of its line and the blank lines after it. No key goes
+-- through an earlier value of its section.
 --
 -- `expression =/ ws keyval ws [ comment ]`
 abbrev pub KeyValuesWith : Scalars → List KeyValue → List KeyValue → List ℕ → ℕ → ℕ → ℕ → Type 0
@@ -118,17 +119,17 @@ KeyValuesWith S (ev ∷ evs) earlier text limit i j =
     (m n k : ℕ) × KeyValueWith S ev text limit i m × Tail text m n × Clear earlier ev × MaximalGap text n k
     × KeyValuesWith S evs (earlier ++ (ev ∷ [])) text limit k j
 
--- from i to j stand blank lines and these assignments
+-- From i to j there are blank lines, then these assignments.
 abbrev pub LinesWith : Scalars → List KeyValue → List ℕ → ℕ → ℕ → ℕ → Type 0
 LinesWith S evs text limit i j = (k : ℕ) × MaximalGap text i k × KeyValuesWith S evs [] text limit k j
 
--- with dates
+-- the same for the scalars of TOML, which include dates
 abbrev pub SpellsLines : List KeyValue → List ℕ → ℕ → ℕ → ℕ → Type 0
 SpellsLines = LinesWith SpellsScalar
 
 -- ---- headers
 
--- one bracket and no second one, or two; the white space behind them is that of `HeaderFront`
+-- One bracket that no second one follows, or two. The white space after them is part of `HeaderFront`.
 --
 -- `std-table-open = %x5B ws`, `array-table-open = %x5B.5B ws`
 abbrev pub OpensHeader : Bool → List ℕ → ℕ → ℕ → Type 0
@@ -137,7 +138,7 @@ OpensHeader false text i j =
 OpensHeader true text i j =
     (slice_index text i ≡ left_bracket) × (slice_index text (i + 1) ≡ left_bracket) × (j ≡ i + 2)
 
--- one bracket, or two of them, without the white space before them
+-- one bracket, or two, without the white space before them
 --
 -- `std-table-close = ws %x5D`, `array-table-close = ws %x5D.5D`
 abbrev pub ClosesHeader : Bool → List ℕ → ℕ → ℕ → Type 0
@@ -145,7 +146,7 @@ ClosesHeader false text i j = (slice_index text i ≡ right_bracket) × (j ≡ i
 ClosesHeader true text i j =
     (slice_index text i ≡ right_bracket) × (slice_index text (i + 1) ≡ right_bracket) × (j ≡ i + 2)
 
--- an opening bracket, one or two, with the spaces and tabs behind it, and the parts of the key with those behind it
+-- the opening brackets and the parts of the key, each followed by spaces and tabs
 pub record HeaderFront (parts : List SimpleKey) (array : Bool) (text : List ℕ) (limit i j : ℕ) : Type 0 where
   pub inside : ℕ
   pub start : ℕ
@@ -156,7 +157,7 @@ pub record HeaderFront (parts : List SimpleKey) (array : Bool) (text : List ℕ)
   pub few : length parts ≤ limit
   pub behind : MaximalRun is_blank text end j
 
--- the text from i to j is a header of these parts with the rest of its line
+-- The text from i to j is a header with these parts, and the rest of its line.
 --
 -- `table = std-table / array-table`, `std-table = std-table-open key std-table-close`,
 -- `array-table = array-table-open key array-table-close`, `expression =/ ws table ws [ comment ]`
@@ -169,8 +170,8 @@ pub record SpellsHeader (parts : List SimpleKey) (array : Bool) (text : List ℕ
 
 -- ---- sections
 
--- From i to j stands this section: its header, and its assignments. The header's span is the header with the rest of
--- its line. The extent is from the header to the end of the last assignment, or, without one, the header's span.
+-- The text from i to j is this section: a header and its assignments. The header's span includes the rest of its line.
+-- The extent ends with the last assignment, or, without assignments, with the header's span.
 pub record SectionWith (S : Scalars) (b : Block) (text : List ℕ) (limit i j : ℕ) : Type 0 where
   pub end : ℕ
   pub header : SpellsHeader b.header b.array text limit i end
@@ -178,13 +179,13 @@ pub record SectionWith (S : Scalars) (b : Block) (text : List ℕ) (limit i j : 
   pub lines : LinesWith S b.key_values text limit end j
   pub extent : b.extent ≡ record { start = i; end = last_end end b.key_values }
 
--- from i to the end of the text stand these sections
+-- From i to the end of the text there are these sections.
 abbrev pub SectionsWith : Scalars → List Block → List ℕ → ℕ → ℕ → Type 0
 SectionsWith S [] text limit i = i ≡ length text
 SectionsWith S (b ∷ bs) text limit i = (j : ℕ) × SectionWith S b text limit i j × SectionsWith S bs text limit j
 
--- the text, behind a byte order mark, which no production has, spells these sections:
--- `toml = expression *( newline expression )`
+-- The text, after a byte order mark (which has no production), spells these sections:
+-- `toml = expression *( newline expression )`.
 pub record DocumentWith (S : Scalars) (bs : List Block) (text : List ℕ) (limit : ℕ) : Type 0 where
   pub start : ℕ
   pub end : ℕ
@@ -195,7 +196,7 @@ pub record DocumentWith (S : Scalars) (bs : List Block) (text : List ℕ) (limit
   pub sections : SectionsWith S rest text limit end
   pub all : bs ≡ first_block first ++ rest
 
--- with dates
+-- the same for the scalars of TOML, which include dates
 abbrev pub SpellsSection : Block → List ℕ → ℕ → ℕ → ℕ → Type 0
 SpellsSection = SectionWith SpellsScalar
 

@@ -6,7 +6,7 @@ use Rattle.toml_span_lex.specs.Tokens.{RunAt}
 use Rattle.toml_span_read.specs.Data.{SimpleKey}
 use Rattle.toml_span_read.specs.Gaps.{Dot, NoDot}
 
--- the text from i to j is this key
+-- The text from i to j is this key.
 --
 -- `simple-key = quoted-key / unquoted-key`, `unquoted-key = 1*( ALPHA / DIGIT / %x2D / %x5F )`,
 -- `quoted-key = basic-string / literal-string`
@@ -19,12 +19,13 @@ SpellsSimpleKey p text i j =
 abbrev pub opens_string : ℕ → Bool
 opens_string c = c == quotation_mark || c == apostrophe
 
--- `*( dot-sep simple-key )`: from m, behind a key, to j stand these keys, each behind a dot, and no dot follows
+-- `*( dot-sep simple-key )`: after a key that ends at m, there are these keys up to j, each after a dot, and no other
+-- dot follows
 abbrev pub Onward : List SimpleKey → List ℕ → ℕ → ℕ → Type 0
 Onward [] text m j = (j ≡ m) × NoDot text m
 Onward (s ∷ ss) text m j = (p q : ℕ) × Dot text m p × SpellsSimpleKey s text p q × Onward ss text q j
 
--- the text from i to j is a key of these parts: a simple key, which is one part, or a dotted key, which has two or more
+-- The text from i to j is a key with these parts. A simple key has one part, a dotted key two or more.
 --
 -- `key = simple-key / dotted-key`, `dotted-key = simple-key 1*( dot-sep simple-key )`
 abbrev pub SpellsKey : List SimpleKey → List ℕ → ℕ → ℕ → Type 0

@@ -1,11 +1,11 @@
--- What is read is within the limit.
+-- The limit on depths and on parts of keys.
 use Rattle.std.specs.Prelude.{ℕ, ◌+◌, ◌≤◌, List, [], ◌∷◌, map, length}
 use Rattle.toml_span_read.specs.Data.{ParsedValue, parsed, ParsedInner, scalar, array, inline, ParsedItems, no_items}
 use Rattle.toml_span_read.specs.Data.{item, ParsedPairs, no_pairs, pair, KeyValue, key_value}
 use Rattle.toml_span_read.specs.declared.section.Section.{Section}
 
--- The depth of a value is the number of brackets and braces open round it plus the number of all key parts of its own
--- assignment or pair and of those round it. It is at most the limit, and so is the number of parts of each key.
+-- The depth of a value is the number of brackets and braces open around it plus the number of key parts of its own
+-- assignment or pair and of those around it. It is at most the limit, and so is the number of parts of each key.
 abbrev mutual
   pub Within : ℕ → ℕ → ParsedValue → Type 0
   Within limit d (parsed k span) = (d ≤ limit) × WithinInner limit d k
@@ -24,7 +24,7 @@ abbrev mutual
   WithinPairs limit d (pair ps v extent rest) =
       (length ps ≤ limit) × Within limit (d + length ps) v × WithinPairs limit d rest
 
--- an assignment under so many brackets and key parts
+-- an assignment inside d brackets, braces and key parts
 abbrev pub WithinKeyValue : ℕ → ℕ → KeyValue → Type 0
 WithinKeyValue limit d e = (length e.parts ≤ limit) × Within limit (d + length e.parts) e.value
 
@@ -32,7 +32,7 @@ abbrev pub WithinKeyValues : ℕ → List KeyValue → Type 0
 WithinKeyValues limit [] = Unit {0}
 WithinKeyValues limit (e ∷ es) = WithinKeyValue limit 0 e × WithinKeyValues limit es
 
--- the parts of its header, and its assignments
+-- the parts of a section's header, and its assignments
 abbrev pub WithinSection : ℕ → Section → Type 0
 WithinSection limit s = (length s.header.items ≤ limit) × WithinKeyValues limit (map key_value s.assignments.items)
 

@@ -8,10 +8,9 @@ use Rattle.toml_span_read.specs.Numerals.{is_exponent, cleaned}
 
 -- ---- digits
 
--- all the digits and underscores from i on, which end at j; the first is a digit, and behind each underscore stands a
--- digit
+-- All digits and underscores from i on, which end at j. The first is a digit, and a digit follows each underscore.
 --
--- `zero-prefixable-int = DIGIT *( DIGIT / underscore DIGIT )`, and the same of another radix
+-- `zero-prefixable-int = DIGIT *( DIGIT / underscore DIGIT )`, and the same for other radixes
 pub record Digits (radix : ℕ) (text : List ℕ) (i j : ℕ) : Type 0 where
   pub begins : is_digit_in radix (slice_index text i) ≡ true
   pub run : MaximalRun (is_figure radix) text i j
@@ -20,7 +19,7 @@ pub record Digits (radix : ℕ) (text : List ℕ) (i j : ℕ) : Type 0 where
 
 -- ---- integers
 
--- the number with its sign, within 64 bits
+-- the magnitude with its sign, if it is within 64 bits
 abbrev pub IsSigned : Bool → ℕ → ℤ → Type 0
 IsSigned false m n = (n ≡ pos m) × (m < 2 ^ 63)
 IsSigned true m n = (n ≡ neg_ℤ (pos m)) × (m ≤ 2 ^ 63)
@@ -30,7 +29,7 @@ pub record UnsignedDecimal (text : List ℕ) (i j : ℕ) : Type 0 where
   pub digits : Digits 10 text i j
   pub leading : slice_index text i ≡ digit_zero → j ≡ i + 1
 
--- what may stand neither behind an integer without a prefix nor behind inf and nan: a byte of its run, or a dot
+-- a bare-key byte or a dot: what must not follow an integer without a prefix, `inf` or `nan`
 abbrev pub goes_on : List ℕ → ℕ → Bool
 goes_on text j = is_keylike (slice_index text j) || slice_index text j == period
 
@@ -80,7 +79,7 @@ pub record SpecialFloat (word : List ℕ) (text : List ℕ) (i j : ℕ) : Type 0
 
 -- ---- numbers
 
--- the text from i to j is the literal of this number, and the literal goes no further
+-- The text from i to j is a literal of this number, and the literal does not extend further.
 --
 -- `integer = dec-int / hex-int / oct-int / bin-int`, `float = float-int-part ( exp / frac [ exp ] )`,
 -- `float =/ special-float`

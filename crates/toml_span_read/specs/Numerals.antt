@@ -1,9 +1,10 @@
--- How a number is read: a function of the text and a place, which gives the number that stands there and where it ends,
--- or the fault that is told. What spells a number is in `Numbers`. The standard says nothing of where and how a wrong
--- number is told: this fixes it.
+-- How a number is read: functions from a text and an offset to the number there and its end, or to a fault. `Numbers`
+-- says how numbers are spelled. The standard leaves open which fault a malformed number has, and where; these
+-- definitions fix it.
 --
--- A number begins at i. Its first run, of letters, digits, dashes and underscores, goes from a to b: a is i, or behind
--- a plus. Each later run is a piece, from start to end, whose digits begin at `from`.
+-- A number begins at i. Its first run of letters, digits, dashes and underscores is from a to b, where a is i or the
+-- offset after a plus sign. Each later run is called a piece. It is from `start` to `end`, and its digits begin at
+-- `from`.
 use Rattle.std.specs.Char.{is_ascii_hexdigit, digit_value}
 use Rattle.std.specs.List.{prefix_len, list_all, range_with_len}
 use Rattle.std.specs.Option.{ok_or, option_map_or}
@@ -19,7 +20,7 @@ use Rattle.toml_span_read.specs.declared.fault.FaultKind.TheVariants as kinds
 use Rattle.toml_span_read.specs.declared.numbers.Numeral.{Numeral}
 use Rattle.toml_span_read.specs.declared.numbers.Numeral.TheVariants as numerals
 
--- what is read, or the fault
+-- the result of reading, or a fault
 abbrev pub NumberRead : Type 0 → Type 0
 NumberRead A = Result A Fault
 
@@ -45,35 +46,35 @@ small_o = 111
 abbrev pub is_digit_in : ℕ → ℕ → Bool
 is_digit_in radix c = is_ascii_hexdigit c && nat_lt (digit_value c) radix
 
--- a digit or an underscore
+-- a digit of this radix, or an underscore
 abbrev pub is_figure : ℕ → ℕ → Bool
 is_figure radix c = is_digit_in radix c || c == underscore
 
--- the sum of digits times the powers of the radix
+-- the sum of the digits, each times its power of the radix
 abbrev pub sum_of_digits : ℕ → List ℕ → ℕ
 sum_of_digits radix [] = 0
 sum_of_digits radix (c ∷ cs) = digit_value c * radix ^ length cs + sum_of_digits radix cs
 
--- what the digits from i to j write, underscores left out
+-- the number that the digits from i to j denote, without underscores
 abbrev pub magnitude : ℕ → List ℕ → ℕ → ℕ → ℕ
 magnitude radix text i j = sum_of_digits radix (filter (is_digit_in radix) (slice_range text i j))
 
--- where the run from i on ends
+-- the end of the run of letters, digits, dashes and underscores from i on
 unfoldable pub run_end : List ℕ → ℕ → ℕ
 run_end text i = i + prefix_len is_keylike (drop i text)
 
--- where the digits and underscores from i on end
+-- the end of the digits and underscores from i on
 unfoldable pub figures_end : ℕ → List ℕ → ℕ → ℕ
 figures_end radix text i = i + prefix_len (is_figure radix) (drop i text)
 
--- of the digits and underscores from i to j the first is a digit, and behind each underscore stands a digit
+-- Whether the digits and underscores from i to j begin with a digit, and a digit follows each underscore.
 unfoldable pub are_digits : ℕ → List ℕ → ℕ → ℕ → Bool
 are_digits radix text i j =
     is_digit_in radix (slice_index text i)
     && list_all (λ k. not (slice_index text k == underscore) || is_digit_in radix (slice_index text (k + 1)))
     (range_with_len i (j - i))
 
--- `zero-prefixable-int = DIGIT *( DIGIT / underscore DIGIT )`, or the same of another radix
+-- `zero-prefixable-int = DIGIT *( DIGIT / underscore DIGIT )`, or the same for another radix
 unfoldable pub digits_end : ℕ → List ℕ → ℕ → ℕ → ℕ → NumberRead ℕ
 digits_end radix text start from end =
     if slice_index text from == underscore then Err (invalid_number from end)
@@ -82,7 +83,7 @@ digits_end radix text start from end =
 
 -- ---- integers
 
--- `[ minus / plus ]`
+-- `[ minus / plus ]`: the offset after a sign, or i
 abbrev pub behind_sign : List ℕ → ℕ → ℕ
 behind_sign text i = if slice_index text i == plus || slice_index text i == dash then i + 1 else i
 
@@ -97,7 +98,8 @@ radix_at text i =
     else (if slice_index text (i + 1) == small_o then Some 8
     else (if slice_index text (i + 1) == small_b then Some 2 else None)))
 
--- `unsigned-dec-int = DIGIT / digit1-9 1*( DIGIT / underscore DIGIT )`: of a 0 before another digit that one is told
+-- `unsigned-dec-int = DIGIT / digit1-9 1*( DIGIT / underscore DIGIT )`: the fault of a leading 0 begins at the digit
+-- after it
 unfoldable pub integer_part : List ℕ → ℕ → ℕ → ℕ → NumberRead ℕ
 integer_part text start from end =
     digits_end 10 text start from end >>= (λ m.
@@ -110,12 +112,12 @@ unfoldable pub signed : Bool → ℕ → Option ℤ
 signed false m = if nat_lt m (2 ^ 63) then Some (pos m) else None
 signed true m = if nat_le m (2 ^ 63) then Some (neg_ℤ (pos m)) else None
 
--- the integer that the digits come to
+-- the integer that the digits denote, or a fault if it is out of range
 unfoldable pub integer : ℕ → List ℕ → Bool → ℕ → ℕ → ℕ → NumberRead ℤ
 integer radix text negative start from end =
     ok_or (signed negative (magnitude radix text from end)) (invalid_number start end)
 
--- `hex-int`, `oct-int` or `bin-int`, behind its prefix
+-- the digits of a `hex-int`, `oct-int` or `bin-int`, after the prefix
 unfoldable pub radix_integer : ℕ → List ℕ → ℕ → ℕ → NumberRead ℤ
 radix_integer radix text start end =
     digits_end radix text start start end >>= (λ m.
@@ -127,13 +129,13 @@ radix_integer radix text start end =
 abbrev pub is_exponent : ℕ → Bool
 is_exponent c = c == small_e || c == capital_e
 
--- the digits of an exponent are all of their piece
+-- the digits of an exponent, which must extend to the end of their piece
 unfoldable pub exponent_digits : List ℕ → ℕ → ℕ → ℕ → ℕ → ℕ → NumberRead ℕ
 exponent_digits text a b start from end =
     digits_end 10 text start from end >>= (λ m. if nat_lt m end then Err (invalid_number a b) else Ok end)
 
--- `exp = "e" float-exp-part`, whose letter stands in a run that ends at `end`: its digits are in that run, or in
--- another one behind a plus
+-- `exp = "e" float-exp-part`, whose letter is in a run that ends at `end`: its digits are in the same run, or in the
+-- run after a plus sign
 unfoldable pub exponent : List ℕ → ℕ → ℕ → ℕ → ℕ → NumberRead ℕ
 exponent text a b letter end =
     if nat_lt (letter + 1) end then exponent_digits text a b (letter + 1) (behind_sign text (letter + 1)) end
@@ -141,7 +143,7 @@ exponent text a b letter end =
     else if run_end text (end + 1) == end + 1 then Err (invalid_number a b)
     else exponent_digits text a b (end + 1) (end + 1) (run_end text (end + 1))
 
--- `frac [ exp ]`, whose point stands at b
+-- `frac [ exp ]`, whose decimal point is at b
 unfoldable pub fraction : List ℕ → ℕ → ℕ → ℕ → NumberRead ℕ
 fraction text i a b =
     if run_end text (b + 1) == b + 1 then Err (invalid_number i (b + 1))
@@ -169,7 +171,7 @@ special negative word =
     else if bytes_eq word (codes "nan") then Some (numerals.NotANumber negative)
     else None
 
--- inf and nan have no fraction
+-- `inf` and `nan` must not be followed by a dot
 unfoldable pub special_end : List ℕ → ℕ → ℕ → ℕ → Numeral → NumberRead (Numeral × ℕ)
 special_end text i a b n =
     if not (slice_index text b == period) then Ok (n, b)
@@ -178,7 +180,7 @@ special_end text i a b n =
 
 -- ---- numbers
 
--- a number whose first run goes from a to b
+-- a number whose first run is from a to b
 unfoldable pub unsigned : List ℕ → ℕ → ℕ → ℕ → NumberRead (Numeral × ℕ)
 unsigned text i a b =
     option_map_or (λ radix. radix_integer radix text (a + 2) b >>= (λ n. Ok (numerals.Integer n, b)))
@@ -188,7 +190,7 @@ unsigned text i a b =
     (decimal text i a b))
 
 -- `integer = dec-int / hex-int / oct-int / bin-int`, `float = float-int-part ( exp / frac [ exp ] )`,
--- `float =/ special-float`: a plus stands before no other sign, and before no prefix
+-- `float =/ special-float`: a plus sign must not be followed by another sign or by a prefix
 unfoldable pub numeral : List ℕ → ℕ → NumberRead (Numeral × ℕ)
 numeral text i =
     if not (slice_index text i == plus) then unsigned text i i (run_end text i)
@@ -197,18 +199,18 @@ numeral text i =
     then Err (invalid_number i (run_end text (i + 1)))
     else unsigned text i (i + 1) (run_end text (i + 1))
 
--- the text of a float as it is kept: without pluses and underscores, with a capital letter before the exponent
+-- The text of a float as it is stored: without plus signs and underscores, and with a capital `E`.
 abbrev pub cleaned : List ℕ → List ℕ
 cleaned literal =
     map (λ c. if c == small_e then capital_e else c) (filter (λ c. not (c == plus || c == underscore)) literal)
 
--- the number that is read with this literal
+-- the number read, given its literal
 abbrev pub scalar_of : Numeral → List ℕ → Scalar
 scalar_of (numerals.Integer n) literal = scalars.integer n
 scalar_of numerals.Finite literal = float (scalars.finite (cleaned literal))
 scalar_of (numerals.Infinite negative) literal = float (infinite negative)
 scalar_of (numerals.NotANumber negative) literal = float (not_a_number negative)
 
--- the number at i, and where it ends, or the fault
+-- the number at i and its end, or a fault
 unfoldable pub number : List ℕ → ℕ → NumberRead (Scalar × ℕ)
 number text i = numeral text i >>= (λ p. Ok (scalar_of p.0 (slice_range text i p.1), p.1))

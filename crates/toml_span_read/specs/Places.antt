@@ -1,22 +1,22 @@
--- Places in a text: where keys, headers and values stand.
+-- The spans of keys, headers and values.
 use Rattle.std.specs.Prelude.{ℕ, ◌<◌, ◌≤◌, List, [], ◌∷◌, map}
 use Rattle.toml_span_lex.specs.declared.span.Span.{Span}
 use Rattle.toml_span_read.specs.Data.{SimpleKey, simple_key, ParsedValue, parsed, ParsedInner, scalar, array, inline}
 use Rattle.toml_span_read.specs.Data.{ParsedItems, no_items, item, ParsedPairs, no_pairs, pair, KeyValue, key_value}
 use Rattle.toml_span_read.specs.declared.section.Section.{Section}
 
--- ---- keys and headers stand inside the text
+-- ---- keys and headers are inside the text
 
--- the span does not end before it starts, nor behind the first n bytes
+-- The span does not end before it starts, nor after the first n bytes.
 abbrev pub IsInside : ℕ → Span → Type 0
 IsInside n span = (span.start ≤ span.end) × (span.end ≤ n)
 
--- the parts of a key
+-- the same for each part of a key
 abbrev pub PartsInside : ℕ → List SimpleKey → Type 0
 PartsInside n [] = Unit {0}
 PartsInside n (p ∷ ps) = IsInside n p.span × PartsInside n ps
 
--- the keys of the inline tables in a value, at every nesting
+-- the same for the keys of inline tables in a value, at any depth
 abbrev mutual
   pub KeysInside : ℕ → ParsedValue → Type 0
   KeysInside n (parsed k span) = InnerKeysInside n k
@@ -34,7 +34,7 @@ abbrev mutual
   PairKeysInside n no_pairs = Unit {0}
   PairKeysInside n (pair ps v extent rest) = PartsInside n ps × KeysInside n v × PairKeysInside n rest
 
--- an assignment's key, and the keys in its value
+-- the same for an assignment's key, and for the keys in its value
 abbrev pub KeyValueInside : ℕ → KeyValue → Type 0
 KeyValueInside n e = PartsInside n e.parts × KeysInside n e.value
 
@@ -42,7 +42,7 @@ abbrev pub KeyValuesInside : ℕ → List KeyValue → Type 0
 KeyValuesInside n [] = Unit {0}
 KeyValuesInside n (e ∷ es) = KeyValueInside n e × KeyValuesInside n es
 
--- a section's header with its parts, and the keys of its assignments
+-- the same for a section's header, its parts, and the keys of its assignments
 abbrev pub SectionInside : ℕ → Section → Type 0
 SectionInside n s =
     IsInside n s.header_span × PartsInside n (map simple_key s.header.items)
@@ -52,15 +52,15 @@ abbrev pub SectionsInside : ℕ → List Section → Type 0
 SectionsInside n [] = Unit {0}
 SectionsInside n (s ∷ ss) = SectionInside n s × SectionsInside n ss
 
--- ---- one behind the other
+-- ---- in the order of the text
 
--- from i to j the spans of the parts ascend: none is empty, and each ends before the next one begins
+-- Between i and j the spans of the parts ascend: none is empty, and each ends before the next begins.
 abbrev pub Ascend : List SimpleKey → ℕ → ℕ → Type 0
 Ascend [] i j = i ≤ j
 Ascend (p ∷ ps) i j = (i ≤ p.span.start) × (p.span.start < p.span.end) × Ascend ps p.span.end j
 
 abbrev mutual
-  -- the span of a value lies from i to j, and those of the values and keys in it lie within its own
+  -- The span of a value is within i..j, and the spans of the values and keys in it are within its own.
   pub Inside : ParsedValue → ℕ → ℕ → Type 0
   Inside (parsed k span) i j =
       (i ≤ span.start) × (span.start ≤ span.end) × (span.end ≤ j) × InsideInner k span.start span.end
@@ -70,12 +70,12 @@ abbrev mutual
   InsideInner (array vs) i j = InsideItems vs i j
   InsideInner (inline ps) i j = InsidePairs ps i j
 
-  -- each element behind the one before it
+  -- each element follows the one before it
   pub InsideItems : ParsedItems → ℕ → ℕ → Type 0
   InsideItems no_items i j = i ≤ j
   InsideItems (item v vs) i j = (m : ℕ) × Inside v i m × InsideItems vs m j
 
-  -- each pair behind the one before it, and its value behind its key
+  -- each pair follows the one before it, and its value follows its key
   pub InsidePairs : ParsedPairs → ℕ → ℕ → Type 0
   InsidePairs no_pairs i j = i ≤ j
   InsidePairs (pair ss v extent ps) i j =

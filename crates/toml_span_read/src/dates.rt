@@ -14,7 +14,7 @@ use toml_span_lex::bytes::is_keylike;
 use toml_span_lex::span::Span;
 use toml_span_tree::DateText;
 
-/// Whether a decimal digit is at a place.
+/// Returns whether the byte at `at` is a decimal digit.
 #[inline]
 fn is_decimal_at(text: &str, at: usize) -> bool
     ensures { result ≡ is_ascii_digit (slice_index text.now at) }
@@ -22,7 +22,7 @@ fn is_decimal_at(text: &str, at: usize) -> bool
     byte_at(text, at).is_ascii_digit()
 }
 
-/// Whether a date or a time begins at a place: four digits and a dash, or two digits and a colon.
+/// Returns whether a date or a time begins at `at`: four digits and a dash, or two digits and a colon.
 ///
 /// `date-fullyear = 4DIGIT`, `time-hour = 2DIGIT` (TOML 1.1, Local Date, Local Time)
 #[inline]
@@ -38,7 +38,7 @@ pub fn begins_date(text: &str, at: usize) -> bool
                 && byte_at(text, at + 4) == b'-'))
 }
 
-/// A byte of a date or a time.
+/// Returns whether dates and times may contain the byte.
 #[inline]
 fn is_date_byte(byte: u8) -> bool
     ensures { result ≡ spec.is_date_byte byte }
@@ -46,7 +46,7 @@ fn is_date_byte(byte: u8) -> bool
     is_keylike(byte) || byte == b':' || byte == b'.' || byte == b'+'
 }
 
-/// Where the run of bytes of dates and times ends.
+/// Returns the offset at which the run of such bytes that begins at `from` ends.
 fn date_run_end(text: &str, from: usize) -> usize
     requires { IsCharBoundary text.now from }
     ensures run { MaximalRun spec.is_date_byte text.now from result }
@@ -61,8 +61,8 @@ fn date_run_end(text: &str, from: usize) -> usize
     bytes.len()
 }
 
-/// Where the text ends that is to be a date or a time: a run of its bytes, with the space behind the
-/// tenth one if a digit stands behind that space.
+/// Returns the offset after what should be a date or a time at `at`: a run of such bytes, and, if it has ten of them
+/// before a space and a digit, also the run after that space.
 fn date_end(text: &str, at: usize) -> usize
     requires { IsCharBoundary text.now at }
     ensures candidate { IsCandidate text.now at result }
@@ -77,7 +77,9 @@ fn date_end(text: &str, at: usize) -> usize
     }
 }
 
-/// The date or time at a place, and where it ends; or `InvalidDatetime`, over all bytes that could belong to it.
+/// Reads the date or time at `at`, and returns it with the offset after it.
+///
+/// Fails with `InvalidDatetime`, which spans all bytes that could belong to it.
 ///
 /// `date-time = offset-date-time / local-date-time / local-date / local-time` (TOML 1.1, Offset Date-Time)
 #[inline(never)]

@@ -1,4 +1,4 @@
-//! The earlier values of a section or an inline table, by their paths.
+//! The earlier values of a section or an inline table, by path.
 ghost use Rattle.std.specs.Prelude.{◌≡◌, ◌≤◌, ◌+◌, ◌++◌, ◌∷◌, [], map, length, OnOk, Some, unwrap_or};
 ghost use Rattle.std.specs.Cow.{cow_str_bytes};
 ghost use Rattle.toml_span_read.specs.Data.{parsed_span, key_value, simple_key, parts};
@@ -14,15 +14,15 @@ use toml_span_lex::key::Key;
 use toml_span_lex::span::Span;
 use toml_span_lex::stop::Stop;
 
-/// What stands at a path and below it.
+/// The value at a path, and the paths below it.
 #[derive(Drop)]
 struct Node<'de> {
-    /// The key's span of the first value at this path.
+    /// The span of the last key part of the first value at this path.
     value: Option<Span>,
     below: BTreeMap<Key<'de>, Node<'de>>,
 }
 
-/// A path on which nothing stands yet.
+/// Returns a node without a value, and with none below it.
 fn empty<'de>(alloc: Global) -> Node<'de>
     ensures { code.holds result ≡ code.nothing }
 {
@@ -32,7 +32,7 @@ fn empty<'de>(alloc: Global) -> Node<'de>
     }
 }
 
-/// Puts a value at the end of the path of these parts.
+/// Stores a value at the path `inner`, `last`, unless there is one. Fails if an allocation fails.
 fn put<'de>(
     alloc: Global,
     node: &mut Node<'de>,
@@ -55,7 +55,7 @@ fn put<'de>(
     }
 }
 
-/// Puts a value under a key.
+/// Stores a value under the key `last`, unless there is one. Fails if an allocation fails.
 fn put_last<'de>(alloc: Global, node: &mut Node<'de>, last: &Key<'de>) -> Result<(), AllocError>
     ensures { OnOk result (code.Puts (cow_str_bytes last.now.name ∷ []) last.now.span (code.holds node.old)
         (code.holds node.new)) }
@@ -75,7 +75,7 @@ fn put_last<'de>(alloc: Global, node: &mut Node<'de>, last: &Key<'de>) -> Result
     }
 }
 
-/// Puts a child under a key that has none.
+/// Inserts `child` under a key that has no child yet. Fails if an allocation fails.
 fn put_child<'de>(
     alloc: Global,
     node: &mut Node<'de>,
@@ -90,7 +90,8 @@ fn put_child<'de>(
     Ok(())
 }
 
-/// The first of these parts at whose path a value stands, with the key's span of that value.
+/// Finds the first of these parts whose path has a value. Returns the offset of that part and the span of the value's
+/// key.
 fn crossing<'de>(node: &Node<'de>, inner: &[Key<'de>]) -> Option<(usize, Span)>
     ensures { code.FindsOutermost (code.holds node.now) (map simple_key inner.now) result }
 {
@@ -106,7 +107,7 @@ fn crossing<'de>(node: &Node<'de>, inner: &[Key<'de>]) -> Option<(usize, Span)>
     }
 }
 
-/// The key of an assignment.
+/// Returns the key of an assignment.
 #[inline]
 fn key_of<'x, 'de>(next: &'x Assignment<'de>) -> &'x DottedKey<'de>
     ensures { parts result.now ≡ (key_value next.now).parts }
@@ -114,7 +115,7 @@ fn key_of<'x, 'de>(next: &'x Assignment<'de>) -> &'x DottedKey<'de>
     &next.parts
 }
 
-/// Where the span of an assignment's value ends.
+/// Returns the end of the span of an assignment's value.
 #[inline]
 fn value_end<'de>(next: &Assignment<'de>) -> usize
     ensures { result ≡ (parsed_span (key_value next.now).value).end }
@@ -122,19 +123,19 @@ fn value_end<'de>(next: &Assignment<'de>) -> usize
     next.value.span.end
 }
 
-/// The earlier values of a section or an inline table, by path. They are put into the tree only once a key
-/// has more inner parts than an earlier one: until then no key can go through an earlier value.
+/// The earlier values of a section or an inline table, by path. They are stored in the tree only when a key has more
+/// inner parts than an earlier one, since no key can go through an earlier value before that.
 #[derive(Drop)]
 pub(crate) struct Earlier<'de> {
-    /// The fewest inner parts that a key has.
+    /// The smallest number of inner parts of a key.
     fewest: usize,
-    /// How many of the values are in the tree.
+    /// The number of values that are in the tree.
     known: usize,
     tree: Node<'de>,
 }
 
 impl<'de> Earlier<'de> {
-    /// No earlier values.
+    /// Returns an empty set of values.
     pub(crate) fn new(alloc: Global) -> Self
         ensures { code.Knows result [] }
     {
@@ -145,7 +146,7 @@ impl<'de> Earlier<'de> {
         }
     }
 
-    /// Puts in those of the values that are not in yet.
+    /// Stores the values that are not in the tree yet. Fails if an allocation fails.
     #[inline(never)]
     fn catch_up(&mut self, alloc: Global, values: &[Assignment<'de>]) -> Result<(), AllocError>
         requires { code.Knows self.now (map key_value values.now) }
@@ -161,7 +162,8 @@ impl<'de> Earlier<'de> {
         Ok(())
     }
 
-    /// The fault of an assignment whose key goes through one of the earlier values, if it does.
+    /// Returns the fault of an assignment whose key goes through an earlier value. Otherwise takes note of the
+    /// assignment and returns `None`. Fails if an allocation fails.
     fn fault(
         &mut self,
         alloc: Global,
@@ -191,7 +193,8 @@ impl<'de> Earlier<'de> {
     }
 }
 
-/// Puts an assignment behind the earlier ones, unless its key goes through one of their values.
+/// Appends an assignment to the earlier ones. Fails if its key goes through one of their values, or if an allocation
+/// fails.
 #[inline(always)]
 pub(crate) fn add_clear<'de>(
     alloc: Global,

@@ -1,4 +1,4 @@
-//! What is wrong in a text, and where.
+//! Faults: what is wrong in a text, and where.
 ghost use Rattle.std.specs.Prelude.{◌≡◌, ◌<◌, ◌≤◌, length};
 ghost use Rattle.toml_span_tree.specs.Error.{kind_of, content_of};
 ghost use Rattle.toml_span_read.specs.Faults as spec;
@@ -11,13 +11,13 @@ use toml_span_lex::span::Span;
 use toml_span_lex::tokens::Error as TokenError;
 use toml_span_tree::{Error, ErrorKind};
 
-/// What is due at a place, where another token stands.
+/// A token that is expected where there is another one.
 #[derive(Clone, Copy, Debug)]
 pub enum Due {
     Value,
     TableKey,
     Equals,
-    /// A right bracket, also where a comma or a dot could stand.
+    /// A right bracket. A comma or a dot may be possible too.
     RightBracket,
     /// A comma or a right brace.
     Comma,
@@ -27,7 +27,7 @@ pub enum Due {
 impl Due {
     ghost use Rattle.toml_span_read.specs.Faults.{due_words};
 
-    /// What is due, in the words of an error.
+    /// Returns the name of the expected token in errors.
     pub fn words(self) -> &'static str
         ensures { result.now ≡ due_words self }
     {
@@ -42,7 +42,7 @@ impl Due {
     }
 }
 
-/// What stands at a place: a token, or the end of the text.
+/// What is at an offset: a token, or the end of the text.
 #[derive(Clone, Copy, Debug)]
 pub enum Found {
     EndOfText,
@@ -66,7 +66,7 @@ pub enum Found {
 impl Found {
     ghost use Rattle.toml_span_read.specs.Faults.{found_words};
 
-    /// What stands there, in the words of an error.
+    /// Returns its name in errors.
     pub fn words(self) -> &'static str
         ensures text { result.now ≡ found_words self }
         ensures short { length result.now ≤ 18 }
@@ -92,7 +92,7 @@ impl Found {
     }
 }
 
-/// What is wrong.
+/// The kinds of faults.
 #[derive(Clone, Copy, Debug)]
 pub enum FaultKind {
     UnexpectedEof,
@@ -111,14 +111,14 @@ pub enum FaultKind {
     DottedKeyInvalidType { first: Span },
 }
 
-/// What is wrong, and where.
+/// A fault and its span.
 #[derive(Clone, Copy, Debug)]
 pub struct Fault {
     pub kind: FaultKind,
     pub span: Span,
 }
 
-/// A fault of one byte.
+/// Returns a fault whose span is the byte at `at`.
 pub(crate) fn fault_at(kind: FaultKind, at: usize) -> Fault
     requires { at < usize.MAX }
     ensures { result ≡ spec.fault_at kind at }
@@ -130,7 +130,7 @@ pub(crate) fn fault_at(kind: FaultKind, at: usize) -> Fault
     Fault { kind, span }
 }
 
-/// The fault that these bytes are no number.
+/// Returns the fault that the bytes from `start` to `end` are not a number.
 pub(crate) fn invalid_number(start: usize, end: usize) -> Fault
     ensures { result ≡ numerals.invalid_number start end }
 {
@@ -141,7 +141,7 @@ pub(crate) fn invalid_number(start: usize, end: usize) -> Fault
     }
 }
 
-/// Returns the fault that the tokenizer's refusal is.
+/// Converts an error of the tokenizer into a fault.
 pub(crate) fn token_fault(error: TokenError) -> Fault
     requires { Bounded usize.MAX error }
     ensures { result ≡ spec.token_fault error }
@@ -168,7 +168,7 @@ pub(crate) fn token_fault(error: TokenError) -> Fault
     }
 }
 
-/// What a fault is called among the errors of a document.
+/// Converts the kind of a fault into the kind of error that reports it.
 fn error_kind<'s>(kind: FaultKind) -> ErrorKind<'s>
     ensures { kind_of result ≡ spec.error_kind kind }
 {
@@ -193,7 +193,7 @@ fn error_kind<'s>(kind: FaultKind) -> ErrorKind<'s>
     }
 }
 
-/// A fault as an error of the document, with its line and column.
+/// Converts a fault into an error, with its line and column in `text`.
 pub fn error_of<'s>(text: &str, fault: Fault) -> Error<'s>
     requires { fault.span.start ≤ length text.now }
     ensures { Tells text.now fault (content_of result) }

@@ -9,7 +9,7 @@ ghost use Rattle.toml_span_lex.specs.Bytes.{comma, equals};
 use toml_span_lex::bytes::{blanks_end, printed_end};
 use toml_span_lex::text::line_end;
 
-/// The byte at a place, and 0 at the end.
+/// Returns the byte at `at`, or 0 at the end of the text.
 #[inline]
 pub fn byte_at(text: &str, at: usize) -> u8
     ensures { result ≡ slice_index text.now at }
@@ -18,7 +18,7 @@ pub fn byte_at(text: &str, at: usize) -> u8
     if at < bytes.len() { bytes[at] } else { 0 }
 }
 
-/// What is behind the piece of a gap at a place: a space or a tab, a line end or a comment.
+/// Returns the offset after a space, a tab, a line end or a comment at `at`, or `None` at anything else.
 ///
 /// `wschar = %x20 / %x09`, `newline = %x0A / %x0D.0A`, `comment = comment-start-symbol *non-eol` (TOML 1.1, Comment)
 #[inline]
@@ -34,7 +34,7 @@ fn gap_piece(text: &str, at: usize) -> Option<usize>
     }
 }
 
-/// Where the spaces, tabs, line ends and comments end.
+/// Returns the offset after all spaces, tabs, line ends and comments from `from` on.
 ///
 /// `ws-comment-newline = *( wschar / [ comment ] newline )` (TOML 1.1, Array)
 pub fn gap_end(text: &str, from: usize) -> usize
@@ -49,7 +49,7 @@ pub fn gap_end(text: &str, from: usize) -> usize
     at
 }
 
-/// What is behind the rest of a line, or where another token stands than its end.
+/// Returns the offset after the rest of the line. Fails with the offset of the first token that cannot be there.
 ///
 /// `ws [ comment ] ( newline / end of text )` (TOML 1.1, Overall Structure)
 pub fn line_rest(text: &str, from: usize) -> Result<usize, usize>
@@ -69,7 +69,7 @@ pub fn line_rest(text: &str, from: usize) -> Result<usize, usize>
     }
 }
 
-/// What is behind a dot with spaces and tabs round it, if one is next.
+/// Returns the offset after a dot and the spaces and tabs around it, or `None` if the next token is not a dot.
 ///
 /// `dot-sep = ws %x2E ws` (TOML 1.1, Keys)
 #[inline(always)]
@@ -85,7 +85,7 @@ pub fn dot(text: &str, at: usize) -> Option<usize>
     }
 }
 
-/// What is behind a byte of ASCII.
+/// Returns the offset after the ASCII byte at `at`.
 #[inline]
 pub(crate) fn behind_byte(text: &str, at: usize) -> usize
     requires some { 0 < slice_index text.now at }
@@ -93,11 +93,13 @@ pub(crate) fn behind_byte(text: &str, at: usize) -> usize
     ensures value { result ≡ at + 1 }
     ensures further { Further text.now at result }
 {
+    // Toolchain: in a cycle of calls a `&str` is not known to be UTF-8 (`c.utf8`), so a step over one character is a
+    // function.
     let _text = text;
     at + 1
 }
 
-/// What is behind an opening bracket and the gap behind it.
+/// Returns the offset after the opening bracket or brace at `at`, and the gap after it.
 ///
 /// `array-open = %x5B`, `inline-table-open = %x7B` (TOML 1.1, Array, Inline Table)
 pub(crate) fn opened(text: &str, at: usize) -> usize
@@ -109,17 +111,18 @@ pub(crate) fn opened(text: &str, at: usize) -> usize
     gap_end(text, behind_byte(text, at))
 }
 
-/// What is behind an element of an array or a pair of an inline table, with a byte offset.
+/// What follows an element of an array or a pair of an inline table, with a byte offset.
 pub(crate) enum Behind {
-    /// A comma: the offset behind it and the gap that follows.
+    /// A comma, with the offset after it and the gap that follows.
     Comma(usize),
-    /// The closing bracket: the offset behind it.
+    /// The closing bracket, with the offset after it.
     Closed(usize),
-    /// Neither: the offset of the other token, or of the end of the text.
+    /// Neither, with the offset of the other token or of the end of the text.
     Neither(usize),
 }
 
-/// Whether a comma, the closing bracket or another token is behind an element and the gap behind it.
+/// Returns what follows an element that ends at `at`, and the gap after it: a comma, the closing bracket or another
+/// token.
 ///
 /// `array-sep = %x2C`, `inline-table-sep = %x2C`, `array-close = %x5D`, `inline-table-close = %x7D` (TOML 1.1,
 /// Array, Inline Table)
@@ -142,9 +145,10 @@ pub(crate) fn after_element(text: &str, at: usize, close: u8) -> Behind
     }
 }
 
-/// What is behind an equals sign with gaps round it, or where it is due.
+/// Returns the offset after an equals sign and the gaps around it. Fails with the offset at which it was expected.
 ///
-/// `keyval-sep = ws %x3D ws` of a pair (TOML 1.1, Inline Table), with line ends and comments too, unlike the standard
+/// `keyval-sep = ws %x3D ws` of a pair (TOML 1.1, Inline Table); unlike in the standard, also with line ends and
+/// comments
 pub(crate) fn pair_equals(text: &str, at: usize) -> Result<usize, usize>
     requires { IsCharBoundary text.now at }
     ensures { SeparatorGives equals text.now at result }
@@ -157,7 +161,8 @@ pub(crate) fn pair_equals(text: &str, at: usize) -> Result<usize, usize>
     }
 }
 
-/// What is behind an equals sign with spaces and tabs round it, or where it is due.
+/// Returns the offset after an equals sign and the spaces and tabs around it. Fails with the offset at which it was
+/// expected.
 ///
 /// `keyval-sep = ws %x3D ws` (TOML 1.1, Key/Value Pair)
 pub(crate) fn line_equals(text: &str, at: usize) -> Result<usize, usize>

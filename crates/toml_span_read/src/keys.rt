@@ -23,7 +23,7 @@ use toml_span_lex::key::Key;
 use toml_span_lex::span::Span;
 use toml_span_lex::stop::Stop;
 
-/// The string at a place as a key, and where it ends.
+/// Reads the string at `at` as a key, and returns it with the offset after it.
 ///
 /// `quoted-key = basic-string / literal-string` (TOML 1.1, Keys)
 #[tactic(auto, using(crate::proofs::KeyLemmas::string_stops))]
@@ -57,8 +57,10 @@ fn quoted_key<'de>(
     Ok((key, token.end))
 }
 
-/// The key at a place, and where it ends. Where none stands, the fault is `Wanted`; of a string that is one of
-/// several lines `MultilineStringKey`; else that of the string.
+/// Reads the key at `at`, and returns it with the offset after it.
+///
+/// Fails with `Wanted` at another token, with `MultilineStringKey` at a multi-line string, with the fault of a
+/// malformed string, or if an allocation fails.
 ///
 /// `simple-key = quoted-key / unquoted-key` (TOML 1.1, Keys)
 #[tactic(auto, using(crate::proofs::KeyLemmas::wanted_stops))]
@@ -86,7 +88,8 @@ pub(crate) fn simple_key<'de>(
     }
 }
 
-/// The fault of a part that is one too many: of a header all of it is told, else the place where it begins.
+/// Returns the fault that the key has more parts than the limit allows. It spans the part in a header, else the byte at
+/// `at`.
 fn one_too_many(key: &Key<'_>, at: usize, in_header: bool) -> Fault
     requires { at < usize.MAX }
     ensures { result ≡ spec.one_too_many in_header at (read_data.simple_key key.now) }
@@ -100,7 +103,8 @@ fn one_too_many(key: &Key<'_>, at: usize, in_header: bool) -> Fault
     }
 }
 
-/// The part of a key at a place, behind so many others, where it ends, and what is behind the dot, if one follows.
+/// Reads the key part at `at`, which follows `others` parts. Returns it with the offset after it and, if a dot follows,
+/// the offset after the dot.
 ///
 /// `dot-sep simple-key` (TOML 1.1, Keys)
 #[tactic(auto, using(crate::proofs::KeyLemmas::part_stops))]
@@ -124,8 +128,9 @@ fn part<'de>(
     Ok((key, end, dot(text, end)))
 }
 
-/// The dotted key at a place, of `limit` parts at most, and where it ends. The faults are those of `simple_key`,
-/// and `ExceededDepthLimit` at the part past the limit.
+/// Reads the dotted key at `at`, which may have at most `limit` parts. Returns it with the offset after it.
+///
+/// Fails like `simple_key`, or with `ExceededDepthLimit` at the part past the limit.
 ///
 /// `key = simple-key / dotted-key`, `dotted-key = simple-key 1*( dot-sep simple-key )` (TOML 1.1, Keys)
 #[tactic(auto, using(crate::proofs::KeyLemmas::part_placed, crate::proofs::KeyLemmas::none_behind))]
@@ -157,7 +162,8 @@ pub(crate) fn dotted_key<'de>(
     }
 }
 
-/// The parts of a header at a place, at most `limit`, and where they end, with the faults of `dotted_key`.
+/// Reads the parts of the header's key at `at`, at most `limit`. Returns them with the offset after them. Fails like
+/// `dotted_key`.
 ///
 /// `key = simple-key / dotted-key`, in `std-table = std-table-open key std-table-close` (TOML 1.1, Table)
 #[tactic(auto, using(crate::proofs::KeyLemmas::part_placed, crate::proofs::KeyLemmas::none_behind))]

@@ -1,9 +1,9 @@
-//! Lists that grow.
+//! A list that grows.
 ghost use Rattle.std.specs.Prelude.{◌≡◌, [], ◌∷◌, ◌++◌, OnOk};
 
 use std::alloc::AllocError;
 
-/// Adds an item at the end of a list.
+/// Appends an item to a list. Fails if an allocation fails.
 pub(crate) fn add<T: Drop>(items: &mut Vec<T>, item: T) -> Result<(), AllocError>
     ensures { OnOk result (items.new.items ≡ items.old.items ++ (item ∷ [])) }
 {

@@ -25,7 +25,7 @@ use toml_span_lex::span::Span;
 use toml_span_lex::stop::Stop;
 use toml_span_tree::FloatText;
 
-/// A number as it is read: of a finite float its text is all.
+/// A number that was read. The text of a finite float has its value.
 #[derive(Clone, Copy)]
 pub enum Numeral {
     Integer(i64),
@@ -34,7 +34,7 @@ pub enum Numeral {
     NotANumber { negative: bool },
 }
 
-/// Where the run from a place on ends.
+/// Returns the offset at which the run of letters, digits, dashes and underscores from `from` on ends.
 #[inline]
 fn run_end(text: &str, from: usize) -> usize
     requires { IsCharBoundary text.now from }
@@ -44,7 +44,7 @@ fn run_end(text: &str, from: usize) -> usize
     keylike_end(text, from)
 }
 
-/// The value of a digit of a radix.
+/// Returns the value of a digit, or `None` if it is not a digit of this radix.
 #[inline]
 fn digit(byte: u8, radix: u8) -> Option<u8>
     ensures { DigitGives radix byte result }
@@ -58,8 +58,10 @@ fn digit(byte: u8, radix: u8) -> Option<u8>
     if value < radix { Some(value) } else { None }
 }
 
-/// Where the digits end that begin a piece of a number at `from`, with single underscores between them. Else
-/// the fault `InvalidNumber`: from a leading underscore on, or else of the whole piece.
+/// Returns the offset after the digits of a piece of a number, which begin at `from` and may have single underscores
+/// between them.
+///
+/// Fails with `InvalidNumber`, which begins at a leading underscore, or else spans the whole piece.
 ///
 /// `zero-prefixable-int = DIGIT *( DIGIT / underscore DIGIT )` (TOML 1.1, Float)
 fn digits_end(text: &str, piece: Span, from: usize, radix: u8) -> Result<usize, Fault>
@@ -92,7 +94,7 @@ fn digits_end(text: &str, piece: Span, from: usize, radix: u8) -> Result<usize, 
     }
 }
 
-/// A number with one more digit behind its digits, if it is below 2^64.
+/// Returns the number with one more digit appended, or `None` if that is 2^64 or more.
 #[inline]
 fn with_digit(number: u64, radix: u8, digit: u8) -> Option<u64>
     ensures { WithinGives (number * radix + digit) result }
@@ -102,7 +104,7 @@ fn with_digit(number: u64, radix: u8, digit: u8) -> Option<u64>
         .checked_add(u64::from(digit))
 }
 
-/// The number that digits write, underscores left out, if it is below 2^64.
+/// Returns the number that the digits denote, ignoring underscores, or `None` if it is 2^64 or more.
 fn magnitude(digits: &[u8], radix: u8) -> Option<u64>
     ensures { WithinGives (sum_of_digits radix (filter (is_digit_in radix) digits.now)) result }
 {
@@ -115,7 +117,7 @@ fn magnitude(digits: &[u8], radix: u8) -> Option<u64>
     Some(value)
 }
 
-/// A number with its sign, if it is within 64 bits.
+/// Returns the number with its sign, or `None` if it does not fit in an `i64`.
 #[tactic(auto, unfolding(crate::specs::Numerals::signed))]
 fn signed(negative: bool, magnitude: u64) -> Option<i64>
     ensures { result ≡ numerals.signed negative magnitude }
@@ -132,7 +134,7 @@ fn signed(negative: bool, magnitude: u64) -> Option<i64>
     }
 }
 
-/// The integer that digits write, or the fault.
+/// Returns the integer that the digits from `from` on denote. Fails if it is out of range.
 #[tactic(auto, unfolding(crate::specs::Numerals::integer))]
 fn integer(text: &str, piece: Span, from: usize, radix: u8, negative: bool) -> Result<i64, Fault>
     requires forward { from ≤ piece.end }
@@ -149,7 +151,7 @@ fn integer(text: &str, piece: Span, from: usize, radix: u8, negative: bool) -> R
     }
 }
 
-/// The radix that the two bytes at a place name: `0x`, `0o` or `0b`. None where others stand there.
+/// Returns the radix of a prefix `0x`, `0o` or `0b` at `run`, or `None` at anything else.
 ///
 /// `hex-prefix = %x30.78`, `oct-prefix = %x30.6F`, `bin-prefix = %x30.62` (TOML 1.1, Integer)
 #[inline]
@@ -168,7 +170,7 @@ fn radix_of(text: &str, run: usize) -> Option<u8>
     }
 }
 
-/// The integer of a run with a radix before it.
+/// Returns the integer of a run that begins with a prefix. Fails if its digits are invalid or it is out of range.
 ///
 /// `hex-int`, `oct-int`, `bin-int` (TOML 1.1, Integer)
 #[tactic(auto, unfolding(crate::specs::Numerals::radix_integer))]
@@ -189,7 +191,7 @@ fn radix_integer(text: &str, run: Span, radix: u8) -> Result<i64, Fault>
     integer(text, piece, piece.start, radix, false)
 }
 
-/// Where the digits of the integer part of a decimal number end, or the fault.
+/// Returns the offset after the integer part of a decimal number. Fails if its digits are invalid.
 ///
 /// `dec-int = [ minus / plus ] unsigned-dec-int` (TOML 1.1, Integer)
 #[tactic(auto, unfolding(crate::specs::Numerals::integer_part))]
@@ -212,7 +214,7 @@ fn integer_part(text: &str, run: Span, from: usize) -> Result<usize, Fault>
     Ok(end)
 }
 
-/// Whether the exponent of a float begins with this byte.
+/// Returns whether the exponent of a float begins with this byte.
 #[inline]
 fn is_exponent(byte: u8) -> bool
     ensures { result ≡ numerals.is_exponent byte }
@@ -220,7 +222,8 @@ fn is_exponent(byte: u8) -> bool
     byte == b'e' || byte == b'E'
 }
 
-/// Where the exponent ends whose letter is at `letter`, in a run that ends at `end`, or the fault.
+/// Returns the offset after the exponent whose letter is at `letter`, in a run that ends at `end`. Fails if its digits
+/// are invalid.
 ///
 /// `exp = "e" float-exp-part`, `float-exp-part = [ minus / plus ] zero-prefixable-int` (TOML 1.1, Float)
 #[tactic(auto, unfolding(crate::specs::Numerals::exponent))]
@@ -252,7 +255,8 @@ fn exponent_end(text: &str, first: Span, letter: usize, end: usize) -> Result<us
     exponent_digits(text, first, piece, start)
 }
 
-/// Where the digits of an exponent end, which are all of their piece from `from` on, or the fault.
+/// Returns the offset after the digits of an exponent. Fails unless they are valid and extend from `from` to the end of
+/// their piece.
 #[tactic(auto, unfolding(crate::specs::Numerals::exponent_digits))]
 fn exponent_digits(text: &str, first: Span, piece: Span, from: usize) -> Result<usize, Fault>
     requires within { piece.end ≤ length text.now }
@@ -266,8 +270,8 @@ fn exponent_digits(text: &str, first: Span, piece: Span, from: usize) -> Result<
     Ok(piece.end)
 }
 
-/// Where the float ends whose dot is at the end of the run `first`, or the fault. `start` is the
-/// number's first character.
+/// Returns the offset after the float whose decimal point follows the run `first`, and whose first character is at
+/// `start`. Fails if its digits are invalid.
 ///
 /// `frac = decimal-point zero-prefixable-int` (TOML 1.1, Float)
 #[tactic(auto, unfolding(crate::specs::Numerals::fraction))]
@@ -294,7 +298,7 @@ fn fraction_end(text: &str, start: usize, first: Span) -> Result<usize, Fault>
     }
 }
 
-/// What is behind the minus at a place of a run, if there is one.
+/// Returns the offset after a minus sign at `at`, or else `at`.
 #[inline]
 fn behind_minus(text: &str, at: usize) -> usize
     requires within { at < length text.now }
@@ -308,7 +312,8 @@ fn behind_minus(text: &str, at: usize) -> usize
     }
 }
 
-/// The number without a radix that begins with the run `first`, and where it ends, or the fault.
+/// Reads the number without a prefix that begins with the run `first`, and returns it with the offset after it. Fails
+/// if it is malformed or out of range.
 ///
 /// `float = float-int-part ( exp / frac [ exp ] )` (TOML 1.1, Float)
 #[tactic(auto, unfolding(crate::specs::Numerals::decimal))]
@@ -335,7 +340,7 @@ fn decimal_number(text: &str, start: usize, first: Span) -> Result<(Numeral, usi
     ))
 }
 
-/// The float that a word of letters writes, `inf` or `nan`; None for other words.
+/// Returns the float that a word denotes, which is `inf` or `nan`, or `None` for any other word.
 ///
 /// `special-float = [ minus / plus ] ( inf / nan )` (TOML 1.1, Float)
 #[tactic(auto, unfolding(crate::specs::Numerals::special))]
@@ -349,7 +354,7 @@ fn special_float(word: &[u8], negative: bool) -> Option<Numeral>
     }
 }
 
-/// Inf or nan, and where it ends, or the fault of a dot behind it, as `inf.5`: no float of letters has a fraction.
+/// Returns `inf` or `nan` with the offset after it. Fails if a dot follows, as in `inf.5`.
 #[tactic(auto, unfolding(crate::specs::Numerals::special_end))]
 fn special_end(
     text: &str,
@@ -371,8 +376,8 @@ fn special_end(
     }
 }
 
-/// The number whose first character is at `start` and whose first run, behind a plus, is `first`; and where
-/// it ends, or the fault.
+/// Reads the number whose first character is at `start` and whose first run, after a plus sign if there is one, is
+/// `first`. Returns it with the offset after it. Fails if it is malformed or out of range.
 #[tactic(auto, unfolding(crate::specs::Numerals::unsigned))]
 fn unsigned(text: &str, start: usize, first: Span) -> Result<(Numeral, usize), Fault>
     requires some { first.start < first.end }
@@ -393,7 +398,7 @@ fn unsigned(text: &str, start: usize, first: Span) -> Result<(Numeral, usize), F
     }
 }
 
-/// The number at a place, and where it ends, or the fault.
+/// Reads the number at `at`, and returns it with the offset after it. Fails if it is malformed or out of range.
 ///
 /// `integer = dec-int / hex-int / oct-int / bin-int`, `float = float-int-part ( exp / frac [ exp ] )`,
 /// `float =/ special-float` (TOML 1.1, Integer, Float)
@@ -424,7 +429,7 @@ fn number_at(text: &str, at: usize) -> Result<(Numeral, usize), Fault>
     unsigned(text, at, first)
 }
 
-/// What the first digits at a place come to, below 2^60, and where these end.
+/// Returns the number that the first digits from `from` on denote, which is below 2^60, with the offset after them.
 fn few_digits(text: &str, from: usize) -> (u64, usize)
     requires { from ≤ length text.now }
     ensures forward { from ≤ result.1 }
@@ -444,8 +449,8 @@ fn few_digits(text: &str, from: usize) -> (u64, usize)
     (value, bytes.len())
 }
 
-/// The integer of a few digits alone that stands at a place, and where it ends: no date, and no number with a sign,
-/// an underscore, a prefix, a dot or an exponent.
+/// Returns the integer at `at`, if it consists of a few digits only, with the offset after it. `None` means that there
+/// may be a date, or a number with a sign, an underscore, a prefix, a dot, an exponent or more digits.
 pub(crate) fn short_integer<'de>(text: &'de str, at: usize) -> Option<(ValKind<'de>, usize)>
     requires { IsCharBoundary text.now at }
     ensures scalar { IfSome result (λ found. ScalarGives (read.bare text.now at) (Ok found)) }
@@ -465,7 +470,7 @@ pub(crate) fn short_integer<'de>(text: &'de str, at: usize) -> Option<(ValKind<'
     }
 }
 
-/// Whether a byte stands in the cleaned text of a float as it is.
+/// Returns whether a byte is kept as it is in the stored text of a float.
 #[inline]
 fn is_clean(byte: u8) -> bool
     ensures { result ≡ not ((byte == underscore || byte == plus) || byte == small_e) }
@@ -473,7 +478,7 @@ fn is_clean(byte: u8) -> bool
     byte != b'_' && byte != b'+' && byte != b'e'
 }
 
-/// Whether the literal of a float is kept as it stands.
+/// Returns whether the literal of a float is stored unchanged.
 fn is_kept(literal: &str) -> bool
     ensures { result ≡ true → numerals.cleaned literal.now ≡ literal.now }
 {
@@ -485,7 +490,8 @@ fn is_kept(literal: &str) -> bool
     true
 }
 
-/// A float's literal without pluses and underscores, with `E` before its exponent.
+/// Copies a float's literal without plus signs and underscores, and with `E` before its exponent. Fails if an
+/// allocation fails.
 fn cleaned(alloc: Global, literal: &str) -> Result<String, AllocError>
     requires ascii { (k : ℕ) → slice_index literal.now k < 128 }
     ensures { IfOk result (λ kept. string_bytes kept ≡ numerals.cleaned literal.now) }
@@ -504,7 +510,7 @@ fn cleaned(alloc: Global, literal: &str) -> Result<String, AllocError>
     Ok(text)
 }
 
-/// The integer of this value.
+/// Returns an integer as a value.
 #[inline]
 fn integer_kind<'de>(value: i64) -> ValKind<'de>
     ensures { kind_view result ≡ scalar (integer value) }
@@ -512,7 +518,7 @@ fn integer_kind<'de>(value: i64) -> ValKind<'de>
     ValKind::Integer(value)
 }
 
-/// The float of this text.
+/// Returns a float as a value.
 #[inline]
 fn float_kind<'de>(text: FloatText) -> ValKind<'de>
     ensures { kind_view result ≡ scalar (float (float_value text)) }
@@ -520,7 +526,7 @@ fn float_kind<'de>(text: FloatText) -> ValKind<'de>
     ValKind::Float(text)
 }
 
-/// The literal of a float without its plus.
+/// Returns the literal of a float without its plus sign.
 fn float_literal<'a>(text: &'a str, at: usize, end: usize) -> &'a str
     requires start { IsCharBoundary text.now at }
     requires end { IsCharBoundary text.now end }
@@ -535,7 +541,7 @@ fn float_literal<'a>(text: &'a str, at: usize, end: usize) -> &'a str
     }
 }
 
-/// The number that was read at a place, and ends at `end`.
+/// Returns the number `numeral`, which was read from `at` to `end`, as a value. Fails if an allocation fails.
 fn number_kind<'de>(
     alloc: Global,
     text: &str,
@@ -560,7 +566,8 @@ fn number_kind<'de>(
     }
 }
 
-/// The number at a place, and where it ends.
+/// Reads the number at `at`, and returns it as a value with the offset after it. Fails if it is malformed or out of
+/// range, or if an allocation fails.
 pub(crate) fn number<'de>(
     alloc: Global,
     text: &'de str,

@@ -35,7 +35,8 @@ use toml_span_lex::stop::Stop;
 use toml_span_lex::tokenizer::first_place;
 use toml_span_tree::Error;
 
-/// The assignment at a place, and where it ends.
+/// Reads the assignment at `at`, and returns it with the offset after it. Fails with its first fault, or if an
+/// allocation fails.
 ///
 /// `keyval = key keyval-sep val`, `keyval-sep = ws %x3D ws` (TOML 1.1, Key/Value Pair)
 fn assignment<'de>(
@@ -63,9 +64,9 @@ fn assignment<'de>(
     }
 }
 
-/// What is behind the line whose forms end at a place.
+/// Returns the offset after the rest of the line. Fails if there is anything but white space and a comment.
 ///
-/// `expression =/ ws keyval ws [ comment ]`, of which `ws [ comment ]` and the line end (TOML 1.1, Overall Structure)
+/// `ws [ comment ]` and the line end in `expression =/ ws keyval ws [ comment ]` (TOML 1.1, Overall Structure)
 #[inline(always)]
 fn next_line(alloc: Global, text: &str, at: usize) -> Result<usize, Stop<Fault>>
     requires { IsCharBoundary text.now at }
@@ -78,7 +79,8 @@ fn next_line(alloc: Global, text: &str, at: usize) -> Result<usize, Stop<Fault>>
     }
 }
 
-/// The assignments from a place on, up to the next header or the end of the text, and where they end.
+/// Reads the assignments from `from` up to the next header or the end of the text, and returns them with the offset
+/// after them. Fails with the first fault, or if an allocation fails.
 fn assignments<'de>(
     alloc: Global,
     text: &'de str,
@@ -113,7 +115,7 @@ fn assignments<'de>(
     Ok((found, at))
 }
 
-/// Whether a header's brackets are double, and what is behind those that open it.
+/// Returns whether the header at `at` has double brackets, and the offset after the opening ones.
 ///
 /// `std-table-open = %x5B ws`, `array-table-open = %x5B.5B ws` (TOML 1.1, Table, Array of Tables)
 fn header_open(text: &str, at: usize) -> (bool, usize)
@@ -129,7 +131,7 @@ fn header_open(text: &str, at: usize) -> (bool, usize)
     }
 }
 
-/// What is behind a header's closing brackets.
+/// Returns the offset after a header's closing brackets. Fails if one is missing.
 ///
 /// `std-table-close = ws %x5D`, `array-table-close = ws %x5D.5D` (TOML 1.1, Table, Array of Tables)
 fn header_close(alloc: Global, text: &str, at: usize, array: bool) -> Result<usize, Stop<Fault>>
@@ -152,7 +154,7 @@ fn header_close(alloc: Global, text: &str, at: usize, array: bool) -> Result<usi
     Ok(behind_byte(text, behind))
 }
 
-/// A header: its parts, whether its brackets are double, and its extent.
+/// A header: its parts, whether it has double brackets, and its extent with the rest of its line.
 #[derive(Drop)]
 struct Header<'de> {
     parts: SmallVec<Key<'de>, 3>,
@@ -160,7 +162,7 @@ struct Header<'de> {
     extent: Span,
 }
 
-/// The header whose first bracket is at a place.
+/// Reads the header whose first bracket is at `at`. Fails with its first fault, or if an allocation fails.
 ///
 /// `table = std-table / array-table` (TOML 1.1, Table)
 fn read_header<'de>(
@@ -185,7 +187,7 @@ fn read_header<'de>(
     })
 }
 
-/// The extent of an assignment.
+/// Returns the extent of an assignment.
 #[inline]
 fn extent_of(assignment: &Assignment<'_>) -> Span
     ensures { result ≡ (key_value assignment.now).extent }
@@ -193,7 +195,7 @@ fn extent_of(assignment: &Assignment<'_>) -> Span
     assignment.extent
 }
 
-/// Where the last of these assignments ends, or, without one, the place given.
+/// Returns the end of the last of these assignments, or else `without`.
 fn last_end(assignments: &[Assignment<'_>], without: usize) -> usize
     ensures { result ≡ blocks.last_end without (map key_value assignments.now) }
 {
@@ -203,7 +205,7 @@ fn last_end(assignments: &[Assignment<'_>], without: usize) -> usize
     }
 }
 
-/// The section of a header with its assignments.
+/// Returns the section of a header and its assignments.
 fn section_of<'de>(header: Header<'de>, assignments: Vec<Assignment<'de>>) -> Section<'de>
     ensures block { block result
         ≡ spec.block_at header.entry.extent.start (head_found header.entry) (map key_value assignments.entry.items) }
@@ -228,7 +230,7 @@ fn section_of<'de>(header: Header<'de>, assignments: Vec<Assignment<'de>>) -> Se
     }
 }
 
-/// The section of the assignments before the first header, if there are any.
+/// Returns the section of the assignments before the first header, if any.
 fn first_section<'de>(alloc: Global, assignments: Vec<Assignment<'de>>) -> Option<Section<'de>>
     ensures block { first_blocks result ≡ first_block (map key_value assignments.entry.items) }
     ensures written { IfSome result (λ section. section_written section ≡ assignments_written assignments.entry.items) }
@@ -244,10 +246,10 @@ fn first_section<'de>(alloc: Global, assignments: Vec<Assignment<'de>>) -> Optio
     })
 }
 
-/// The section of the assignments before the first header, if there are any, and where they end: at the
-/// first header, or at the end of the text.
+/// Reads the assignments before the first header. Returns their section, if there are any, with the offset of the first
+/// header or of the end of the text.
 ///
-/// The error is the first fault there.
+/// Fails with the first fault there, or if an allocation fails.
 pub fn read_first<'de>(
     alloc: Global,
     text: &'de str,
@@ -262,10 +264,10 @@ pub fn read_first<'de>(
     Ok((first_section(alloc, before), end))
 }
 
-/// The section whose header's first bracket is at a place, and where it ends: at the next header, or at
-/// the end of the text.
+/// Reads the section whose header begins at `at`. Returns it with the offset of the next header or of the end of the
+/// text.
 ///
-/// The error is the first fault there.
+/// Fails with the first fault there, or if an allocation fails.
 #[inline(never)]
 pub fn read_section<'de>(
     alloc: Global,
@@ -283,7 +285,7 @@ pub fn read_section<'de>(
     Ok((section_of(header, behind), end))
 }
 
-/// The sections of a text, or its fault.
+/// Reads the sections of a text. Fails with the first fault, or if an allocation fails.
 fn sections<'de>(
     alloc: Global,
     text: &'de str,
@@ -315,7 +317,7 @@ fn sections<'de>(
     Ok(found)
 }
 
-/// The sections of a document, in the order of the text, or the first fault of reading.
+/// Reads the sections of a document, in the order of the text. Fails with the first fault, or if an allocation fails.
 ///
 /// `toml = expression *( newline expression )` (TOML 1.1, Overall Structure)
 pub fn read_sections<'de>(
@@ -325,13 +327,12 @@ pub fn read_sections<'de>(
 ) -> Result<Vec<Section<'de>>, Stop<Error<'de>>>
     requires some { 1 ≤ limit }
     requires small { limit ≤ depth_limit }
-    // The sections, or the fault, are what reading the document gives.
+    // The result is what the definition `document` reads: these sections, or this fault.
     ensures document { ReadsDocument text.now limit result }
     ensures placed { RefusedInside text.now result }
-    // Memory is wanted only where more than comments and blank lines stand in the text.
+    // An allocation can fail only if the text has more than comments and blank lines.
     ensures memory { (start : ℕ) × FirstPlace text.now start × OnlyFormsTakeMemory text.now start result }
-    // Strings and keys are borrowed exactly where they equal the text at their span. Empty ones on one line are
-    // borrowed.
+    // Strings and keys are borrowed exactly if they equal the text at their span. Empty single-line ones are borrowed.
     ensures borrows { IfOk result (λ found. AreWrittenRight text.now (sections_written found.items)) }
 {
     match sections(alloc, text, limit) {

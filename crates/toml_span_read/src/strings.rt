@@ -24,7 +24,7 @@ pub struct StringToken<'de> {
     pub end: usize,
 }
 
-/// Whether a string opens with this byte.
+/// Returns whether strings begin with this byte.
 #[inline]
 pub(crate) fn opens_string(byte: u8) -> bool
     ensures { result ≡ (byte == quotation_mark || byte == apostrophe) }
@@ -32,8 +32,8 @@ pub(crate) fn opens_string(byte: u8) -> bool
     byte == b'"' || byte == b'\''
 }
 
-/// Returns the string on one line at `at`, if it is not empty and all its characters stand for themselves. `None` only
-/// means that it has to be read in pieces.
+/// Reads the single-line string at `at` if it is not empty and has no escapes. `None` only means that it must be read
+/// in pieces.
 #[inline(always)]
 pub(crate) fn short_string<'de>(text: &'de str, at: usize) -> Option<StringToken<'de>>
     requires within { at < length text.now }
@@ -55,7 +55,7 @@ pub(crate) fn short_string<'de>(text: &'de str, at: usize) -> Option<StringToken
     })
 }
 
-/// Reads the string at `at` in pieces.
+/// Reads the string at `at` piece by piece. Fails with its fault, or if an allocation fails.
 #[inline(never)]
 fn pieced_string<'de>(
     alloc: Global,
@@ -87,7 +87,7 @@ fn pieced_string<'de>(
     }
 }
 
-/// Reads the string at `at`. The fault is that of the string as a token.
+/// Reads the string at `at`. Fails with the fault of the string as a token, or if an allocation fails.
 ///
 /// `string = ml-basic-string / basic-string / ml-literal-string / literal-string` (TOML 1.1, String)
 #[inline(always)]

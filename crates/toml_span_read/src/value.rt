@@ -1,20 +1,20 @@
-//! Values as they stand in a text, and the keys to which they are assigned.
+//! Values as they are written in a text, and the keys to which they are assigned.
 use std::borrow::CowStr;
 use toml_span_lex::key::Key;
 use toml_span_lex::span::Span;
 use toml_span_tree::{DateText, FloatText};
 
-/// A value, with its span.
+/// A value and its span.
 #[cycle(val)]
 #[derive(Debug, Drop)]
 pub struct Val<'de> {
     pub kind: ValKind<'de>,
-    /// Of a string its content, or its opening quote where it is empty and on one line. Of another value all
-    /// of it, brackets and a plus included.
+    /// For a string, the span of its content, or of the opening quote if it is single-line and empty. For any other
+    /// value all of it, brackets and a plus sign included.
     pub span: Span,
 }
 
-/// What a value is.
+/// The types of values.
 #[cycle(val)]
 #[derive(Debug, Drop)]
 pub enum ValKind<'de> {
@@ -24,21 +24,21 @@ pub enum ValKind<'de> {
     Boolean(bool),
     Datetime(DateText<'de>),
     Array(Vec<Val<'de>>),
-    /// An inline table: its pairs, in the order of the text.
+    /// The pairs of an inline table, in the order of the text.
     Inline(Vec<Assignment<'de>>),
 }
 
-/// A dotted key and its value: a line's, or a pair of an inline table.
+/// A dotted key and its value, on a line or in an inline table.
 #[cycle(val)]
 #[derive(Debug, Drop)]
 pub struct Assignment<'de> {
     pub parts: DottedKey<'de>,
     pub value: Val<'de>,
-    /// From the key to behind the last character of the value, closing quotes included.
+    /// From the start of the key to the end of the value, closing quotes included.
     pub extent: Span,
 }
 
-/// The parts of a dotted key, of which there is at least one. A key of one part takes no memory.
+/// A dotted key, which has at least one part. A key with one part needs no memory.
 #[derive(Debug, Drop)]
 pub struct DottedKey<'de> {
     /// The parts before the last one.

@@ -36,8 +36,10 @@ use toml_span_lex::span::Span;
 use toml_span_lex::stop::Stop;
 use toml_span_tree::DateText;
 
-/// The value at a place that `depth` brackets and key parts stand round, and where it ends. Else the first fault
-/// of the value; `ExceededDepthLimit` where it is deeper than `limit`.
+/// Reads the value at `at`, which is nested inside `depth` brackets and key parts. Returns it with the offset after it.
+///
+/// Fails with the first fault of the value, with `ExceededDepthLimit` if it is nested deeper than `limit`, or if an
+/// allocation fails.
 ///
 /// `val = string / boolean / array / inline-table / date-time / float / integer` (TOML 1.1, Key/Value Pair)
 #[cycle(read)]
@@ -64,7 +66,7 @@ pub(crate) fn value<'de>(
     }
 }
 
-/// A value that is too deep.
+/// Returns the fault of a value that is nested too deeply.
 fn too_deep(text: &str, at: usize) -> Stop<Fault>
     requires { at ≤ length text.now }
     ensures fault { IsTooDeep at result }
@@ -74,7 +76,7 @@ fn too_deep(text: &str, at: usize) -> Stop<Fault>
     Stop::Fault(fault_at(FaultKind::ExceededDepthLimit, at))
 }
 
-/// The string at a place, and where it ends.
+/// Reads the string at `at`, and returns it with the offset after it.
 ///
 /// `string = ml-basic-string / basic-string / ml-literal-string / literal-string` (TOML 1.1, String)
 #[inline(always)]
@@ -98,7 +100,7 @@ fn string_value<'de>(
     Ok((string_of(token.content, token.span), token.end))
 }
 
-/// The value at a place that is no string and has no brackets, and where it ends.
+/// Reads the value at `at`, which begins with neither a quote nor a bracket, and returns it with the offset after it.
 fn scalar<'de>(
     alloc: Global,
     text: &'de str,
@@ -123,7 +125,7 @@ fn scalar<'de>(
     Ok((scalar_of(kind, at, end), end))
 }
 
-/// The date, number or truth value at a place, and where it ends.
+/// Reads the date, number or boolean at `at`, and returns it with the offset after it.
 ///
 /// `val =/ boolean / date-time / float / integer` (TOML 1.1, Key/Value Pair)
 fn bare<'de>(alloc: Global, text: &'de str, at: usize) -> Result<(ValKind<'de>, usize), Stop<Fault>>
@@ -149,19 +151,21 @@ fn bare<'de>(alloc: Global, text: &'de str, at: usize) -> Result<(ValKind<'de>, 
     }
 }
 
-/// A run of letters.
+/// A run of letters, digits, dashes and underscores.
 pub(crate) enum Run {
     True,
     False,
-    /// A number of letters, as `inf`.
+    /// `inf` or `nan`.
     Special,
     Other,
 }
 
-/// What a run of letters is.
+/// Returns what kind of run these bytes are.
 fn run_of(bytes: &[u8]) -> Run
     ensures { IsRunOf bytes.now result }
 {
+    // Toolchain: a match on byte strings has a goal for each way through the bytes. In a function that returns an enum
+    // they are proved without help.
     match bytes {
         b"true" => Run::True,
         b"false" => Run::False,
@@ -170,7 +174,7 @@ fn run_of(bytes: &[u8]) -> Run
     }
 }
 
-/// The truth value, or the number of letters, at a place, and where it ends.
+/// Reads the boolean, or `inf` or `nan`, at `at`, and returns it with the offset after it.
 ///
 /// `boolean = true / false` (TOML 1.1, Boolean)
 fn word<'de>(alloc: Global, text: &'de str, at: usize) -> Result<(ValKind<'de>, usize), Stop<Fault>>
@@ -193,7 +197,7 @@ fn word<'de>(alloc: Global, text: &'de str, at: usize) -> Result<(ValKind<'de>, 
     }
 }
 
-/// The array at a place, and where it ends.
+/// Reads the array at `at`, and returns it with the offset after it.
 ///
 /// `array = array-open [ array-values ] ws-comment-newline array-close` (TOML 1.1, Array)
 #[cycle(read)]
@@ -234,7 +238,7 @@ fn array<'de>(
     }
 }
 
-/// The inline table at a place, and where it ends.
+/// Reads the inline table at `at`, and returns it with the offset after it.
 ///
 /// `inline-table = inline-table-open [ inline-table-keyvals ] ws-comment-newline inline-table-close`
 /// (TOML 1.1, Inline Table)
@@ -277,7 +281,7 @@ fn inline_table<'de>(
     }
 }
 
-/// The pair of an inline table at a place, and where it ends.
+/// Reads the pair of an inline table at `at`, and returns it with the offset after it.
 ///
 /// `keyval = key keyval-sep val` (TOML 1.1, Inline Table)
 #[cycle(read)]
@@ -309,7 +313,7 @@ fn pair<'de>(
     }
 }
 
-/// The string of this content.
+/// Returns a string as a value.
 fn string_of<'de>(content: CowStr<'de>, span: Span) -> Val<'de>
     ensures view { view result ≡ parsed (scalar_node (text_node (cow_str_bytes content.entry))) span }
     ensures written { written result ≡ string_written content.entry span ∷ [] }
@@ -318,21 +322,21 @@ fn string_of<'de>(content: CowStr<'de>, span: Span) -> Val<'de>
     Val { kind, span }
 }
 
-/// The truth value.
+/// Returns a boolean as a value.
 fn truth<'de>(value: bool) -> ValKind<'de>
     ensures { kind_view result ≡ scalar_node (boolean value) }
 {
     ValKind::Boolean(value)
 }
 
-/// The date or time.
+/// Returns a date or time as a value.
 fn dated<'de>(date: DateText<'de>) -> ValKind<'de>
     ensures { kind_view result ≡ scalar_node (datetime (date_bytes date.entry)) }
 {
     ValKind::Datetime(date)
 }
 
-/// The value of this kind that is no string.
+/// Returns a value of this kind, which is not a string, with its span.
 fn scalar_of<'de>(kind: ValKind<'de>, start: usize, end: usize) -> Val<'de>
     ensures view { view result ≡ parsed (kind_view kind.entry) (record { start = start; end = end }) }
     ensures written { written result ≡ kind_written kind.entry (record { start = start; end = end }) }
@@ -341,7 +345,7 @@ fn scalar_of<'de>(kind: ValKind<'de>, start: usize, end: usize) -> Val<'de>
     Val { kind, span }
 }
 
-/// The array of these elements.
+/// Returns an array of these elements, with its span.
 fn array_of<'de>(items: Vec<Val<'de>>, start: usize, end: usize) -> Val<'de>
     ensures view { view result ≡ parsed (array_node (onto (map view items.entry.items) no_items))
         (record { start = start; end = end }) }
@@ -354,7 +358,7 @@ fn array_of<'de>(items: Vec<Val<'de>>, start: usize, end: usize) -> Val<'de>
     }
 }
 
-/// The inline table of these pairs.
+/// Returns an inline table of these pairs, with its span.
 fn inline_of<'de>(pairs: Vec<Assignment<'de>>, start: usize, end: usize) -> Val<'de>
     ensures view { view result ≡ parsed (inline_node (pairs_onto (map key_value pairs.entry.items) no_pairs))
         (record { start = start; end = end }) }
@@ -367,7 +371,7 @@ fn inline_of<'de>(pairs: Vec<Assignment<'de>>, start: usize, end: usize) -> Val<
     }
 }
 
-/// The assignment of a value to a key.
+/// Returns the assignment of a value to a key, with its extent.
 pub(crate) fn assigned<'de>(
     parts: DottedKey<'de>,
     value: Val<'de>,

@@ -1,4 +1,4 @@
-//! The faults of a place where another token is expected than the one that is there.
+//! The faults that report another token than the expected one.
 ghost use Rattle.std.specs.Prelude.{◌≡◌, if◌then◌else◌, slice_index, false};
 ghost use Rattle.std.specs.Str.{IsCharBoundary};
 ghost use Rattle.toml_span_lex.specs.Tokens.{lexeme};
@@ -15,7 +15,7 @@ use toml_span_lex::stop::Stop;
 use toml_span_lex::tokenizer::token_at;
 use toml_span_lex::tokens::Token;
 
-/// What a token is called where another one is due.
+/// Returns the name of a token that was found where another one was expected.
 fn found_of(token: &Token<'_>) -> Found
     ensures { result ≡ faults.found_of (lexeme token.now) }
 {
@@ -37,7 +37,7 @@ fn found_of(token: &Token<'_>) -> Found
     }
 }
 
-/// What a string is called where another token is due.
+/// Returns the name of a string that was found where another token was expected.
 fn string_found(is_multiline: bool) -> Found
     ensures { result ≡ (if is_multiline then Found.MultilineString else Found.OneLineString) }
 {
@@ -48,7 +48,8 @@ fn string_found(is_multiline: bool) -> Found
     }
 }
 
-/// The token that begins at a place, or the end of the text, and where it ends.
+/// Returns the token that begins at `at`, or the end of the text, with the offset after it. Fails with the tokenizer's
+/// fault, or if an allocation fails.
 fn found_at(alloc: Global, text: &str, at: usize) -> Result<(Found, usize), Stop<Fault>>
     requires { IsCharBoundary text.now at }
     ensures found { FoundGives text.now at result }
@@ -69,8 +70,8 @@ fn found_at(alloc: Global, text: &str, at: usize) -> Result<(Found, usize), Stop
     }
 }
 
-/// The fault of a place where another token stands than the one that is due: `Wanted`, whose span is as long as
-/// the words for what was found, and so may end past the text. Or the fault of what is no token.
+/// Returns the fault that the expected token is not at `at`. The span of `Wanted` is as long as the name of what was
+/// found, so it may end after the text. A fault of the tokenizer takes precedence.
 #[cold]
 pub(crate) fn wanted(alloc: Global, text: &str, at: usize, expected: Due) -> Stop<Fault>
     requires { IsCharBoundary text.now at }
@@ -92,8 +93,7 @@ pub(crate) fn wanted(alloc: Global, text: &str, at: usize, expected: Due) -> Sto
     }
 }
 
-/// The fault of a place where a value is due and none begins: the text ends, or another token stands
-/// there.
+/// Returns the fault that a value is expected at `at`, where the text ends or another token begins.
 #[cold]
 pub(crate) fn no_value(alloc: Global, text: &str, at: usize) -> Stop<Fault>
     requires boundary { IsCharBoundary text.now at }

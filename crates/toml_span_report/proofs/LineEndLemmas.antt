@@ -2,7 +2,7 @@
 use Rattle.toml_span_lex.proofs.Common.{◌≡◌, ℕ, ◌+◌, ◌-◌, ◌<◌, ◌≤◌, List, length, drop, get_or, arith, position_or_len, IsCharBoundary, nat_tests, common_steps}
 use Rattle.toml_span_report.specs.Places.{is_line_feed, line_end, without_return}
 
--- the line's end as it is found: the text without what stands from the line feed on
+-- the line's end as it is found: the text up to the line feed
 pub line_end-found : (text bytes rest : List ℕ) (at r : ℕ) → bytes ≡ text → rest ≡ drop at bytes → r ≡ position_or_len is_line_feed rest → at ≤ length text → r ≤ length rest →
     without_return bytes at (length bytes - (length rest - r)) ≡ line_end text at
 unfolding line_end

@@ -5,14 +5,13 @@ use Rattle.std.specs.List.{flat_map}
 use Rattle.std.specs.Str.{chars}
 use Rattle.unicode_width.specs.Width.{str_width}
 
--- a control character from U+0080 on, or one that ends a line, turns the direction of the text or takes no column
+-- a control character from U+0080 on, or one that ends a line or changes the direction of the text
 abbrev pub is_hidden : ℕ → Bool
 is_hidden c = (nat_le 0x80 c && nat_lt c 0xA0) || c == 0x061C || c == 0x200B || (nat_le 0x200D c && nat_le c 0x200F)
     || (nat_le 0x2028 c && nat_le c 0x202E) || (nat_le 0x2066 c && nat_le c 0x2069) || c == 0xFEFF
 
--- A tab is four spaces, a control character of ASCII its picture, as U+2400 for the byte 0, and a hidden character
--- U+FFFD.
--- Any other stands for itself.
+-- A tab is shown as four spaces, a control character of ASCII as its picture (U+2400 for the byte 0), and a hidden
+-- character as U+FFFD. Any other character is shown as it is.
 abbrev pub shown_char : ℕ → List ℕ
 shown_char c =
     if c == 9 then codes "    "
@@ -25,6 +24,6 @@ shown_char c =
 unfoldable pub shown : List ℕ → List ℕ
 shown text = flat_map shown_char (chars text)
 
--- the columns of a text that is shown
+-- the columns of a text as it is shown
 unfoldable pub columns : List ℕ → ℕ
 columns text = str_width false (chars text)

@@ -12,7 +12,7 @@ beginning Green = 27 ∷ codes "[1;32m"
 beginning Blue = 27 ∷ codes "[1;34m"
 beginning Bold = 27 ∷ codes "[1m"
 
--- a text in a colour, or alone
+-- a text in a colour, or as it is
 abbrev pub painted : Style → Ink → List ℕ → List ℕ
 painted Plain ink text = text
 painted Coloured ink text = beginning ink ++ text ++ 27 ∷ codes "[0m"

@@ -1,4 +1,4 @@
--- A mistake that was found in a text: what is marked of it, and code to write.
+-- A mistake found in a text: what is marked, and the code to write.
 use Rattle.std.specs.Prelude.{ℕ, nat_lt, List, [], codes, Option, Some, None, if◌then◌else◌}
 use Rattle.toml_span_lex.specs.declared.span.Span.{Span}
 use Rattle.toml_span_report.specs.Bytes.{end_of, part}
@@ -44,7 +44,7 @@ finding_content f = record {
   code = code_content f.code;
 }
 
--- what a word or a character is meant as
+-- what a word or a character probably stands for
 pub record MeantContent : Type 0 where
   pub mistake : Mistake
   pub name : List ℕ
@@ -77,7 +77,7 @@ marked mistake from to = record {
   code = pieces [] [] [];
 }
 
--- one that code can replace, and one that code in another place mends
+-- one that code can replace, and one that code at another place repairs
 abbrev pub mended : Mistake → Span → Span → CodeContent → FindingContent
 mended mistake mark edit code =
     record { mistake = mistake; mark = mark; also = mark; name = []; edit = Some edit; code = code }
@@ -85,7 +85,7 @@ mended mistake mark edit code =
 abbrev pub replaced : Mistake → ℕ → ℕ → CodeContent → FindingContent
 replaced mistake from to code = mended mistake (span_of from to) (span_of from to) code
 
--- A text with backslashes is a string as it is in single quotes.
+-- A text with backslashes goes between single quotes, where it keeps its meaning.
 abbrev pub quote_for : List ℕ → ℕ → ℕ → List ℕ
 quote_for text from to = if nat_lt (end_of class.Unescaped text from) to then codes "'" else codes "\""
 
@@ -93,7 +93,7 @@ abbrev pub quoted : Mistake → List ℕ → ℕ → ℕ → FindingContent
 quoted mistake text from to =
     replaced mistake from to (pieces (quote_for text from to) (part text from to) (quote_for text from to))
 
--- the first of two that is found
+-- the first of two that was found
 abbrev pub first_found : Option FindingContent → Option FindingContent → Option FindingContent
 first_found (Some f) other = Some f
 first_found None other = other

@@ -1,4 +1,4 @@
--- The mistake that an error is likely to come from.
+-- The typical mistake that an error probably comes from.
 use Rattle.std.specs.Prelude.{ℕ, List, Option, Some, None}
 use Rattle.toml_span_lex.specs.declared.span.Span.{Span}
 use Rattle.toml_span_tree.specs.Error.{Kind, unexpected_eof, invalid_char_in_string, invalid_escape}
@@ -15,11 +15,10 @@ use Rattle.toml_span_report.specs.found.Lists as lists
 use Rattle.toml_span_report.specs.found.Numbers as numbers
 use Rattle.toml_span_report.specs.found.Strings as strings
 use Rattle.toml_span_report.specs.found.Symbols as symbols
-use Rattle.toml_span_report.specs.found.Values as values
 use Rattle.toml_span_report.specs.found.Wanted as tokens
 
 abbrev pub mistake_of : Kind → List ℕ → Span → Option FindingContent
-mistake_of unquoted_string text span = Some (values.unquoted text span.start)
+mistake_of unquoted_string text span = Some (lists.word text span.start)
 mistake_of (unexpected c) text span = symbols.unexpected text span.start c
 mistake_of (wanted expected found) text span = tokens.wanted expected found text span
 mistake_of unexpected_eof text span = lists.missing_value text span.start

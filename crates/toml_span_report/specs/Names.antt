@@ -1,10 +1,10 @@
--- The name that may be meant by a misspelt word.
+-- The name that a misspelt word probably means.
 use Rattle.std.specs.Prelude.{ℕ, ◌+◌, ◌/◌, Bool, ◌&&◌, nat_le, List, length, Option}
 use Rattle.std.specs.List.{find, list_all}
 use Rattle.std.specs.Str.{chars}
 use Rattle.strsim.specs.Edits.{osa_table}
 
--- how many characters are put in, taken out or replaced, or change places with their neighbour
+-- the number of characters inserted, removed or replaced, and of neighbours swapped
 unfoldable pub distance : List ℕ → List ℕ → ℕ
 distance word name = (osa_table (chars word) (chars name)).last_row (length (chars name))
 
@@ -12,7 +12,7 @@ distance word name = (osa_table (chars word) (chars name)).last_row (length (cha
 unfoldable pub reach : List ℕ → ℕ
 reach word = (length (chars word) + 1) / 3
 
--- in reach, and no name is nearer
+-- near enough, and no name is nearer
 abbrev pub is_nearest : List ℕ → List (List ℕ) → List ℕ → Bool
 is_nearest word names name =
     nat_le (distance word name) (reach word)

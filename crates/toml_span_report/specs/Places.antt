@@ -1,4 +1,4 @@
--- Places in a text, and the line of a place.
+-- Places in a text, and their lines.
 use Rattle.std.specs.Prelude.{ℕ, zero, suc, ◌+◌, ◌-◌, max, Bool, ◌==◌, ◌&&◌, ◌||◌, not, nat_lt, nat_le, List, length}
 use Rattle.std.specs.Prelude.{take, drop, slice_index, slice_range, if◌then◌else◌}
 use Rattle.std.specs.List.{count_by, position_or_len}
@@ -9,7 +9,7 @@ use Rattle.toml_span_lex.specs.declared.span.Span.{Span}
 abbrev pub is_between : List ℕ → ℕ → Bool
 is_between text i = nat_le i (length text) && not (nat_le 128 (slice_index text i) && nat_lt (slice_index text i) 192)
 
--- i, or the nearest place before it, that is between two characters of the text, or its end
+-- i, or the nearest character boundary before it, or the end of the text
 unfoldable pub place : List ℕ → ℕ → ℕ
 place text zero = 0
 place text (suc i) = if is_between text (suc i) then suc i else place text i
@@ -22,8 +22,8 @@ unfoldable pub mark_end : List ℕ → ℕ
 mark_end text =
     if slice_index text 0 == 0xEF && (slice_index text 1 == 0xBB && slice_index text 2 == 0xBF) then 3 else 0
 
--- where the line of a place begins: behind the nearest line feed before it, or behind a byte order mark at the start
--- of the text
+-- where the line of a place begins: after the nearest line feed before it, or after a byte order mark at the start of
+-- the text
 unfoldable pub line_start : List ℕ → ℕ → ℕ
 line_start text zero = 0
 line_start text (suc i) = if suc i == mark_end text || slice_index text i == 10 then suc i else line_start text i

@@ -1,4 +1,4 @@
--- The reports of a read.
+-- The reports of a typed read.
 use Rattle.std.specs.Prelude.{ℕ, List, [], Result, Ok, Err}
 use Rattle.toml_span_lex.specs.declared.stop.Stop.{Stop}
 use Rattle.toml_span_lex.specs.declared.stop.Stop.TheVariants as stop
@@ -14,7 +14,7 @@ errors_of (Ok x) = []
 errors_of (Err (stop.Fault faults)) = all faults
 errors_of (Err (stop.Memory error)) = []
 
--- the warnings of a read, and behind them its errors
+-- the warnings of a read, followed by its errors
 abbrev pub AreReportsOf : {T : Type 0} → Result T (Stop Errors) → List ErrorContent → List ℕ → List ReportContent
     → Type 0
 AreReportsOf read warnings text reports =

@@ -16,21 +16,21 @@ use Rattle.toml_span_report.specs.declared.colours.Ink.TheVariants.{Red, Yellow,
 use Rattle.toml_span_report.specs.declared.colours.Style.{Style}
 use Rattle.toml_span_report.specs.declared.strips.Window.{Window}
 
--- a text that is not empty, behind something
+-- a text that is not empty, after something
 abbrev pub behind : List ℕ → List ℕ → List ℕ
 behind sign [] = []
 behind sign (x ∷ xs) = sign ++ x ∷ xs
 
--- a text is cut where dots stand
+-- dots show where a text is cut
 abbrev pub dots : Bool → List ℕ
 dots true = codes "..."
 dots false = []
 
--- a code, a message or a name as it is shown, cut behind 1,000 bytes
+-- a code, a message or a name as it is shown, cut after 1,000 bytes
 unfoldable pub told : List ℕ → List ℕ
 told text = let end = place text 1000 in shown (take end text) ++ dots (nat_lt end (length text))
 
--- how a report begins, and the colour of that
+-- the front of a report, and its colour
 abbrev pub word : Severity → List ℕ
 word Error = codes "error"
 word Warning = codes "warning"
@@ -73,14 +73,14 @@ abbrev pub place_told : Option MarkedLine → List ℕ
 place_told None = []
 place_told (Some p) = codes ":" ++ decimal p.number ++ codes ":" ++ decimal p.column
 
--- the columns that the greatest of the line numbers takes
+-- the columns of the highest line number
 abbrev pub greatest : List MarkedLine → ℕ
 greatest parts = fold (λ n p. max p.number n) 0 parts
 
 abbrev pub width_of : List MarkedLine → ℕ
 width_of parts = length (decimal (greatest parts))
 
--- what stands to the left of a line, and a bar
+-- the margin to the left of a line, and a bar
 abbrev pub gutter : Style → ℕ → List ℕ → List ℕ
 gutter style width number = painted style Blue (replicate (width - length number) 32 ++ number ++ codes " |")
 
@@ -91,7 +91,7 @@ source p = dots p.is_cut_before ++ shown p.before ++ shown p.marked ++ shown p.b
 abbrev pub source_line : Style → ℕ → MarkedLine → List ℕ
 source_line style width p = gutter style width (decimal p.number) ++ behind (codes " ") (source p) ++ codes "\n"
 
--- the marks under it, as many as the marked text takes columns, and one at least; and the message
+-- the marks under it, as many as the marked text takes columns, and at least one; and the message
 abbrev pub sign : Bool → ℕ
 sign true = 94
 sign false = 45
@@ -109,8 +109,8 @@ marks_line style severity width p =
     gutter style width [] ++ codes " "
     ++ painted style (ink severity p.is_primary) (marks p ++ behind (codes " ") (told p.message)) ++ codes "\n"
 
--- The first line has a bar above it. A line is not shown again where the window above shows the part, and dots stand
--- for lines between.
+-- The first line has a bar above it. A line is not shown again if the window above shows the part, and dots show that
+-- lines between are left out.
 abbrev pub opening : Style → ℕ → Option Window → MarkedLine → List ℕ
 opening style width None p = gutter style width [] ++ codes "\n" ++ source_line style width p
 opening style width (Some above) p =
@@ -149,7 +149,7 @@ front style r name parts =
     ++ painted style Blue (replicate (width_of parts) 32 ++ codes "--> ") ++ told name
     ++ place_told (main_part parts) ++ codes "\n"
 
--- The whole text: these, the lines of the labels with what they say, and notes and help where there are any.
+-- The whole text: these, the lines of the labels with their messages, and notes and help if there are any.
 abbrev pub drawn_report : Style → ReportContent → List ℕ → List MarkedLine → List ℕ
 drawn_report style r name parts =
     front style r name parts ++ drawn style r.severity (width_of parts) None parts ++ remarks style (width_of parts) r
@@ -162,13 +162,13 @@ abbrev pub before : List ℕ → List ℕ → List ℕ
 before sign [] = []
 before sign (x ∷ xs) = (x ∷ xs) ++ sign
 
--- An error has no word of its own in a line.
+-- In a one-line report, no word marks an error.
 abbrev pub grade : Severity → List ℕ
 grade Error = []
 grade Warning = codes "warning: "
 grade Note = codes "note: "
 
--- before a name that begins like a command of GitHub's workflows, so that no line does
+-- before a name that begins like a workflow command of GitHub, so that no line of ours is one
 abbrev pub unlike_command : List ℕ → List ℕ
 unlike_command name = if starts_with nat_eq (trim_start name) (codes "::") then codes "./" else []
 

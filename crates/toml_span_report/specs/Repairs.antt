@@ -10,7 +10,7 @@ use Rattle.toml_span_report.specs.Words.{words_for}
 unfoldable pub code_text : CodeContent → List ℕ
 code_text c = c.first ++ c.second ++ c.third ++ c.fourth ++ c.fifth
 
--- code behind a joint, if there are both
+-- code after a joint, if there are both
 abbrev pub code_shown : List ℕ → List ℕ → List ℕ
 code_shown joint code =
     if length joint == 0 || length code == 0 then [] else joint ++ codes "`" ++ visible code ++ codes "`"

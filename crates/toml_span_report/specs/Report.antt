@@ -1,4 +1,4 @@
--- A report by content: what a program tells of a text, and where.
+-- A report by content: what a program reports about a text, and where.
 use Rattle.std.specs.Prelude.{ℕ, Bool, true, false, List, [], ◌∷◌, ◌++◌, map, string_bytes}
 use Rattle.toml_span_lex.specs.declared.span.Span.{Span}
 use Rattle.toml_span_tree.specs.Diagnostic.{LabelContent, label_content}
@@ -6,11 +6,11 @@ use Rattle.toml_span_report.specs.declared.report.Replacement.{Replacement}
 use Rattle.toml_span_report.specs.declared.report.Report.{Report}
 use Rattle.toml_span_report.specs.declared.report.Severity.{Severity}
 
--- A label's place, whether the report stands there, and what is said of it. It names no file.
+-- A label's place, whether it is primary, and its message. It names no file.
 abbrev pub Place : Type 0
 Place = LabelContent (Unit {0})
 
--- a repair by content
+-- a replacement by content
 pub record Repair : Type 0 where
   pub span : Span
   pub text : List ℕ
@@ -39,7 +39,7 @@ report_content r = record {
   replacements = map repair_of r.replacements.items;
 }
 
--- ---- how a report is made
+-- ---- how a report is built
 
 abbrev pub bare : Severity → List ℕ → List ℕ → ReportContent
 bare severity code message = record {

@@ -1,4 +1,4 @@
--- What is open before an offset of a text: brackets, and a string.
+-- What is open before an offset of a text: brackets, or a string.
 use Rattle.std.specs.Prelude.{ℕ, zero, suc, ◌+◌, ◌-◌, min, Bool, false, ◌==◌, ◌&&◌, ◌||◌, not, nat_lt, List}
 use Rattle.std.specs.Prelude.{[], ◌∷◌, length, slice_index, if◌then◌else◌}
 use Rattle.toml_span_report.specs.Bytes.{begins, first_of_line}

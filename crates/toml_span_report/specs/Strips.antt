@@ -1,4 +1,4 @@
--- What labels mark of a text: strips, each on one line.
+-- What labels mark in a text: strips, each on one line.
 use Rattle.std.specs.Prelude.{ℕ, ◌+◌, ◌-◌, min, Bool, false, ◌==◌, ◌&&◌, ◌||◌, nat_lt, nat_le, List, [], ◌∷◌, length}
 use Rattle.std.specs.Prelude.{take, drop, slice_range, Option, Some, None, if◌then◌else◌}
 use Rattle.std.specs.List.{fold, insert, position_or_len}
@@ -7,7 +7,7 @@ use Rattle.toml_span_report.specs.declared.strips.Strip.{Strip}
 use Rattle.toml_span_report.specs.declared.strips.Window.{Window}
 use Rattle.toml_span_report.specs.Places.{place, line_start, line_end, line_number, column, span_start, span_end}
 
--- A part of a line that is marked, with what is shown of the line before and behind it.
+-- A marked part of a line, with what is shown of the line before and after it.
 pub record MarkedLine : Type 0 where
   pub at : ℕ
   pub number : ℕ
@@ -35,7 +35,7 @@ marked_line_of s = record {
   message = s.message.now;
 }
 
--- what is marked from one place up to another, as far as the line of the first goes
+-- the strip from one place up to another, as far as the line of the first goes
 unfoldable pub marked_line : List ℕ → ℕ → ℕ → Bool → List ℕ → MarkedLine
 marked_line text from to is_primary message =
     let end = line_end text from in
@@ -52,7 +52,7 @@ marked_line text from to is_primary message =
       message = message;
     }
 
--- what a span marks: on its line, or on the lines on which it begins and ends, where the message stands at the second
+-- what a span marks: on its line, or on its first and last line, where the last has the message
 abbrev pub marked_lines_between : List ℕ → ℕ → ℕ → ℕ → Bool → List ℕ → List MarkedLine
 marked_lines_between text from again to is_primary message =
     if nat_le again from then marked_line text from to is_primary message ∷ []
@@ -63,11 +63,11 @@ marked_lines_of text mark =
     let to = span_end text mark.span in
     marked_lines_between text (span_start text mark.span) (line_start text to) to mark.primary mark.message
 
--- how many parts stand before the first that begins later
+-- the number of parts before the first that begins later
 abbrev pub earlier : List MarkedLine → ℕ → ℕ
 earlier parts at = position_or_len (λ p. nat_lt at p.at) parts
 
--- with a part put before the first that begins later
+-- with a part inserted before the first that begins later
 abbrev pub placed : List MarkedLine → MarkedLine → List MarkedLine
 placed parts p = insert parts (earlier parts p.at) p
 
@@ -77,7 +77,7 @@ all_marked_lines text marks = fold (λ parts mark. fold placed parts (marked_lin
 
 -- ---- what is shown of a long line
 
--- A line is shown for the first label in it, and with that for those that begin no more than 240 bytes behind it.
+-- A line is shown for the first label in it, together with those that begin at most 240 bytes after it.
 abbrev pub is_near : Window → MarkedLine → Bool
 is_near window p = p.number == window.number && nat_le (p.at - window.first) 240
 
@@ -92,14 +92,14 @@ abbrev pub window_from : Window → List MarkedLine → Window
 window_from window ps =
     record { number = window.number; first = window.first; last = last_near window ps }
 
--- the window of a part: the one above it, or one of its own, of the part and those that follow it
+-- the window of a part: the one above it, or a new one for the part and those that follow it
 abbrev pub window_of : Option Window → MarkedLine → List MarkedLine → Window
 window_of None p ps = window_from (record { number = p.number; first = p.at; last = p.at }) ps
 window_of (Some window) p ps =
     if is_near window p then window
     else window_from (record { number = p.number; first = p.at; last = p.at }) ps
 
--- What a window shows of the line of a part: 80 bytes before the first label in it, and 160 from the last one on.
+-- What a window shows of a part's line: 80 bytes before the first label in it, and 160 from the last one on.
 abbrev pub hidden : Window → MarkedLine → ℕ
 hidden window p = length p.before - (p.at - window.first) - 80
 

@@ -1,4 +1,4 @@
--- The token at which an error stands.
+-- The token at an error's place.
 use Rattle.std.specs.Prelude.{◌≡◌, ℕ, ◌-◌, ◌⊎◌, min, Bool, true, false, ◌==◌, ◌&&◌, ◌||◌, nat_eq, List, codes, length}
 use Rattle.std.specs.Prelude.{Option, Some, None, if◌then◌else◌, slice_index}
 use Rattle.std.specs.List.{starts_with}
@@ -7,33 +7,33 @@ use Rattle.toml_span_lex.specs.Tokens.{Lexeme, Stands}
 use Rattle.toml_span_tree.specs.Error.{Kind, wanted, missing_field, multiline_string_key}
 use Rattle.toml_span_report.specs.Places.{place, line_end}
 
--- where the token at a place ends, or that none stands there, as at the end of the text
+-- where the token at a place ends, or that there is none, as at the end of the text
 abbrev pub FindsToken : List ℕ → ℕ → Option ℕ → Type 0
 FindsToken text at (Some j) = (span : Span) × (token : Lexeme) × Stands text at j span token
 FindsToken text at None = (j : ℕ) (span : Span) (token : Lexeme) → Stands text at j span token → ⊥
 
--- A token is marked as far as its line goes. Where none stands the marks end where they begin.
+-- A token is marked as far as its line goes. If there is none, the marks end where they begin.
 abbrev pub MarksToken : List ℕ → ℕ → ℕ → Type 0
 MarksToken text at end =
     ((j : ℕ) × FindsToken text at (Some j) × (end ≡ min j (line_end text at)))
     ⊎ (FindsToken text at None × (end ≡ at))
 
--- What was found is a token or the end of the text, and told as `a comma`, `an equals`, `eof` or `whitespace`. The kind
--- of a value is told as one word, such as `string`.
+-- What was found is a token or the end of the text, and described as `a comma`, `an equals`, `eof` or `whitespace`. A
+-- kind of value is described by one word, such as `string`.
 abbrev pub names_token : List ℕ → Bool
 names_token found =
     starts_with nat_eq found (codes "a ") || starts_with nat_eq found (codes "an ")
     || starts_with nat_eq found (codes "eof") || starts_with nat_eq found (codes "whitespace")
 
--- The span of an error is no more than the place of a token: it is as long as the words of what was found, or as the
--- value of a string of several lines, which may be longer than what stands there.
+-- The span of an error is only the place of a token: it is as long as the description of what was found, or as the
+-- value of a multi-line string, which may be longer than the token.
 abbrev pub is_at_token : Kind → Span → Bool
 is_at_token (wanted expected found) span = names_token found && span.end - span.start == length found
 is_at_token multiline_string_key span = true
 is_at_token _ span = false
 
--- The span of a table with a missing field is the whole text for the root, whose start is marked then, and the section
--- of a header, which is marked up to the end of its line. That of an inline table begins at its braces.
+-- For a missing field of the root, the span is the whole text, whose start is marked; of a table with a header it is
+-- the section, and the header is marked up to the end of its line. The span of an inline table begins at its braces.
 unfoldable pub table_mark : List ℕ → Span → Span
 table_mark text told =
     let at = place text told.start in
@@ -50,6 +50,6 @@ IsMarkedWhere text kind true told span =
     (span.start ≡ told.start) × MarksToken text (place text told.start) span.end
 IsMarkedWhere text kind false told span = span ≡ own_mark text kind told
 
--- what is marked of a text for an error: the token at its place, or the head of a table, or else its span
+-- what is marked in a text for an error: the token at its place, or the head of a table, or else its span
 abbrev pub IsMarked : List ℕ → Kind → Span → Span → Type 0
 IsMarked text kind told span = IsMarkedWhere text kind (is_at_token kind told) told span

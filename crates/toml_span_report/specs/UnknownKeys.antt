@@ -1,4 +1,4 @@
--- What is told of keys that no field has.
+-- What is reported for unknown keys.
 use Rattle.std.specs.Prelude.{ℕ, List, [], ◌∷◌, ◌++◌, ◌==◌, codes, length, if◌then◌else◌, Option}
 use Rattle.std.specs.List.{flat_map, join_by}
 use Rattle.std.specs.Option.{option_map, option_to_list}
@@ -13,7 +13,7 @@ named name = codes "`" ++ name ++ codes "`"
 abbrev pub listed : List (List ℕ) → List ℕ
 listed names = join_by named (codes ", ") names
 
--- the message for keys of these names
+-- the message for unknown keys with these names
 abbrev pub unknown_keys : List (List ℕ) → List ℕ
 unknown_keys names = (if length names == 1 then codes "unknown key " else codes "unknown keys ") ++ listed names
 
@@ -22,7 +22,7 @@ abbrev pub what_is_expected : List (List ℕ) → List ℕ
 what_is_expected [] = codes "no key is expected"
 what_is_expected (name ∷ names) = codes "expected " ++ listed (name ∷ names)
 
--- the message for a text that is none of these
+-- the message for a text that is not among these
 abbrev pub one_of : List (List ℕ) → List ℕ
 one_of names = (if length names == 1 then codes "expected " else codes "expected one of ") ++ listed names
 
@@ -34,7 +34,7 @@ deprecated old new = named old ++ codes " is deprecated, use " ++ named new
 abbrev pub key_label : List ℕ × Span → Place
 key_label key = primary tt key.1 (codes "unknown key")
 
--- the help for one of some keys
+-- the help for one of several keys
 abbrev pub in_place_of : ℕ → List ℕ → List ℕ
 in_place_of count name = if count == 1 then [] else codes " in place of " ++ named name
 

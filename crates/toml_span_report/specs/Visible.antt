@@ -1,4 +1,4 @@
--- Texts that are shown without the characters that terminals act on.
+-- Texts without the characters that terminals act on.
 use Rattle.std.specs.Prelude.{ℕ, ◌/◌, ◌%◌, Bool, ◌==◌, ◌||◌, ◌&&◌, nat_lt, nat_le, List, ◌++◌, codes, encode_utf8}
 use Rattle.std.specs.Prelude.{if◌then◌else◌}
 use Rattle.std.specs.Char.{digit_char}
@@ -6,7 +6,7 @@ use Rattle.std.specs.List.{flat_map}
 use Rattle.std.specs.Str.{chars}
 use Rattle.json.specs.Print as print
 
--- a control character, one that ends a line, or one that turns the direction of the text
+-- a control character, one that ends a line, or one that changes the direction of the text
 abbrev pub is_escaped : ℕ → Bool
 is_escaped c = nat_lt c 0x20 || (nat_le 0x7F c && nat_lt c 0xA0) || c == 0x61C || (nat_le 0x200E c && nat_le c 0x200F)
     || (nat_le 0x2028 c && nat_le c 0x202E) || (nat_le 0x2066 c && nat_le c 0x2069)
@@ -21,14 +21,14 @@ escape c = codes "\\u" ++ digit (c / 4096) ++ digit (c / 256 % 16) ++ digit (c /
 abbrev pub visible_char : ℕ → List ℕ
 visible_char c = if is_escaped c then escape c else encode_utf8 c
 
--- a text with the numbers of its hidden characters in their places
+-- a text with its hidden characters written by their numbers
 unfoldable pub visible : List ℕ → List ℕ
 visible text = flat_map visible_char (chars text)
 
 abbrev pub line_char : ℕ → List ℕ
 line_char c = if c == 10 then encode_utf8 c else visible_char c
 
--- the same of lines, which line feeds end
+-- the same for lines, which end with line feeds
 unfoldable pub visible_lines : List ℕ → List ℕ
 visible_lines text = flat_map line_char (chars text)
 

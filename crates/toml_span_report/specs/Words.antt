@@ -1,4 +1,4 @@
--- What is said of mistakes.
+-- The messages for mistakes.
 use Rattle.std.specs.Prelude.{ℕ, Bool, true, false, List, [], codes}
 use Rattle.toml_span_report.specs.declared.finding.ClashMistake.{ClashMistake}
 use Rattle.toml_span_report.specs.declared.finding.ClashMistake.TheVariants as of_clash
@@ -42,8 +42,8 @@ words_content w = record {
   is_safe = w.is_safe;
 }
 
--- The headline, the labels at the primary and at another place, and the help; what is between this and the code to
--- write, and whether that can be put there without a look.
+-- The headline, the primary label, the label at the other place and the help; the text between the help and the code to
+-- write, and whether the code may be applied without review.
 abbrev pub said : List ℕ → List ℕ → List ℕ → List ℕ → List ℕ → Bool → WordsContent
 said headline label also help joint is_safe = record {
   headline = headline;

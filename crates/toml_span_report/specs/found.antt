@@ -1,4 +1,4 @@
--- Mistakes that are often made, by what is found.
+-- Typical mistakes, by what was found.
 pub mod Values
 pub mod Keys
 pub mod Lists

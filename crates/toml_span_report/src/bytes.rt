@@ -1,4 +1,4 @@
-//! Bytes of a text at offsets that need not be inside it, and runs of bytes of a class.
+//! Bytes of a text at offsets that may lie outside it, and runs of bytes of a class.
 ghost use Rattle.std.specs.Prelude.{◌≡◌, ◌≤◌, length, slice_index};
 ghost use Rattle.std.specs.List.{position_or_len};
 ghost use Rattle.toml_span_report.specs.Bytes as spec;
@@ -12,27 +12,27 @@ pub(crate) enum Class {
     Blank,
     /// A space, a tab or a byte of a line end.
     Gap,
-    /// Any byte but those of line ends.
+    /// Any byte except those of line ends.
     Line,
-    /// A byte of a line that is neither a quote nor a backtick.
+    /// A byte of a line other than quotes and backticks.
     Unquoted,
-    /// A byte of a line that is neither ASCII's closing brace nor its closing parenthesis.
+    /// A byte of a line other than `}` and `)`.
     Enclosed,
-    /// A byte of a line that is not `=` and begins no comment.
+    /// A byte of a line other than `=` and `#`.
     Left,
-    /// A byte of a value without quotes: no blank, quote, comma or closing bracket.
+    /// A byte of a value without quotes: anything except blanks, quotes, commas and closing brackets.
     Word,
-    /// The same without `=` and opening brackets.
+    /// The same, without `=` and opening brackets.
     Atom,
-    /// A byte of several words: one of `Word` or a blank, and neither `=` nor `#`.
+    /// A byte of several words: one of `Word`, or a blank, but not `=` or `#`.
     Phrase,
-    /// A byte of a key without quotes, whatever TOML says of it: one of `Atom`, and no `.`, `#` or `:`.
+    /// A byte of a key without quotes, whether or not TOML allows it there: one of `Atom`, but not `.`, `#` or `:`.
     Name,
     /// A byte of `Name`, or `.`.
     Dotted,
     /// A byte of `Name`, or a blank.
     Spaced,
-    /// A byte between the brackets and dots of a header, but no quote.
+    /// A byte between the brackets and dots of a header, except quotes.
     Header,
     /// A digit.
     Digit,
@@ -46,61 +46,61 @@ pub(crate) enum Class {
     Hex,
     /// `0`.
     Zero,
-    /// Any byte but a backslash.
+    /// Any byte except a backslash.
     Unescaped,
-    /// A byte of a line that is not `"`.
+    /// A byte of a line other than `"`.
     WithoutDouble,
-    /// A byte of a line that is not an apostrophe.
+    /// A byte of a line other than an apostrophe.
     WithoutSingle,
-    /// A byte of a character past ASCII that is not its first.
+    /// A continuation byte of a character beyond ASCII.
     Continuation,
-    /// A byte of a line that begins no character from U+2000 to U+2FFF.
+    /// A byte of a line that does not begin a character from U+2000 to U+2FFF.
     Straight,
 }
 
-/// Whether a byte belongs to a value without quotes.
+/// Returns whether a byte belongs to a value without quotes.
 fn is_word(byte: u8) -> bool
     ensures { result ≡ spec.is_word byte }
 {
     byte > 32 && !matches!(byte, b'"' | b'\'' | b',' | b']' | b'}' | 127)
 }
 
-/// Whether a byte belongs to a value without quotes, `=` and opening brackets.
+/// Returns whether a byte belongs to a value without quotes, `=` and opening brackets.
 fn is_atom(byte: u8) -> bool
     ensures { result ≡ spec.is_atom byte }
 {
     is_word(byte) && !matches!(byte, b'=' | b'[' | b'{')
 }
 
-/// Whether a byte belongs to a key without quotes, whatever TOML says of it.
+/// Returns whether a byte belongs to a key without quotes, whether or not TOML allows it there.
 fn is_name(byte: u8) -> bool
     ensures { result ≡ spec.is_name byte }
 {
     is_atom(byte) && !matches!(byte, b'.' | b'#' | b':')
 }
 
-/// Whether a byte is a space or a tab.
+/// Returns whether a byte is a space or a tab.
 fn is_blank(byte: u8) -> bool
     ensures { result ≡ spec.is_blank byte }
 {
     matches!(byte, b' ' | b'\t')
 }
 
-/// Whether a byte belongs to a line.
+/// Returns whether a byte is not part of a line end.
 fn is_line(byte: u8) -> bool
     ensures { result ≡ spec.is_line byte }
 {
     !matches!(byte, b'\n' | b'\r')
 }
 
-/// Whether a byte is a digit.
+/// Returns whether a byte is a digit.
 fn is_digit(byte: u8) -> bool
     ensures { result ≡ spec.is_digit byte }
 {
     matches!(byte, b'0'..=b'9')
 }
 
-/// Whether a byte is of a class.
+/// Returns whether a byte is of a class.
 pub(crate) fn is_in(class: Class, byte: u8) -> bool
     ensures { result ≡ spec.is_in class byte }
 {
@@ -134,7 +134,7 @@ pub(crate) fn is_in(class: Class, byte: u8) -> bool
     }
 }
 
-/// The byte at an offset, or 0 at the end of the text and past it.
+/// Returns the byte at an offset, or 0 at the end of the text and beyond.
 pub(crate) fn byte_at(text: &str, at: usize) -> u8
     ensures { result ≡ slice_index text.now at }
 {
@@ -142,14 +142,14 @@ pub(crate) fn byte_at(text: &str, at: usize) -> u8
     if at < bytes.len() { bytes[at] } else { 0 }
 }
 
-/// The offset some bytes ahead, or the end of the text.
+/// Returns the offset some bytes further on, or the end of the text.
 pub(crate) fn ahead(text: &str, at: usize, count: usize) -> usize
     ensures { result ≡ spec.ahead text.now at count }
 {
     at.saturating_add(count).min(text.len())
 }
 
-/// Whether these bytes are in the text at an offset.
+/// Returns whether the text has these bytes at an offset.
 pub(crate) fn begins(text: &str, at: usize, front: &[u8]) -> bool
     ensures { result ≡ spec.begins text.now at front.now }
 {
@@ -158,7 +158,7 @@ pub(crate) fn begins(text: &str, at: usize, front: &[u8]) -> bool
     rest.starts_with(front)
 }
 
-/// The number of bytes of a class at the beginning.
+/// Returns the number of bytes of a class at the beginning.
 fn run_of(class: Class, bytes: &[u8]) -> usize
     ensures value { result ≡ position_or_len (spec.is_out class) bytes.now }
     ensures within { result ≤ length bytes.now }
@@ -171,7 +171,7 @@ fn run_of(class: Class, bytes: &[u8]) -> usize
     bytes.len()
 }
 
-/// The first offset, from one on, at which there is no byte of a class.
+/// Returns the first offset, starting at `from`, whose byte is not of the class.
 #[tactic(auto, unfolding(crate::specs::Bytes::end_of))]
 pub(crate) fn end_of(class: Class, text: &str, at: usize) -> usize
     ensures { result ≡ spec.end_of class text.now at }
@@ -184,7 +184,7 @@ pub(crate) fn end_of(class: Class, text: &str, at: usize) -> usize
     at + run_of(class, rest)
 }
 
-/// The least offset, up to one, from which on there are bytes of a class alone.
+/// Returns the lowest offset, up to a given one, from which on all bytes are of the class.
 #[tactic(auto, unfolding(crate::specs::Bytes::start_of))]
 pub(crate) fn start_of(class: Class, text: &str, at: usize) -> usize
     ensures { result ≡ spec.start_of class text.now at }
@@ -196,7 +196,7 @@ pub(crate) fn start_of(class: Class, text: &str, at: usize) -> usize
     start
 }
 
-/// The last byte before an offset that is no blank, or 0 where there is none.
+/// Returns the last byte before an offset that is not a blank, or 0 if there is none.
 pub(crate) fn byte_before(text: &str, at: usize) -> u8
     ensures { result ≡ spec.byte_before text.now at }
 {
@@ -204,35 +204,36 @@ pub(crate) fn byte_before(text: &str, at: usize) -> u8
     if end == 0 { 0 } else { byte_at(text, end - 1) }
 }
 
-/// The first byte from an offset on that is no blank, or 0 at the end of the text.
+/// Returns the first byte at or after an offset that is not a blank, or 0 at the end of the text.
 pub(crate) fn byte_behind(text: &str, at: usize) -> u8
     ensures { result ≡ spec.byte_behind text.now at }
 {
     byte_at(text, end_of(Class::Blank, text, at))
 }
 
-/// Where the line of an offset has its first byte that is no blank.
+/// Returns the offset of the first byte on the line that is not a blank.
 pub(crate) fn first_of_line(text: &str, at: usize) -> usize
     ensures { result ≡ spec.first_of_line text.now at }
 {
     end_of(Class::Blank, text, start_of(Class::Line, text, at))
 }
 
-/// Where the line of an offset ends, without blanks at its end.
+/// Returns where the line ends, without trailing blanks.
 pub(crate) fn last_of_line(text: &str, at: usize) -> usize
     ensures { result ≡ spec.last_of_line text.now at }
 {
     start_of(Class::Blank, text, end_of(Class::Line, text, at))
 }
 
-/// Whether nothing but blanks follows on the line.
+/// Returns whether only blanks follow on the line.
 pub(crate) fn is_last(text: &str, at: usize) -> bool
     ensures { result ≡ spec.is_last text.now at }
 {
     matches!(byte_behind(text, at), 0 | b'\n' | b'\r')
 }
 
-/// A part of a text. An offset within a character, or past the text, is moved to the nearest place before it.
+/// Returns a part of a text. An offset within a character, or beyond the text, is moved back to the nearest character
+/// boundary.
 #[tactic(auto, unfolding(crate::specs::Bytes::part))]
 pub(crate) fn part<'a>(text: &'a str, from: usize, to: usize) -> &'a str
     ensures { result.now ≡ spec.part text.now from to }

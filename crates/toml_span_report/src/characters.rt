@@ -5,8 +5,8 @@ ghost use Rattle.toml_span_report.specs.Characters as spec;
 use std::alloc::{AllocError, Global};
 use unicode_width::UnicodeWidthStr;
 
-/// Whether this is a control character from U+0080 on, or one that ends a line, turns the direction of the text or
-/// takes no column.
+/// Returns whether a character is shown as U+FFFD: a control character from U+0080 on, or one that ends a line or
+/// changes the direction of the text.
 fn is_hidden(c: char) -> bool
     ensures { result ≡ spec.is_hidden c }
 {
@@ -22,7 +22,7 @@ fn is_hidden(c: char) -> bool
     )
 }
 
-/// Adds a character as it is shown.
+/// Appends a character as it is shown.
 fn push_char(out: &mut String, c: char) -> Result<(), AllocError>
     ensures { OnOk result (string_bytes out.new ≡ string_bytes out.old ++ spec.shown_char c) }
 {
@@ -42,7 +42,7 @@ fn push_char(out: &mut String, c: char) -> Result<(), AllocError>
     }
 }
 
-/// Adds a text as it is shown.
+/// Appends a text as it is shown.
 pub(crate) fn push_shown(out: &mut String, text: &str) -> Result<(), AllocError>
     ensures { OnOk result (string_bytes out.new ≡ string_bytes out.old ++ spec.shown text.now) }
 {
@@ -52,7 +52,7 @@ pub(crate) fn push_shown(out: &mut String, text: &str) -> Result<(), AllocError>
     Ok(())
 }
 
-/// A text as it is shown.
+/// Returns a text as it is shown.
 pub(crate) fn shown(alloc: Global, text: &str) -> Result<String, AllocError>
     ensures { IfOk result (λ out. string_bytes out ≡ spec.shown text.now) }
 {
@@ -61,7 +61,7 @@ pub(crate) fn shown(alloc: Global, text: &str) -> Result<String, AllocError>
     Ok(out)
 }
 
-/// How many columns a text takes that is shown as it is.
+/// Returns the number of columns that a text takes as it is shown.
 #[tactic(auto, unfolding(crate::specs::Characters::columns))]
 pub(crate) fn columns(text: &str) -> usize
     ensures { result ≡ spec.columns text.now }
@@ -69,7 +69,7 @@ pub(crate) fn columns(text: &str) -> usize
     text.width()
 }
 
-/// Adds a character some times.
+/// Appends a character several times.
 pub(crate) fn push_times(out: &mut String, times: usize, c: char) -> Result<(), AllocError>
     requires { c < 128 }
     ensures { OnOk result (string_bytes out.new ≡ string_bytes out.old ++ replicate times c) }

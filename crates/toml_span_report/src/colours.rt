@@ -4,31 +4,31 @@ ghost use Rattle.toml_span_report.specs.Colours as spec;
 
 use std::alloc::AllocError;
 
-/// Whether a report has colours.
+/// Whether a report is coloured.
 #[derive(Clone, Copy, PartialEq, Eq)]
 pub enum Style {
-    /// Characters alone.
+    /// Plain text.
     Plain,
-    /// With the sequences by which terminals set colours, as ECMA-48 has them (SGR).
+    /// With the escape sequences by which terminals set colours (ECMA-48, SGR).
     Coloured,
 }
 
-/// How a part of a report is coloured.
+/// The parts of a report that have a colour of their own.
 #[derive(Clone, Copy, PartialEq, Eq)]
 pub(crate) enum Ink {
-    /// The headline's front, and the marks of a primary label with what they say, of an error.
+    /// The front of an error's headline, and the marks and messages of its primary labels.
     Red,
-    /// The same of a warning.
+    /// The same for a warning.
     Yellow,
-    /// The same of a note.
+    /// The same for a note.
     Green,
-    /// What stands to the left of lines, and other marks.
+    /// The margin to the left of the lines, and other marks.
     Blue,
     /// The message.
     Bold,
 }
 
-/// What begins a colour.
+/// Returns the escape sequence that begins a colour.
 fn beginning(ink: Ink) -> &'static str
     ensures { result.now ≡ spec.beginning ink }
 {
@@ -41,7 +41,7 @@ fn beginning(ink: Ink) -> &'static str
     }
 }
 
-/// Adds a text, in a colour where the style has colours.
+/// Appends a text, in a colour if the style has colours.
 pub(crate) fn push_painted(
     out: &mut String,
     style: Style,

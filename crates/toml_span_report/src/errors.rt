@@ -31,7 +31,7 @@ use toml_span_lex::stop::Stop;
 use toml_span_tree::{Error, ErrorKind, Label};
 use toml_span_typed::DeserError;
 
-/// What an error tells.
+/// Returns the message of an error.
 fn message(alloc: Global, error: &Error<'_>) -> Result<String, AllocError>
     ensures { IfOk result (λ text. string_bytes text ≡ spec.message (kind_of error.now.kind)) }
 {
@@ -48,7 +48,7 @@ fn message(alloc: Global, error: &Error<'_>) -> Result<String, AllocError>
     }
 }
 
-/// A label at a place, as the only one.
+/// Returns the only label, at a span.
 fn one_label(alloc: Global, span: Span, text: &str) -> Result<Vec<Label<()>>, AllocError>
     ensures { IfOk result (λ labels. map label_content labels.items ≡ spec.one_label span text.now) }
 {
@@ -62,7 +62,7 @@ fn one_label(alloc: Global, span: Span, text: &str) -> Result<Vec<Label<()>>, Al
     Ok(labels)
 }
 
-/// The labels of an error's own diagnostic, at a span.
+/// Returns the labels of an error's own diagnostic, at a span.
 fn own_labels(alloc: Global, error: &Error<'_>, span: Span) -> Result<Vec<Label<()>>, AllocError>
     ensures { IfOk result (λ labels. map label_content labels.items ≡ labels_of tt span (kind_of error.now.kind)) }
 {
@@ -72,7 +72,7 @@ fn own_labels(alloc: Global, error: &Error<'_>, span: Span) -> Result<Vec<Label<
     Ok(diagnostic.labels)
 }
 
-/// The labels of an error that stands at a span.
+/// Returns the labels of an error at a span.
 fn labels(alloc: Global, error: &Error<'_>, span: Span) -> Result<Vec<Label<()>>, AllocError>
     ensures { IfOk result (λ labels. map label_content labels.items ≡ spec.labels span (kind_of error.now.kind)) }
 {
@@ -85,7 +85,7 @@ fn labels(alloc: Global, error: &Error<'_>, span: Span) -> Result<Vec<Label<()>>
     }
 }
 
-/// What is said besides.
+/// Returns the notes of an error.
 fn notes(alloc: Global, kind: &ErrorKind<'_>) -> Result<Vec<String>, AllocError>
     ensures { IfOk result (λ notes. map string_bytes notes.items ≡ spec.notes (kind_of kind.now)) }
 {
@@ -97,7 +97,7 @@ fn notes(alloc: Global, kind: &ErrorKind<'_>) -> Result<Vec<String>, AllocError>
     Ok(notes)
 }
 
-/// The range of a type, if its name is known.
+/// Returns the range of a type, if its name is known.
 fn range(alloc: Global, name: &str) -> Result<Vec<String>, AllocError>
     ensures { IfOk result (λ help. map string_bytes help.items ≡ option_to_list (range_help name.now)) }
 {
@@ -108,7 +108,7 @@ fn range(alloc: Global, name: &str) -> Result<Vec<String>, AllocError>
     Ok(help)
 }
 
-/// What can be done.
+/// Returns the help for an error.
 fn help(alloc: Global, kind: &ErrorKind<'_>) -> Result<Vec<String>, AllocError>
     ensures { IfOk result (λ help. map string_bytes help.items ≡ spec.help (kind_of kind.now)) }
 {
@@ -127,7 +127,7 @@ fn help(alloc: Global, kind: &ErrorKind<'_>) -> Result<Vec<String>, AllocError>
     }
 }
 
-/// The message for a mistake: its headline, or else what the error tells.
+/// Returns the message for a mistake: its headline, or else the message of the error.
 fn headline(alloc: Global, error: &Error<'_>, finding: Finding<'_>) -> Result<String, AllocError>
     ensures { IfOk result (λ text. string_bytes text
         ≡ spec.headline (kind_of error.now.kind) (finding_content finding.entry)) }
@@ -140,7 +140,7 @@ fn headline(alloc: Global, error: &Error<'_>, finding: Finding<'_>) -> Result<St
     }
 }
 
-/// The report of an error that comes from a mistake.
+/// Makes the report of an error that comes from a known mistake.
 fn mistaken(
     alloc: Global,
     severity: Severity,
@@ -161,7 +161,7 @@ fn mistaken(
     })
 }
 
-/// The report of an error that comes from no mistake that is known.
+/// Makes the report of an error that comes from no known mistake.
 fn told(
     alloc: Global,
     severity: Severity,
@@ -182,7 +182,7 @@ fn told(
     })
 }
 
-/// The report of an error, of this severity.
+/// Makes the report of an error, with this severity.
 fn report_of(
     alloc: Global,
     severity: Severity,
@@ -198,19 +198,19 @@ fn report_of(
 }
 
 impl Report {
-    /// Makes the report of an error of this source.
+    /// Makes the report of an error in this source.
     ///
-    /// Where the source has a typical mistake at the error's span, the report names it, marks it whole, and says what to
-    /// write, with a replacement for it. Else the report has the message of the error, its labels, and help:
+    /// If the source has a typical mistake at the error's span, the report names it, marks all of it, and says what to
+    /// write, with a replacement. Otherwise the report has the error's message, its labels, and help:
     ///
-    /// - The span of a `Wanted` error of `parse` may be no more than the place of a token: there the token is marked, no
-    ///   further than its line, or the place alone where there is none, as at the end of the source.
-    /// - A table that lacks a key is marked at its header, up to the end of its line, or at its braces, and the root at
-    ///   the start of the source.
-    /// - Each unknown key is marked, a note lists the expected keys, and help names the nearest of them (`nearest`). Help
-    ///   does so too for a text that is none of the expected ones.
+    /// - The span of a `Wanted` error of `parse` may be only the place of a token. Then the token is marked, up to the
+    ///   end of its line, or the place alone if there is no token, as at the end of the source.
+    /// - A table that lacks a key is marked at its header, up to the end of the line, or at its braces; the root is
+    ///   marked at the start of the source.
+    /// - Each unknown key is marked, a note lists the expected keys, and help names the nearest of them (`nearest`).
+    ///   Help also names the nearest text if a text is not among the expected ones.
     ///
-    /// Fails only where an allocation fails.
+    /// Fails only if an allocation fails.
     pub fn from_error(alloc: Global, error: &Error<'_>, text: &str) -> Result<Report, AllocError>
         ensures { IfOk result (λ made. TellsError severities.Error text.now (content_of error.now)
             (report_content made)) }
@@ -218,7 +218,7 @@ impl Report {
         report_of(alloc, Severity::Error, error, text)
     }
 
-    /// The same as a warning, where the program goes on in spite of the error.
+    /// Makes the report as a warning, for a program that goes on in spite of the error.
     pub fn from_warning(alloc: Global, error: &Error<'_>, text: &str) -> Result<Report, AllocError>
         ensures { IfOk result (λ made. TellsError severities.Warning text.now (content_of error.now)
             (report_content made)) }
@@ -227,7 +227,7 @@ impl Report {
     }
 }
 
-/// The text of an error: `render` of its report. Only want of memory is refused.
+/// Returns the text of an error: its report as `render` shows it. Fails only if an allocation fails.
 pub fn render_error(
     alloc: Global,
     style: Style,
@@ -241,7 +241,7 @@ pub fn render_error(
     render(alloc, style, &report, name, text)
 }
 
-/// Adds the reports of errors.
+/// Appends the reports of errors.
 pub(crate) fn push_errors(
     alloc: Global,
     errors: &DeserError<'_>,
@@ -257,7 +257,7 @@ pub(crate) fn push_errors(
     Ok(())
 }
 
-/// The reports of all errors of a read.
+/// Returns the reports of all errors of a read.
 pub(crate) fn error_reports(
     alloc: Global,
     errors: &DeserError<'_>,
@@ -271,7 +271,8 @@ pub(crate) fn error_reports(
     Ok(reports)
 }
 
-/// The text of all errors of a read: `render_all` of their reports. Only want of memory is refused.
+/// Returns the text of all errors of a read: their reports as `render_all` shows them. Fails only if an allocation
+/// fails.
 pub fn render_errors(
     alloc: Global,
     style: Style,
@@ -285,8 +286,8 @@ pub fn render_errors(
     render_all(alloc, style, reports.as_slice(), name, text)
 }
 
-/// The text that shows why `from_str` read nothing, as `render_errors` gives it: of the one error for which the text is
-/// refused, or of all errors of the read. Want of memory has no such text, and comes back.
+/// Returns the text that explains why `from_str` failed, as `render_errors` formats it: the one error for which the
+/// text was refused, or all errors of the read. If memory ran out there is no such text, and that error is returned.
 pub fn render_stop(
     alloc: Global,
     style: Style,

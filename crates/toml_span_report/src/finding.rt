@@ -1,4 +1,4 @@
-//! A mistake that was found in a text: what is marked of it, and code to write.
+//! A mistake found in a text: what is marked, and the code to write.
 ghost use Rattle.std.specs.Prelude.{◌≡◌, Some, option_map};
 ghost use Rattle.toml_span_report.specs.Finding as spec;
 ghost use Rattle.toml_span_report.specs.Finding.{code_content, finding_content, meant_content};
@@ -6,7 +6,7 @@ ghost use Rattle.toml_span_report.specs.Finding.{code_content, finding_content, 
 use crate::bytes::{Class, end_of, part};
 use toml_span_lex::span::Span;
 
-/// A mistake in values.
+/// Mistakes in values.
 #[derive(Clone, Copy)]
 pub(crate) enum ValueMistake {
     Unquoted,
@@ -24,7 +24,7 @@ pub(crate) enum ValueMistake {
     StringDue,
 }
 
-/// A mistake in signs, quotes and comments of other languages.
+/// Signs, quotes and comments of other languages.
 #[derive(Clone, Copy)]
 pub(crate) enum SymbolMistake {
     Backticks,
@@ -41,7 +41,7 @@ pub(crate) enum SymbolMistake {
     LoneReturn,
 }
 
-/// A mistake in keys.
+/// Mistakes in keys.
 #[derive(Clone, Copy)]
 pub(crate) enum KeyMistake {
     BareKey,
@@ -57,7 +57,7 @@ pub(crate) enum KeyMistake {
     OpenKey,
 }
 
-/// A mistake in other formats.
+/// Other formats.
 #[derive(Clone, Copy)]
 pub(crate) enum FormatMistake {
     YamlTable,
@@ -71,7 +71,7 @@ pub(crate) enum FormatMistake {
     TemplateLine,
 }
 
-/// A mistake in arrays, inline tables and headers.
+/// Mistakes in arrays, inline tables and headers.
 #[derive(Clone, Copy)]
 pub(crate) enum ListMistake {
     ExtraComma,
@@ -87,7 +87,7 @@ pub(crate) enum ListMistake {
     HeaderBracket,
 }
 
-/// A mistake in lines.
+/// Mistakes in lines.
 #[derive(Clone, Copy)]
 pub(crate) enum LineMistake {
     LastComma,
@@ -102,7 +102,7 @@ pub(crate) enum LineMistake {
     AfterValue,
 }
 
-/// A mistake in numbers.
+/// Mistakes in numbers.
 #[derive(Clone, Copy)]
 pub(crate) enum NumberMistake {
     LeadingPoint,
@@ -118,7 +118,7 @@ pub(crate) enum NumberMistake {
     TooLarge,
 }
 
-/// A mistake in dates and times.
+/// Mistakes in dates and times.
 #[derive(Clone, Copy)]
 pub(crate) enum DateMistake {
     SlashDate,
@@ -130,7 +130,7 @@ pub(crate) enum DateMistake {
     Datetime,
 }
 
-/// A mistake in strings.
+/// Mistakes in strings.
 #[derive(Clone, Copy)]
 pub(crate) enum TextMistake {
     OpenString,
@@ -145,7 +145,7 @@ pub(crate) enum TextMistake {
     NoCharacter,
 }
 
-/// A mistake in what is defined twice.
+/// Mistakes in definitions that clash.
 #[derive(Clone, Copy)]
 pub(crate) enum ClashMistake {
     TableTwice,
@@ -159,7 +159,7 @@ pub(crate) enum ClashMistake {
     DottedTable,
 }
 
-/// A mistake, as people make it. What is said of each is in `words`.
+/// A typical mistake. The messages are in `words`.
 #[derive(Clone, Copy)]
 pub(crate) enum Mistake {
     Value(ValueMistake),
@@ -174,7 +174,7 @@ pub(crate) enum Mistake {
     Clash(ClashMistake),
 }
 
-/// Code to write, in pieces of the source and of our own.
+/// The code to write, in pieces of the source and of our own.
 #[derive(Clone, Copy)]
 pub(crate) struct Code<'a> {
     pub(crate) first: &'a str,
@@ -184,23 +184,23 @@ pub(crate) struct Code<'a> {
     pub(crate) fifth: &'a str,
 }
 
-/// A mistake that was found.
+/// A mistake found in a text.
 #[derive(Clone, Copy)]
 pub(crate) struct Finding<'a> {
     pub(crate) mistake: Mistake,
-    /// What is marked as primary.
+    /// What the primary label marks.
     pub(crate) mark: Span,
-    /// Another place, where the words of the mistake have a label for one.
+    /// Another place, if the messages of the mistake have a label for one.
     pub(crate) also: Span,
-    /// The label at the primary place, if it is not that of the words.
+    /// The primary label, if it differs from that of the messages.
     pub(crate) name: &'static str,
-    /// What `code` can replace.
+    /// The span that `code` replaces.
     pub(crate) edit: Option<Span>,
-    /// The code to write, or nothing.
+    /// The code to write, which may be empty.
     pub(crate) code: Code<'a>,
 }
 
-/// What a word or a character is meant as.
+/// What a word or a character probably stands for.
 #[derive(Clone, Copy)]
 pub(crate) struct Meant {
     pub(crate) mistake: Mistake,
@@ -209,7 +209,7 @@ pub(crate) struct Meant {
     pub(crate) code: &'static str,
 }
 
-/// What a word is meant as.
+/// Returns what a word probably stands for.
 pub(crate) fn as_meant(mistake: Mistake, name: &'static str, code: &'static str) -> Option<Meant>
     ensures { option_map meant_content result ≡ Some (spec.as_meant mistake name.now code.now) }
 {
@@ -220,7 +220,7 @@ pub(crate) fn as_meant(mistake: Mistake, name: &'static str, code: &'static str)
     })
 }
 
-/// Code of three pieces.
+/// Makes code of three pieces.
 pub(crate) fn pieces<'a>(first: &'a str, second: &'a str, third: &'a str) -> Code<'a>
     ensures { code_content result ≡ spec.pieces first.now second.now third.now }
 {
@@ -233,14 +233,14 @@ pub(crate) fn pieces<'a>(first: &'a str, second: &'a str, third: &'a str) -> Cod
     }
 }
 
-/// A span.
+/// Makes a span.
 pub(crate) fn span_of(start: usize, end: usize) -> Span
     ensures { result ≡ spec.span_of start end }
 {
     Span { start, end }
 }
 
-/// A mistake at a place, without code.
+/// Makes a mistake at a place, without code.
 pub(crate) fn marked<'a>(mistake: Mistake, from: usize, to: usize) -> Finding<'a>
     ensures { finding_content result ≡ spec.marked mistake from to }
 {
@@ -254,7 +254,7 @@ pub(crate) fn marked<'a>(mistake: Mistake, from: usize, to: usize) -> Finding<'a
     }
 }
 
-/// A mistake at a place that code can replace.
+/// Makes a mistake at a place that code can replace.
 pub(crate) fn replaced<'a>(mistake: Mistake, from: usize, to: usize, code: Code<'a>) -> Finding<'a>
     ensures { finding_content result ≡ spec.replaced mistake from to (code_content code.entry) }
 {
@@ -268,7 +268,7 @@ pub(crate) fn replaced<'a>(mistake: Mistake, from: usize, to: usize, code: Code<
     }
 }
 
-/// A mistake at a place, mended by code in another.
+/// Makes a mistake at a place, repaired by code at another.
 pub(crate) fn mended<'a>(mistake: Mistake, mark: Span, edit: Span, code: Code<'a>) -> Finding<'a>
     ensures { finding_content result ≡ spec.mended mistake mark edit (code_content code.entry) }
 {
@@ -282,7 +282,8 @@ pub(crate) fn mended<'a>(mistake: Mistake, mark: Span, edit: Span, code: Code<'a
     }
 }
 
-/// A part of a text that needs quotes: single ones where it has backslashes, so that they stay as they are.
+/// Makes a mistake of a part that needs quotes: single ones if it contains backslashes, so that they keep their
+/// meaning.
 pub(crate) fn quoted<'a>(mistake: Mistake, text: &'a str, from: usize, to: usize) -> Finding<'a>
     ensures { finding_content result ≡ spec.quoted mistake text.now from to }
 {

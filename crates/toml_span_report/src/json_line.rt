@@ -16,7 +16,7 @@ use std::fmt::Write;
 use toml_span_lex::span::Span;
 use toml_span_tree::Label;
 
-/// Adds a title and a number.
+/// Appends a title and a number.
 fn push_number(out: &mut String, title: &str, number: usize) -> Result<(), AllocError>
     ensures { OnOk result (string_bytes out.new ≡ string_bytes out.old ++ title.now ++ decimal number) }
 {
@@ -24,7 +24,7 @@ fn push_number(out: &mut String, title: &str, number: usize) -> Result<(), Alloc
     write!(out, "{number}")
 }
 
-/// Adds a member whose value is a text, behind what stands before it.
+/// Appends a member whose value is a text, after what is there already.
 fn push_member(alloc: Global, out: &mut String, title: &str, text: &str) -> Result<(), AllocError>
     ensures { OnOk result (string_bytes out.new ≡ string_bytes out.old ++ spec.member_json title.now text.now) }
 {
@@ -32,7 +32,7 @@ fn push_member(alloc: Global, out: &mut String, title: &str, text: &str) -> Resu
     push_quoted(alloc, out, text)
 }
 
-/// Adds how a label begins.
+/// Appends the start of a label.
 fn push_role(out: &mut String, is_primary: bool) -> Result<(), AllocError>
     ensures { OnOk result (string_bytes out.new ≡ string_bytes out.old ++ spec.role_json is_primary) }
 {
@@ -43,7 +43,7 @@ fn push_role(out: &mut String, is_primary: bool) -> Result<(), AllocError>
     }
 }
 
-/// Adds the bytes of a label.
+/// Appends the bytes of a label.
 #[tactic(auto, unfolding(crate::specs::JsonLine::span_json))]
 fn push_span(out: &mut String, span: Span) -> Result<(), AllocError>
     ensures { OnOk result (string_bytes out.new ≡ string_bytes out.old ++ spec.span_json span) }
@@ -52,7 +52,7 @@ fn push_span(out: &mut String, span: Span) -> Result<(), AllocError>
     push_number(out, ",\"end\":", span.end)
 }
 
-/// Adds the line and the column of an offset.
+/// Appends the line and column of an offset.
 #[tactic(auto, unfolding(crate::specs::JsonLine::place_json))]
 fn push_place(out: &mut String, text: &str, at: usize) -> Result<(), AllocError>
     ensures { OnOk result (string_bytes out.new ≡ string_bytes out.old ++ spec.place_json text.now at) }
@@ -62,7 +62,7 @@ fn push_place(out: &mut String, text: &str, at: usize) -> Result<(), AllocError>
     push_number(out, ",\"column\":", column)
 }
 
-/// Adds where a label stands.
+/// Appends the place of a label.
 #[tactic(auto, unfolding(crate::specs::JsonLine::spot_json))]
 fn push_spot(out: &mut String, text: &str, span: Span) -> Result<(), AllocError>
     ensures { OnOk result (string_bytes out.new ≡ string_bytes out.old ++ spec.spot_json text.now span) }
@@ -71,7 +71,7 @@ fn push_spot(out: &mut String, text: &str, span: Span) -> Result<(), AllocError>
     push_place(out, text, span.start)
 }
 
-/// Adds a label of these parts as a JSON object.
+/// Appends a label with these parts as a JSON object.
 #[tactic(auto, unfolding(crate::specs::JsonLine::parts_json))]
 fn push_parts(
     alloc: Global,
@@ -90,7 +90,7 @@ fn push_parts(
     out.push_str("}")
 }
 
-/// Adds a label as a JSON object.
+/// Appends a label as a JSON object.
 #[tactic(auto, unfolding(crate::specs::JsonLine::label_json))]
 fn push_label(
     alloc: Global,
@@ -105,7 +105,7 @@ fn push_label(
     push_parts(alloc, out, text, is_primary, span, label.message.as_str())
 }
 
-/// Adds further labels, a comma before each.
+/// Appends further labels, each after a comma.
 fn push_more_labels(
     alloc: Global,
     out: &mut String,
@@ -122,7 +122,7 @@ fn push_more_labels(
     Ok(())
 }
 
-/// Adds labels with commas between them.
+/// Appends labels separated by commas.
 fn push_labels(
     alloc: Global,
     out: &mut String,
@@ -141,7 +141,7 @@ fn push_labels(
     }
 }
 
-/// Adds further texts, a comma before each.
+/// Appends further texts, each after a comma.
 fn push_more_texts(alloc: Global, out: &mut String, texts: &[String]) -> Result<(), AllocError>
     ensures { OnOk result (string_bytes out.new ≡ string_bytes out.old
         ++ flat_map (λ text. codes "," ++ quoted text) (map string_bytes texts.now)) }
@@ -153,7 +153,7 @@ fn push_more_texts(alloc: Global, out: &mut String, texts: &[String]) -> Result<
     Ok(())
 }
 
-/// Adds texts with commas between them.
+/// Appends texts separated by commas.
 fn push_texts(alloc: Global, out: &mut String, texts: &[String]) -> Result<(), AllocError>
     ensures { OnOk result (string_bytes out.new ≡ string_bytes out.old
         ++ join_by quoted (codes ",") (map string_bytes texts.now)) }
@@ -167,7 +167,7 @@ fn push_texts(alloc: Global, out: &mut String, texts: &[String]) -> Result<(), A
     }
 }
 
-/// Adds texts as an array, behind a title.
+/// Appends texts as an array, after a title.
 fn push_array(
     alloc: Global,
     out: &mut String,
@@ -183,7 +183,7 @@ fn push_array(
     out.push_str("]")
 }
 
-/// Adds how a repair begins.
+/// Appends the start of a replacement.
 fn push_safety(out: &mut String, is_safe: bool) -> Result<(), AllocError>
     ensures { OnOk result (string_bytes out.new ≡ string_bytes out.old ++ spec.safety_json is_safe) }
 {
@@ -194,7 +194,7 @@ fn push_safety(out: &mut String, is_safe: bool) -> Result<(), AllocError>
     }
 }
 
-/// Adds a repair of these parts as a JSON object.
+/// Appends a replacement with these parts as a JSON object.
 #[tactic(auto, unfolding(crate::specs::JsonLine::fix_parts_json))]
 fn push_fix_parts(
     alloc: Global,
@@ -212,7 +212,7 @@ fn push_fix_parts(
     out.push_str("}")
 }
 
-/// Adds a repair as a JSON object.
+/// Appends a replacement as a JSON object.
 #[tactic(auto, unfolding(crate::specs::JsonLine::fix_json))]
 fn push_fix(alloc: Global, out: &mut String, fix: &Replacement) -> Result<(), AllocError>
     ensures { OnOk result (string_bytes out.new ≡ string_bytes out.old
@@ -222,7 +222,7 @@ fn push_fix(alloc: Global, out: &mut String, fix: &Replacement) -> Result<(), Al
     push_fix_parts(alloc, out, is_safe, span, fix.text.as_str())
 }
 
-/// Adds further repairs, a comma before each.
+/// Appends further replacements, each after a comma.
 fn push_more_fixes(alloc: Global, out: &mut String, fixes: &[Replacement]) -> Result<(), AllocError>
     ensures { OnOk result (string_bytes out.new ≡ string_bytes out.old
         ++ flat_map (λ fix. codes "," ++ spec.fix_json fix) (map repair_of fixes.now)) }
@@ -234,7 +234,7 @@ fn push_more_fixes(alloc: Global, out: &mut String, fixes: &[Replacement]) -> Re
     Ok(())
 }
 
-/// Adds repairs with commas between them.
+/// Appends replacements separated by commas.
 fn push_fixes(alloc: Global, out: &mut String, fixes: &[Replacement]) -> Result<(), AllocError>
     ensures { OnOk result (string_bytes out.new ≡ string_bytes out.old
         ++ join_by spec.fix_json (codes ",") (map repair_of fixes.now)) }
@@ -248,7 +248,7 @@ fn push_fixes(alloc: Global, out: &mut String, fixes: &[Replacement]) -> Result<
     }
 }
 
-/// Adds the name of the file, the code and the message.
+/// Appends the name of the file, the code and the message.
 fn push_head(alloc: Global, out: &mut String, report: &Report, name: &str) -> Result<(), AllocError>
     ensures { OnOk result (string_bytes out.new ≡ string_bytes out.old
         ++ spec.head_json (report_content report.now) name.now) }
@@ -258,7 +258,7 @@ fn push_head(alloc: Global, out: &mut String, report: &Report, name: &str) -> Re
     push_member(alloc, out, ",\"message\":", report.message.as_str())
 }
 
-/// Adds the severity, the notes and the help.
+/// Appends the severity, the notes and the help.
 fn push_remarks(alloc: Global, out: &mut String, report: &Report) -> Result<(), AllocError>
     ensures { OnOk result (string_bytes out.new ≡ string_bytes out.old
         ++ spec.remarks_json (report_content report.now)) }
@@ -268,14 +268,14 @@ fn push_remarks(alloc: Global, out: &mut String, report: &Report) -> Result<(), 
     push_array(alloc, out, ",\"help\":", report.help.as_slice())
 }
 
-/// A report on this text, whose file has this name, as one line of JSON: an object with the members `file`, `code`,
-/// `message`, `labels`, `severity` (`error`, `warning` or `note`), `notes`, `help` and `fixes`, in this order, and a line
-/// feed.
+/// Returns a report on this text, whose file has this name, as one line of JSON: an object with the members `file`,
+/// `code`, `message`, `labels`, `severity` (`error`, `warning` or `note`), `notes`, `help` and `fixes`, in this order,
+/// and a line feed.
 ///
 /// A label is an object with the members `primary`, `start` and `end` (bytes of the text from 0, the end exclusive),
-/// `line` and `column` of its start (both from 1, as `line_column` tells them) and `message`. Labels stand in the
-/// report's order. A repair has the members `safe`, `start`, `end` (as of a label) and `text`, which replaces these bytes.
-/// Nothing is cut, and strings are as `visible::push_quoted` adds them. Only want of memory is refused.
+/// `line` and `column` of its start (both from 1, as `line_column` counts them) and `message`. Labels are in the
+/// report's order. A fix has the members `safe`, `start`, `end` (as in a label) and `text`, which replaces these bytes.
+/// Nothing is cut, and strings are escaped as `visible::push_quoted` does. Fails only if an allocation fails.
 pub fn render_json(
     alloc: Global,
     report: &Report,

@@ -1,4 +1,5 @@
-//! Reports on TOML documents, of errors or of a program's own, and their text: a message, lines, and marks under them.
+//! Reports on TOML documents, of errors or of a program's own findings, and their text: a message, source lines, and
+//! marks below them.
 #![tactic(auto)]
 
 mod bytes;

@@ -13,14 +13,14 @@ use crate::strips::{Strip, all_strips};
 use std::alloc::{AllocError, Global};
 use std::fmt::Write;
 
-/// The text of a report, and the offset at which it stands.
+/// The text of a report, and the offset of the report.
 #[derive(Drop)]
 pub(crate) struct Drawn {
     at: usize,
     text: String,
 }
 
-/// Where a strip begins.
+/// Returns where a strip begins.
 fn place_of(strip: Option<Strip<'_>>) -> usize
     ensures { result ≡ spec.place_of (option_map marked_line_of strip.entry) }
 {
@@ -30,7 +30,7 @@ fn place_of(strip: Option<Strip<'_>>) -> usize
     }
 }
 
-/// Draws a report.
+/// Renders a report.
 fn draw(
     alloc: Global,
     style: Style,
@@ -47,7 +47,7 @@ fn draw(
     Ok(Drawn { at, text })
 }
 
-/// Draws reports.
+/// Renders reports.
 fn draw_all(
     alloc: Global,
     style: Style,
@@ -65,7 +65,7 @@ fn draw_all(
     Ok(made)
 }
 
-/// Adds the texts, with a blank line behind each.
+/// Appends the texts, with a blank line after each.
 fn push_texts(out: &mut String, drawn: &[Drawn]) -> Result<(), AllocError>
     ensures { OnOk result (string_bytes out.new ≡ string_bytes out.old
         ++ flat_map spec.with_blank_line (map drawn_content drawn.now)) }
@@ -87,7 +87,7 @@ fn is_of(severity: Severity, report: &Report) -> bool
     }
 }
 
-/// How many reports have this severity.
+/// Returns the number of reports with this severity.
 fn count_of(severity: Severity, reports: &[Report]) -> usize
     ensures { result ≡ count_by (spec.is_of severity) (map report_content reports.now) }
 {
@@ -100,7 +100,7 @@ fn count_of(severity: Severity, reports: &[Report]) -> usize
     count
 }
 
-/// Adds a count, behind a comma where something stands before it, or nothing where it is 0.
+/// Appends a count, after a comma if there is something before it, or nothing if the count is 0.
 fn push_count(line: &mut String, count: usize, word: &str) -> Result<(), AllocError>
     ensures { OnOk result (string_bytes line.new ≡ spec.with_count (string_bytes line.old) count word.now) }
 {
@@ -117,7 +117,7 @@ fn push_count(line: &mut String, count: usize, word: &str) -> Result<(), AllocEr
     Ok(())
 }
 
-/// How many errors, warnings and notes there are.
+/// Returns the numbers of errors, warnings and notes.
 fn total(alloc: Global, reports: &[Report]) -> Result<String, AllocError>
     ensures { IfOk result (λ line. string_bytes line ≡ spec.total (map report_content reports.now)) }
 {
@@ -140,7 +140,7 @@ fn total(alloc: Global, reports: &[Report]) -> Result<String, AllocError>
     Ok(line)
 }
 
-/// The texts, and the last line.
+/// Returns the texts and the last line.
 fn joined(alloc: Global, drawn: &[Drawn], reports: &[Report]) -> Result<String, AllocError>
     ensures { IfOk result (λ out. string_bytes out
         ≡ spec.joined (map drawn_content drawn.now) (map report_content reports.now)) }
@@ -152,9 +152,10 @@ fn joined(alloc: Global, drawn: &[Drawn], reports: &[Report]) -> Result<String, 
     Ok(out)
 }
 
-/// The text of reports on one text: each as `render` shows it and a blank line behind it, in the order of the places
-/// at which they stand, and a last line such as `3 errors, 1 warning`. Reports at one place keep their order, and one
-/// without labels stands at the start of the text. Without reports the text is empty. Only want of memory is refused.
+/// Returns the text of reports on one text: each as `render` shows it, with a blank line after it, in the order of
+/// their places in the text, and a last line such as `3 errors, 1 warning`. Reports at one place keep their order, and
+/// one without labels counts as at the start of the text. Without reports the text is empty. Fails only if an
+/// allocation fails.
 pub fn render_all(
     alloc: Global,
     style: Style,

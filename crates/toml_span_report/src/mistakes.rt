@@ -1,4 +1,4 @@
-//! The mistake that an error is likely to come from.
+//! The typical mistake that an error probably comes from.
 ghost use Rattle.std.specs.Prelude.{◌≡◌, option_map};
 ghost use Rattle.toml_span_tree.specs.Error.{kind_of};
 ghost use Rattle.toml_span_report.specs.Finding.{finding_content};
@@ -18,12 +18,12 @@ use crate::finding::{ClashMistake, Finding, Mistake, marked};
 use toml_span_lex::span::Span;
 use toml_span_tree::ErrorKind;
 
-/// The mistake that an error of this kind, at this span of the text, is likely to come from.
+/// Returns the mistake that an error of this kind, at this span of the text, probably comes from.
 pub(crate) fn mistake_of<'a>(kind: &ErrorKind<'_>, text: &'a str, span: Span) -> Option<Finding<'a>>
     ensures { option_map finding_content result ≡ spec.mistake_of (kind_of kind.now) text.now span }
 {
     match kind {
-        ErrorKind::UnquotedString => Some(values::unquoted(text, span.start)),
+        ErrorKind::UnquotedString => Some(lists::word(text, span.start)),
         ErrorKind::Unexpected(c) => symbols::unexpected(text, span.start, *c),
         ErrorKind::Wanted { expected, found } => wanted::wanted(*expected, *found, text, span),
         ErrorKind::UnexpectedEof => lists::missing_value(text, span.start),

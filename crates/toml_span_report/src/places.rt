@@ -1,4 +1,4 @@
-//! Places in a text, and the line of a place.
+//! Places in a text, and their lines.
 ghost use Rattle.std.specs.Prelude.{◌≡◌, ℕ, ◌<◌, ◌≤◌, length, slice_index};
 ghost use Rattle.std.specs.List.{position_or_len};
 ghost use Rattle.std.specs.Str.{IsCharBoundary, chars};
@@ -6,7 +6,7 @@ ghost use Rattle.toml_span_report.specs.Places as spec;
 
 use toml_span_lex::span::Span;
 
-/// An offset, or the nearest one before it that is between two characters of the text, or its end.
+/// Returns the offset, or the nearest character boundary before it, or the end of the text.
 pub(crate) fn place(text: &str, at: usize) -> usize
     ensures value { result ≡ spec.place text.now at }
     ensures boundary { IsCharBoundary text.now result }
@@ -16,7 +16,7 @@ pub(crate) fn place(text: &str, at: usize) -> usize
     text.floor_char_boundary(at)
 }
 
-/// Where a byte order mark at the start of the text ends, or 0.
+/// Returns where a byte order mark at the start of the text ends, or 0.
 #[tactic(auto, using(crate::proofs::PlaceLemmas::mark_boundary), unfolding(crate::specs::Places::mark_end))]
 fn mark_end(text: &str) -> usize
     ensures value { result ≡ spec.mark_end text.now }
@@ -30,7 +30,7 @@ fn mark_end(text: &str) -> usize
     }
 }
 
-/// Where the line of a place begins.
+/// Returns where the line of a place begins.
 pub(crate) fn line_start(text: &str, at: usize) -> usize
     requires { IsCharBoundary text.now at }
     ensures value { result ≡ spec.line_start text.now at }
@@ -46,7 +46,7 @@ pub(crate) fn line_start(text: &str, at: usize) -> usize
     start
 }
 
-/// Where the first line feed stands, or the text ends.
+/// Returns the offset of the first line feed, or the end of the text.
 fn line_feed(bytes: &[u8]) -> usize
     ensures value { result ≡ position_or_len spec.is_line_feed bytes.now }
     ensures within { result ≤ length bytes.now }
@@ -60,7 +60,8 @@ fn line_feed(bytes: &[u8]) -> usize
     bytes.len()
 }
 
-/// Where the line of a place ends: before its line feed and the carriage return in front of that, or with the text.
+/// Returns where the line of a place ends: before its line feed and a carriage return in front of that, or with the
+/// text.
 pub(crate) fn line_end(text: &str, at: usize) -> usize
     requires { IsCharBoundary text.now at }
     ensures value { result ≡ spec.line_end text.now at }
@@ -77,7 +78,7 @@ pub(crate) fn line_end(text: &str, at: usize) -> usize
     }
 }
 
-/// The number of the line of a place, counted from 1.
+/// Returns the number of the line of a place, counted from 1.
 #[tactic(auto, unfolding(crate::specs::Places::line_number))]
 pub(crate) fn line_number(text: &str, at: usize) -> usize
     requires { at ≤ length text.now }
@@ -87,7 +88,7 @@ pub(crate) fn line_number(text: &str, at: usize) -> usize
     before.iter().filter(|byte| **byte == b'\n').count() + 1
 }
 
-/// How many characters a text has.
+/// Returns the number of characters of a text.
 pub(crate) fn characters(text: &str) -> usize
     ensures value { result ≡ length (chars text.now) }
     ensures bound { result ≤ length text.now }
@@ -95,7 +96,7 @@ pub(crate) fn characters(text: &str) -> usize
     text.chars().count()
 }
 
-/// The column of a place, in characters counted from 1.
+/// Returns the column of a place, in characters counted from 1.
 pub(crate) fn column(text: &str, at: usize) -> usize
     requires { IsCharBoundary text.now at }
     ensures { result ≡ spec.column text.now at }
@@ -103,7 +104,7 @@ pub(crate) fn column(text: &str, at: usize) -> usize
     characters(&text[line_start(text, at)..at]) + 1
 }
 
-/// Where a span begins in a text, behind a byte order mark at its start.
+/// Returns where a span begins in a text, after a byte order mark at its start.
 #[tactic(auto, unfolding(crate::specs::Places::span_start))]
 pub(crate) fn span_start(text: &str, span: Span) -> usize
     ensures value { result ≡ spec.span_start text.now span }
@@ -112,7 +113,7 @@ pub(crate) fn span_start(text: &str, span: Span) -> usize
     place(text, span.start).max(mark_end(text))
 }
 
-/// Where a span ends in a text. A line feed at its end is left out, and a reversed span is empty.
+/// Returns where a span ends in a text. A line feed at its end is left out, and a reversed span is empty.
 #[tactic(auto, unfolding(crate::specs::Places::span_start, crate::specs::Places::span_end))]
 pub(crate) fn span_end(text: &str, span: Span) -> usize
     ensures value { result ≡ spec.span_end text.now span }
@@ -129,10 +130,10 @@ pub(crate) fn span_end(text: &str, span: Span) -> usize
     }
 }
 
-/// The line and the column of an offset in a text, both counted from 1, and the column in characters, as editors show
-/// it. An offset within a character or past the text is moved to the nearest place before it.
+/// Returns the line and the column of an offset in a text, both counted from 1, the column in characters, as editors
+/// show it. An offset within a character or beyond the text is moved back to the nearest character boundary.
 ///
-/// `toml_span::line_and_byte` has the line and the byte in it, and `Error::line_info` these two counted from 0.
+/// `toml_span::line_and_byte` returns the line and the byte in it, and `Error::line_info` these two counted from 0.
 pub fn line_column(text: &str, at: usize) -> (usize, usize)
     ensures line { result.0 ≡ spec.line_number text.now (spec.place text.now at) }
     ensures column { result.1 ≡ spec.column text.now (spec.place text.now at) }

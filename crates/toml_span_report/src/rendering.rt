@@ -13,7 +13,7 @@ use crate::strips::{Strip, Window, all_strips, is_near, seen_in, window_of};
 use std::alloc::{AllocError, Global};
 use std::fmt::Write;
 
-/// Adds a text behind a sign, or nothing where the text is empty.
+/// Appends a text after a sign, or nothing if the text is empty.
 fn push_behind(out: &mut String, sign: &str, text: &str) -> Result<(), AllocError>
     ensures { OnOk result (string_bytes out.new ≡ string_bytes out.old ++ spec.behind sign.now text.now) }
 {
@@ -33,7 +33,7 @@ fn push_dots(out: &mut String, is_cut: bool) -> Result<(), AllocError>
     Ok(())
 }
 
-/// Adds a text as it is shown, cut behind 1,000 bytes.
+/// Appends a text as it is shown, cut after 1,000 bytes.
 #[tactic(auto, unfolding(crate::specs::Rendering::told))]
 fn push_told(out: &mut String, text: &str) -> Result<(), AllocError>
     ensures { OnOk result (string_bytes out.new ≡ string_bytes out.old ++ spec.told text.now) }
@@ -43,7 +43,7 @@ fn push_told(out: &mut String, text: &str) -> Result<(), AllocError>
     push_dots(out, end < text.len())
 }
 
-/// A text as it is shown, cut behind 1,000 bytes.
+/// Returns a text as it is shown, cut after 1,000 bytes.
 fn told(alloc: Global, text: &str) -> Result<String, AllocError>
     ensures { IfOk result (λ out. string_bytes out ≡ spec.told text.now) }
 {
@@ -52,7 +52,7 @@ fn told(alloc: Global, text: &str) -> Result<String, AllocError>
     Ok(out)
 }
 
-/// How a report begins.
+/// Returns the front of a report's headline.
 pub(crate) fn word(severity: Severity) -> &'static str
     ensures { result.now ≡ spec.word severity }
 {
@@ -63,7 +63,7 @@ pub(crate) fn word(severity: Severity) -> &'static str
     }
 }
 
-/// The colour of that, and of the marks of primary labels.
+/// Returns the colour of that, and of the marks of primary labels.
 fn ink_of(severity: Severity) -> Ink
     ensures { result ≡ spec.ink_of severity }
 {
@@ -74,7 +74,7 @@ fn ink_of(severity: Severity) -> Ink
     }
 }
 
-/// Adds a text in brackets, or nothing where it is empty.
+/// Appends a text in brackets, or nothing if it is empty.
 fn push_in_brackets(out: &mut String, text: &str) -> Result<(), AllocError>
     ensures { OnOk result (string_bytes out.new ≡ string_bytes out.old ++ spec.in_brackets text.now) }
 {
@@ -86,7 +86,7 @@ fn push_in_brackets(out: &mut String, text: &str) -> Result<(), AllocError>
     out.push_str("]")
 }
 
-/// Adds the severity, the code and the message.
+/// Appends the severity, the code and the message.
 fn push_headline(
     alloc: Global,
     style: Style,
@@ -107,7 +107,7 @@ fn push_headline(
     out.push_str("\n")
 }
 
-/// The first strip of a primary label, or else the first of all.
+/// Returns the first strip of a primary label, or else the first of all.
 pub(crate) fn main_strip<'a>(strips: &[Strip<'a>]) -> Option<Strip<'a>>
     ensures { option_map marked_line_of result ≡ spec.main_part (map marked_line_of strips.now) }
 {
@@ -119,7 +119,7 @@ pub(crate) fn main_strip<'a>(strips: &[Strip<'a>]) -> Option<Strip<'a>>
     strips.first().copied()
 }
 
-/// Adds the line and the column of a strip.
+/// Appends the line and the column of a strip.
 fn push_place(out: &mut String, strip: Option<Strip<'_>>) -> Result<(), AllocError>
     ensures { OnOk result (string_bytes out.new ≡ string_bytes out.old
         ++ spec.place_told (option_map marked_line_of strip.entry)) }
@@ -131,7 +131,7 @@ fn push_place(out: &mut String, strip: Option<Strip<'_>>) -> Result<(), AllocErr
     write!(out, ":{number}:{column}")
 }
 
-/// The columns that the greatest of the line numbers takes.
+/// Returns the number of columns of the highest line number.
 fn width_of(alloc: Global, strips: &[Strip<'_>]) -> Result<usize, AllocError>
     ensures { IfOk result (λ width. width ≡ spec.width_of (map marked_line_of strips.now)) }
 {
@@ -143,17 +143,17 @@ fn width_of(alloc: Global, strips: &[Strip<'_>]) -> Result<usize, AllocError>
     Ok(digits.len())
 }
 
-/// How lines are drawn.
+/// The layout of the source lines.
 #[derive(Clone, Copy)]
 struct Frame {
     alloc: Global,
     style: Style,
     severity: Severity,
-    /// The columns of the line numbers.
+    /// The number of columns of the line numbers.
     width: usize,
 }
 
-/// Adds what stands to the left of a line, and a bar.
+/// Appends the margin to the left of a line, and a bar.
 fn push_gutter(frame: Frame, out: &mut String, number: &str) -> Result<(), AllocError>
     ensures { OnOk result (string_bytes out.new ≡ string_bytes out.old
         ++ spec.gutter frame.style frame.width number.now) }
@@ -165,7 +165,7 @@ fn push_gutter(frame: Frame, out: &mut String, number: &str) -> Result<(), Alloc
     push_painted(out, frame.style, Ink::Blue, left.as_str())
 }
 
-/// Adds the line of a strip.
+/// Appends the source line of a strip.
 fn push_source_line(frame: Frame, out: &mut String, strip: &Strip<'_>) -> Result<(), AllocError>
     ensures { OnOk result (string_bytes out.new ≡ string_bytes out.old
         ++ spec.source_line frame.style frame.width (marked_line_of strip.now)) }
@@ -182,7 +182,7 @@ fn push_source_line(frame: Frame, out: &mut String, strip: &Strip<'_>) -> Result
     out.push_str("\n")
 }
 
-/// Adds the marks of a strip.
+/// Appends the marks of a strip.
 fn push_marks(alloc: Global, out: &mut String, strip: &Strip<'_>) -> Result<(), AllocError>
     ensures { OnOk result (string_bytes out.new ≡ string_bytes out.old ++ spec.marks (marked_line_of strip.now)) }
 {
@@ -195,7 +195,7 @@ fn push_marks(alloc: Global, out: &mut String, strip: &Strip<'_>) -> Result<(), 
     push_times(out, columns(marked.as_str()).max(1), sign)
 }
 
-/// The colour of a label's marks.
+/// Returns the colour of a label's marks.
 fn ink(severity: Severity, is_primary: bool) -> Ink
     ensures { result ≡ spec.ink severity is_primary }
 {
@@ -206,7 +206,7 @@ fn ink(severity: Severity, is_primary: bool) -> Ink
     }
 }
 
-/// Adds the line of marks, and what is to be said.
+/// Appends the line of marks, and the label's message.
 fn push_marks_line(frame: Frame, out: &mut String, strip: &Strip<'_>) -> Result<(), AllocError>
     ensures { OnOk result (string_bytes out.new ≡ string_bytes out.old
         ++ spec.marks_line frame.style frame.severity frame.width (marked_line_of strip.now)) }
@@ -226,7 +226,7 @@ fn push_marks_line(frame: Frame, out: &mut String, strip: &Strip<'_>) -> Result<
     out.push_str("\n")
 }
 
-/// Adds the line of a strip where the window above does not show it, and what stands above it.
+/// Appends the source line of a strip, unless the window above shows it, after dots or a bar.
 fn push_opening(
     frame: Frame,
     out: &mut String,
@@ -253,7 +253,7 @@ fn push_opening(
     push_source_line(frame, out, strip)
 }
 
-/// Adds the lines of all strips, with their marks.
+/// Appends the source lines of all strips, with their marks.
 fn push_strips(frame: Frame, out: &mut String, strips: &[Strip<'_>]) -> Result<(), AllocError>
     ensures { OnOk result (string_bytes out.new ≡ string_bytes out.old
         ++ spec.drawn frame.style frame.severity frame.width None (map marked_line_of strips.now)) }
@@ -269,7 +269,7 @@ fn push_strips(frame: Frame, out: &mut String, strips: &[Strip<'_>]) -> Result<(
     Ok(())
 }
 
-/// The headline and the place.
+/// Appends the headline and the place.
 fn front(
     frame: Frame,
     report: &Report,
@@ -292,7 +292,7 @@ fn front(
     Ok(out)
 }
 
-/// Adds a note or a line of help.
+/// Appends a note or a line of help.
 fn push_remark(frame: Frame, out: &mut String, title: &str, text: &str) -> Result<(), AllocError>
     ensures { OnOk result (string_bytes out.new ≡ string_bytes out.old
         ++ spec.remark frame.style frame.width title.now text.now) }
@@ -306,7 +306,7 @@ fn push_remark(frame: Frame, out: &mut String, title: &str, text: &str) -> Resul
     out.push_str("\n")
 }
 
-/// Adds these, one below the other.
+/// Appends several of them, one below the other.
 fn push_each(
     frame: Frame,
     out: &mut String,
@@ -322,7 +322,7 @@ fn push_each(
     Ok(())
 }
 
-/// Adds a bar alone.
+/// Appends a bar alone.
 fn push_bar(frame: Frame, out: &mut String) -> Result<(), AllocError>
     ensures { OnOk result (string_bytes out.new ≡ string_bytes out.old ++ spec.bar frame.style frame.width) }
 {
@@ -330,7 +330,7 @@ fn push_bar(frame: Frame, out: &mut String) -> Result<(), AllocError>
     out.push_str("\n")
 }
 
-/// Adds a bar where there is help.
+/// Appends a bar if there is help.
 fn push_bar_above_help(frame: Frame, out: &mut String, help: &[String]) -> Result<(), AllocError>
     ensures { OnOk result (string_bytes out.new ≡ string_bytes out.old
         ++ spec.bar_above frame.style frame.width (map string_bytes help.now)) }
@@ -341,7 +341,7 @@ fn push_bar_above_help(frame: Frame, out: &mut String, help: &[String]) -> Resul
     }
 }
 
-/// Adds a bar where there are notes or help.
+/// Appends a bar if there are notes or help.
 fn push_bar_above(
     frame: Frame,
     out: &mut String,
@@ -357,7 +357,7 @@ fn push_bar_above(
     }
 }
 
-/// Adds the notes and the help, with a bar above them, where there are any.
+/// Appends the notes and the help, with a bar above them if there are any.
 fn push_remarks(frame: Frame, out: &mut String, report: &Report) -> Result<(), AllocError>
     ensures { OnOk result (string_bytes out.new ≡ string_bytes out.old
         ++ spec.remarks frame.style frame.width (report_content report.now)) }
@@ -368,7 +368,7 @@ fn push_remarks(frame: Frame, out: &mut String, report: &Report) -> Result<(), A
     push_each(frame, out, "help: ", help)
 }
 
-/// The text for strips.
+/// Returns the text of a report for its strips.
 pub(crate) fn drawn(
     alloc: Global,
     style: Style,
@@ -392,20 +392,22 @@ pub(crate) fn drawn(
     Ok(out)
 }
 
-/// The text of a report on this text, whose file has this name.
+/// Returns the text of a report on this text, whose file has this name.
 ///
-/// It has a headline, the place of the first primary label as `name:line:column`, both counted from 1 and the column
-/// in characters, the lines on which labels begin and end, with marks under them: `^` for a primary label, `-` for
-/// another; and notes and help. Labels stand in the order of the text. A span may be any: what lies past the text or
-/// within a character is moved to the nearest place before it, and a reversed span is empty. An empty one has one mark.
+/// It has a headline; the place of the first primary label as `name:line:column`, both counted from 1, the column in
+/// characters; the source lines on which labels begin and end, with marks under them: `^` for a primary label, `-` for
+/// another; and notes and help. Labels are in the order of the text. A span may be any: an offset beyond the text or
+/// within a character is moved back to the nearest character boundary, and a reversed span is empty. An empty one has
+/// one mark.
 ///
-/// A tab is shown as four spaces, another control character below U+0080 by its picture, one from U+0080 on, or one
-/// that ends a line, turns the direction of the text or takes no column, as U+FFFD. A byte order mark at the start of
-/// the text is not shown.
+/// A tab is shown as four spaces, another control character below U+0080 as its picture, and a control character from
+/// U+0080 on, or one that ends a line or changes the direction of the text, as U+FFFD. A byte order mark at the start
+/// of the text is not shown.
 ///
-/// Of a long line 80 bytes before its first label are shown, and 160 from the start of the last one on that begins no
-/// more than 240 bytes behind that. For a label further on the line is shown again. A code, a message, a note or a
-/// name is cut behind 1,000 bytes. Colours, where the style has them, add nothing else. Only want of memory is refused.
+/// If a line is long, 80 bytes before its first label are shown, and 160 from the start of the last label that begins
+/// within 240 bytes of the one before it. For a label further on the line is shown again. A code, a message, a note or
+/// a name is cut after 1,000 bytes. Colours, if the style has them, add nothing else. Fails only if an allocation
+/// fails.
 pub fn render(
     alloc: Global,
     style: Style,
@@ -420,7 +422,7 @@ pub fn render(
     drawn(alloc, style, report, name, strips.as_slice())
 }
 
-/// Adds a text before a sign, or nothing where the text is empty.
+/// Appends a text before a sign, or nothing if the text is empty.
 pub(crate) fn push_before(out: &mut String, sign: &str, text: &str) -> Result<(), AllocError>
     ensures { OnOk result (string_bytes out.new ≡ string_bytes out.old ++ spec.before sign.now text.now) }
 {
@@ -431,7 +433,7 @@ pub(crate) fn push_before(out: &mut String, sign: &str, text: &str) -> Result<()
     out.push_str(sign)
 }
 
-/// What tells a line that is no error's.
+/// Returns the word for the severity in a one-line report, which is empty for an error.
 fn grade(severity: Severity) -> &'static str
     ensures { result.now ≡ spec.grade severity }
 {
@@ -442,7 +444,7 @@ fn grade(severity: Severity) -> &'static str
     }
 }
 
-/// What stands before a name that begins like a command of GitHub's workflows, so that no line does.
+/// Returns the prefix of a name that begins like a workflow command of GitHub, so that no line of ours is one.
 fn unlike_command(name: &str) -> &'static str
     ensures { result.now ≡ spec.unlike_command name.now }
 {
@@ -453,7 +455,7 @@ fn unlike_command(name: &str) -> &'static str
     }
 }
 
-/// The one line for strips.
+/// Returns the one-line report for its strips.
 fn brief(
     alloc: Global,
     report: &Report,
@@ -475,10 +477,10 @@ fn brief(
     Ok(out)
 }
 
-/// The one line `name:line:column: code: message` that tells a report on this text, which editors read, with
-/// `warning: ` or `note: ` before the code where it is no error. The place is that of `render`, and is left out where
-/// there is no label, as the code is where it is empty. Before a name that begins with `::`, as commands of GitHub's
-/// workflows do, stands `./`. Only want of memory is refused.
+/// Returns the one line `name:line:column: code: message` for a report on this text, in the form that editors read,
+/// with `warning: ` or `note: ` before the code if it is not an error. The place is that of `render`; it is left out if
+/// there is no label, and so is an empty code. A name that begins with `::`, as workflow commands of GitHub do, gets
+/// `./` in front. Fails only if an allocation fails.
 pub fn render_line(
     alloc: Global,
     report: &Report,

@@ -13,7 +13,7 @@ use std::alloc::{AllocError, Global};
 use toml_span_lex::span::Span;
 use toml_span_tree::Label;
 
-/// The text of code.
+/// Returns the text of code.
 #[tactic(auto, unfolding(crate::specs::Repairs::code_text))]
 fn code_text(alloc: Global, code: Code<'_>) -> Result<String, AllocError>
     ensures { IfOk result (λ text. string_bytes text ≡ spec.code_text (code_content code.entry)) }
@@ -26,7 +26,7 @@ fn code_text(alloc: Global, code: Code<'_>) -> Result<String, AllocError>
     Ok(text)
 }
 
-/// Adds the code to write behind a joint, if there are both.
+/// Appends the code to write after a joint, if there are both.
 fn push_code(out: &mut String, joint: &str, code: &str) -> Result<(), AllocError>
     ensures { OnOk result (string_bytes out.new ≡ string_bytes out.old ++ spec.code_shown joint.now code.now) }
 {
@@ -39,7 +39,7 @@ fn push_code(out: &mut String, joint: &str, code: &str) -> Result<(), AllocError
     out.push_str("`")
 }
 
-/// A line of help, with the code to write where there is a joint.
+/// Returns a line of help, with the code to write if there is a joint.
 fn help_line(alloc: Global, help: &str, joint: &str, code: &str) -> Result<String, AllocError>
     ensures { IfOk result (λ line. string_bytes line ≡ spec.help_line help.now joint.now code.now) }
 {
@@ -48,7 +48,7 @@ fn help_line(alloc: Global, help: &str, joint: &str, code: &str) -> Result<Strin
     Ok(line)
 }
 
-/// How a mistake is mended.
+/// Returns the help for a mistake.
 pub(crate) fn finding_help(alloc: Global, finding: Finding<'_>) -> Result<Vec<String>, AllocError>
     ensures { IfOk result (λ help. map string_bytes help.items ≡ spec.help (finding_content finding.entry)) }
 {
@@ -62,7 +62,7 @@ pub(crate) fn finding_help(alloc: Global, finding: Finding<'_>) -> Result<Vec<St
     Ok(help)
 }
 
-/// Adds a label.
+/// Appends a label.
 fn push_label(
     alloc: Global,
     labels: &mut Vec<Label<()>>,
@@ -82,7 +82,7 @@ fn push_label(
     Ok(())
 }
 
-/// What is marked of a mistake.
+/// Returns the labels of a mistake.
 pub(crate) fn finding_labels(
     alloc: Global,
     finding: Finding<'_>,
@@ -103,7 +103,7 @@ pub(crate) fn finding_labels(
     Ok(labels)
 }
 
-/// The replacement that mends a mistake, if there is one.
+/// Returns the replacement that repairs a mistake, if there is one.
 pub(crate) fn finding_repairs(
     alloc: Global,
     finding: Finding<'_>,

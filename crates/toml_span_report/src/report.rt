@@ -1,4 +1,4 @@
-//! What a program tells of a text, and where.
+//! What a program reports about a text, and where.
 ghost use Rattle.std.specs.Prelude.{◌≡◌, IfOk, true, false};
 ghost use Rattle.toml_span_report.specs.Report as spec;
 ghost use Rattle.toml_span_report.specs.Report.{report_content};
@@ -8,51 +8,51 @@ use std::alloc::{AllocError, Global};
 use toml_span_lex::span::Span;
 use toml_span_tree::Label;
 
-/// How much weighs what a report tells.
+/// The severity of a report.
 #[derive(Clone, Copy, Debug, PartialEq, Eq)]
 pub enum Severity {
-    /// The text cannot be used as it stands.
+    /// The text can't be used as it is.
     Error,
-    /// The text can be used, and should be changed.
+    /// The text can be used, but should be changed.
     Warning,
-    /// What is good to know.
+    /// Something worth knowing.
     Note,
 }
 
-/// A repair: a part of a text, and what can be written in its place.
+/// A replacement: a part of a text, and the new text for it.
 #[derive(Debug, Drop)]
 pub struct Replacement {
-    /// The bytes that are replaced, from 0, the end exclusive. None for a text that is put in.
+    /// The bytes to replace, from 0, the end exclusive. Empty for an insertion.
     pub span: Span,
-    /// The new text, which is empty where the old one is removed.
+    /// The new text, which is empty for a removal.
     pub text: String,
-    /// Whether a program can make it without asking.
+    /// Whether a program may apply it without asking.
     pub is_safe: bool,
 }
 
-/// What a program tells of a text, and where. It may come of an error (`from_error`), or be made:
-/// `Report::warning(alloc, "name-twice", "the name stands twice")?.primary(span, "here")?`.
+/// What a program reports about a text, and where. A report comes from an error (`from_error`), or is built:
+/// `Report::warning(alloc, "name-twice", "the name appears twice")?.primary(span, "here")?`.
 ///
-/// A call that adds something takes the report, and on want of memory there is none any more.
+/// Methods that add something consume the report. If an allocation fails in one, the report is gone.
 #[derive(Debug, Drop)]
 pub struct Report {
     pub severity: Severity,
     /// A short name for all reports of this kind, such as `duplicate-key`, or nothing.
     pub code: String,
-    /// What is told.
+    /// The message.
     pub message: String,
     /// The places, in bytes of the text.
     pub labels: Vec<Label<()>>,
-    /// What is to be said besides.
+    /// Further remarks.
     pub notes: Vec<String>,
     /// What can be done.
     pub help: Vec<String>,
-    /// How to repair the text. Their spans don't overlap.
+    /// How to repair the text. The spans don't overlap.
     pub replacements: Vec<Replacement>,
 }
 
 impl Report {
-    /// A report without places, notes and help.
+    /// Makes a report without places, notes and help.
     pub fn new(
         alloc: Global,
         severity: Severity,
@@ -72,21 +72,21 @@ impl Report {
         })
     }
 
-    /// An error, as `new` makes it.
+    /// Makes an error, as `new` does.
     pub fn error(alloc: Global, code: &str, message: &str) -> Result<Report, AllocError>
         ensures { IfOk result (λ made. report_content made ≡ spec.bare Error code.now message.now) }
     {
         Report::new(alloc, Severity::Error, code, message)
     }
 
-    /// A warning, as `new` makes it.
+    /// Makes a warning, as `new` does.
     pub fn warning(alloc: Global, code: &str, message: &str) -> Result<Report, AllocError>
         ensures { IfOk result (λ made. report_content made ≡ spec.bare Warning code.now message.now) }
     {
         Report::new(alloc, Severity::Warning, code, message)
     }
 
-    /// With one more place, at which the report stands. `text` is what is said there, or nothing.
+    /// Adds a primary label: the place of the report. `text` is the label's message, which may be empty.
     pub fn primary(self, span: Span, text: &str) -> Result<Report, AllocError>
         ensures { IfOk result (λ made. report_content made
             ≡ spec.with_primary (report_content self) span text.now) }
@@ -94,7 +94,8 @@ impl Report {
         self.label(true, span, text)
     }
 
-    /// With one more place, which the report has to do with. `text` is what is said there, or nothing.
+    /// Adds a secondary label: a place that has to do with the report. `text` is the label's message, which may be
+    /// empty.
     pub fn secondary(self, span: Span, text: &str) -> Result<Report, AllocError>
         ensures { IfOk result (λ made. report_content made
             ≡ spec.with_secondary (report_content self) span text.now) }
@@ -116,7 +117,7 @@ impl Report {
         Ok(self)
     }
 
-    /// With one more note.
+    /// Adds a note.
     pub fn note(mut self, text: &str) -> Result<Report, AllocError>
         ensures { IfOk result (λ made. report_content made ≡ spec.with_note (report_content self) text.now) }
     {
@@ -125,7 +126,7 @@ impl Report {
         Ok(self)
     }
 
-    /// With one more line of help.
+    /// Adds a line of help.
     pub fn help(mut self, text: &str) -> Result<Report, AllocError>
         ensures { IfOk result (λ made. report_content made ≡ spec.with_help (report_content self) text.now) }
     {
@@ -134,8 +135,8 @@ impl Report {
         Ok(self)
     }
 
-    /// Adds a repair that a program can make without asking: `text` in place of the bytes of `span`. Help should say
-    /// the same.
+    /// Adds a replacement that a program may apply without asking: `text` in place of the bytes of `span`. The help
+    /// should say the same.
     pub fn replace(self, span: Span, text: &str) -> Result<Report, AllocError>
         ensures { IfOk result (λ made. report_content made
             ≡ spec.with_replacement (report_content self) span text.now true) }
@@ -143,7 +144,7 @@ impl Report {
         self.repair(span, text, true)
     }
 
-    /// Adds a repair, as `replace` does, that somebody should look at before it is made.
+    /// Adds a replacement, as `replace` does, that a person should review before it is applied.
     pub fn suggest(self, span: Span, text: &str) -> Result<Report, AllocError>
         ensures { IfOk result (λ made. report_content made
             ≡ spec.with_replacement (report_content self) span text.now false) }

@@ -1,4 +1,4 @@
-//! The reports of a text that outlive it.
+//! Reports that outlive their text.
 ghost use Rattle.std.specs.Prelude.{IfOk, Some, map, string_bytes};
 ghost use Rattle.toml_span_report.specs.Report.{report_content};
 ghost use Rattle.toml_span_report.specs.Reported.{AreTold};
@@ -13,19 +13,19 @@ use std::fmt::{Display, Formatter, Write};
 use toml_span_lex::stop::Stop;
 use toml_span_typed::DeserError;
 
-/// Why a text was not read. It owns what it tells, so it outlives the text, from which a `DeserError` borrows: a
-/// function that reads a file and lets its text go can return it.
+/// Why a text could not be read. It owns its reports, so it outlives the text, from which a `DeserError` borrows: a
+/// function that reads a file and drops its text can return it.
 #[derive(Debug, Drop)]
 pub struct Reported {
-    /// The reports of the errors, in their order.
+    /// The reports of the errors, in order.
     pub reports: Vec<Report>,
-    /// Their text, as `render_all` gives it.
+    /// The text of the reports, as `render_all` formats it.
     pub text: String,
 }
 
 impl Reported {
-    /// The reports of all errors for which `from_str` read nothing, and the text that `render_stop` gives. Want of
-    /// memory has no report, and comes back.
+    /// Returns the reports of all errors for which `from_str` failed, and the text that `render_stop` returns. If
+    /// memory ran out there is no report, and that error is returned.
     pub fn of(
         alloc: Global,
         style: Style,
@@ -47,7 +47,7 @@ impl Reported {
     }
 }
 
-/// The text.
+/// Writes the text.
 impl Display for Reported {
     ghost output = { λ reported. Some (string_bytes reported.text) };
 

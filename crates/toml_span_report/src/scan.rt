@@ -1,34 +1,34 @@
-//! What is open before an offset of a text: brackets, and a string.
+//! What is open before an offset of a text: brackets, or a string.
 ghost use Rattle.std.specs.Prelude.{◌≡◌};
 ghost use Rattle.toml_span_report.specs.Scan as spec;
 
 use crate::bytes::{ahead, begins, byte_at, first_of_line};
 
-/// What is open before an offset, of a text that is valid TOML up to there.
+/// What is open before an offset, in a text that is valid TOML up to there.
 #[derive(Clone, Copy)]
 pub(crate) struct Open {
     /// The number of open brackets and braces.
     pub(crate) depth: usize,
-    /// The offset of the outermost one, if there is one.
+    /// The offset of the outermost one, if any.
     pub(crate) bracket: usize,
     /// The quote of the open string, `#` in a comment, or 0.
     pub(crate) quote: u8,
-    /// The offset of the last string's first quote.
+    /// The offset of the first quote of the last string.
     pub(crate) string: usize,
-    /// Whether that has three quotes on each side.
+    /// Whether that string has three quotes on each side.
     pub(crate) is_long: bool,
-    /// The number of bytes that belong to the one before.
+    /// The number of bytes that still belong to the token before.
     pub(crate) skip: usize,
 }
 
-/// Whether there are three quotes at an offset.
+/// Returns whether there are three quotes at an offset.
 pub(crate) fn is_long(text: &str, at: usize) -> bool
     ensures { result ≡ spec.is_long text.now at }
 {
     begins(text, at, b"\"\"\"") || begins(text, at, b"'''")
 }
 
-/// What is open after a byte outside of strings and comments.
+/// Returns what is open after a byte outside of strings and comments.
 fn outside(text: &str, state: Open, at: usize) -> Open
     ensures { result ≡ spec.outside text.now state at }
 {
@@ -51,7 +51,7 @@ fn outside(text: &str, state: Open, at: usize) -> Open
     next
 }
 
-/// What is open after a byte of a string.
+/// Returns what is open after a byte of a string.
 fn inside(text: &str, state: Open, at: usize) -> Open
     ensures { result ≡ spec.inside text.now state at }
 {
@@ -70,7 +70,7 @@ fn inside(text: &str, state: Open, at: usize) -> Open
     next
 }
 
-/// What is open after one more byte.
+/// Returns what is open after one more byte.
 #[tactic(auto, unfolding(crate::specs::Scan::step))]
 fn step(text: &str, state: Open, at: usize) -> Open
     ensures { result ≡ spec.step text.now state at }
@@ -89,7 +89,7 @@ fn step(text: &str, state: Open, at: usize) -> Open
     }
 }
 
-/// What is open before an offset. Takes time in proportion to it.
+/// Returns what is open before an offset. Takes time linear in the offset.
 #[tactic(auto, unfolding(crate::specs::Scan::scanned))]
 pub(crate) fn open_before(text: &str, at: usize) -> Open
     ensures { result ≡ spec.open_before text.now at }
@@ -108,7 +108,7 @@ pub(crate) fn open_before(text: &str, at: usize) -> Open
     state
 }
 
-/// Whether the outermost bracket is that of a table header, which begins its line.
+/// Returns whether the outermost bracket is that of a table header, which begins its line.
 pub(crate) fn is_in_header(text: &str, state: Open) -> bool
     ensures { result ≡ spec.is_in_header text.now state }
 {

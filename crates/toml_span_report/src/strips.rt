@@ -1,4 +1,4 @@
-//! What labels mark of a text.
+//! The parts of lines that labels mark.
 ghost use Rattle.std.specs.Prelude.{◌≡◌, ◌≤◌, ◌<◌, [], IfOk, OnOk, map};
 ghost use Rattle.std.specs.List.{fold};
 ghost use Rattle.std.specs.Str.{IsCharBoundary};
@@ -10,18 +10,18 @@ use crate::places::{column, line_end, line_number, line_start, place, span_end, 
 use std::alloc::{AllocError, Global};
 use toml_span_tree::Label;
 
-/// What is shown of a long line.
+/// The part of a long line that is shown.
 #[derive(Clone, Copy)]
 pub(crate) struct Window {
     /// The number of the line.
     pub(crate) number: usize,
-    /// Where the first label that it shows begins.
+    /// Where the first label in it begins.
     pub(crate) first: usize,
-    /// Where the last one begins.
+    /// Where the last label in it begins.
     pub(crate) last: usize,
 }
 
-/// A part of a line that is marked, with what stands on the line before and behind it.
+/// A marked part of a line, with what the line has before and after it.
 #[derive(Clone, Copy)]
 pub(crate) struct Strip<'a> {
     /// The offset at which it begins.
@@ -36,11 +36,11 @@ pub(crate) struct Strip<'a> {
     pub(crate) behind: &'a str,
     pub(crate) is_cut_behind: bool,
     pub(crate) is_primary: bool,
-    /// What is to be said, or nothing.
+    /// The message, which may be empty.
     pub(crate) message: &'a str,
 }
 
-/// What is marked from one place up to another, as far as the line of the first goes.
+/// Returns the strip from one place up to another, as far as the line of the first goes.
 fn strip_at<'a>(
     text: &'a str,
     from: usize,
@@ -70,7 +70,7 @@ fn strip_at<'a>(
     }
 }
 
-/// How many strips stand before the first that begins later than an offset.
+/// Returns the number of strips before the first that begins later than an offset.
 fn earlier(strips: &[Strip<'_>], at: usize) -> usize
     ensures { result ≡ spec.earlier (map marked_line_of strips.now) at }
 {
@@ -82,7 +82,7 @@ fn earlier(strips: &[Strip<'_>], at: usize) -> usize
     strips.len()
 }
 
-/// Puts a strip before the first that begins later.
+/// Inserts a strip before the first that begins later.
 fn place_strip<'a>(strips: &mut Vec<Strip<'a>>, strip: Strip<'a>) -> Result<(), AllocError>
     ensures { OnOk result (map marked_line_of strips.new.items
         ≡ spec.placed (map marked_line_of strips.old.items) (marked_line_of strip.entry)) }
@@ -92,7 +92,7 @@ fn place_strip<'a>(strips: &mut Vec<Strip<'a>>, strip: Strip<'a>) -> Result<(), 
     Ok(())
 }
 
-/// Puts the strips of a label among those of others.
+/// Inserts the strips of a label among those of others.
 fn place_label<'a, F>(
     strips: &mut Vec<Strip<'a>>,
     text: &'a str,
@@ -120,7 +120,7 @@ fn place_label<'a, F>(
     Ok(())
 }
 
-/// The strips of all labels, in the order of the text.
+/// Returns the strips of all labels, in the order of the text.
 #[tactic(auto, unfolding(crate::specs::Strips::all_marked_lines))]
 pub(crate) fn all_strips<'a, F>(
     alloc: Global,
@@ -137,14 +137,14 @@ pub(crate) fn all_strips<'a, F>(
     Ok(strips)
 }
 
-/// Whether a window shows a strip.
+/// Returns whether a window shows a strip.
 pub(crate) fn is_near(window: Window, strip: &Strip<'_>) -> bool
     ensures { result ≡ spec.is_near window (marked_line_of strip.now) }
 {
     strip.number == window.number && strip.at.saturating_sub(window.first) <= 240
 }
 
-/// A window that shows the strips that follow as well, as far as they are near.
+/// Returns a window widened to show the following strips as well, as far as they are near.
 fn window_from(window: Window, strips: &[Strip<'_>]) -> Window
     ensures { result ≡ spec.window_from window (map marked_line_of strips.now) }
 {
@@ -158,7 +158,7 @@ fn window_from(window: Window, strips: &[Strip<'_>]) -> Window
     wide
 }
 
-/// The window of a strip: the one above it, or one of its own, for itself and those that follow.
+/// Returns the window of a strip: the one above it, or a new one for it and those that follow.
 pub(crate) fn window_of(above: Option<Window>, strip: &Strip<'_>, strips: &[Strip<'_>]) -> Window
     ensures { result ≡ spec.window_of above (marked_line_of strip.now) (map marked_line_of strips.now) }
 {
@@ -175,7 +175,7 @@ pub(crate) fn window_of(above: Option<Window>, strip: &Strip<'_>, strips: &[Stri
     window_from(own, strips)
 }
 
-/// A strip with what a window shows of its line: 80 bytes before the first label, and 160 from the last one on.
+/// Fills in what a window shows of a strip's line: 80 bytes before the first label, and 160 from the last one on.
 #[tactic(auto, unfolding(crate::specs::Strips::seen_in))]
 pub(crate) fn seen_in<'a>(window: Window, strip: &Strip<'a>) -> Strip<'a>
     ensures { marked_line_of result ≡ spec.seen_in window (marked_line_of strip.now) }

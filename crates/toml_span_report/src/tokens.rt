@@ -1,4 +1,4 @@
-//! The token at which an error stands.
+//! The token at an error's place.
 ghost use Rattle.std.specs.Prelude.{◌≡◌, IfOk};
 ghost use Rattle.std.specs.Str.{IsCharBoundary};
 ghost use Rattle.toml_span_tree.specs.Error.{kind_of};
@@ -12,7 +12,7 @@ use toml_span_lex::strings::string_at;
 use toml_span_lex::tokenizer::token_at;
 use toml_span_tree::ErrorKind;
 
-/// Where the token at a place ends, or `None` where none stands.
+/// Returns where the token at a place ends, or `None` if there is none.
 fn token_behind(alloc: Global, text: &str, at: usize) -> Result<Option<usize>, AllocError>
     requires { IsCharBoundary text.now at }
     ensures { IfOk result (λ found. spec.FindsToken text.now at found) }
@@ -35,7 +35,8 @@ fn token_behind(alloc: Global, text: &str, at: usize) -> Result<Option<usize>, A
     }
 }
 
-/// Where the marks of the token at a place end: with it, no further than its line, and at once where none stands.
+/// Returns where the marks of the token at a place end: with the token, at the end of its line at the latest, and at
+/// once if there is none.
 fn marks_end(alloc: Global, text: &str, at: usize) -> Result<usize, AllocError>
     requires { IsCharBoundary text.now at }
     ensures { IfOk result (λ end. spec.MarksToken text.now at end) }
@@ -46,7 +47,7 @@ fn marks_end(alloc: Global, text: &str, at: usize) -> Result<usize, AllocError>
     }
 }
 
-/// Whether what was found is told as a token, or as the end of the text, and not as the kind of a value.
+/// Returns whether what was found is a token or the end of the text, rather than a kind of value.
 fn names_token(found: &str) -> bool
     ensures { result ≡ spec.names_token found.now }
 {
@@ -57,7 +58,7 @@ fn names_token(found: &str) -> bool
         || found.starts_with(b"whitespace")
 }
 
-/// Whether the span of an error is no more than the place of a token.
+/// Returns whether the span of an error is only the place of a token.
 fn is_at_token(kind: &ErrorKind<'_>, span: Span) -> bool
     ensures { result ≡ spec.is_at_token (kind_of kind.now) span }
 {
@@ -70,8 +71,8 @@ fn is_at_token(kind: &ErrorKind<'_>, span: Span) -> bool
     }
 }
 
-/// What is marked of a table that lacks a field: its header, up to the end of the line, or its braces; of the root the
-/// place at which it begins.
+/// Returns what to mark of a table that lacks a field: its header, up to the end of the line, or its braces; for the
+/// root, the place where it begins.
 #[tactic(auto, unfolding(crate::specs::Tokens::table_mark))]
 fn table_mark(text: &str, span: Span) -> Span
     ensures { result ≡ spec.table_mark text.now span }
@@ -91,7 +92,8 @@ fn table_mark(text: &str, span: Span) -> Span
     }
 }
 
-/// What is marked of a text for an error: the token at its place, the header or the braces of a table, or its span.
+/// Returns what to mark of a text for an error: the token at its place, the header or the braces of a table, or its
+/// span.
 pub(crate) fn marked_span(
     alloc: Global,
     kind: &ErrorKind<'_>,

@@ -1,4 +1,4 @@
-//! What is told of keys that no field has.
+//! What is reported for unknown keys.
 ghost use Rattle.std.specs.Prelude.{◌≡◌, ◌++◌, codes, IfOk, OnOk, map, option_map, string_bytes};
 ghost use Rattle.std.specs.Option.{option_to_list};
 ghost use Rattle.std.specs.List.{flat_map};
@@ -11,7 +11,7 @@ use std::alloc::{AllocError, Global};
 use toml_span_lex::span::Span;
 use toml_span_tree::Label;
 
-/// Adds a name in back quotes.
+/// Appends a name in back quotes.
 fn push_named(out: &mut String, name: &str) -> Result<(), AllocError>
     ensures { OnOk result (string_bytes out.new ≡ string_bytes out.old ++ spec.named name.now) }
 {
@@ -20,7 +20,7 @@ fn push_named(out: &mut String, name: &str) -> Result<(), AllocError>
     out.push_str("`")
 }
 
-/// Adds further names, a comma before each.
+/// Appends further names, each after a comma.
 fn push_more(out: &mut String, names: &[&str]) -> Result<(), AllocError>
     ensures { OnOk result (string_bytes out.new ≡ string_bytes out.old
         ++ flat_map (λ name. codes ", " ++ spec.named name) (map (λ name. name.now) names.now)) }
@@ -32,7 +32,7 @@ fn push_more(out: &mut String, names: &[&str]) -> Result<(), AllocError>
     Ok(())
 }
 
-/// Adds names with commas between them.
+/// Appends names separated by commas.
 fn push_listed(out: &mut String, names: &[&str]) -> Result<(), AllocError>
     ensures { OnOk result (string_bytes out.new ≡ string_bytes out.old
         ++ spec.listed (map (λ name. name.now) names.now)) }
@@ -46,7 +46,7 @@ fn push_listed(out: &mut String, names: &[&str]) -> Result<(), AllocError>
     }
 }
 
-/// The names of keys.
+/// Returns the names of keys.
 pub(crate) fn key_names<'a>(
     alloc: Global,
     keys: &'a [(String, Span)],
@@ -60,7 +60,7 @@ pub(crate) fn key_names<'a>(
     Ok(names)
 }
 
-/// Names that are lent.
+/// Returns borrowed names.
 pub(crate) fn lent_names<'a>(alloc: Global, owned: &'a [String]) -> Result<Vec<&'a str>, AllocError>
     ensures { IfOk result (λ names. map (λ name. name.now) names.items ≡ map string_bytes owned.now) }
 {
@@ -71,7 +71,7 @@ pub(crate) fn lent_names<'a>(alloc: Global, owned: &'a [String]) -> Result<Vec<&
     Ok(names)
 }
 
-/// The message for keys of these names.
+/// Returns the message for unknown keys with these names.
 pub(crate) fn unknown_keys(alloc: Global, names: &[&str]) -> Result<String, AllocError>
     ensures { IfOk result (λ out. string_bytes out ≡ spec.unknown_keys (map (λ name. name.now) names.now)) }
 {
@@ -85,7 +85,7 @@ pub(crate) fn unknown_keys(alloc: Global, names: &[&str]) -> Result<String, Allo
     Ok(out)
 }
 
-/// The keys that are expected.
+/// Returns the note that lists the expected keys.
 pub(crate) fn what_is_expected(alloc: Global, names: &[&str]) -> Result<String, AllocError>
     ensures { IfOk result (λ out. string_bytes out ≡ spec.what_is_expected (map (λ name. name.now) names.now)) }
 {
@@ -97,7 +97,7 @@ pub(crate) fn what_is_expected(alloc: Global, names: &[&str]) -> Result<String, 
     Ok(out)
 }
 
-/// The names of which one is expected.
+/// Returns the note that lists the expected names.
 pub(crate) fn one_of(alloc: Global, names: &[&str]) -> Result<String, AllocError>
     ensures { IfOk result (λ out. string_bytes out ≡ spec.one_of (map (λ name. name.now) names.now)) }
 {
@@ -111,7 +111,7 @@ pub(crate) fn one_of(alloc: Global, names: &[&str]) -> Result<String, AllocError
     Ok(out)
 }
 
-/// That a key has a new name.
+/// Returns the message that a key has a new name.
 pub(crate) fn deprecated(alloc: Global, old: &str, new: &str) -> Result<String, AllocError>
     ensures { IfOk result (λ out. string_bytes out ≡ spec.deprecated old.now new.now) }
 {
@@ -122,7 +122,7 @@ pub(crate) fn deprecated(alloc: Global, old: &str, new: &str) -> Result<String, 
     Ok(out)
 }
 
-/// A label at each key.
+/// Makes a label at each key.
 pub(crate) fn key_labels(
     alloc: Global,
     keys: &[(String, Span)],
@@ -141,7 +141,7 @@ pub(crate) fn key_labels(
     Ok(labels)
 }
 
-/// Adds in place of which key, where it is not the only one.
+/// Appends for which key a suggestion is meant, unless it is the only one.
 fn push_in_place_of(out: &mut String, count: usize, name: &str) -> Result<(), AllocError>
     ensures { OnOk result (string_bytes out.new ≡ string_bytes out.old ++ spec.in_place_of count name.now) }
 {
@@ -152,7 +152,7 @@ fn push_in_place_of(out: &mut String, count: usize, name: &str) -> Result<(), Al
     push_named(out, name)
 }
 
-/// That a key may be meant, where this one is one of some.
+/// Returns the suggestion of a key, for one of several.
 fn suggestion(alloc: Global, count: usize, name: &str, meant: &str) -> Result<String, AllocError>
     ensures { IfOk result (λ out. string_bytes out ≡ spec.suggestion count name.now meant.now) }
 {
@@ -163,7 +163,7 @@ fn suggestion(alloc: Global, count: usize, name: &str, meant: &str) -> Result<St
     Ok(out)
 }
 
-/// The nearest of the names that are expected, where there is one.
+/// Returns the nearest of the expected names, if one is near enough.
 fn suggestion_for(
     alloc: Global,
     count: usize,
@@ -179,7 +179,7 @@ fn suggestion_for(
     }
 }
 
-/// Adds a text, if there is one.
+/// Appends a text, if there is one.
 fn push_text(texts: &mut Vec<String>, text: Option<String>) -> Result<(), AllocError>
     ensures { OnOk result (map string_bytes texts.new.items
         ≡ map string_bytes texts.old.items ++ option_to_list (option_map string_bytes text)) }
@@ -190,7 +190,7 @@ fn push_text(texts: &mut Vec<String>, text: Option<String>) -> Result<(), AllocE
     Ok(())
 }
 
-/// For each name the nearest of those that are expected, where there is one.
+/// Returns for each name the nearest of the expected names, if one is near enough.
 pub(crate) fn suggestions(
     alloc: Global,
     names: &[&str],

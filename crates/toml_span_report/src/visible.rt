@@ -1,4 +1,4 @@
-//! Texts without the characters that terminals act on, and texts in quotes, as JSON has them.
+//! Texts without the characters that terminals act on, and texts as JSON strings.
 ghost use Rattle.std.specs.Prelude.{◌≡◌, ◌<◌, ◌++◌, IfOk, OnOk, string_bytes, encode_utf8};
 ghost use Rattle.std.specs.Char.{digit_char};
 ghost use Rattle.toml_span_report.specs.Visible as spec;
@@ -6,7 +6,7 @@ ghost use Rattle.toml_span_report.specs.Visible as spec;
 use serde_json::Value as Json;
 use std::alloc::{AllocError, Global};
 
-/// Whether this is a control character, one that ends a line, or one that turns the direction of the text.
+/// Returns whether this is a control character, one that ends a line, or one that changes the direction of the text.
 fn is_escaped(c: char) -> bool
     ensures { result ≡ spec.is_escaped c }
 {
@@ -16,7 +16,7 @@ fn is_escaped(c: char) -> bool
     )
 }
 
-/// Adds a digit in base 16.
+/// Appends a hexadecimal digit.
 fn push_digit(out: &mut String, digit: u32) -> Result<(), AllocError>
     requires { digit < 16 }
     ensures { OnOk result (string_bytes out.new ≡ string_bytes out.old ++ encode_utf8 (digit_char digit)) }
@@ -24,7 +24,7 @@ fn push_digit(out: &mut String, digit: u32) -> Result<(), AllocError>
     out.push(char::from_digit(digit, 16).unwrap_or('0'))
 }
 
-/// Adds a number below 2 ^ 16 with four digits in base 16.
+/// Appends a number below 2 ^ 16 as four hexadecimal digits.
 fn push_code(out: &mut String, code: u32) -> Result<(), AllocError>
     requires { code < 65536 }
     ensures { OnOk result (string_bytes out.new ≡ string_bytes out.old ++ spec.escape code) }
@@ -36,7 +36,7 @@ fn push_code(out: &mut String, code: u32) -> Result<(), AllocError>
     push_digit(out, code % 16)
 }
 
-/// Adds a character, or its number where terminals act on it, as `push_visible` does.
+/// Appends a character, or its number if terminals act on it, as `push_visible` does.
 pub fn push_char(out: &mut String, c: char) -> Result<(), AllocError>
     ensures { OnOk result (string_bytes out.new ≡ string_bytes out.old ++ spec.visible_char c) }
 {
@@ -47,9 +47,9 @@ pub fn push_char(out: &mut String, c: char) -> Result<(), AllocError>
     }
 }
 
-/// Adds a text without the characters that terminals act on: a control character, one that ends a line (U+2028,
-/// U+2029) or one that turns the direction of the text stands by its number, as `\u202e`. Only want of memory is
-/// refused.
+/// Appends a text without the characters that terminals act on: a control character, one that ends a line (U+2028,
+/// U+2029) or one that changes the direction of the text is written by its number, as in `\u202e`. Fails only if an
+/// allocation fails.
 pub fn push_visible(out: &mut String, text: &str) -> Result<(), AllocError>
     ensures { OnOk result (string_bytes out.new ≡ string_bytes out.old ++ spec.visible text.now) }
 {
@@ -59,7 +59,7 @@ pub fn push_visible(out: &mut String, text: &str) -> Result<(), AllocError>
     Ok(())
 }
 
-/// A text as `push_visible` adds it.
+/// Returns a text as `push_visible` appends it.
 pub fn visible(alloc: Global, text: &str) -> Result<String, AllocError>
     ensures { IfOk result (λ out. string_bytes out ≡ spec.visible text.now) }
 {
@@ -68,7 +68,7 @@ pub fn visible(alloc: Global, text: &str) -> Result<String, AllocError>
     Ok(out)
 }
 
-/// Adds a character of lines, which a line feed ends.
+/// Appends a character of lines that end with a line feed.
 fn push_line_char(out: &mut String, c: char) -> Result<(), AllocError>
     ensures { OnOk result (string_bytes out.new ≡ string_bytes out.old ++ spec.line_char c) }
 {
@@ -79,7 +79,7 @@ fn push_line_char(out: &mut String, c: char) -> Result<(), AllocError>
     }
 }
 
-/// The same of lines, which line feeds end.
+/// Appends lines that end with a line feed.
 pub fn visible_lines(alloc: Global, text: &str) -> Result<String, AllocError>
     ensures { IfOk result (λ out. string_bytes out ≡ spec.visible_lines text.now) }
 {
@@ -90,8 +90,8 @@ pub fn visible_lines(alloc: Global, text: &str) -> Result<String, AllocError>
     Ok(out)
 }
 
-/// Adds a text as a string of JSON, in quotes, in which characters that terminals act on stand by their numbers (see
-/// `push_visible`). Only want of memory is refused.
+/// Appends a text as a JSON string, in quotes, with the characters that terminals act on written by their numbers (see
+/// `push_visible`). Fails only if an allocation fails.
 pub fn push_quoted(alloc: Global, out: &mut String, text: &str) -> Result<(), AllocError>
     ensures { OnOk result (string_bytes out.new ≡ string_bytes out.old ++ spec.quoted text.now) }
 {

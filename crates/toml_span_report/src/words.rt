@@ -1,4 +1,4 @@
-//! What is said of mistakes.
+//! The messages for mistakes.
 ghost use Rattle.std.specs.Prelude.{◌≡◌};
 ghost use Rattle.toml_span_report.specs.Words as spec;
 
@@ -7,24 +7,24 @@ use crate::finding::{
     NumberMistake, SymbolMistake, TextMistake, ValueMistake,
 };
 
-/// What is said of a mistake. A text may be empty.
+/// The messages for a mistake. A text may be empty.
 #[derive(Clone, Copy)]
 pub(crate) struct Words {
-    /// The message, in place of the error's own.
+    /// The headline, which replaces the error's own message.
     pub(crate) headline: &'static str,
-    /// The label at the primary place.
+    /// The primary label.
     pub(crate) label: &'static str,
     /// The label at the other place.
     pub(crate) also: &'static str,
     /// The help, without the code to write.
     pub(crate) help: &'static str,
-    /// What is between the help and the code to write, or nothing where the help has no code.
+    /// The text between the help and the code to write, empty if the help has no code.
     pub(crate) joint: &'static str,
-    /// Whether the code can be put there without a look.
+    /// Whether the code may be applied without review.
     pub(crate) is_safe: bool,
 }
 
-/// The words for a mistake in values.
+/// Returns the messages for mistakes in values.
 fn value_words(mistake: ValueMistake) -> Words
     ensures { spec.words_content result ≡ spec.value_words mistake }
 {
@@ -136,7 +136,7 @@ fn value_words(mistake: ValueMistake) -> Words
     }
 }
 
-/// The words for a mistake in signs, quotes and comments of other languages.
+/// Returns the messages for signs, quotes and comments of other languages.
 fn symbol_words(mistake: SymbolMistake) -> Words
     ensures { spec.words_content result ≡ spec.symbol_words mistake }
 {
@@ -240,7 +240,7 @@ fn symbol_words(mistake: SymbolMistake) -> Words
     }
 }
 
-/// The words for a mistake in keys.
+/// Returns the messages for mistakes in keys.
 fn key_words(mistake: KeyMistake) -> Words
     ensures { spec.words_content result ≡ spec.key_words mistake }
 {
@@ -336,7 +336,7 @@ fn key_words(mistake: KeyMistake) -> Words
     }
 }
 
-/// The words for a mistake in other formats.
+/// Returns the messages for other formats.
 fn format_words(mistake: FormatMistake) -> Words
     ensures { spec.words_content result ≡ spec.format_words mistake }
 {
@@ -416,7 +416,7 @@ fn format_words(mistake: FormatMistake) -> Words
     }
 }
 
-/// The words for a mistake in arrays, inline tables and headers.
+/// Returns the messages for mistakes in arrays, inline tables and headers.
 fn list_words(mistake: ListMistake) -> Words
     ensures { spec.words_content result ≡ spec.list_words mistake }
 {
@@ -512,7 +512,7 @@ fn list_words(mistake: ListMistake) -> Words
     }
 }
 
-/// The words for a mistake in lines.
+/// Returns the messages for mistakes in lines.
 fn line_words(mistake: LineMistake) -> Words
     ensures { spec.words_content result ≡ spec.line_words mistake }
 {
@@ -600,7 +600,7 @@ fn line_words(mistake: LineMistake) -> Words
     }
 }
 
-/// The words for a mistake in numbers.
+/// Returns the messages for mistakes in numbers.
 fn number_words(mistake: NumberMistake) -> Words
     ensures { spec.words_content result ≡ spec.number_words mistake }
 {
@@ -696,7 +696,7 @@ fn number_words(mistake: NumberMistake) -> Words
     }
 }
 
-/// The words for a mistake in dates and times.
+/// Returns the messages for mistakes in dates and times.
 fn date_words(mistake: DateMistake) -> Words
     ensures { spec.words_content result ≡ spec.date_words mistake }
 {
@@ -760,7 +760,7 @@ fn date_words(mistake: DateMistake) -> Words
     }
 }
 
-/// The words for a mistake in strings.
+/// Returns the messages for mistakes in strings.
 fn text_words(mistake: TextMistake) -> Words
     ensures { spec.words_content result ≡ spec.text_words mistake }
 {
@@ -848,7 +848,7 @@ fn text_words(mistake: TextMistake) -> Words
     }
 }
 
-/// The words for a mistake in what is defined twice.
+/// Returns the messages for definitions that clash.
 fn clash_words(mistake: ClashMistake) -> Words
     ensures { spec.words_content result ≡ spec.clash_words mistake }
 {
@@ -928,7 +928,7 @@ fn clash_words(mistake: ClashMistake) -> Words
     }
 }
 
-/// The words for a mistake.
+/// Returns the messages for a mistake.
 pub(crate) fn words_for(mistake: Mistake) -> Words
     ensures { spec.words_content result ≡ spec.words_for mistake }
 {

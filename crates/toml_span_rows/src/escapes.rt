@@ -1,10 +1,10 @@
 //! The texts of rows, in which a backslash begins an escape.
 //!
-//! `\n` `\r` `\t` `\\`, `\u{HEX}` for a character by its number, and `\{N PART\}` for PART so many times. In PART
-//! any of the others may stand.
+//! `\n` `\r` `\t` `\\`, `\u{HEX}` for a character by its number, and `\{N PART\}` for N copies of PART, in which any of
+//! the others may occur.
 use std::alloc::{AllocError, Global};
 
-/// The character of the escape that begins a piece behind its backslash, and what stands behind it.
+/// Returns the character of the escape that begins a piece after its backslash, and the rest of the piece.
 fn escaped(piece: &str) -> Option<(char, &str)> {
     let mut chars = piece.chars();
     let Some(first) = chars.next() else {
@@ -24,7 +24,7 @@ fn escaped(piece: &str) -> Option<(char, &str)> {
     }
 }
 
-/// Makes of the end of a text, which stands there once, so many.
+/// Repeats the end of a text, which is there once already.
 fn repeat(alloc: Global, times: usize, start: usize, text: &mut String) -> Result<(), AllocError> {
     let part = String::from_str(alloc, text.as_str().get(start..).unwrap_or(""))?;
     if times == 0 {
@@ -36,12 +36,12 @@ fn repeat(alloc: Global, times: usize, start: usize, text: &mut String) -> Resul
     Ok(())
 }
 
-/// Adds the text that stands with escapes in a row. Whether each is one.
+/// Appends the text that a row writes with escapes. Returns whether every escape is valid.
 ///
-/// It is cut at its backslashes. An empty piece, but the first, stands between two of them, which are one
-/// backslash, and the piece behind it begins with no escape.
+/// The row is cut at its backslashes. An empty piece, except the first, is between two of them, which are one
+/// backslash, and the piece after it begins with no escape.
 pub fn push_text(alloc: Global, source: &str, text: &mut String) -> Result<bool, AllocError> {
-    // How often the part stands that is open, and where it starts.
+    // The number of copies of the open part, and where it starts.
     let mut part = (1, 0);
     // Whether an escape begins the next piece. Behind the last one it would.
     let mut behind = false;

@@ -8,7 +8,7 @@
 //! - `holders`: the document as `Holders` of `typed::structs`. `warned TYPE`: see `typed::warned`.
 //! - `span START END`: whether a span is empty, what it becomes, and where it starts in a text that has it.
 //! - `copies START END`: clones of a key with that name and of the text at the span, each made twice.
-//! - `load_file NAME`: what is read of that file of `data`, the row that needs more than an allocator.
+//! - `load_file NAME`: the value read from that file of `data`, the row that needs more than an allocator.
 #![tactic(auto)]
 
 mod cuts;

@@ -21,7 +21,7 @@ use std::io::{ErrorKind, Read, Write};
 use toml_span_lines::run::{run, run_with_limit};
 use toml_span_lines::told::Told;
 
-/// What words say of a reader and a writer. Calls are counted from 1, and none is 0.
+/// The behavior of a reader and a writer that words ask for. Calls are counted from 1; 0 is no call.
 #[derive(Clone, Copy)]
 struct Ends {
     read: usize,
@@ -33,7 +33,7 @@ struct Ends {
 }
 
 impl Ends {
-    /// Sets what a word says, with a number for `each`.
+    /// Sets what one word asks for, with a number for `each`.
     fn set(&mut self, word: &str, each: usize) -> Option<()> {
         let (name, number) = word.split_once('=')?;
         let number = match number {

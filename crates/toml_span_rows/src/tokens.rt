@@ -1,6 +1,6 @@
 //! Calls of a `Tokenizer`.
 //!
-//! - `tokens`: the tokens of a text, one a line, up to its end or its first error and the offset after that.
+//! - `tokens`: the tokens of a text, one per line, up to its end or its first error and the offset after that.
 //! - `tokenizer OPERATIONS`: the answers of these calls, made one after another.
 //!
 //! An operation is the name of a call, for some with `=` and the expected token: `Equals`, or with its content,
@@ -178,7 +178,7 @@ fn push_calls(alloc: Global, row: Row<'_>, out: &mut Out) -> bool {
     true
 }
 
-/// Adds the tokens of a text, one a line, up to its end or its first error.
+/// Appends the tokens of a text, one per line, up to its end or its first error.
 fn push_tokens(alloc: Global, text: &str, out: &mut Out) {
     let mut tokenizer = Tokenizer::new(text);
     for _ in 0..=text.len() {

@@ -8,7 +8,7 @@ use toml_span::Span;
 #[derive(Drop)]
 pub struct Out {
     pub text: String,
-    /// There was no memory for a part.
+    /// Memory ran out for a part.
     pub is_short: bool,
 }
 

@@ -1,6 +1,6 @@
 //! Typed reads. After the answer of a call come the lines of the tree that it leaves.
 //!
-//! - `typed TYPE` reads the value at `/a`, `typed_root TYPE` the root: what the read gives, or its errors.
+//! - `typed TYPE` reads the value at `/a`, `typed_root TYPE` the root: the value, or the errors.
 //! - `errors TYPE` reads the value at `/a`: what each call answers on the errors of the read. `diagnostics TYPE` and
 //!   `copied TYPE`: what `faults` says of the last error.
 //! - `merge TYPE TYPE` reads `/a` and `/b`, and puts the errors of the second after those of the first.

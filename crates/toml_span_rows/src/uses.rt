@@ -14,7 +14,7 @@ use std::alloc::Global;
 use toml_span::de_helpers::TableHelper;
 use toml_span::{Error, Span, Stop, parse};
 
-/// The bytes at which the value stands that the pointer names, if it names one.
+/// The bytes of the value that the pointer names, if any.
 pub(crate) fn span_at<'de>(
     alloc: Global,
     text: &'de str,

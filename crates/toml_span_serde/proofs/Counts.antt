@@ -1,4 +1,4 @@
--- How many pieces a value has: by the depth behind each, and by the tree.
+-- The number of pieces of a value: by the depth after each, and by the tree.
 use Rattle.toml_span_lex.proofs.Common.{◌≡◌, ℕ, zero, suc, ◌+◌, ◌<◌, List, [], ◌∷◌, ◌++◌, map, drop, length, get_or, Option, None, Some, refl, sym, ap, ◌∙◌, append_assoc, arith, drop_at, drop-drop, drop-map, nat_tests, common_steps}
 use Rattle.std.proofs.lemmas.List.{length-append}
 use Rattle.toml_span_lex.specs.declared.span.Span.{Span}
@@ -11,7 +11,7 @@ abbrev pub unless_zero : {A : Type 0} → ℕ → A → A → A
 unless_zero zero a b = a
 unless_zero (suc n) a b = b
 
--- the number of pieces up to the first behind which the depth is 0
+-- the number of pieces up to the first after which the depth is 0
 abbrev pub counted : ℕ → ℕ → List Piece → Option ℕ
 counted k d [] = None
 counted k d (p ∷ ps) = unless_zero (depth_behind p.content d) (Some (k + 1)) (counted (k + 1) (depth_behind p.content d) ps)
@@ -24,7 +24,7 @@ step p ps k d e is h = grind (arith, nat_tests, common_steps)
 last : (p : Piece) (ps : List Piece) (k d : ℕ) → depth_behind p.content d ≡ 0 → counted k d (p ∷ ps) ≡ Some (k + 1)
 last p ps k d is = ap (λ n. unless_zero n (Some (k + 1)) (counted (k + 1) n ps)) is
 
--- a row is passed at a depth: what is behind it is counted from as many pieces further on
+-- a row that leaves the depth unchanged: what follows it is counted from as many pieces further on
 abbrev Passes : ℕ → List Piece → Type 0
 Passes d ps = (k : ℕ) (rest : List Piece) → counted k d (ps ++ rest) ≡ counted (k + length ps) d rest
 
@@ -69,7 +69,7 @@ mutual
   within-members (member name span n ms) d h =
       passes-next d d (piece (key name) span) _ refl h (passes-append d (pieces n) (members_pieces ms) (within-node n d h) (within-members ms d h))
 
--- a whole value
+-- a value
 whole : (ps rest : List Piece) (first end : Piece) → depth_behind first.content 0 ≡ 1 → depth_behind end.content 1 ≡ 0 → Passes 1 ps →
     counted 0 0 ((first ∷ (ps ++ (end ∷ []))) ++ rest) ≡ Some (length (first ∷ (ps ++ (end ∷ []))))
 whole ps rest first end up down passes =
@@ -89,7 +89,7 @@ pub ends-here : (i : ℕ) (ps : List Made) (p : Made) (k d : ℕ) (all : Option 
     depth_behind (piece_content p.content) d ≡ 0 → counted k d (map piece_of (drop i ps)) ≡ all → Some (k + 1) ≡ all
 ends-here i ps p k d all inside here is before = grind (arith, nat_tests, common_steps)
 
--- so many pieces are passed
+-- this many pieces are consumed
 pub passed : (next count : ℕ) (ps : List Made) (xs rest : List Piece) → map piece_of (drop next ps) ≡ xs ++ rest → count ≡ length xs →
     map piece_of (drop (next + count) ps) ≡ rest
 passed next count ps xs rest is long =

@@ -1,4 +1,4 @@
--- Kinds of which the last one stands behind an "or".
+-- Kinds, with "or" before the last of them.
 use Rattle.toml_span_lex.proofs.Common.{◌≡◌, refl, ap, ◌∙◌, List, [], ◌∷◌, ◌++◌, ◌≤◌, Vec, arith, codes, length, Global, flat_map, nat_tests, common_steps}
 use Rattle.toml_span_serde.specs.Misfits.{more_kinds_text, words_of}
 use Rattle.toml_span_serde.specs.Misreads.{IsOther}

@@ -3,7 +3,7 @@ use Rattle.toml_span_lex.proofs.Common.{ℕ, ◌+◌, ◌-◌, ◌<◌, ◌≤�
 use Rattle.toml_span_serde.specs.Tasks.{piece_of}
 use Rattle.toml_span_serde.specs.declared.pieces.Piece.{Piece as Made}
 
--- all of them, where the row has no such piece
+-- all of them, if the row has no such piece
 pub before-is : (all : Bor (List Made)) (at : ℕ) (got : Option (Bor (List Made))) (part : Bor (List Made)) →
     MatchOption got ((at < 0) ⊎ (length all.now < at))
     (λ r. (0 ≤ at) × (at ≤ length all.now) × (r.now ≡ slice_range all.now 0 at) × (length r.now + 0 ≡ at)) →

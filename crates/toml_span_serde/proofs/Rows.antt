@@ -25,7 +25,7 @@ pub carried_out : (ts us : List Task) (t : Task) (made after all : List Piece) �
 carried_out ts us t made after all last step before =
     step ∙ sym (append_assoc (all_pieces us) (task_pieces t) made) ∙ ap (λ ps. ps ++ made) (sym (all_pieces-push us ts t last)) ∙ before
 
--- the pieces of the elements from one on
+-- the pieces of the elements, beginning at one
 pub items_pieces-next : (i : ℕ) (es : List Value) (e : Value) (out after all : List Piece) →
     i < length es → get_or es i e ≡ e →
     out ++ items_pieces (items_view (drop i es)) ≡ all →
@@ -33,7 +33,7 @@ pub items_pieces-next : (i : ℕ) (es : List Value) (e : Value) (out after all :
     after ++ items_pieces (items_view (drop (i + 1) es)) ≡ all
 items_pieces-next i es e out after all below here before step = grind (arith, nat_tests, common_steps)
 
--- the pieces of the entries from one on
+-- the pieces of the entries, beginning at one
 pub members_pieces-next : (es rest : List Entry) (k : Key) (v : Value) (out mid after all : List Piece) →
     es ≡ (k, v) ∷ rest →
     out ++ members_pieces (members_view es) ≡ all →
@@ -42,6 +42,6 @@ pub members_pieces-next : (es rest : List Entry) (k : Key) (v : Value) (out mid 
     after ++ members_pieces (members_view rest) ≡ all
 members_pieces-next es rest k v out mid after all split before first second = grind (arith, nat_tests, common_steps)
 
--- a reader that has only looked
+-- a reader that has only looked ahead
 pub ahead-same : (old new : Reader) → new.next ≡ old.next → new.pieces ≡ old.pieces → ahead new ≡ ahead old
 ahead-same old new next all = ap (λ n. map piece_of (drop n new.pieces.now)) next ∙ ap (λ ps. map piece_of (drop old.next ps.now)) all

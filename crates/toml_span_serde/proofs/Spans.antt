@@ -1,4 +1,4 @@
--- What a reader answers where `Spanned` asks for the place of what comes.
+-- What a reader answers when `Spanned` asks for the span of the next value.
 use Rattle.toml_span_lex.proofs.Common.{ℕ, Result, IfOk, arith, nat_tests, common_steps}
 use Rattle.serde.specs.Steps.{format_of}
 use Rattle.serde.specs.declared.deserializer.Deserializer.{Deserializer}

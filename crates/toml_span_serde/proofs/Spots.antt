@@ -1,4 +1,4 @@
--- Where each piece of a tree's row stands: by the walk over the row, and by the tree.
+-- The place of each piece of a tree's row: by the walk over the row, and by the tree.
 use Rattle.toml_span_lex.proofs.Common.{◌≡◌, ℕ, zero, suc, ◌+◌, ◌<◌, List, [], ◌∷◌, ◌++◌, map, take, reverse, length, get_or, Some, slice_get, refl, arith, reverse-append, nat_tests, common_steps}
 use Rattle.toml_span_lex.specs.declared.span.Span.{Span}
 use Rattle.toml_span_tree.specs.Node.{Node, node, Inner, taken, scalar, array, table, Items, no_items, item, Members, no_members, member}
@@ -22,7 +22,7 @@ spots_on-append (x ∷ xs) ys way = grind (arith, nat_tests, common_steps, spots
 one-more : (s : Step) (way : Way) → reverse (s ∷ way) ≡ reverse way ++ (s ∷ [])
 one-more s way = reverse-append (s ∷ []) way
 
--- a value one step down, and what is behind it
+-- a value one step down, and what follows it
 on-next : (s : Step) (n : Node) (way : Way) (ps : List Piece) → spots_on (s ∷ way) (pieces n) ≡ spots (reverse (s ∷ way)) n →
     spots_on (s ∷ way) (pieces n ++ ps) ≡ spots (reverse way ++ (s ∷ [])) n ++ spots_on (walked (pieces n) (s ∷ way)) ps
 on-next s n way ps there = grind (arith, nat_tests, common_steps, one-more, spots_on-append)
@@ -52,7 +52,7 @@ spot-at k [] p way inside is = absurd (omega (arith, inside))
 spot-at zero (q ∷ ps) p way inside is = grind (arith, nat_tests, common_steps)
 spot-at (suc k) (q ∷ ps) p way inside is = spot-at k ps p (behind (piece_content q.content) way) (omega arith) is
 
--- the spot of each piece of a tree's row is where the walk to it leads
+-- the place of each piece of a tree's row is where the walk to it leads
 pub spot : (root : Node) (k : ℕ) (ps : List Made) (p : Made) → map piece_of ps ≡ pieces root → k < length ps → get_or ps k p ≡ p →
     slice_get (spots [] root) k
     ≡ Some (reverse (way_at (piece_content p.content) (walked (map piece_of (take k ps)) [])), p.span)

@@ -1,4 +1,4 @@
--- Each piece of a tree's row stands where the way to it leads.
+-- Each piece of a tree's row is where the way to it leads.
 use Rattle.toml_span_lex.proofs.Common.{◌≡◌, ℕ, zero, suc, ◌+◌, ◌<◌, List, [], ◌∷◌, ◌++◌, map, take, reverse, length, get_or, Option, Some, None, option_map, option_and_then, inl, inr, refl, sym, ap, ◌∙◌, subst, arith, cases_Bool, bytes_eq, nat_tests, common_steps}
 use Rattle.toml_span_lex.specs.declared.span.Span.{Span}
 use Rattle.toml_span_tree.specs.Node.{Node, node, Inner, taken, scalar, array, table, Items, no_items, item, Members, no_members, member, entry_at, element_at}
@@ -15,7 +15,7 @@ use Rattle.toml_span_serde.specs.declared.pieces.Piece.{Piece as Made}
 abbrev pub Found : Type 0
 Found = Option Span × Node
 
--- each of the pieces, from that way on, stands where the way to it leads
+-- each of the pieces, beginning with that way, is where the way to it leads
 abbrev pub AllNamed : Node → Way → List Piece → Type 0
 AllNamed root way [] = Unit {0}
 AllNamed root way (p ∷ ps) =
@@ -31,7 +31,7 @@ abbrev counted : ℕ → Items → ℕ
 counted i no_items = i
 counted i (item n ns) = counted (i + 1) ns
 
--- ---- behind a value
+-- ---- after a value
 
 mutual
   pub walked-node : (n : Node) (way : Way) → walked (pieces n) way ≡ ended way
@@ -64,7 +64,7 @@ reached-on : (p q : Path) (x : Found) → reached (p ++ q) x ≡ option_and_then
 reached-on [] q x = refl
 reached-on (s ∷ p) q x = further p q (at_step s (inner_of x.1)) (λ y. reached-on p q y)
 
--- a later entry stands where it stood, behind one more of another name
+-- a later entry is found where it was, after another one with another name
 later : (other name : List ℕ) (span : Span) (n : Node) (ms : Members) (x : Found) → entry_at name ms ≡ None → entry_at other ms ≡ Some x → entry_at other (member name span n ms) ≡ Some x
 later other name span n ms x once is = elim (cases_Bool (bytes_eq other name)) [
   | inl same ↦ absurd (none-some (sym once ∙ ap (λ a. entry_at a ms) (sym (same-name other name same)) ∙ is))
@@ -124,7 +124,7 @@ module _ (root : Node) where
               (named-members ms way one.2 (λ other x e. there other x (later other name span n ms x one.0 e)))),
         )
 
--- each piece of a row stands where the way to it leads
+-- each piece of a row is where the way to it leads
 pub named-at : (root : Node) (k : ℕ) (ps : List Made) (p : Made) (way : Way) → k < length ps → get_or ps k p ≡ p → AllNamed root way (map piece_of ps)
     → Names (reverse (way_at (piece_content p.content) (walked (map piece_of (take k ps)) way))) p.span root
 named-at root k [] p way inside is named = absurd (omega (arith, inside))

@@ -1,4 +1,4 @@
--- The pieces of a row, and those that a reader has before it.
+-- The pieces of a row, and those that a reader has not read yet.
 use Rattle.std.specs.Prelude.{List, map, drop}
 use Rattle.toml_span_serde.specs.Pieces.{Piece}
 use Rattle.toml_span_serde.specs.Tasks.{piece_of}

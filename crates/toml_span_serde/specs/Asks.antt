@@ -1,19 +1,19 @@
--- Where a value stands, as `Spanned` asks a format for it: by a variant of a name that stands for no text.
+-- How `Spanned` asks a format for the span of a value: by a variant whose name is reserved for this.
 use Rattle.std.specs.Prelude.{◌≡◌, ℕ, List, [], ◌∷◌, Bool, false, codes}
 use Rattle.serde.specs.Steps.{Picks}
 use Rattle.serde.specs.declared.deserializer.Deserializer.{Deserializer}
 use Rattle.serde.specs.declared.name.Name.{Name}
 use Rattle.toml_span_lex.specs.declared.span.Span.{Span}
 
--- the names by which the start is asked for
+-- the names that ask for the start
 abbrev pub AsksStart : List Name → Type 0
 AsksStart names = (n : Name) × (names ≡ n ∷ []) × (n.name.now ≡ codes "$toml_span::start")
 
--- the names by which the end is asked for
+-- the names that ask for the end
 abbrev pub AsksEnd : List Name → Type 0
 AsksEnd names = (n : Name) × (names ≡ n ∷ []) × (n.name.now ≡ codes "$toml_span::end")
 
--- what the format answers, asked for the start and for the end of what comes
+-- what the format answers when asked for the start and for the end of the next value
 abbrev pub HasSpan : {F E M : Type 0} → (F → List ℕ → Bool → List Name → ℕ → F → Type 0)
     → Deserializer F E M → Span → Type 0
 HasSpan {F} {E} {M} picks from span =

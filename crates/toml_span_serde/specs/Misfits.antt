@@ -1,4 +1,4 @@
--- What is told of a value that is not read as a type, and where.
+-- The errors for values that cannot be read as a type, and their spans.
 use Rattle.std.specs.Prelude.{◌≡◌, ◌≤◌, ◌⊎◌, ⊤, ℕ, List, [], ◌∷◌, ◌++◌, map, length, Option, None, Some, codes}
 use Rattle.std.specs.Prelude.{decimal, string_bytes}
 use Rattle.toml_span_lex.specs.declared.span.Span.{Span}
@@ -28,7 +28,7 @@ use Rattle.toml_span_serde.specs.declared.misfit.Error.TheVariants as error
 use Rattle.toml_span_serde.specs.declared.path.Step.{Step}
 use Rattle.toml_span_serde.specs.declared.path.Step.TheVariants as step
 
--- the words for what a type asks for
+-- the name of what a type expects
 abbrev pub words_of : Expected → List ℕ
 words_of expected.Boolean = codes "a boolean"
 words_of expected.Integer = codes "an integer"
@@ -41,7 +41,7 @@ words_of expected.Table = codes "a table"
 words_of expected.Key = codes "a key"
 words_of expected.Variant = codes "the name of a variant"
 
--- the name of the kind that stands there
+-- the name of the kind that was found
 abbrev pub name_of : Found → List ℕ
 name_of found.String = codes "string"
 name_of found.Integer = codes "integer"
@@ -53,19 +53,19 @@ name_of found.Table = codes "table"
 name_of found.Key = codes "key"
 name_of found.Nothing = codes "nothing"
 
--- the names that are expected, or what is said where there are none
+-- the names that are expected, or, without names, another text
 abbrev pub expected_text : List ℕ → List (List ℕ) → List ℕ
 expected_text none [] = none
 expected_text none (a ∷ []) = codes "expected " ++ named a
 expected_text none (a ∷ b ∷ names) = codes "expected one of " ++ listed (a ∷ b ∷ names)
 
--- kinds behind the first one, the last of them behind an "or"
+-- the kinds after the first, with "or" before the last of them
 abbrev pub more_kinds_text : List Expected → List ℕ
 more_kinds_text [] = []
 more_kinds_text (e ∷ []) = codes " or " ++ words_of e
 more_kinds_text (e ∷ d ∷ kinds) = codes ", " ++ words_of e ++ more_kinds_text (d ∷ kinds)
 
--- kinds, as `an integer, a string or a table`
+-- kinds, as in `an integer, a string or a table`
 abbrev pub kinds_text : List Expected → List ℕ
 kinds_text [] = []
 kinds_text (e ∷ kinds) = words_of e ++ more_kinds_text kinds
@@ -88,12 +88,12 @@ reason_text is.Negative = codes "number is out of range, expected 0 or more"
 reason_text is.Invalid = codes "invalid value"
 reason_text (is.Custom message) = string_bytes message
 
--- the kind of error that tells a field which comes twice, by its text where the earlier place is not known
+-- the kind of error for a field that occurs twice, or its text if the earlier place is not known
 abbrev pub kind_of_twice : List ℕ → List ℕ → Option Span → Kind
 kind_of_twice text name None = custom text
 kind_of_twice text name (Some first) = duplicate_key name first
 
--- the kind of error that tells a reason
+-- the kind of error for a reason
 abbrev pub kind_of_reason : Reason → Kind
 kind_of_reason (is.Wanted e f) = wanted (words_of e) (name_of f)
 kind_of_reason (is.WantedOneOf es f) = marked (codes "wanted") (reason_text (is.WantedOneOf es f)) []
@@ -112,11 +112,11 @@ meant_by (is.UnknownField name expected) = nearest (string_bytes name) (map stri
 meant_by (is.UnknownVariant name expected) = nearest (string_bytes name) (map string_bytes expected.items)
 meant_by reason = None
 
--- the error that tells a misfit
+-- the error for a misfit
 abbrev pub content_of_misfit : Misfit → ErrorContent
 content_of_misfit m = record { kind = kind_of_reason m.reason; span = m.span; line_info = m.line_info }
 
--- what an error tells
+-- an error as plain data
 abbrev pub content_of_error : Error → ErrorContent
 content_of_error (error.Refused e) = content_of e
 content_of_error (error.Misfit m) = content_of_misfit m
@@ -128,26 +128,26 @@ step_of (step.Position i) = tree.position i
 abbrev pub path_of : List Step → tree.Path
 path_of steps = map step_of steps
 
--- the path leads to a value of the tree, and the span is that of the value or of its key
+-- The path leads to a value of the tree, and the span is that of the value or of its key.
 abbrev pub Names : tree.Path → Span → Node → Type 0
 Names path span root = (place : Place) × (place_at path root ≡ Some place)
     × ((span ≡ place.span) ⊎ (place.key_span ≡ Some span))
 
--- a place of the tree is told
+-- The misfit is at a place of the tree.
 abbrev pub IsAt : Node → Stop Misfit → Type 0
 IsAt root (stop.Memory e) = ⊤
 IsAt root (stop.Fault m) = Names (path_of m.path.items) m.span root
 
--- the line and the column of the span's start, where that is a place of the text
+-- The misfit has the line and the column of its start, if that is an offset in the text.
 abbrev pub HasLine : List ℕ → Misfit → Type 0
 HasLine text m = m.span.start ≤ length text → (line column : ℕ) × (m.line_info ≡ Some (line, column))
     × IsLineInfo text m.span.start line column
 
--- the text spells a document, whose tree has this property
+-- The text spells a document, and P holds for its tree.
 abbrev pub HasTree : List ℕ → (Node → Type 0) → Type 0
 HasTree text P = (root : Value) × IsTree text depth_limit root × P (view root)
 
--- the text is refused, or it has a tree and a place of it is told
+-- The text is refused, or it has a tree, and the misfit is at a place of it.
 abbrev pub IsRefused : List ℕ → Stop Error → Type 0
 IsRefused text (stop.Memory e) = ⊤
 IsRefused text (stop.Fault (error.Refused e)) = IsRefusal text depth_limit (stop.Fault e)

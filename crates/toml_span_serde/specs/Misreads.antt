@@ -1,4 +1,4 @@
--- What a reader tells of a step that read nothing: why, and at which piece of its row.
+-- What a reader reports when a step reads nothing: why, and at which piece of its row.
 use Rattle.std.specs.Prelude.{◌≡◌, ◌⊎◌, ⊤, ℕ, ℤ, pos, negsuc, Bool, false, nat_lt, not, if◌then◌else◌, List, [], ◌∷◌}
 use Rattle.std.specs.Prelude.{◌==◌, String, Vec, string_bytes, Option, None, Some, length, map, reverse, take}
 use Rattle.std.specs.Global.{Global}
@@ -25,7 +25,7 @@ use Rattle.toml_span_serde.specs.declared.misfit.Reason.TheVariants as is
 use Rattle.toml_span_serde.specs.declared.reader.Misread.{Misread}
 use Rattle.toml_span_serde.specs.declared.reader.Reader.{Reader}
 
--- the kind of what stands there
+-- the kind of what was found
 abbrev pub found_of : Content → Found
 found_of (value (tree.text s)) = found.String
 found_of (value (tree.integer z)) = found.Integer
@@ -39,12 +39,12 @@ found_of table_begins = found.Table
 found_of table_ends = found.Table
 found_of (key s) = found.Key
 
--- what serde takes an integer for
+-- how serde classifies an integer
 abbrev pub kind_of_integer : ℤ → Kind
 kind_of_integer (pos n) = kind.Unsigned
 kind_of_integer (negsuc n) = kind.Signed
 
--- what serde takes it for before it is read
+-- how serde classifies a value before it is read
 abbrev pub kind_ahead : Content → Kind
 kind_ahead (value (tree.text s)) = kind.Str
 kind_ahead (value (tree.integer z)) = kind_of_integer z
@@ -58,7 +58,7 @@ kind_ahead table_begins = kind.Map
 kind_ahead table_ends = kind.Map
 kind_ahead (key s) = kind.Str
 
--- the text of a string or of a key, and of nothing else
+-- the text of a string or of a key, and otherwise nothing
 abbrev pub told_text : Content → List ℕ
 told_text (value (tree.text s)) = s
 told_text (key s) = s
@@ -72,27 +72,27 @@ told_text_in (Some p) = told_text p.content
 abbrev pub IsOpening : Content → Type 0
 IsOpening c = (c ≡ array_begins) ⊎ (c ≡ table_begins)
 
--- memory is wanting, or this is told of that piece
+-- an allocation failed, or this reason applies to that piece
 abbrev pub IsMisread : (Reason → Type 0) → ℕ → Stop Misread → Type 0
 IsMisread Why at (stop.Memory e) = ⊤
 IsMisread Why at (stop.Fault m) = Why m.reason × (m.at ≡ at)
 
--- memory is wanting, or this holds
+-- an allocation failed, or P holds
 abbrev pub UnlessMemory : Stop Misread → Type 0 → Type 0
 UnlessMemory (stop.Memory e) P = ⊤
 UnlessMemory (stop.Fault m) P = P
 
--- the reason has this text and these names
+-- The reason has this text and these names.
 abbrev pub Lists : (String Global → Vec (String Global) Global → Reason) → List ℕ → List (List ℕ) → Reason → Type 0
 Lists reason text names why =
     (s : String Global) × (all : Vec (String Global) Global) × (why ≡ reason s all) × (string_bytes s ≡ text)
     × (map string_bytes all.items ≡ names)
 
--- the reason has this text
+-- The reason has this text.
 abbrev pub Says : (String Global → Reason) → List ℕ → Reason → Type 0
 Says reason text why = (s : String Global) × (why ≡ reason s) × (string_bytes s ≡ text)
 
--- nothing comes, or what comes is not what is wanted
+-- the row has ended, or the next piece is not the expected one
 abbrev pub Misses : (Content → Type 0) → Expected → List Piece → Reason → Type 0
 Misses Fits expected [] why = why ≡ is.Invalid
 Misses Fits expected (p ∷ ps) why = ¬ Fits p.content × (why ≡ is.Wanted expected (found_of p.content))
@@ -103,7 +103,7 @@ IsAnyText c = (s : List ℕ) × IsText s c
 abbrev pub IsAnyInteger : Content → Type 0
 IsAnyInteger c = (z : ℤ) × (c ≡ value (tree.integer z))
 
--- why a type does not take what stands there
+-- why a type does not accept a value
 abbrev pub refusal : Content → Reason
 refusal (value (tree.integer z)) = is.OutOfRange
 refusal c = is.Invalid
@@ -112,7 +112,7 @@ abbrev pub refusal_in : Option Piece → Reason
 refusal_in None = is.Invalid
 refusal_in (Some p) = refusal p.content
 
--- what is told of this kind, where it is none of those that are wanted, if any are known
+-- what is reported of this kind, if it is not one of the expected ones, or if these are not known
 abbrev pub IsOther : List Expected → Found → Reason → Type 0
 IsOther [] f why = why ≡ is.Unexpected f
 IsOther (e ∷ []) f why = why ≡ is.Wanted e f
@@ -122,27 +122,27 @@ abbrev pub IsOtherIn : List Expected → Option Piece → Reason → Type 0
 IsOtherIn kinds None why = why ≡ is.Invalid
 IsOtherIn kinds (Some p) why = IsOther kinds (found_of p.content) why
 
--- behind a return to this piece: what was read since then took the piece, if anything was
+-- after a return to this piece: what was read since then took the piece, if anything was read
 abbrev pub tries_back_at : ℕ → Reader → Tries
 tries_back_at mark r = if r.next == mark then tries r.tried else taken mark
 
--- why an array has not as many elements as the type: it has ended, or goes on
+-- why an array does not have as many elements as the type: it has ended, or it continues
 abbrev pub length_reason : Reader → Reason
 length_reason r =
     if nat_lt r.at r.next then is.Length (elements_in (take r.at (laid r)))
     else is.TooLong (elements_in (take r.at (laid r)))
 
--- whether a key stands for none of so many names, where one was read
+-- whether a key that was read is not one of the names
 abbrev pub is_unknown : Option ℕ → ℕ → Bool
 is_unknown None count = false
 is_unknown (Some at) count = not (nat_lt at count)
 
--- where an unknown variant stands: at the key that was just held against the names, or at the text that was last read
--- as the name of a variant
+-- the piece of an unknown variant: the key that was just compared with the names, or the text that was last read as the
+-- name of a variant
 abbrev pub variant_place : Reader → ℕ
 variant_place r = if r.is_unknown then r.at else r.variant
 
--- ---- the names that a key or a text was held against
+-- ---- the names with which a key or a text was compared
 
 abbrev pub fields : Reader → List (List ℕ)
 fields r = map string_bytes r.fields.items
@@ -150,48 +150,48 @@ fields r = map string_bytes r.fields.items
 abbrev pub variants : Reader → List (List ℕ)
 variants r = map string_bytes r.variants.items
 
--- what an unknown variant was held against
+-- those with which an unknown variant was compared
 abbrev pub variant_names : Reader → List (List ℕ)
 variant_names r = if r.is_unknown then fields r else variants r
 
--- what is kept behind a step that found this one of the names: where it is none, all that would have been one
+-- what is kept after a step that found the name with this index: all forms of the names, if it found none
 abbrev pub held : List Name → ℕ → List (List ℕ) → List (List ℕ)
 held names at before = if nat_lt at (length names) then before else all_forms names
 
--- the same behind a step that may have found the end of a table
+-- the same after a step that may have found the end of a table
 abbrev pub held_by : List Name → Option ℕ → List (List ℕ) → List (List ℕ)
 held_by names None before = before
 held_by names (Some at) before = held names at before
 
--- ---- two keys that name one field
+-- ---- two keys that name the same field
 
--- the last key whose name has aliases, and the texts that stand for the name
+-- the last key whose name has aliases, and all forms of that name
 abbrev pub Twin : Type 0
 Twin = (ℕ × Span) × List (List ℕ)
 
 abbrev pub twin : Reader → Twin
 twin r = (key_place r.key, map string_bytes r.forms.items)
 
--- behind a key at this place, which stands for this name, if for any
+-- after a key at this place, which is a form of this name, if it is one of any
 abbrev pub twin_behind : Option Name → ℕ × Span → Twin → Twin
 twin_behind None place before = before
 twin_behind (Some n) place before = if length n.aliases.now == 0 then before else (place, forms_of n)
 
--- of two keys the later one in the text, and the bytes of the earlier one
+-- the later one of two keys in the text, and the span of the earlier one
 abbrev pub later_of : ℕ × Span → ℕ × Span → ℕ × Option Span
 later_of own other = if nat_lt own.1.start other.1.start then (other.0, Some own.1) else (own.0, Some other.1)
 
--- where there is another key for the name
+-- the same if there may be another key for the name
 abbrev pub twice_of : ℕ → ℕ × Span → Option (ℕ × Span) → ℕ × Option Span
 twice_of at own None = (at, None)
 twice_of at own (Some other) = later_of own other
 
--- Which piece of the row a field stands at that comes twice, and the bytes of the key that names it too. Where no key
--- before the last one whose name has aliases is of that name, the piece that was looked at last, and none.
+-- The piece of a field that occurs twice, and the span of the other key that names it. If no key before the last one
+-- whose name has aliases is of that name, the piece that was looked at last, and no span.
 abbrev pub twice : Reader → ℕ × Option Span
 twice r = twice_of r.at (key_place r.key)
     (earlier (map string_bytes r.forms.items) 0 (reverse (take r.key.at (laid r))))
 
--- what a step that only looks keeps
+-- what a step that only looks ahead keeps
 abbrev pub kept : Reader → List (List ℕ) × (List (List ℕ) × Twin)
 kept r = (fields r, (variants r, twin r))

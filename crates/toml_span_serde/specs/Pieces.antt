@@ -1,5 +1,5 @@
--- A tree as a row of pieces: a scalar is one, an array and a table have one where they begin and one where they
--- end, and so has each key.
+-- A tree as a row of pieces: one for each scalar and each key, and two for each array and each table, where it begins
+-- and where it ends.
 use Rattle.std.specs.Prelude.{ℕ, List, [], ◌∷◌, ◌++◌}
 use Rattle.toml_span_lex.specs.declared.span.Span.{Span}
 use Rattle.toml_span_tree.specs.Node.{Scalar, Node, node, Inner, taken, scalar, array, table, Items, no_items, item}
@@ -14,7 +14,7 @@ pub data Content : Type 0 where
   table_ends : Content
   key : List ℕ → Content
 
--- what stands there, and the bytes of the value or of the key
+-- its content, and the span of the value or of the key
 pub record Piece : Type 0 where
   pub content : Content
   pub span : Span

@@ -1,4 +1,4 @@
--- What each step of a reader takes of the pieces that are ahead.
+-- What each step of a reader consumes of the remaining pieces.
 use Rattle.std.specs.Prelude.{◌≡◌, ℕ, ℤ, pos, List, ◌∷◌, ◌⊎◌, Bool, true, false, encode_utf8, Some}
 use Rattle.std.specs.Float.{Float, Format, binary32, binary64}
 use lib.Ieee as Ieee
@@ -12,19 +12,19 @@ use Rattle.toml_span_tree.specs.Node as tree
 use Rattle.toml_span_tree.specs.Float.{float_text}
 use Rattle.toml_span_serde.specs.Pieces.{Content, Piece, value, array_begins, array_ends, table_begins, table_ends, key}
 
--- one piece is taken, of which P holds
+-- one piece is consumed, for which P holds
 abbrev pub TakesPiece : (Content → Type 0) → List Piece → List Piece → Type 0
 TakesPiece P old new = (p : Piece) × (old ≡ p ∷ new) × P p.content
 
--- a string or a key of these bytes
+-- a string or a key with these bytes
 abbrev pub IsText : List ℕ → Content → Type 0
 IsText s c = (c ≡ value (tree.text s)) ⊎ (c ≡ key s)
 
--- a string, a key or a date of these bytes
+-- a string, a key or a date with these bytes
 abbrev pub IsWritten : List ℕ → Content → Type 0
 IsWritten s c = IsText s c ⊎ (c ≡ value (tree.datetime s))
 
--- the float whose text is read as this number, or the integer to which it is nearest
+-- a float whose text is read as this number, or an integer to which it is nearest
 abbrev pub HoldsNumber : Format → Float → Content → Type 0
 HoldsNumber format x c =
     ((d : tree.FloatValue) × (c ≡ value (tree.float d)) × (parse_float format (float_text d) ≡ Some x))
@@ -52,11 +52,11 @@ Reads old event.key_begins new =
 Reads old event.key_ends new = ⊥
 Reads old event.flattens new = ⊥
 
--- the first piece, of which P holds, is not taken
+-- P holds for the first piece, which is not consumed
 abbrev pub Sees : (Piece → Type 0) → List Piece → List Piece → Type 0
 Sees P old new = (new ≡ old) × ((p : Piece) × (rest : List Piece) × (old ≡ p ∷ rest) × P p)
 
--- a key of a table, or a text, and the name that it stands for; or where the first piece starts or ends
+-- a key of a table, or a string, and the index of its name; or the start or end of the first piece
 abbrev pub Picks : List Piece → Bool → List Name → ℕ → List Piece → Type 0
 Picks old true names at new = (s : List ℕ) × TakesPiece (λ c. c ≡ key s) old new × Finds names s at
 Picks old false names at new =
@@ -64,6 +64,6 @@ Picks old false names at new =
     × (AsksEnd names → Sees (λ p. at ≡ p.span.end) old new)
     × (¬ AsksStart names → ¬ AsksEnd names → (s : List ℕ) × TakesPiece (IsText s) old new × Finds names s at)
 
--- the first piece has these bytes
+-- the first piece has this span
 abbrev pub BeginsAt : Span → List Piece → Type 0
 BeginsAt span ps = (p : Piece) × (rest : List Piece) × (ps ≡ p ∷ rest) × (p.span ≡ span)

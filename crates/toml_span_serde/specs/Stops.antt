@@ -1,4 +1,4 @@
--- Where a read stopped, and what is told of it.
+-- Where reading stopped, and what is reported.
 use Rattle.std.specs.Prelude.{◌≡◌, ⊤, ℕ, ◌+◌, List, [], ◌∷◌, ◌++◌, length, nat_lt, if◌then◌else◌, Some, slice_get}
 use Rattle.toml_span_lex.specs.declared.span.Span.{Span}
 use Rattle.toml_span_lex.specs.declared.stop.Stop.{Stop}
@@ -11,7 +11,7 @@ use Rattle.toml_span_serde.specs.Pieces.{pieces}
 use Rattle.toml_span_serde.specs.declared.misfit.Misfit.{Misfit}
 use Rattle.toml_span_serde.specs.declared.reader.Misread.{Misread}
 
--- Of each piece of a tree, the path to its value and the bytes of the piece. A key has the path of its entry.
+-- The path and the span of each piece of a tree. A key has the path of its entry.
 abbrev mutual
   pub spots : Path → Node → List (Path × Span)
   spots path (node i span) = held_spots path span i
@@ -31,16 +31,16 @@ abbrev mutual
   members_spots path (member name span n ms) =
       (path ++ (key name ∷ []), span) ∷ (spots (path ++ (key name ∷ [])) n ++ members_spots path ms)
 
--- a read that goes on behind the tree is told at its first piece, the root
+-- if reading continues past the tree, its first piece is reported, which is the root
 abbrev pub told_piece : Node → ℕ → ℕ
 told_piece root at = if nat_lt at (length (pieces root)) then at else 0
 
--- the misfit has the misread's reason, and the path and the bytes of its piece
+-- The misfit has the reason of the misread, and the path and the span of its piece.
 abbrev pub IsOf : Node → Misread → Misfit → Type 0
 IsOf root m misfit = (misfit.reason ≡ m.reason)
     × (slice_get (spots [] root) (told_piece root m.at) ≡ Some (path_of misfit.path.items, misfit.span))
 
--- want of memory stays what it is, or comes in the place of a misfit
+-- A failed allocation is passed on, or replaces a misfit.
 abbrev pub IsTold : Node → Stop Misread → Stop Misfit → Type 0
 IsTold root (stop.Memory e) told = told ≡ stop.Memory e
 IsTold root (stop.Fault m) (stop.Memory e) = ⊤

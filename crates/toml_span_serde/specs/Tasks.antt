@@ -1,5 +1,5 @@
--- What private clauses say: the pieces of the code as those of a tree, and how deep they stand, and what is left to go
--- through while a tree becomes a row of pieces.
+-- Definitions for private clauses: the pieces of the code as those of a tree, their depth, and what is left to do while
+-- a tree is converted to a row of pieces.
 use Rattle.std.specs.Prelude.{ℕ, ◌+◌, ◌-◌, List, [], ◌∷◌, ◌++◌, map, reverse}
 use Rattle.toml_span_tree.specs.Node.{text, integer, float, boolean, datetime}
 use Rattle.toml_span_tree.specs.Value.{view, float_value}
@@ -34,11 +34,11 @@ abbrev pub all_pieces : List Task → List spec.Piece
 all_pieces [] = []
 all_pieces (t ∷ ts) = task_pieces t ++ all_pieces ts
 
--- the pieces that were put down from the last to the first
+-- the pieces, which were stored from the last to the first
 abbrev pub turned : List Piece → List spec.Piece
 turned ps = map piece_of (reverse ps)
 
--- how many arrays and tables are open behind a piece
+-- the number of arrays and tables that are open after a piece
 abbrev pub depth_behind : spec.Content → ℕ → ℕ
 depth_behind (spec.value s) d = d
 depth_behind spec.nothing d = d

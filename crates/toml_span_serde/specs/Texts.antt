@@ -1,4 +1,4 @@
--- What misfits and errors print.
+-- The texts of misfits and errors.
 use Rattle.std.specs.Prelude.{ℕ, List, [], ◌∷◌, ◌++◌, codes, decimal, flat_map, string_bytes}
 use Rattle.toml_span_tree.specs.Error.{kind_of}
 use Rattle.toml_span_tree.specs.Message.{display_text}
@@ -14,12 +14,12 @@ abbrev pub step_text : Step → List ℕ
 step_text (step.Key name) = string_bytes name
 step_text (step.Position i) = codes "[" ++ decimal i ++ codes "]"
 
--- behind another step, a name has a dot before it
+-- after another step, a name has a dot before it
 abbrev pub further_text : Step → List ℕ
 further_text (step.Key name) = codes "." ++ string_bytes name
 further_text (step.Position i) = step_text (step.Position i)
 
--- a path and a colon, as `servers[1].port: `; nothing for the root
+-- a path and a colon, as in `servers[1].port: `; nothing for the root
 abbrev pub place_text : List Step → List ℕ
 place_text [] = []
 place_text (s ∷ steps) = step_text s ++ flat_map further_text steps ++ codes ": "

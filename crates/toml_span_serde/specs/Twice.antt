@@ -1,4 +1,4 @@
--- Two keys of a table that name one field.
+-- Two keys of a table that name the same field.
 use Rattle.std.specs.Prelude.{ℕ, ◌+◌, ◌-◌, ◌==◌, ◌&&◌, List, [], ◌∷◌, length, Option, None, Some, if◌then◌else◌}
 use Rattle.std.specs.List.{list_any}
 use Rattle.std.specs.Str.{bytes_eq}
@@ -7,12 +7,12 @@ use Rattle.toml_span_serde.specs.Pieces.{Content, Piece, value, nothing, array_b
 use Rattle.toml_span_serde.specs.Pieces.{table_ends, key}
 use Rattle.toml_span_serde.specs.declared.twice.KeyPlace.{KeyPlace}
 
--- which piece of the row a key is, and its bytes
+-- the piece of a key, and its span
 abbrev pub key_place : KeyPlace → ℕ × Span
 key_place k = (k.at, k.span)
 
--- One piece back, in so many arrays and tables that are open there: `place` is that of the piece, and `further` what
--- comes of the pieces before it.
+-- One piece back, inside `depth` open arrays and tables: `place` is that of the piece, and `further` the result for the
+-- pieces before it.
 abbrev pub earlier_from : List (List ℕ) → ℕ → ℕ × Span → Content → (ℕ → Option (ℕ × Span)) → Option (ℕ × Span)
 earlier_from forms depth place (value s) further = further depth
 earlier_from forms depth place nothing further = further depth
@@ -23,8 +23,8 @@ earlier_from forms depth place table_begins further = if depth == 0 then None el
 earlier_from forms depth place (key s) further =
     if (depth == 0) && list_any (λ form. bytes_eq form s) forms then Some place else further depth
 
--- Of pieces from the last to the first of a row, the first key that is one of the texts, in the table that is open
--- where they start.
+-- Going back through the pieces of a row, the first key that has one of the forms, in the table that is open at the
+-- start.
 abbrev pub earlier : List (List ℕ) → ℕ → List Piece → Option (ℕ × Span)
 earlier forms depth [] = None
 earlier forms depth (p ∷ ps) = earlier_from forms depth (length ps, p.span) p.content (λ d. earlier forms d ps)

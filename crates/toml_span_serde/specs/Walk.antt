@@ -1,5 +1,5 @@
--- The way to each piece of a row, and how many elements an array has before it. A way is a path from its last step to
--- its first.
+-- The way to each piece of a row, and the number of elements of an array before it. A way is a path from its last step
+-- to its first.
 use Rattle.std.specs.Prelude.{ℕ, ◌+◌, List, [], ◌∷◌, map, reverse}
 use Rattle.toml_span_tree.specs.Path.{Step, key, position}
 use Rattle.toml_span_serde.specs.Pieces as row
@@ -14,13 +14,13 @@ abbrev pub outer : Way → Way
 outer [] = []
 outer (s ∷ way) = way
 
--- behind a value: to the next element, or out of the entry
+-- after a value: to the next element, or out of the entry
 abbrev pub ended : Way → Way
 ended [] = []
 ended (key name ∷ way) = way
 ended (position i ∷ way) = position (i + 1) ∷ way
 
--- behind a piece
+-- after a piece
 abbrev pub behind : row.Content → Way → Way
 behind (row.value s) way = ended way
 behind row.nothing way = ended way
@@ -30,21 +30,21 @@ behind row.table_begins way = way
 behind row.table_ends way = ended way
 behind (row.key name) way = key name ∷ way
 
--- behind all of them
+-- after all of them
 abbrev pub walked : List row.Piece → Way → Way
 walked [] way = way
 walked (p ∷ ps) way = walked ps (behind p.content way)
 
--- the position of what is next in an array
+-- the position of the next element of an array
 abbrev pub next_position : Way → ℕ
 next_position (position i ∷ way) = i
 next_position way = 0
 
--- how many elements of the array that is open behind these pieces are among them
+-- how many of these pieces are elements of the array that is open after them
 abbrev pub elements_in : List row.Piece → ℕ
 elements_in before = next_position (walked before [])
 
--- the way to the value of a piece, or to that of its key
+-- the way to the value of a piece, or to the value of its key
 abbrev pub way_at : row.Content → Way → Way
 way_at (row.value s) way = way
 way_at row.nothing way = way

@@ -1,4 +1,4 @@
--- Clones of lists have the same content.
+-- Clones of lists have the same contents.
 use Rattle.toml_span_lex.proofs.Common.{arith, common_steps, ◌≡◌, List, [], ◌∷◌, map, String, string_bytes, AllZip, Global}
 use Rattle.toml_span_lex.specs.declared.span.Span.{Span}
 use Rattle.toml_span_tree.specs.Error.{marked_keys}

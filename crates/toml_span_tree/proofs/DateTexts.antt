@@ -1,4 +1,4 @@
--- A date text is put together of a date, a time and an offset, and what is put together so is one.
+-- A date text consists of a date, a time and an offset, and what consists of them is a date text.
 use Rattle.toml_span_lex.proofs.Common.{common_steps, nat_tests, ◌≡◌, ◌<◌, ℕ, ◌+◌, ◌⊎◌, inl, inr, Bool, true, List, [], ◌∷◌, ◌++◌, length, take, drop, ap, subst, sym, refl, ◌∙◌, arith, append-nil, drop-cons, ◌||◌, slice_index, and_parts, and_from, take-append_seam, drop-append-add, get_or-append_seam}
 use Rattle.std.proofs.lemmas.List.{take-append-drop}
 use Rattle.std.proofs.lemmas.Bool.{eqb-true}

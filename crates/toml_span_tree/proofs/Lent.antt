@@ -1,4 +1,4 @@
--- What is lent, and what stands in a tree after the loan.
+-- What is lent, and the tree after the borrow has ended.
 use Rattle.toml_span_lex.proofs.Common.{common_steps, nat_tests, ◌≡◌, ℕ, ◌<◌, ◌^◌, [], ◌∷◌, length, drop, arith, rules, ◌⊎◌, inl, inr, BTreeMap, Vec, Global, vec_len, slice_index_or, List, Option, Some, None, IsSome, option_map, option_and_then, refl, sym, ap, subst, ◌∙◌, MutBor, lookup, with_item, cow_str_bytes}
 use Rattle.toml_span_tree.specs.declared.value.Value.{Value}
 use Rattle.toml_span_tree.specs.declared.value.ValueInner.{ValueInner, Array, Table, the_lemmas}
@@ -18,7 +18,7 @@ use Rattle.toml_span_tree.proofs.Puts.{put_pointed-found, member-lent, view-set,
 pub member-some : (y : Option (MutBor Value)) (name : List ℕ) (es : List Entry) → option_map (λ x. x.now) y ≡ lookup (at_name name) es → IsSome (get_member name (members_view es)) → (x : MutBor Value) × (y ≡ Some x)
 member-some y name es e h = grind (arith, nat_tests, common_steps, member-lent y name es e)
 
--- a value and what it holds
+-- a value and its content
 pub view-held : (s : Value) (i : ValueInner) → s.value ≡ Some i → view s ≡ node (inner_view i) s.span
 view-held s i is = view_is s ∙ ap (λ (o : Option ValueInner). node (inner_or_taken (option_map inner_view o)) s.span) is
 
@@ -41,7 +41,7 @@ child-set s i text w t is q = view-made t s.span ∙ ap (λ j. node j s.span) q 
 no-entry : (i : ValueInner) (x : Scalar) (text : List ℕ) → inner_view i ≡ scalar x → IsSome (entry text (inner_view i)) → ⊥
 no-entry i x text e h = grind (arith, nat_tests, common_steps)
 
--- what is a table, and what is an array
+-- a value that is a table, and one that is an array
 kind-at : (i : ValueInner) (o : ValueInner-F ValueInner Value) (text : List ℕ) → i ≡ roll-ValueInner o → IsSome (entry text (inner_view i)) → IsTable i ⊎ IsArray i
 kind-at i (ValueInner-F.String s) text e h = absurd (no-entry i (Scalar.text (cow_str_bytes s)) text (ap inner_view (e ∙ rolls-String s) ∙ search (rules, the_lemmas)) h)
 kind-at i (ValueInner-F.Integer z) text e h = absurd (no-entry i (Scalar.integer z) text (ap inner_view (e ∙ rolls-Integer z) ∙ search (rules, the_lemmas)) h)

@@ -1,4 +1,4 @@
--- A list of texts that are read off by a function.
+-- A list of strings that a function returns for its items.
 use Rattle.toml_span_lex.proofs.Common.{◌≡◌, ℕ, List, [], ◌∷◌, ◌++◌, map, codes, refl, sym, ap, join_by, flat_map-map}
 use Rattle.toml_span_tree.specs.Listed.{listed}
 

@@ -1,12 +1,15 @@
--- A `&mut` that is lent on: what is known of the lender's last value, a step at a time. Assumes `Logic`.
---     so_then        two steps make one
---     so_on          the same where the first is a function
+-- A `&mut` that is lent on: what is known of the lender's final value, one step at a time. Assumes `Logic`.
+--     so_then        joins two steps
+--     so_on          the same if the first is a function
 --     so_of          a function is a relation
---     so_some        a relation is weakened, and one that is asked at `None` too is so where there is a reference
---     so_none        where there is none, what is known of the lender's last value
+--     so_some        weakens a relation; one that is also defined for `None` holds if there is a reference
+--     so_none        what is known of the lender's final value if there is no reference
 --     some_opened    a reference in a `Some`: the machine value, and the reference
---     some_closed    a reference is put into a `Some`
+--     some_closed    puts a reference into a `Some`
 --     none_closed    a `None` owns nothing
+-- Toolchain: an `ensures*` is proved by the borrow checker only if it is a `follows`. Here each step is a function
+-- `&mut A -> &mut B` with a walk over its MIR (`Proof.antt`), and `so_then` joins two. No rule opens a variant of a
+-- recursive enum behind a `&mut`: `Payloads.antt` says what a table or an array owns.
 use Rattle.toml_span_tree.proofs.Walks.{Ura, ent, sep, GName, Fml, fres, fsep, feq, fex, ftrue, Logic, sem, ‵, raw, ◌$◌, ◌∵◌, !, qed, done, by, move, use2, fpick, fpack, RattleType, Valss, owns, in_a_row, nothing, follows_if, follows_so, follows_then, ⊤, ◌++◌, named, Val, vptr, vcons, vnil, of_list, Lft, emp, fact, fact_i, use0, keep, fsplit, fjoin, feq_l, feq_i, live, MutRef, mut_vals, only}
 use denote.Follow.{such_by, follows_by}
 use mathlib.Core.Path.{◌≡◌, refl, ap, ◌∙◌}
@@ -65,7 +68,7 @@ module _ {M : Type 1} {𝓤 : Ura M} (𝓛 : Logic 𝓤) (κ : Lft) (R : RattleT
       use0 𝓛 (raw (fact 𝓤 (v ≡ live 1 (vcons (vptr x.ref_ptr.0 x.ref_ptr.1) vnil)))) (fact_i 𝓤 _ (emp 𝓤) (ap only e ∙ ap (λ (ws : List Val). live 1 (of_list ws)) (e' ∙ ap (λ (ws : List Val). ws ++ []) vis))) $
       keep ! (0 ∷ 1 ∷ []) $ done !)))))
 
-  -- what a value of a variant owns, at the rows of its fields
+  -- what the value of a variant owns, at the rows of its fields
   abbrev tagged : (k : ℕ) (Ts : List RattleType) → (Valss Ts → Fml) → List Val → List Val → Fml
   tagged k Ts F vs us = fsep (feq (List Val) vs (live k (of_list us) ∷ [])) (fex (Valss Ts) (in_a_row Ts F us))
 

@@ -1,4 +1,4 @@
--- The members of a JSON object, made in the order of their names.
+-- The members of a JSON object, inserted in the order of their names.
 use Rattle.std.proofs.Common.{◌≡◌, List, [], ◌∷◌, ◌++◌, Less, Greater, map, nat_cmp, refl, ap, ◌∙◌}
 use Rattle.std.proofs.lemmas.Cmp.{nat_list_cmp_total}
 use Rattle.std.specs.Cmp.Lexicographic.{slice_cmp}
@@ -24,7 +24,7 @@ below_middle : (first : Entry) (es : List Entry) (e : Entry) (more : List Entry)
 below_middle first [] e more h = h.0
 below_middle first (x ∷ es) e more h = below_middle first es e more h.1
 
--- a key that is above those before it goes last
+-- a key that is greater than those before it is inserted last
 pub put_last : (done : List Entry) (e : Entry) (more : List Entry) → IsStrictlySortedBy key_cmp (keys_of (done ++ e ∷ more))
     → json.put (cow_str_bytes e.0.name) (json_of (view e.1)) (json_members (members_view done)) ≡ json_members (members_view (done ++ e ∷ []))
 unfolding IsStrictlySortedBy
@@ -34,7 +34,7 @@ put_last (first ∷ done) e more h =
     nat_list_cmp_total.antisymm (cow_str_bytes e.0.name) (cow_str_bytes first.0.name) ∙ ap ordering_reverse (below_middle first done e more h.0) in
     rw above (ap (json.member (cow_str_bytes first.0.name) (json_of (view first.1))) (put_last done e more h.1))
 
--- the elements, where each is made of its own
+-- the elements, each made from one of the array
 pub json_items-map : (vs : List Value) → made.items_of (map (λ v. json_of (view v)) vs) ≡ json_items (items_view vs)
 json_items-map [] = refl
 json_items-map (v ∷ vs) = ap (json.item (json_of (view v))) (json_items-map vs)

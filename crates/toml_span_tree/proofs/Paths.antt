@@ -1,4 +1,4 @@
--- What stands where after a change at a path.
+-- Places after a change at a path.
 use Rattle.toml_span_lex.proofs.Common.{arith, common_steps, nat_tests, ◌≡◌, ◌≢◌, ℕ, zero, suc, List, [], ◌∷◌, true, false, Option, Some, None, option_map, ◌⊎◌, inr, refl, ap, ◌∙◌, ⊤, bytes_eq, bytes_eq-Decides}
 use Rattle.toml_span_lex.specs.declared.span.Span.{Span}
 use Rattle.toml_span_tree.specs.Node.{Node, Inner, Items, no_items, item, Members, no_members, member, entry_at, element_at}
@@ -25,7 +25,7 @@ reached-put_step : (s : Step) (path : Path) (e : Found) (w : Node) (r : Found) �
     → reached (s ∷ path) e ≡ Some r → reached (s ∷ path) (e.0, put (s ∷ path) w e.1) ≡ Some (r.0, w)
 reached-put_step s path e w r ih h = grind (arith, nat_tests, common_steps, below-set)
 
--- what was put is reached, by the same key
+-- the new value is reached, by the same key
 pub reached-put : (path : Path) (e : Found) (w : Node) (r : Found) → reached path e ≡ Some r → reached path (e.0, put path w e.1) ≡ Some (r.0, w)
 reached-put [] e w r h = grind (arith, nat_tests, common_steps)
 reached-put (s ∷ path) e w r h = reached-put_step s path e w r (λ f. reached-put path f w r) h
@@ -33,7 +33,7 @@ reached-put (s ∷ path) e w r h = reached-put_step s path e w r (λ f. reached-
 pub node_at-put : (path : Path) (n m w : Node) → node_at path n ≡ Some m → node_at path (put path w n) ≡ Some w
 node_at-put path n m w h = grind (arith, nat_tests, common_steps, reached-put path (None, n) w)
 
--- and is shown there, with the span of the key that was there
+-- and its place has the span of the old key
 pub place_at-put : (path : Path) (n w : Node) (p : Place) → place_at path n ≡ Some p → place_at path (put path w n) ≡ Some (record { shape = shape_of (inner_of w); key_span = p.key_span; span = span_of w })
 place_at-put path n w p h = grind (arith, nat_tests, common_steps, reached-put path (None, n) w)
 
@@ -69,7 +69,7 @@ same_or_apart (position j) (position i) = grind (arith, nat_tests, common_steps)
 shape_of-set : (s : Step) (i : Inner) (w : Node) → shape_of (set_at_step s w i) ≡ shape_of i
 shape_of-set s i w = grind (arith, nat_tests, common_steps)
 
--- what a path that does not begin with the change's shows
+-- the place at a path that does not begin with the path of the change
 abbrev pub Shown : Path → Found → Option Place
 Shown path e = option_map place_of (reached path e)
 
@@ -86,6 +86,6 @@ shown-other (s ∷ path) [] e w off = shown_here path s e w
 shown-other (s ∷ path) (t ∷ q) e w off =
     shown_below path q t s e w (same_or_apart t s) (λ same begins. off (begins.0, ap (λ t. t ∷ q) same ∙ ap (λ r. s ∷ r) begins.1)) (λ f h. shown-other path q f w h)
 
--- a change leaves what every path shows that does not begin with its own
+-- a change leaves the place at every path that does not begin with its own
 pub place_at-other : (path q : Path) (n w : Node) → (BeginsWith path q → ⊥) → place_at q (put path w n) ≡ place_at q n
 place_at-other path q n w off = shown-other path q (None, n) w off

@@ -1,8 +1,9 @@
--- What an enum owns in memory beside the one field of a variant, while that field is lent. Assumes `Logic`.
---     Payload                   a variant k of R with one field, at the offset 8: what is kept of it while the field is out
---     payload                   the one of an enum that is written out: `c` chooses the variant, and G is its field's type F as the source has it
+-- What an enum owns in memory besides the one field of a variant, while that field is lent. Assumes `Logic`.
+--     Payload                   a variant k of R with one field, at offset 8: what is kept while the field is lent
+--     payload                   that of an enum that is written out: `c` selects the variant, and G is its field type F
+--                               as in the source
 --     of_table, of_array        those of a table's entries and of an array's elements
---     opened, taken, lent       what lies in memory is such a variant, and its cell has the tag; the field is taken out; it is lent
+--     opened, taken, lent       the memory has such a variant, and its cell the tag; the field is taken; it is lent
 use Rattle.toml_span_tree.proofs.Walks.{some', inl, inr, Ura, raw_ty, Ty, Tys, Sym, Tyss, ty_enum, named, Val, Vals, vptr, of_list, full_share, SProp, ent, sep, Fml, Lft, Share, GName, fat, fex, flft, fobor, fobs, fauth, Logic, sem, Item, Goal, Seq, Step, step, Soaks, mean, ‵, raw, ◌⊛◌, some, later, ◌$◌, use1, use2, pick, split, split3, move, group, await, rewrite, live, shows, Is, only, peeks, NamedLft, MutRef, follows, lends_Part, mem, part_at, lone, RattleType, Valss, owns, pays, tag, in_a_row, part_out_at, part_in_at, ghosts, Array, Table}
 use mathlib.Core.Path.{◌≡◌, refl, sym, ap, subst, ◌∙◌}
 use Prim.Native.Nat.{ℕ, ◌+◌}

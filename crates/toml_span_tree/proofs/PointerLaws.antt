@@ -9,7 +9,7 @@ use Rattle.toml_span_tree.proofs.Paths.{below-set, below-other, StepsApart, byte
 use Rattle.toml_span_tree.proofs.Pointers.{found-more, node_at-more, pointed-found}
 use Rattle.toml_span_tree.proofs.Puts.{put_found-more, put_pointed-found}
 
--- the path that a value is found by
+-- the path by which a value is found
 pub found-first : (segment : List ℕ) (names : List (List ℕ)) (n m : Node) → value_named (segment ∷ names) n ≡ Some m → (c : Node) × (untaken_entry segment n ≡ Some c) × (value_named names c ≡ Some m)
 found-first segment names n m h = grind (arith, nat_tests, common_steps, found-more segment names n)
 
@@ -23,7 +23,7 @@ entry-set segment i c w h = grind (arith, nat_tests, common_steps, below-set, st
 pub untaken_entry-of : (segment : List ℕ) (n c : Node) → untaken_entry segment n ≡ Some c → (entry segment (inner_of n) ≡ Some c) × (is_taken c ≡ false)
 untaken_entry-of segment n c h = grind (arith, nat_tests, common_steps)
 
--- what was put is not taken, where the new value is not or stands below
+-- the new value has not been taken, if it was not before or is below the start
 whole-put : (names : List (List ℕ)) (n m w : Node) → (names ≡ [] → is_taken w ≡ false) → value_named names n ≡ Some m → is_taken n ≡ false → is_taken (put_named names w n) ≡ false
 whole-put [] n m w h there whole = h refl
 whole-put (segment ∷ names) n m w h there whole = grind (arith, nat_tests, common_steps)
@@ -33,7 +33,7 @@ untaken_entry-put : (segment : List ℕ) (names : List (List ℕ)) (n c m w : No
 untaken_entry-put segment names n c m w leads there whole =
     grind (arith, nat_tests, common_steps, put_found-more segment names n c w m leads there, entry-set segment (inner_of n) c (put_named names w c), untaken_entry-of)
 
--- what was put is found by the same segments
+-- the new value is found by the same segments
 pub found-put : (names : List (List ℕ)) (n m w : Node) → is_taken w ≡ false → value_named names n ≡ Some m → value_named names (put_named names w n) ≡ Some w
 found-put [] n m w h there = refl
 found-put (segment ∷ names) n m w h there =
@@ -44,7 +44,7 @@ found-put (segment ∷ names) n m w h there =
     ∙ ap (option_and_then (value_named names)) (untaken_entry-put segment names n c m w first.1 first.2 whole)
     ∙ found-put names c m w h first.2
 
--- pointers that part
+-- pointers that diverge
 bytes_apart : (a c : List ℕ) → bytes_eq a c ≡ false → bytes_eq c a ≡ false
 bytes_apart a c h = grind (arith, nat_tests, common_steps, bytes_same c a, (bytes_eq-Decides a c).1)
 
@@ -63,7 +63,7 @@ found_apart_at true segment other names others n c m w is apart leads there ih =
 found_apart_at false segment other names others n c m w is apart leads there ih =
     grind (arith, nat_tests, common_steps, put_found-more segment names n c w m leads there, entry-apart segment other (inner_of n) (put_named names w c) apart)
 
--- a change leaves what is named by segments that part from its own
+-- a change leaves what is named by segments that diverge from its own
 pub found-apart : (names others : List (List ℕ)) (n m w : Node) → value_named names n ≡ Some m → paths_part names others ≡ true → value_named others (put_named names w n) ≡ value_named others n
 found-apart [] others n m w there apart = cc
 found-apart (segment ∷ names) [] n m w there apart = cc
@@ -101,14 +101,14 @@ found-path (segment ∷ names) n m h =
     let below = found_path_step step.0 segment names more.0 n first.0 m step.1 step.2 leads.1 (more.1, more.2, more.3) in
     (step.0 ∷ more.0, below.0, below.1, below.2)
 
--- and the other way
+-- and conversely
 not_taken : (s : Step) (path : Path) (b : Bool) → (b ≡ true → s ∷ path ≡ []) → b ≡ false
 not_taken s path true h =
     let no : s ∷ path ≡ [] = h refl in
     cc
 not_taken s path false h = refl
 
--- nothing stands below what is taken
+-- there is nothing below a value that has been taken
 whole_above : (path : Path) (c m : Node) → node_at path c ≡ Some m → is_taken m ≡ false → is_taken c ≡ false
 whole_above [] c m there h = grind (arith, nat_tests, common_steps)
 whole_above (s ∷ path) c m there h = grind (arith, nat_tests, common_steps)

@@ -1,4 +1,4 @@
--- A pointer, a segment at a time.
+-- A pointer, one segment at a time.
 use Rattle.toml_span_lex.proofs.Common.{common_steps, nat_tests, ◌≡◌, ◌≢◌, ℕ, zero, suc, ◌<◌, List, [], ◌∷◌, ◌++◌, length, get_or, Option, Some, None, option_map, option_and_then, refl, sym, ap, ◌∙◌, arith, ne_eqb, true, false, ◌≤◌, ◌^◌, Bor, MutBor, ◌||◌, ◌==◌, not, nat_lt, IsNumeralModel, numerals_by_value, tells_all_ascii_digits, IfSome, MatchOption, Result, OkIff, all_ascii_digits, digits_value}
 use Rattle.std.specs.Result.{result_ok}
 use Rattle.std.specs.Slice.{IsItemAt}
@@ -36,20 +36,20 @@ pub pointer-other : (p : List ℕ) → 0 < length p → ((rest : List ℕ) → p
 unfolding pointer_segments
 pointer-other p h lacks = grind (arith, nat_tests, common_steps)
 
--- the key's span before a path is of no matter to the value at its end
+-- the span of the key before a path does not matter to the value at its end
 reached-key : (path : Path) (key other : Option Span) (n : Node) → option_map (λ m. m.1) (reached path (key, n)) ≡ option_map (λ m. m.1) (reached path (other, n))
 reached-key [] key other n = refl
 reached-key (s ∷ path) key other n = refl
 
--- a path is gone a step at a time
+-- a path is followed one step at a time
 pub node_at-more : (s : Step) (path : Path) (n : Node) → node_at (s ∷ path) n ≡ option_and_then (node_at path) (child s n)
 node_at-more s path n = grind (arith, nat_tests, common_steps, reached-key)
 
--- segments are gone one at a time
+-- segments are followed one at a time
 pub found-more : (segment : List ℕ) (names : List (List ℕ)) (n : Node) → value_named (segment ∷ names) n ≡ option_and_then (value_named names) (untaken_entry segment n)
 found-more segment names n = grind (arith, nat_tests, common_steps, node_at-more)
 
--- a text that is cut at its first slash
+-- a text that is split at its first slash
 pub found-cut : (path segment : List ℕ) (rest : Option (List ℕ)) (n : Node) → SplitAtSlash path segment rest → value_named (segments path) n ≡ option_and_then (value_named (segments_behind rest)) (untaken_entry segment n)
 found-cut path segment rest n c = ap (λ names. value_named names n) c.parts ∙ found-more segment (segments_behind rest) n
 
@@ -80,7 +80,7 @@ get_item-past [] i h = refl
 get_item-past (v ∷ vs) zero h = absurd (omega arith)
 get_item-past (v ∷ vs) (suc i) h = get_item-past vs i (omega arith)
 
--- a position past every list names nothing
+-- a position that exceeds any length names nothing
 pub past_all : (vs : List Value) (o : Option ℕ) → PositionIs None o → length vs ≤ 2 ^ 64 → None ≡ option_and_then (λ i. get_item i (items_view vs)) o
 past_all vs None h small = refl
 past_all vs (Some i) h small = sym (get_item-past vs i (omega (arith, h, small)))
@@ -110,7 +110,7 @@ no_form-plus text h some = grind (arith, nat_tests, common_steps)
 pub no_form-zero : (text : List ℕ) → get_or text 0 0 ≡ 48 → 1 < length text → is_decimal_form text ≡ false
 no_form-zero text h more = grind (arith, nat_tests, common_steps)
 
--- no zero leads, unless it is alone
+-- there is no leading zero, unless it is the only digit
 pub lead-one : (text : List ℕ) → length text ≡ 1 → length text == 1 || not (get_or text 0 0 == 48) ≡ true
 lead-one text h = grind (arith, nat_tests, common_steps)
 
@@ -120,12 +120,12 @@ lead-other text h = grind (arith, nat_tests, common_steps)
 pub PositionIs-none : (text : List ℕ) (o : Option ℕ) → o ≡ None → is_decimal_form text ≡ false → PositionIs o (position_of text)
 PositionIs-none text o e h = rw (e, no_position text h) tt
 
--- what std reads is the position, or there is none, or it is past every list
+-- the number that std parses is the position, or there is none, or it exceeds any length
 pub spelt : {E : Type 0} (text : List ℕ) → length text == 1 || not (get_or text 0 0 == 48) ≡ true → (r : Result ℕ E) (o : Option ℕ)
     → OkIff r ((all_ascii_digits text ≡ true) × (0 < length text) × (digits_value 10 text < 2 ^ 64)) (digits_value 10 text) → o ≡ result_ok r → PositionIs o (position_of text)
 spelt text lead r o h e = grind (arith, nat_tests, common_steps, some_position text, no_position text, form_parts text)
 
--- what `get` of an array gives
+-- what `get` of an array returns
 pub get_item-got : (r : Option (Bor Value)) (vs : List Value) (i : ℕ) → IsItemAt vs i r → option_map (λ v. view v.now) r ≡ get_item i (items_view vs)
 get_item-got r vs i h = grind (arith, nat_tests, common_steps, get_item-past vs i, get_item-within vs i)
 

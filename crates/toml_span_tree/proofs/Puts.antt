@@ -1,4 +1,4 @@
--- A value exchanged below another one, a level at a time.
+-- Replacing a value below another one, one level at a time.
 use Rattle.toml_span_lex.proofs.Common.{option_map, arith, common_steps, nat_tests, ◌≡◌, ℕ, zero, suc, List, [], ◌∷◌, false, Option, Some, None, Result, option_and_then, refl, sym, ap, ◌∙◌, cow_str_bytes, set_value, lookup, MutBor, length, is_eq-slice_cmp, IfOk, IfErr}
 use Rattle.std.proofs.Math.ListN.{set}
 use Rattle.toml_span_lex.specs.declared.span.Span.{Span}
@@ -32,7 +32,7 @@ member-lent y name es e = view-of_mut y ∙ ap (option_map view) e ∙ view-look
 pub member-is : (y : Option (MutBor Value)) (x : MutBor Value) (name : List ℕ) (es : List Entry) → option_map (λ x. x.now) y ≡ lookup (at_name name) es → y ≡ Some x → get_member name (members_view es) ≡ Some (view x.now)
 member-is y x name es e is = sym (member-lent y name es e) ∙ ap (option_map (λ u. view u.now)) is
 
--- what stands there, written again, changes nothing
+-- writing the value that is already there changes nothing
 pub set_entry-same : (name : List ℕ) (ms : Members) (m : Node) → get_member name ms ≡ Some m → set_entry name m ms ≡ ms
 set_entry-same name no_members m h = refl
 set_entry-same name (member other span n ms) m h = grind (arith, nat_tests, common_steps, set_entry-same name ms m)
@@ -42,16 +42,16 @@ set_element-same i no_items m h = refl
 set_element-same zero (item n ns) m h = cc
 set_element-same (suc i) (item n ns) m h = ap (item n) (set_element-same i ns m h)
 
--- an exchange at or below m, seen from where m stands
+-- a replacement at or below m, seen from the value that contains m
 pub exchanged-in : (r : Result Value Value) (new : Value) (names : List (List ℕ)) (o : Option Node) (m after : Node) (changed : Node → Type 0) (same : Type 0)
     → o ≡ Some m → changed after → (after ≡ m → same) → Exchanged r new names (if_not_taken m) (λ w. after ≡ w) (after ≡ m) → Exchanged r new names (option_and_then if_not_taken o) changed same
 exchanged-in r new names o m after changed same is made kept h = grind (arith, nat_tests, common_steps)
 
--- where nothing is named
+-- if nothing is named
 pub exchanged-none : (new : Value) (names : List (List ℕ)) (o : Option Node) (same : Type 0) → o ≡ None → same → (new ≡ new) × (option_and_then (value_named names) (option_and_then if_not_taken o) ≡ None) × same
 exchanged-none new names o same is kept = grind (arith, nat_tests, common_steps)
 
--- the same exchange, where what is changed is told in other words
+-- the same replacement, with the change stated differently
 pub exchanged-as : (r : Result Value Value) (new : Value) (names : List (List ℕ)) (o p : Option Node) (changed told : Node → Type 0) (same kept : Type 0)
     → o ≡ p → ((w : Node) → changed w → told w) → (same → kept) → Exchanged r new names o changed same → Exchanged r new names p told kept
 exchanged-as r new names o p changed told same kept is f g h = grind (arith, nat_tests, common_steps)
@@ -64,14 +64,14 @@ pub put_found-more : (segment : List ℕ) (names : List (List ℕ)) (n m w old :
     → put_named (segment ∷ names) w n ≡ node (set_named segment (put_named names w m) (inner_of n)) (span_of n)
 put_found-more segment names n m w old leads there = grind (arith, nat_tests, common_steps)
 
--- an exchange in what n holds is one in n
+-- a replacement in the content of n is one in n
 pub exchanged-cut : (r : Result Value Value) (new : Value) (path segment : List ℕ) (rest : Option (List ℕ)) (i j : Inner) (span : Span) → SplitAtSlash path segment rest
     → Exchanged r new (segments_behind rest) (option_and_then if_not_taken (entry segment i)) (λ w. j ≡ set_named segment w i) (j ≡ i)
     → Exchanged r new (segments path) (Some (node i span)) (λ w. node j span ≡ w) (node j span ≡ node i span)
 exchanged-cut r new path segment rest i j span cut h =
     grind (arith, nat_tests, common_steps, found-cut path segment rest (node i span) cut, put_found-more segment (segments_behind rest) (node i span), cut.parts)
 
--- an exchange at what a pointer names
+-- a replacement at the place that a pointer names
 pub put_pointed-found : (p : List ℕ) (names : List (List ℕ)) (w n : Node) → pointer_segments p ≡ Some names → put_pointed p w n ≡ put_named names w n
 put_pointed-found p names w n h = grind (arith, nat_tests, common_steps)
 
@@ -86,7 +86,7 @@ pub exchanged-refused : (r : Result Value Value) (new : Value) (p : List ℕ) (n
     → Exchanged r new names (Some n) (λ w. after ≡ w) (after ≡ n) → IfErr r (λ back. (back ≡ new) × (pointed p n ≡ None) × (after ≡ n))
 exchanged-refused r new p names n after is h = grind (arith, nat_tests, common_steps)
 
--- an exchange in a table that is held
+-- a replacement in a table that has not been taken
 pub exchanged-table : (r : Result Value Value) (new : Value) (names : List (List ℕ)) (segment : List ℕ) (ms ns : Members) (i j : Inner) → i ≡ table ms → j ≡ table ns
     → Exchanged r new names (option_and_then if_not_taken (get_member segment ms)) (λ w. ns ≡ set_entry segment w ms) (ns ≡ ms)
     → Exchanged r new names (option_and_then if_not_taken (entry segment i)) (λ w. j ≡ set_named segment w i) (j ≡ i)

@@ -1,6 +1,6 @@
--- A `&mut Value` and a text, as the functions take them that go along a pointer. Assumes `Logic`.
---     row, params, kept, stayed, goes, stored, tells      the parameters, as `proved` asks for them
---     twice, text       a text is copied; a call's result is a text
+-- A `&mut Value` and a string, as the functions that follow a pointer take them. Assumes `Logic`.
+--     row, params, kept, stayed, goes, stored, tells      the parameters, in the form that `proved` requires
+--     twice, text                                         a string is copied; a call returns a string
 use Rattle.toml_span_tree.proofs.Walks.{◌≡◌, refl, ℕ, List, [], ◌∷◌, ap, w8, Bor, Lft, Val, ‵, ◌⊛◌, ◌$◌, named, plain, mut_ref_to, named_lft, yes, no, RattleType, Logic, Item, Is, shows, mut_vals, mut_Tells, Stays, stay_dropped, Goes-dropped, Goes-spent_ref, only, peeks, rewrite, split, use1, Ura, Lfts, Goal, Seq, Step, step, Spells, Tells, Tellss, Ises, UInt, Slot, types_at, shr_slice_vals, Str, StrRefOf, Utf8, str-copy, AllGo}
 use denote.Triple.End.{Kepts}
 use denote.Slice.{ShrSlice, shr_slice_Tells}

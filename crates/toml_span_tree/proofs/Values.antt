@@ -1,4 +1,7 @@
--- A value, a level at a time.
+-- A value, one level at a time.
+-- Toolchain: a fold cannot be unfolded outside its crate ("this module may not unfold: `fold-ValueInner`"). Cite
+-- `inner_view-Table`, `inner_view-Array` and `view_is` instead. A recursion over `&Value` takes a measure of
+-- `Sizes.antt`.
 use Rattle.toml_span_lex.proofs.Common.{arith, common_steps, nat_tests, ◌≡◌, ℕ, List, [], ◌∷◌, Option, Some, option_map, is_some, BTreeMap, Vec, Global, nat_cmp, Bool, Bor, refl, rules, cow_str_bytes, slice_cmp, lookup, lookup_entry, is_at, is_eq-slice_cmp}
 use Rattle.toml_span_lex.specs.declared.key.Key.{Key}
 use Rattle.toml_span_tree.specs.declared.value.Value.{Value}
@@ -18,11 +21,11 @@ inner_view-Array v = search (rules, the_lemmas)
 pub inner_view-Table : (m : BTreeMap Key Value) → inner_view (Table m) ≡ table (members_view m.entries)
 inner_view-Table m = search (rules, the_lemmas)
 
--- the test by which a look-up finds a name
+-- the test with which a look-up finds a name
 abbrev pub at_name : List ℕ → Key → Bool
 at_name name = is_at (λ k. slice_cmp nat_cmp name (cow_str_bytes k.name))
 
--- a look-up by name finds what the members have at that name
+-- a look-up by name finds the member with that name
 pub view-lookup : (name : List ℕ) (es : List Entry) → option_map view (lookup (at_name name) es) ≡ get_member name (members_view es)
 view-lookup name [] = refl
 view-lookup name (e ∷ es) = grind (arith, nat_tests, common_steps, is_eq-slice_cmp name (cow_str_bytes e.0.name), view-lookup name es)

@@ -1,4 +1,4 @@
--- The names that the proofs by hand cite.
+-- The names that manual proofs cite.
 pub use Rattle.std.proofs.Common.{◌≡◌, ℕ, ◌≤◌, ◌<◌, ◌^◌, ◌+◌, ◌-◌, List, [], ◌∷◌, length, refl, sym, ap, subst, ◌∙◌, lit<, nltb→le, w8, w64, Bor, MutBor, arith, BTreeMap, Global, IsSome, None, Option, Some, Vec, drop as drop_l, slice_index_or, vec_len}
 pub use Rattle.std.proofs.raw_atomic.Walks.{proved}
 pub use Rattle.std.proofs.VecSteps.Shapes.{after, head, arm_body}
@@ -69,7 +69,7 @@ pub use types.Tokens.{lft-common, lft_end, lft_new}
 use seplogic.Ra.Ura.{Ura}
 use types.Kit.{Seq, Step, Goal, Soaks, step}
 
--- what runs behind a part of a body
+-- runs the statements after a part of a body
 module _ {M : Type 1} {𝓤 : Ura M} (𝓛 : Logic 𝓤) where
   open 𝓛 use {H}
 
@@ -80,7 +80,7 @@ module _ {M : Type 1} {𝓤 : Ura M} (𝓛 : Logic 𝓤) where
 module _ {M : Type 1} {𝓤 : Ura M} {𝓛 : Logic 𝓤} {K : Type 0} where
   open 𝓛 use {H}
 
-  -- at the start: two arguments, the tokens, and what is asked
+  -- at the start: two arguments, the tokens, and the preconditions
   pub begins : K → {G : Goal 𝓤 H} {a b : Fml} {t : Item 𝓤} {φ : Type 0} → (φ → Seq K 𝓛 (‵ a ∷ ‵ b ∷ t ∷ []) G) → Seq K 𝓛 ((t ⊛ ‵ a ⊛ ‵ b ⊛ ‵ ftrue) ∷ raw (fact 𝓤 φ) ∷ []) G
   begins i next = move i (1 ∷ []) $ heard i _ (λ x. split i $ move i (1 ∷ []) $ split3 i $ keep i (0 ∷ 1 ∷ 3 ∷ []) $ next x)
 
@@ -90,7 +90,7 @@ module _ {M : Type 1} {𝓤 : Ura M} {𝓛 : Logic 𝓤} {K : Type 0} where
   ends i {P} h x = suffices i _ h $ move i (0 ∷ 2 ∷ []) $ nothing i $ nothing i $ fjoin i $ nothing i $ fjoin i $ join i $ move i (1 ∷ 0 ∷ []) $ join i $ frame i $ says i x $ done i
 
   module _ {Γ : List (Item 𝓤)} {G : Goal 𝓤 H} where
-    -- what the call of a function takes: its arguments, the tokens, and what it asks
+    -- what a call takes: its arguments, the tokens, and its preconditions
     pub hands1 : {a : Fml} {t : Item 𝓤} {A : SProp 𝓤} → K → ent 𝓤 (emp 𝓤) A → (P : SProp 𝓤) → ent 𝓤 (sep 𝓤 (sep 𝓤 (mean 𝓛 t) (sem 𝓛 (fsep a ftrue))) A) P → Step K 𝓛 (raw P ∷ Γ) G (‵ a ∷ t ∷ Γ) G
     hands1 {A = A} i x P h = step (λ s. nothing i $ move i (1 ∷ 0 ∷ []) $ fjoin i $ move i (1 ∷ 0 ∷ []) $ join i $ use0 𝓛 (raw A) x $ move i (1 ∷ 0 ∷ []) $ use2 𝓛 (raw P) h $ s)
 
@@ -100,7 +100,7 @@ module _ {M : Type 1} {𝓤 : Ura M} {𝓛 : Logic 𝓤} {K : Type 0} where
     pub hands : {a b : Fml} {t : Item 𝓤} {φ : Type 0} → K → φ → (P : SProp 𝓤) → ent 𝓤 (sep 𝓤 (sep 𝓤 (mean 𝓛 t) (sem 𝓛 (fsep a (fsep b ftrue)))) (fact 𝓤 φ)) P → Step K 𝓛 (raw P ∷ Γ) G (‵ a ∷ ‵ b ∷ t ∷ Γ) G
     hands {φ = φ} i x P h = step (λ s. args i $ use0 𝓛 (raw (fact 𝓤 φ)) (fact_i 𝓤 φ (emp 𝓤) x) $ move i (1 ∷ 0 ∷ []) $ use2 𝓛 (raw P) h $ s)
 
-    -- what a call gives: what is ensured of the result y, the result and the tokens
+    -- what a call returns: the postconditions for the result y, the result and the tokens
     pub gives : K → Soaks G → (R : RattleType) (v : Val) (t : Item 𝓤) {W : Type 0} (L : W → Fml) (E : R.Denot → Item 𝓤) {B : SProp 𝓤}
         → ent 𝓤 B (mean 𝓛 (later (some (λ (y : R.Denot). (t ⊛ ‵ (R.own_val y (v ∷ []))) ⊛ some (λ (ws : W). ‵ (L ws) ⊛ E y)))))
         → ((y : R.Denot) → Seq K 𝓛 (E y ∷ ‵ (R.own_val y (v ∷ [])) ∷ t ∷ Γ) G) → Seq K 𝓛 (raw B ∷ Γ) G
@@ -108,14 +108,14 @@ module _ {M : Type 1} {𝓤 : Ura M} {𝓛 : Logic 𝓤} {K : Type 0} where
         use1 𝓛 (later (some (λ (y : R.Denot). (t ⊛ ‵ (R.own_val y (v ∷ []))) ⊛ some (λ (ws : W). ‵ (L ws) ⊛ E y)))) h $
         await i z $ pick i (λ y. split i $ move i (1 ∷ []) $ pick i (λ ws. split i $ drop i $ move i (1 ∷ []) $ split i $ move i (2 ∷ 1 ∷ 0 ∷ []) $ next y))
 
-    -- the same of a reference that is lent on: F is known of the loan
+    -- the same for a reference that is lent on; F is known of the borrow
     pub lends : K → Soaks G → (κ : Lft) (T : RattleType) (v : Val) (t : Item 𝓤) {W : Type 0} (L : W → Fml) (F : MutBor T.Denot → Fml) (φ : MutBor T.Denot → Type 0) {B : SProp 𝓤}
         → ent 𝓤 B (mean 𝓛 (later (some (λ (y : MutBor T.Denot). (t ⊛ ‵ ((MutRef (named 0) κ T).own_val y (v ∷ []))) ⊛ some (λ (ws : W). ‵ (L ws) ⊛ (‵ (F y) ⊛ raw (fact 𝓤 (φ y))))))))
         → ((y : MutBor T.Denot) → φ y → v ≡ vptr y.ref_ptr.0 y.ref_ptr.1 → Seq K 𝓛 (‵ ((MutRef (named 0) κ T).own_val y (mut_vals y)) ∷ ‵ (F y) ∷ t ∷ Γ) G) → Seq K 𝓛 (raw B ∷ Γ) G
     lends i z κ T v t L F φ h next = gives i z (MutRef (named 0) κ T) v t L (λ y. ‵ (F y) ⊛ raw (fact 𝓤 (φ y))) h (λ y.
         split i $ move i (1 ∷ []) $ heard i _ (λ x. move i (1 ∷ []) $ fsplit i $ feq_l i (λ vis. feq_i i (List Val) (mut_vals y) (mut_vals y) refl $ fjoin i $ next y x (ap only vis))))
 
--- a test's answer
+-- the answer of a test
 pub is-true : (x : Bool) → T x → x ≡ true
 is-true true t = refl
 is-true false t = absurd t

@@ -1,4 +1,4 @@
--- What an error tells, by content: a text is its bytes, and neither capacity nor address is in it.
+-- The contents of an error as plain data: a string is its bytes, without capacity or address.
 use Rattle.std.specs.Prelude.{◌≡◌, ℕ, List, Option, map, String, string_bytes}
 use Rattle.std.specs.Global.{Global}
 use Rattle.std.specs.Option.{option_map}
@@ -10,7 +10,7 @@ use Rattle.toml_span_tree.specs.declared.error.Error.{Error}
 use Rattle.toml_span_tree.specs.declared.error.ErrorKind.{ErrorKind}
 use Rattle.toml_span_tree.specs.declared.error.ErrorKind.TheVariants as kinds
 
--- What is wrong. A character is its code, and a text the list of its bytes.
+-- What is wrong. A character is its code point, and a string the list of its bytes.
 pub data Kind : Type 0 where
   unexpected_eof : Kind
   exceeded_depth_limit : Kind
@@ -22,18 +22,18 @@ pub data Kind : Type 0 where
   unterminated_string : Kind
   invalid_number : Kind
   invalid_datetime : Kind
-  -- the type that the number does not fit
+  -- the type that cannot hold the number
   out_of_range : List ℕ → Kind
   -- what was expected, and what was found
   wanted : List ℕ → List ℕ → Kind
-  -- the table's name, and where it stood first
+  -- the table's name, and the earlier header
   duplicate_table : List ℕ → Span → Kind
-  -- the key's name, and where it stood first
+  -- the key's name, and the earlier key
   duplicate_key : List ℕ → Span → Kind
   redefine_as_array : Kind
   multiline_string_key : Kind
   custom : List ℕ → Kind
-  -- where the value stands that the dotted key goes through
+  -- the span of the earlier value's key
   dotted_key_invalid_type : Span → Kind
   -- the keys with their spans, and the names that were expected
   unexpected_keys : List (List ℕ × Span) → List (List ℕ) → Kind
@@ -43,7 +43,7 @@ pub data Kind : Type 0 where
   deprecated : List ℕ → List ℕ → Kind
   -- the values that were expected, and the one that was found
   unexpected_value : List (List ℕ) → Option (List ℕ) → Kind
-  -- the code, the message, and what is said of other places
+  -- the code, the message, and other places with their labels
   marked : List ℕ → List ℕ → List (List ℕ × Span) → Kind
 
 -- what is wrong, and where
@@ -52,11 +52,11 @@ pub record ErrorContent : Type 0 where
   pub span : Span
   pub line_info : Option (ℕ × ℕ)
 
--- keys by content, each with its span
+-- keys as plain data, each with its span
 abbrev pub marked_keys : List (String Global × Span) → List (List ℕ × Span)
 marked_keys keys = map (λ key. (string_bytes key.0, key.1)) keys
 
--- what a kind of error tells
+-- the kind of an error as plain data
 abbrev pub kind_of : ErrorKind → Kind
 kind_of kinds.UnexpectedEof = unexpected_eof
 kind_of kinds.ExceededDepthLimit = exceeded_depth_limit
@@ -85,10 +85,10 @@ kind_of (kinds.UnexpectedValue expected value) =
     unexpected_value (map (λ name. name.now) expected.now) (option_map string_bytes value)
 kind_of (kinds.Marked code message places) = marked code.now (cow_str_bytes message) (marked_keys places.items)
 
--- what an error tells
+-- an error as plain data
 abbrev pub content_of : Error → ErrorContent
 content_of error = record { kind = kind_of error.kind; span = error.span; line_info = error.line_info }
 
--- the fault that `gives` makes of the error
+-- the fault that `gives` makes from the error
 abbrev pub IsFaultOf : {E : Type 0} → (Error → E → Type 0) → Error → Stop E → Type 0
 IsFaultOf gives error why = (fault : _) × gives error fault × (why ≡ stop.Fault fault)

@@ -1,4 +1,4 @@
--- The JSON value of a tree without its spans: a float and a date as their texts.
+-- The JSON value of a tree, without spans. Floats and dates are strings.
 use Rattle.serde_json.specs.Data as json
 use Rattle.serde_json.specs.Find.{of_integer}
 use Rattle.toml_span_tree.specs.Float.{float_text}
@@ -12,7 +12,7 @@ scalar_json (float x) = json.string (float_text x)
 scalar_json (boolean b) = json.boolean b
 scalar_json (datetime d) = json.string d
 
--- a value that is taken has none, and `null` stands there
+-- a value that has been taken is `null`
 abbrev mutual
   pub json_of : Node → json.Data
   json_of (node i span) = json_in i

@@ -1,4 +1,4 @@
--- What a value ends as, once a `&mut` into it has ended.
+-- The final state of a value from which a `&mut` reference was lent.
 use Rattle.std.specs.Prelude.{◌≡◌, ℕ, List, [], Option}
 use Rattle.std.specs.Option.{OnSome}
 use Rattle.std.specs.Borrow.{Fml, MutBor, RattleType, LendsSo}
@@ -8,11 +8,12 @@ use Rattle.toml_span_tree.specs.declared.value.Value.{Value}
 use Rattle.toml_span_tree.specs.Value.{view}
 use Rattle.toml_span_tree.specs.Pointer.{put_pointed}
 
--- the types of a tree whose texts live as long as the signature's second lifetime
+-- the types of a tree whose strings live as long as the second lifetime of the signature
 abbrev pub value_row : RattleType
 value_row = value.the_row (record { mir = named 1; lft = [] })
 
--- s ends with the last value behind r in the place that the pointer names, or is unchanged if r is None
+-- When the borrows end, the tree at s has the final value of r at the place that the pointer names, or is unchanged if
+-- r is None.
 abbrev pub lends_pointed : MutBor Value → List ℕ → Option (MutBor Value) → Fml
 lends_pointed s p r =
     LendsSo value_row value_row s r (λ n w. OnSome r (view n ≡ put_pointed p (view w) (view s.now))) (λ n. n ≡ s.now)

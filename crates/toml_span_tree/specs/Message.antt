@@ -1,4 +1,4 @@
--- What an error prints: its kind as a code, and the error as a text.
+-- What is printed of an error: the code of its kind, and its text.
 use Rattle.std.specs.Prelude.{ℕ, List, ◌++◌, if◌then◌else◌, codes, encode_utf8}
 use Rattle.std.specs.Char.{is_whitespace}
 use Rattle.std.specs.Fmt.{decimal}

@@ -19,14 +19,14 @@ step_of (lent.Position i) = position i
 abbrev pub key_of : Key → List ℕ × Span
 key_of k = (cow_str_bytes k.name, k.span)
 
--- the path, the key that names the value in its table, and the value
+-- the path of a value, its key if it is an entry of a table, and the value
 abbrev pub Listed : Type 0
 Listed = Path × Option (List ℕ × Span) × Node
 
 abbrev pub seen : Visited → Listed
 seen visited = (map step_of visited.path.items, option_map (λ k. key_of k.now) visited.key, view visited.value.now)
 
--- each value before those in it, behind a path
+-- each value, followed by those inside it; the paths begin with this one
 abbrev mutual
   pub nodes_from : Path → Option (List ℕ × Span) → Node → List Listed
   nodes_from path k (node i span) = (path, k, node i span) ∷ held_nodes path i
@@ -37,7 +37,7 @@ abbrev mutual
   held_nodes path (array ns) = items_nodes path 0 ns
   held_nodes path (table ms) = members_nodes path ms
 
-  -- the elements from a position on
+  -- the same for elements, beginning at a position
   pub items_nodes : Path → ℕ → Items → List Listed
   items_nodes path i no_items = []
   items_nodes path i (item n ns) = nodes_from (path ++ position i ∷ []) None n ++ items_nodes path (suc i) ns

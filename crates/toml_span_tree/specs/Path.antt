@@ -1,4 +1,4 @@
--- The path map of a tree: what stands at each path.
+-- The path map of a tree: the place at each path.
 use Rattle.std.specs.Prelude.{◌≡◌, ℕ, zero, suc, List, [], ◌∷◌, ◌++◌, cond, Option, Some, None, option_map}
 use Rattle.std.specs.Prelude.{option_and_then}
 use Rattle.std.specs.Str.{bytes_eq}
@@ -7,7 +7,7 @@ use Rattle.toml_span_tree.specs.Node.{Scalar, Node, node, Inner, taken, scalar, 
 use Rattle.toml_span_tree.specs.Node.{Members, no_members, member, entry_at, element_at}
 use Rattle.toml_span_tree.specs.Value.{inner_of, span_of}
 
--- a step down: to the entry with a name, or to the element at a position
+-- a step: to the entry with a name, or to the element at a position
 pub data Step : Type 0 where
   key : List ℕ → Step
   position : ℕ → Step
@@ -15,14 +15,14 @@ pub data Step : Type 0 where
 abbrev pub Path : Type 0
 Path = List Step
 
--- what stands at a place: that it is taken, or its kind, and the value of a scalar
+-- the shape of a place: that it has been taken, or its kind, and the value if it is a scalar
 pub data Shape : Type 0 where
   shape_taken : Shape
   shape_scalar : Scalar → Shape
   shape_array : Shape
   shape_table : Shape
 
--- what a tree shows at a path; a key's span stands where a table's entry does
+-- The place at a path. It has the span of a key if it is an entry of a table.
 pub record Place : Type 0 where
   pub shape : Shape
   pub key_span : Option Span
@@ -34,7 +34,7 @@ shape_of (scalar s) = shape_scalar s
 shape_of (array ns) = shape_array
 shape_of (table ms) = shape_table
 
--- where a step leads: the key's span, if it is a key, and the value
+-- where a step leads: to this value, with the span of its key, if it has one
 abbrev pub at_step : Step → Inner → Option (Option Span × Node)
 at_step s taken = None
 at_step s (scalar x) = None
@@ -59,17 +59,17 @@ place_at path n = option_map place_of (reached path (None, n))
 abbrev pub node_at : Path → Node → Option Node
 node_at path n = option_map (λ m. m.1) (reached path (None, n))
 
--- the value that a step leads to
+-- the value to which a step leads
 abbrev pub child : Step → Node → Option Node
 child s n = option_map (λ m. m.1) (at_step s (inner_of n))
 
--- the entries with another value at that name; the keys and their spans stay
+-- the entries with another value under this name; keys and their spans are unchanged
 abbrev pub set_entry : List ℕ → Node → Members → Members
 set_entry name w no_members = no_members
 set_entry name w (member other span n ms) =
     cond (bytes_eq name other) (member other span w ms) (member other span n (set_entry name w ms))
 
--- the elements with another one at that position
+-- the elements with another one at this position
 abbrev pub set_element : ℕ → Node → Items → Items
 set_element i w no_items = no_items
 set_element zero w (item n ns) = item w ns
@@ -88,12 +88,12 @@ abbrev pub put_where : Option Node → Step → (Node → Node) → Node → Nod
 put_where None s change n = n
 put_where (Some m) s change n = node (set_at_step s (change m) (inner_of n)) (span_of n)
 
--- n with w at the path: w itself at the empty path, else the same table or array with the change in the one place that
--- the first step leads to
+-- n with w at the path: w itself at the empty path, otherwise the same table or array with the change where the first
+-- step leads
 abbrev pub put : Path → Node → Node → Node
 put [] w n = w
 put (s ∷ path) w n = put_where (child s n) s (put path w) n
 
--- the path begins with the steps of the other
+-- The path begins with the steps of `start`.
 abbrev pub BeginsWith : Path → Path → Type 0
 BeginsWith start path = (rest : Path) × (path ≡ start ++ rest)

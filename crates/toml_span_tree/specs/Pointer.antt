@@ -1,4 +1,4 @@
--- What a pointer text names in a tree.
+-- Which value of a tree a pointer names.
 use Rattle.std.specs.Prelude.{◌≡◌, ⊤, ℕ, ◌&&◌, ◌||◌, ◌==◌, nat_lt, not, length, slice_index, List, [], ◌∷◌, Bool, true}
 use Rattle.std.specs.Prelude.{false, if◌then◌else◌, cond, Option, Some, None, option_map, option_and_then}
 use Rattle.std.specs.Str.{all_ascii_digits, bytes_eq}
@@ -8,16 +8,16 @@ use Rattle.toml_span_tree.specs.Node.{Node, Inner, taken, scalar, array, table}
 use Rattle.toml_span_tree.specs.Value.{inner_of, is_taken}
 use Rattle.toml_span_tree.specs.Path.{Step, key, position, Path, child, node_at, put}
 
--- decimal digits, at least one, with no sign and no leading zero but `0` itself
+-- decimal digits, at least one, without a sign or a leading zero, except for `0` itself
 abbrev pub is_decimal_form : List ℕ → Bool
 is_decimal_form text =
     nat_lt 0 (length text) && all_ascii_digits text && (length text == 1 || not (slice_index text 0 == digit_zero))
 
--- the position that the text spells
+-- the position that the segment denotes
 unfoldable pub position_of : List ℕ → Option ℕ
 position_of text = if is_decimal_form text then Some (digits_value 10 text) else None
 
--- the step that a segment names: in a table a key's name, in an array a position
+-- the step that a segment names: a key in a table, a position in an array
 abbrev pub step_named : List ℕ → Inner → Option Step
 step_named segment taken = None
 step_named segment (scalar s) = None
@@ -27,11 +27,11 @@ step_named segment (table ms) = Some (key segment)
 abbrev pub if_not_taken : Node → Option Node
 if_not_taken n = cond (is_taken n) None (Some n)
 
--- the value that a step leads to, unless it is taken
+-- the value to which a step leads, unless it has been taken
 abbrev pub untaken_child : Node → Step → Option Node
 untaken_child n s = option_and_then if_not_taken (child s n)
 
--- the path that the segments name one by one; None where it leads nowhere, or through or to a value that is taken
+-- the path that the segments name, one by one; None if it leads nowhere, or through or to a value that has been taken
 abbrev pub path_named : List (List ℕ) → Node → Option Path
 path_named [] n = Some []
 path_named (segment ∷ more) n =
@@ -42,12 +42,12 @@ abbrev pub push_front : ℕ → List (List ℕ) → List (List ℕ)
 push_front x [] = (x ∷ []) ∷ []
 push_front x (segment ∷ more) = (x ∷ segment) ∷ more
 
--- the text, cut at each slash
+-- the text, split at each slash
 unfoldable pub segments : List ℕ → List (List ℕ)
 segments [] = [] ∷ []
 segments (x ∷ xs) = if x == slash then [] ∷ segments xs else push_front x (segments xs)
 
--- the segments of a pointer: none of the empty text, else those behind the slash with which it begins
+-- The segments of a pointer: none if it is empty, otherwise those after the slash with which it begins.
 unfoldable pub pointer_segments : List ℕ → Option (List (List ℕ))
 pointer_segments [] = Some []
 pointer_segments (x ∷ xs) = if x == slash then Some (segments xs) else None
@@ -64,22 +64,22 @@ abbrev pub put_where_named : Option Path → Node → Node → Node
 put_where_named None w n = n
 put_where_named (Some path) w n = put path w n
 
--- n with w in the place that the pointer names
+-- n with w at the place that the pointer names
 abbrev pub put_pointed : List ℕ → Node → Node → Node
 put_pointed pointer w n = put_where_named (pointed_path pointer n) w n
 
--- the positions differ, if both are there
+-- The positions differ, if there are two.
 abbrev pub positions_apart : Option ℕ → Option ℕ → Bool
 positions_apart None o = true
 positions_apart (Some i) None = true
 positions_apart (Some i) (Some j) = not (i == j)
 
--- the segments name different places in whatever table or array: their bytes differ, and so do the positions that they
--- spell
+-- The segments name different places in any table or array: their bytes differ, and so do the positions that they
+-- denote.
 abbrev pub segments_apart : List ℕ → List ℕ → Bool
 segments_apart segment other = not (bytes_eq segment other) && positions_apart (position_of segment) (position_of other)
 
--- the segments part at some place, behind which they may be what they like
+-- The segments differ at some place. Those after it may be anything.
 abbrev pub paths_part : List (List ℕ) → List (List ℕ) → Bool
 paths_part [] others = false
 paths_part (segment ∷ more) [] = false
@@ -91,11 +91,11 @@ part_where None o = false
 part_where (Some names) None = false
 part_where (Some names) (Some others) = paths_part names others
 
--- the two pointers part, so that neither names what stands at or below the other's place
+-- The two pointers diverge, so neither names the other's place or one below it.
 abbrev pub pointers_part : List ℕ → List ℕ → Bool
 pointers_part pointer other = part_where (pointer_segments pointer) (pointer_segments other)
 
--- the segments name the steps of the path one by one: a key by its name, a position by its decimal form
+-- The segments name the steps of the path, one by one: a key by its name, a position by its decimal form.
 abbrev pub NamesPath : List (List ℕ) → Path → Type 0
 NamesPath [] [] = ⊤
 NamesPath [] (s ∷ path) = ⊥
@@ -103,10 +103,9 @@ NamesPath (segment ∷ names) [] = ⊥
 NamesPath (segment ∷ names) (key name ∷ path) = (segment ≡ name) × NamesPath names path
 NamesPath (segment ∷ names) (position i ∷ path) = (position_of segment ≡ Some i) × NamesPath names path
 
--- The pointer names m in n: its segments name a path, m stands there, and m is not taken, unless it is n itself.
+-- The pointer names m in n: its segments name a path, m is at that path, and m has not been taken, unless it is n
+-- itself.
 abbrev pub IsPointed : List ℕ → Node → Node → Type 0
 IsPointed pointer n m =
     (names : List (List ℕ)) × (path : Path) × (pointer_segments pointer ≡ Some names) × NamesPath names path
     × (node_at path n ≡ Some m) × (is_taken m ≡ true → path ≡ [])
-
--- The same, a segment at a time.

@@ -1,5 +1,5 @@
--- What a value means, and what the calls of `Value` and `ValueInner` answer. Whether a text is borrowed is no part of
--- it.
+-- Values as plain data, and what the methods of `Value` and `ValueInner` return. Whether a string is borrowed is left
+-- out.
 use Rattle.std.specs.Prelude.{ℕ, ℤ, List, [], ◌∷◌, map, Bool, true, false, Option, Some, None, option_and_then, ◌&&◌}
 use Rattle.std.specs.Prelude.{codes, string_bytes}
 use Rattle.std.specs.Cow.{cow_str_bytes}
@@ -37,7 +37,7 @@ abbrev pub inner_or_taken : Option Inner → Inner
 inner_or_taken None = taken
 inner_or_taken (Some i) = i
 
--- one level of each type, with each value inside already seen as its meaning
+-- one level of each type, with the values inside already converted
 abbrev pub inner_step : ValueInner-F Inner Node → Inner
 inner_step (ValueInner-F.String s) = scalar (text (cow_str_bytes s))
 inner_step (ValueInner-F.Integer z) = scalar (integer z)
@@ -50,11 +50,11 @@ inner_step (ValueInner-F.Table m) = table (members_of m.entries)
 abbrev pub value_step : Value-F Inner Node → Node
 value_step v = node (inner_or_taken v.value) v.span
 
--- a value
+-- a value as plain data
 abbrev pub view : Value → Node
 view = fold-Value Inner Node inner_step value_step
 
--- what a value holds
+-- the content of a value as plain data
 abbrev pub inner_view : ValueInner → Inner
 inner_view = fold-ValueInner Inner Node inner_step value_step
 
@@ -66,7 +66,7 @@ items_view vs = items_of (map view vs)
 abbrev pub members_view : List (Key × Value) → Members
 members_view es = members_of (map (λ e. (e.0, view e.1)) es)
 
--- what the node holds, or that it is taken
+-- the content of a value, or that it has been taken
 abbrev pub inner_of : Node → Inner
 inner_of (node i span) = i
 
@@ -80,7 +80,7 @@ holds_nothing _ = false
 abbrev pub is_taken : Node → Bool
 is_taken n = holds_nothing (inner_of n)
 
--- nothing is taken here or below
+-- Whether neither the value nor any inside it has been taken.
 abbrev mutual
   pub is_whole : Node → Bool
   is_whole (node i span) = holds_whole i
@@ -99,7 +99,7 @@ abbrev mutual
   all_members_whole no_members = true
   all_members_whole (member name key n ms) = is_whole n && all_members_whole ms
 
--- the scalar, the elements, the entries; None of another kind, and where nothing is held
+-- the scalar, the elements or the entries; None if the value is of another kind, or has been taken
 abbrev pub scalar_in : Inner → Option Scalar
 scalar_in (scalar s) = Some s
 scalar_in _ = None
@@ -112,7 +112,7 @@ abbrev pub members_in : Inner → Option Members
 members_in (table ms) = Some ms
 members_in _ = None
 
--- a scalar of one kind; None of another
+-- a scalar of one kind; None if it is of another kind
 abbrev pub text_of : Scalar → Option (List ℕ)
 text_of (text s) = Some s
 text_of _ = None
@@ -162,16 +162,16 @@ kind_name (scalar s) = scalar_kind s
 kind_name (array ns) = codes "array"
 kind_name (table ms) = codes "table"
 
--- whether there is an entry
+-- Whether there is an entry.
 abbrev pub is_filled : Members → Bool
 is_filled no_members = false
 is_filled (member name key n ms) = true
 
--- whether a table is held that has an entry
+-- Whether the value is a table that has an entry.
 abbrev pub has_members : Inner → Bool
 has_members (table ms) = is_filled ms
 has_members _ = false
 
--- the error that says what was expected of a value, and the kind of the value that was found
+-- the error that names what was expected, and the kind of value that was found
 abbrev pub wrong_kind : List ℕ → Node → ErrorContent
 wrong_kind expected n = record { kind = wanted expected (kind_name (inner_of n)); span = span_of n; line_info = None }

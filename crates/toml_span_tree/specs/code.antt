@@ -1,3 +1,3 @@
--- How the code's functions share the work: nothing that stands beside this folder cites it.
+-- How the functions share the work. Nothing outside this folder cites it.
 pub mod Pointer
 pub mod Lending

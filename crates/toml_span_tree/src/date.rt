@@ -5,7 +5,7 @@ ghost use Rattle.std.specs.List.{list_all};
 ghost use Rattle.toml_span_tree.specs.Date as spec;
 ghost use Rattle.toml_span_tree.specs.Date.{IsDateText};
 
-/// A date, a time, or both, as it stands in the document.
+/// A date, a time, or both, as written in the document.
 ///
 /// Its grammar is that of TOML 1.1, "Offset Date-Time" to "Local Time".
 #[derive(Clone, Copy, PartialEq, Eq, Debug)]
@@ -17,7 +17,7 @@ pub struct DateText<'de> {
 impl<'de> DateText<'de> {
     ghost use Rattle.toml_span_tree.specs.Value.{date_bytes};
 
-    /// The date text that this is, if it is one. The text is borrowed.
+    /// Returns the date text, which borrows `text`, or `None` if it is not a valid date or time.
     pub fn new(text: &'de str) -> Option<Self>
         ensures found { IsSome result ↔ IsDateText text.now }
         ensures text { IfSome result (λ date. date_bytes date ≡ text.now) }
@@ -29,7 +29,7 @@ impl<'de> DateText<'de> {
         }
     }
 
-    /// The text.
+    /// Returns the text.
     pub fn text(&self) -> &'de str
         ensures text { result.now ≡ date_bytes self.now }
         ensures is_date { IsDateText result.now }
@@ -38,14 +38,14 @@ impl<'de> DateText<'de> {
     }
 }
 
-/// The byte at a place, or 0 behind the end.
+/// Returns the byte at `at`, or 0 past the end.
 fn byte_at(text: &[u8], at: usize) -> u8
     ensures { result ≡ slice_index text.now at }
 {
     text.get(at).copied().unwrap_or(0)
 }
 
-/// The number that two digits at a place give.
+/// Returns the number that the two digits at `at` denote.
 fn two_digits(text: &[u8], at: usize) -> u32
     requires { at < 100 }
     ensures value { result ≡ spec.two_digits text.now at }
@@ -56,7 +56,7 @@ fn two_digits(text: &[u8], at: usize) -> u32
     10 * u32::from(tens) + u32::from(ones)
 }
 
-/// Whether two digits at a place give a number from `low` to `high`.
+/// Returns whether there are two digits at `at`, whose value is from `low` to `high`.
 fn is_two_digits(text: &[u8], at: usize, low: u32, high: u32) -> bool
     requires { at < 100 }
     ensures { result ≡ spec.is_two_digits low high text.now at }
@@ -74,7 +74,7 @@ fn is_leap_year(year: u32) -> bool
     (year % 4 == 0 && year % 100 != 0) || year % 400 == 0
 }
 
-/// The last day of a month from 1 to 12.
+/// Returns the last day of a month, which is from 1 to 12.
 fn last_day(year: u32, month: u32) -> u32
     ensures { result ≡ spec.last_day year month }
 {
@@ -85,7 +85,7 @@ fn last_day(year: u32, month: u32) -> u32
     }
 }
 
-/// The year at the front.
+/// Returns the year at the front.
 fn year_of(text: &[u8]) -> u32
     ensures { result ≡ spec.year_of text.now }
 {
@@ -98,7 +98,7 @@ fn has_year(text: &[u8]) -> bool
     is_two_digits(text, 0, 0, 99) && is_two_digits(text, 2, 0, 99)
 }
 
-/// `full-date = date-fullyear "-" date-month "-" date-mday`
+/// Returns whether the text is a date: `full-date = date-fullyear "-" date-month "-" date-mday`.
 #[tactic(auto, unfolding(crate::specs::Date::is_full_date))]
 fn is_full_date(text: &[u8]) -> bool
     ensures { result ≡ spec.is_full_date text.now }
@@ -111,7 +111,7 @@ fn is_full_date(text: &[u8]) -> bool
         && is_two_digits(text, 8, 1, last_day(year_of(text), two_digits(text, 5)))
 }
 
-/// `time-hour ":" time-minute`, at the front.
+/// Returns whether the text begins with `time-hour ":" time-minute`.
 fn has_hour_minute(text: &[u8]) -> bool
     ensures { result ≡ spec.has_hour_minute text.now }
 {
@@ -124,14 +124,14 @@ fn are_digits(text: &[u8]) -> bool
     text.iter().all(|byte| byte.is_ascii_digit())
 }
 
-/// `time-secfrac = "." 1*DIGIT`
+/// Returns whether the text is a fraction of a second: `time-secfrac = "." 1*DIGIT`.
 fn is_time_secfrac(text: &[u8]) -> bool
     ensures { result ≡ spec.is_time_secfrac text.now }
 {
     byte_at(text, 0) == b'.' && text.len() > 1 && are_digits(&text[1..])
 }
 
-/// `[ ":" time-second [ time-secfrac ] ]`
+/// Returns whether the text is `[ ":" time-second [ time-secfrac ] ]`.
 fn is_seconds(text: &[u8]) -> bool
     ensures { result ≡ spec.is_seconds text.now }
 {
@@ -142,7 +142,7 @@ fn is_seconds(text: &[u8]) -> bool
     byte_at(text, 0) == b':' && is_two_digits(text, 1, 0, 60) && is_time_secfrac(&text[3..])
 }
 
-/// `partial-time = time-hour ":" time-minute [ ":" time-second [ time-secfrac ] ]`
+/// Returns whether the text is a time: `partial-time = time-hour ":" time-minute [ ":" time-second [ time-secfrac ] ]`.
 #[tactic(auto, unfolding(crate::specs::Date::is_partial_time))]
 fn is_partial_time(text: &[u8]) -> bool
     ensures { result ≡ spec.is_partial_time text.now }
@@ -150,7 +150,7 @@ fn is_partial_time(text: &[u8]) -> bool
     text.len() >= 5 && has_hour_minute(text) && is_seconds(&text[5..])
 }
 
-/// `time-offset = "Z" / ( "+" / "-" ) time-hour ":" time-minute`
+/// Returns whether the text is an offset: `time-offset = "Z" / ( "+" / "-" ) time-hour ":" time-minute`.
 #[tactic(auto, unfolding(crate::specs::Date::is_time_offset))]
 fn is_time_offset(text: &[u8]) -> bool
     ensures { result ≡ spec.is_time_offset text.now }
@@ -162,7 +162,7 @@ fn is_time_offset(text: &[u8]) -> bool
     }
 }
 
-/// A time, then an offset of `len` bytes.
+/// Returns whether the text is a time followed by an offset of `len` bytes.
 fn is_time_with(len: usize, text: &[u8]) -> bool
     ensures { result ≡ spec.is_time_with len text.now }
 {
@@ -170,7 +170,7 @@ fn is_time_with(len: usize, text: &[u8]) -> bool
     is_time_offset(offset) && is_partial_time(time)
 }
 
-/// `partial-time [ time-offset ]`, where a time offset has one byte or six.
+/// Returns whether the text is `partial-time [ time-offset ]`, where an offset has one or six bytes.
 #[tactic(auto, unfolding(crate::specs::Date::is_time))]
 fn is_time(text: &[u8]) -> bool
     ensures { result ≡ spec.is_time text.now }
@@ -178,14 +178,14 @@ fn is_time(text: &[u8]) -> bool
     is_partial_time(text) || is_time_with(1, text) || is_time_with(6, text)
 }
 
-/// `time-delim = "T" / %x20`
+/// Returns whether the byte separates a date from a time: `time-delim = "T" / %x20`.
 fn is_time_delim(byte: u8) -> bool
     ensures { result ≡ spec.is_time_delim byte }
 {
     byte == b'T' || byte == b't' || byte == b' '
 }
 
-/// `full-date time-delim partial-time [ time-offset ]`
+/// Returns whether the text is `full-date time-delim partial-time [ time-offset ]`.
 fn is_date_time(text: &[u8]) -> bool
     ensures { result ≡ spec.is_date_time text.now }
 {

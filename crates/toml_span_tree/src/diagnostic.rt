@@ -11,32 +11,32 @@ use crate::message::Shown;
 use std::alloc::{AllocError, Global};
 use toml_span_lex::span::Span;
 
-/// An error with the places that it is about.
+/// An error with the places that it concerns.
 #[derive(Debug, Drop)]
 pub struct Diagnostic<F> {
     /// The code of the error's kind, such as `duplicate-key`.
     pub code: String,
-    /// What is wrong, or nothing where the labels say it.
+    /// What is wrong, or empty if the labels say it.
     pub message: String,
     /// The places.
     pub labels: Vec<Label<F>>,
 }
 
-/// A place, and what is to be said of it.
+/// A place in a file, and what to say about it.
 #[derive(Debug, Drop)]
 pub struct Label<F> {
-    /// Whether the error stands here. Another label is a place that it has to do with.
+    /// Whether this is the place of the error. Other labels are places related to it.
     pub primary: bool,
     /// The file.
     pub file: F,
-    /// The bytes.
+    /// The byte span.
     pub span: Span,
-    /// What is to be said, or nothing.
+    /// What to say about it, or empty.
     pub message: String,
 }
 
 impl ErrorKind<'_> {
-    /// The message of a diagnostic, which is empty where the label says all.
+    /// Returns the message of a diagnostic, which is empty if the label says everything. Fails if an allocation fails.
     fn message(&self, alloc: Global) -> Result<String, AllocError>
         ensures { IfOk result (λ text. string_bytes text ≡ message_of (kind_of self.now)) }
     {
@@ -67,7 +67,7 @@ impl ErrorKind<'_> {
         }
     }
 
-    /// The text of the label at the error's own span.
+    /// Returns the text of the label at the error's own span. Fails if an allocation fails.
     fn label_text(&self, alloc: Global) -> Result<String, AllocError>
         ensures { IfOk result (λ text. string_bytes text ≡ label_text_of (kind_of self.now)) }
     {
@@ -105,7 +105,7 @@ impl ErrorKind<'_> {
     }
 }
 
-/// A text with a character in it.
+/// Returns a text with a character between two others. Fails if an allocation fails.
 fn around(alloc: Global, before: &str, c: char, after: &str) -> Result<String, AllocError>
     ensures { IfOk result (λ text. string_bytes text ≡ before.now ++ told_char c ++ after.now) }
 {
@@ -113,7 +113,7 @@ fn around(alloc: Global, before: &str, c: char, after: &str) -> Result<String, A
     format!(in alloc; "{before}{c}{after}")
 }
 
-/// How many keys were found, and which were expected.
+/// Returns the message that `count` keys are unexpected, with the expected ones. Fails if an allocation fails.
 fn unexpected_keys(alloc: Global, count: usize, expected: &[String]) -> Result<String, AllocError>
     ensures { IfOk result (λ text. string_bytes text
         ≡ unexpected_keys_message count (map string_bytes expected.now)) }
@@ -122,7 +122,7 @@ fn unexpected_keys(alloc: Global, count: usize, expected: &[String]) -> Result<S
     format!(in alloc; "found {count} unexpected keys, expected: {expected}")
 }
 
-/// A label beside the error, at each of these keys.
+/// Returns a secondary label at each of these keys. Fails if an allocation fails.
 fn key_labels<F: Copy>(
     alloc: Global,
     file: F,
@@ -143,7 +143,7 @@ fn key_labels<F: Copy>(
     Ok(labels)
 }
 
-/// The error's own label, and one beside it for each of these places, with what is said of it.
+/// Returns the error's own label, followed by a secondary label for each of these places. Fails if an allocation fails.
 fn marked_labels<F: Copy>(
     alloc: Global,
     file: F,
@@ -167,9 +167,9 @@ fn marked_labels<F: Copy>(
 }
 
 impl Error<'_> {
-    /// The error with its places, for an editor or a terminal to show. `fid` names the file.
+    /// Converts the error into a diagnostic that an editor or a terminal can show. `fid` identifies the file.
     ///
-    /// On want of memory there is none, and the error is as before.
+    /// Fails if an allocation fails; the error is unchanged.
     pub fn to_diagnostic<F: Copy + PartialEq>(
         &self,
         alloc: Global,
@@ -189,7 +189,7 @@ impl Error<'_> {
         })
     }
 
-    /// The labels in order.
+    /// Returns the labels in order. Fails if an allocation fails.
     fn labels<F: Copy>(&self, alloc: Global, file: F) -> Result<Vec<Label<F>>, AllocError>
         ensures { IfOk result (λ labels. map label_content labels.items
             ≡ labels_of file self.now.span (kind_of self.now.kind)) }
@@ -224,7 +224,7 @@ impl Error<'_> {
     }
 }
 
-/// A label beside the error.
+/// Returns a secondary label. Fails if an allocation fails.
 fn secondary<F: Copy>(
     alloc: Global,
     file: F,
@@ -241,7 +241,7 @@ fn secondary<F: Copy>(
     })
 }
 
-/// A list of one label.
+/// Returns a list of one label. Fails if an allocation fails.
 fn one<F: Copy>(alloc: Global, label: Label<F>) -> Result<Vec<Label<F>>, AllocError>
     ensures { IfOk result (λ labels. labels.items ≡ label ∷ []) }
 {
@@ -250,7 +250,7 @@ fn one<F: Copy>(alloc: Global, label: Label<F>) -> Result<Vec<Label<F>>, AllocEr
     Ok(labels)
 }
 
-/// A list of two labels.
+/// Returns a list of two labels. Fails if an allocation fails.
 fn two<F: Copy>(
     alloc: Global,
     first: Label<F>,
@@ -258,6 +258,7 @@ fn two<F: Copy>(
 ) -> Result<Vec<Label<F>>, AllocError>
     ensures { IfOk result (λ labels. labels.items ≡ first ∷ second ∷ []) }
 {
+    // Toolchain: `vec![in alloc; first, second]` at a type parameter leaves the goal `vec-requires` open.
     let mut labels = Vec::with_capacity(alloc, 2)?;
     labels.push(first)?;
     labels.push(second)?;

@@ -1,4 +1,4 @@
-//! What is told of a document, and where.
+//! Errors: what is wrong with a document, and where.
 ghost use Rattle.std.specs.Prelude.{◌≡◌, map, IfOk, string_bytes};
 ghost use Rattle.toml_span_tree.specs.Error.{content_of, kind_of, marked_keys};
 
@@ -7,33 +7,35 @@ use std::borrow::CowStr;
 use toml_span_lex::span::Span;
 use toml_span_lex::stop::Stop;
 
-/// What is wrong. A kind marked `Of a read` comes from typed reads of a tree, any other from `parse`;
-/// `Wanted` and `DuplicateKey` come from both. Spans are byte offsets, their end exclusive.
+// Toolchain: a generic function with `T: Deserialize<'de>` is refused if errors have `'static` strings ("a call goes by
+// a bound that names a lifetime of the function, whose signature names `'static`"), so they have the text's lifetime.
+/// What is wrong. Kinds marked "typed reads" come from reading types from a tree, all others from `parse`; `Wanted` and
+/// `DuplicateKey` come from both. Spans are byte offsets, their end exclusive.
 #[derive(Debug, Drop)]
 pub enum ErrorKind<'s> {
-    /// The end of the text in the place of a value.
+    /// The input ends where a value is expected.
     UnexpectedEof,
-    /// What is past the limit of depth.
+    /// A value, header or dotted key exceeds the limit on depth.
     ExceededDepthLimit,
-    /// A character that a string does not hold.
+    /// A character that strings must not contain.
     InvalidCharInString(char),
-    /// A character behind a backslash that begins no escape.
+    /// A character after a backslash that begins no escape.
     InvalidEscape(char),
-    /// A character in the place of a hexadecimal digit.
+    /// A character where a hexadecimal digit is expected.
     InvalidHexEscape(char),
-    /// Digits of an escape that give no character.
+    /// The digits of an escape are not a Unicode scalar value.
     InvalidEscapeValue(u32),
     /// A character that begins no token.
     Unexpected(char),
-    /// A string in which the text ends.
+    /// The input ends inside a string.
     UnterminatedString,
-    /// What is due to be a number.
+    /// A malformed number.
     InvalidNumber,
-    /// What is due to be a date or a time.
+    /// A malformed date or time.
     InvalidDatetime,
-    /// A number that the type of this name does not hold. Of a read.
+    /// A number that does not fit in the type of this name (typed reads).
     OutOfRange(&'s str),
-    /// Another token, or of a read another kind of value, than the one that is due.
+    /// Another token than the expected one; in typed reads, another kind of value.
     Wanted {
         expected: &'s str,
         found: &'s str,
@@ -43,42 +45,42 @@ pub enum ErrorKind<'s> {
         name: String,
         first: Span,
     },
-    /// A key that is claimed a second time; `first` is the earlier key.
+    /// A key that is defined a second time; `first` is the earlier key.
     DuplicateKey {
         key: String,
         first: Span,
     },
-    /// An array of tables where a table stands.
+    /// An array of tables that is already a table.
     RedefineAsArray,
-    /// A string of several lines as a key.
+    /// A multi-line string as a key.
     MultilineStringKey,
-    /// An error with a text of its own. Of a read.
+    /// An error with its own text (typed reads).
     Custom(CowStr<'s>),
     /// A key that goes through an earlier value; `first` is the key of that value.
     DottedKeyInvalidType {
         first: Span,
     },
-    /// Keys of a table that no field has, with their bytes, and the names of the fields. Of a read.
+    /// Keys of a table that are not fields of the type, with their spans, and the names of the fields (typed reads).
     UnexpectedKeys {
         keys: Vec<(String, Span)>,
         expected: Vec<String>,
     },
-    /// A word in the place of a value.
+    /// A bare word where a value is expected.
     UnquotedString,
-    /// A field of this name that the table lacks. Of a read.
+    /// A field of this name that the table lacks (typed reads).
     MissingField(&'s str),
-    /// A field under its old name. Of a read that warns.
+    /// A field under its old name (typed reads with warnings).
     Deprecated {
         old: &'s str,
         new: &'s str,
     },
-    /// A value that is none of these. Of a read.
+    /// A value other than the expected ones (typed reads).
     UnexpectedValue {
         expected: &'s [&'s str],
         value: Option<String>,
     },
-    /// An error with a code and a message of its own, and with other places, each with what is said of it. Of a
-    /// read: of `TableHelper::keep_repeated` (`duplicate-name`), of `toml_span_serde`, and of callers.
+    /// An error with its own code and message, and other places with their labels (typed reads): from
+    /// `TableHelper::keep_repeated` (`duplicate-name`), from `toml_span_serde`, and from callers.
     Marked {
         code: &'s str,
         message: CowStr<'s>,
@@ -86,13 +88,13 @@ pub enum ErrorKind<'s> {
     },
 }
 
-/// What is wrong, and where.
+/// An error: what is wrong, and where.
 #[derive(Debug, Drop)]
 pub struct Error<'s> {
     pub kind: ErrorKind<'s>,
     /// The bytes that the error is about.
     pub span: Span,
-    /// The line and the column at which the span starts, both counted from 0, if they are known.
+    /// The line and column at which the span starts, both counted from 0, if they are known.
     pub line_info: Option<(usize, usize)>,
 }
 
@@ -112,7 +114,7 @@ impl<'s> From<(ErrorKind<'s>, Span)> for Error<'s> {
     }
 }
 
-/// So a `?` takes an error in each function that answers a `Stop` of what is made of one.
+/// Lets `?` convert an error in functions that return a `Stop` of something made from errors.
 impl<'s, E: From<Error<'s>>> From<Error<'s>> for Stop<E> {
     ghost use Rattle.toml_span_tree.specs.Error.{IsFaultOf};
 
@@ -123,7 +125,7 @@ impl<'s, E: From<Error<'s>>> From<Error<'s>> for Stop<E> {
     }
 }
 
-/// A second list of these keys.
+/// Copies a list of keys. Fails if an allocation fails.
 #[tactic(auto, using(crate::proofs::Clones::keys_cloned))]
 fn clone_keys(keys: &Vec<(String, Span)>) -> Result<Vec<(String, Span)>, AllocError>
     ensures { IfOk result (λ copy. marked_keys copy.items ≡ marked_keys keys.now.items) }
@@ -131,7 +133,7 @@ fn clone_keys(keys: &Vec<(String, Span)>) -> Result<Vec<(String, Span)>, AllocEr
     keys.clone()
 }
 
-/// A second list of these names.
+/// Copies a list of names. Fails if an allocation fails.
 #[tactic(auto, using(crate::proofs::Clones::names_cloned))]
 fn clone_names(names: &Vec<String>) -> Result<Vec<String>, AllocError>
     ensures { IfOk result (λ copy. map string_bytes copy.items ≡ map string_bytes names.now.items) }
@@ -140,8 +142,7 @@ fn clone_names(names: &Vec<String>) -> Result<Vec<String>, AllocError>
 }
 
 impl<'s> ErrorKind<'s> {
-    /// A second kind of the same content. On want of memory there is none, and this one is as it
-    /// was.
+    /// Returns a copy with the same contents. Fails if an allocation fails; `self` is unchanged.
     pub fn clone(&self, alloc: Global) -> Result<Self, AllocError>
         ensures { IfOk result (λ copy. kind_of copy ≡ kind_of self.now) }
     {
@@ -206,8 +207,7 @@ impl<'s> ErrorKind<'s> {
 }
 
 impl<'s> Error<'s> {
-    /// A second error of the same content. On want of memory there is none, and this one is as it
-    /// was.
+    /// Returns a copy with the same contents. Fails if an allocation fails; `self` is unchanged.
     pub fn clone(&self, alloc: Global) -> Result<Self, AllocError>
         ensures { IfOk result (λ copy. content_of copy ≡ content_of self.now) }
     {

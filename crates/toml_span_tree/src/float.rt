@@ -1,13 +1,13 @@
 //! Floats as texts.
 
-/// A float as a text. Two floats are equal exactly where their texts are: `1.0` and `1.00` differ.
+/// A float as text. Two floats are equal exactly if their texts are: `1.0` and `1.00` differ.
 #[derive(PartialEq, Eq, Debug, Drop)]
 pub enum FloatText {
-    /// The literal with neither a plus nor underscores, and `E` before the exponent.
+    /// The literal without plus signs and underscores, and with `E` before the exponent.
     Finite(String),
-    /// `inf`, or `-inf` where it is negative.
+    /// `inf`, or `-inf` if it is negative.
     Infinite { negative: bool },
-    /// `nan`, or `-nan` where it is negative.
+    /// `nan`, or `-nan` if it is negative.
     NotANumber { negative: bool },
 }
 
@@ -16,7 +16,7 @@ impl FloatText {
     ghost use Rattle.toml_span_tree.specs.Float.{float_text};
     ghost use Rattle.toml_span_tree.specs.Value.{float_value};
 
-    /// The text: the cleaned literal, `inf`, `-inf`, `nan` or `-nan`.
+    /// Returns the text: the stored literal, `inf`, `-inf`, `nan` or `-nan`.
     pub fn text(&self) -> &str
         ensures { result.now ≡ float_text (float_value self.now) }
     {

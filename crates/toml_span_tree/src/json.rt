@@ -1,4 +1,4 @@
-//! JSON values of trees.
+//! Conversion of trees to JSON.
 ghost use Rattle.std.specs.Prelude.{◌≡◌, ◌++◌, ◌∷◌, [], true, IfOk, OnOk, map, string_bytes};
 ghost use Rattle.std.specs.Cow.{cow_str_bytes};
 ghost use Rattle.serde_json.specs.Data.{put, string};
@@ -13,10 +13,9 @@ use std::alloc::{AllocError, Global};
 use toml_span_lex::key::Key;
 
 impl Value<'_> {
-    /// The JSON value of the same shape, without spans: a text, a whole number, a truth value, an
-    /// array, or an object with the keys by name; a float and a date as their texts.
+    /// Converts the value to a JSON value of the same shape, without spans. Floats and dates become strings.
     ///
-    /// The value must be whole (`is_whole`). Only want of memory is refused.
+    /// The value must be whole (`is_whole`). Fails only if an allocation fails.
     pub fn to_json(&self, alloc: Global) -> Result<Json, AllocError>
         requires { is_whole (view self.now) ≡ true }
         ensures { IfOk result (λ json. json_view json ≡ json_of (view self.now)) }
@@ -65,7 +64,7 @@ fn json_of_elements(alloc: Global, array: &Array<'_>) -> Result<Vec<Json>, Alloc
     Ok(made)
 }
 
-/// Adds the values of these elements.
+/// Appends the JSON values of these elements. Fails if an allocation fails.
 #[cycle(json)]
 fn push_elements(
     alloc: Global,
@@ -100,7 +99,7 @@ fn json_of_entries(alloc: Global, table: &Table<'_>) -> Result<Map<String, Json>
     Ok(made)
 }
 
-/// Puts the value of an entry under the entry's name.
+/// Inserts the JSON value of an entry under its name. Fails if an allocation fails.
 #[cycle(json)]
 fn put_entry(
     alloc: Global,

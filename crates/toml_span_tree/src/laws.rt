@@ -1,4 +1,4 @@
-//! Laws of the definitions.
+//! Laws about the definitions.
 ghost use Rattle.std.specs.Prelude.{◌≡◌, ◌↔◌, ◌<◌, ◌^◌, ℕ, List, [], Some, IsTrue, true, false, decimal};
 ghost use Rattle.toml_span_tree.specs.Node.{Node};
 ghost use Rattle.toml_span_tree.specs.Path.{Path, Place, shape_of, place_at, node_at, put, BeginsWith};
@@ -11,65 +11,64 @@ ghost use Rattle.toml_span_tree.specs.Value.{inner_of, span_of, is_taken, date_b
 use crate::date::DateText;
 use crate::float::FloatText;
 
-/// A date text is a date, a time, or a date, a delimiter, a time and, if there is one, an offset,
-/// put together.
+/// A date text is a date, a time, or a date, a delimiter, a time and possibly an offset.
 pub fn date_texts()
     ensures { (text : List ℕ) → IsDateText text ↔ IsDateOrTime text }
 {}
 
-/// Two date texts are equal exactly where their bytes are.
+/// Two date texts are equal exactly if their bytes are.
 pub fn equal_dates()
     ensures { (x y : DateText)
         → IsTrue (⟦<DateText<'static> as PartialEq>⟧.eq x y) ↔ (date_bytes x ≡ date_bytes y) }
 {}
 
-/// Two floats are equal exactly where their kinds are, and their texts or signs.
+/// Two floats are equal exactly if their kinds and their texts or signs are.
 pub fn equal_floats()
     ensures { (x y : FloatText)
         → IsTrue (⟦<FloatText as PartialEq>⟧.eq x y) ↔ (float_value x ≡ float_value y) }
 {}
 
-/// What was put at a path stands there.
+/// The value put at a path is at that path.
 pub fn put_stands()
     ensures { (path : Path) (n m w : Node) → node_at path n ≡ Some m → node_at path (put path w n) ≡ Some w }
 {}
 
-/// It is shown there with the span of the key that was there.
+/// It has the span of the key that was there before.
 pub fn put_keeps_the_key()
     ensures { (path : Path) (n w : Node) (p : Place) → place_at path n ≡ Some p
         → place_at path (put path w n)
         ≡ Some (record { shape = shape_of (inner_of w); key_span = p.key_span; span = span_of w }) }
 {}
 
-/// Every other path shows what it showed, unless it leads through the place of the change.
+/// Any other path has the same place as before, unless it leads through the path of the change.
 pub fn put_keeps_the_rest()
     ensures { (path other : Path) (n w : Node) → (BeginsWith path other → ⊥)
         → place_at other (put path w n) ≡ place_at other n }
 {}
 
-/// A pointer names the value at the path whose steps its segments name, unless that value is taken
-/// and below the start.
+/// A pointer names the value at the path whose steps its segments name, unless that value has been taken and is below
+/// the start.
 pub fn pointer_names_a_path()
     ensures { (pointer : List ℕ) (n m : Node) → (pointed pointer n ≡ Some m) ↔ IsPointed pointer n m }
 {}
 
-/// A segment spells a position exactly where it is the position's decimal form.
+/// A segment denotes a position exactly if it is the position's decimal form.
 pub fn positions_are_decimal()
     ensures { (i : ℕ) (segment : List ℕ) → i < 2 ^ 64 → (position_of segment ≡ Some i) ↔ (segment ≡ decimal i) }
 {}
 
-/// The empty pointer names the value itself, taken or not.
+/// The empty pointer names the value itself, even if it has been taken.
 pub fn empty_pointer()
     ensures { (n : Node) → pointed [] n ≡ Some n }
 {}
 
-/// What was put in a pointer's place is what the pointer names.
+/// A pointer names the value that was put at its place.
 pub fn pointer_names_what_was_put()
     ensures { (pointer : List ℕ) (n m w : Node) → is_taken w ≡ false → pointed pointer n ≡ Some m
         → pointed pointer (put_pointed pointer w n) ≡ Some w }
 {}
 
-/// A pointer that parts from the one of the change names what it named.
+/// A pointer that diverges from the pointer of the change names the same value as before.
 pub fn other_pointers_keep()
     ensures { (pointer other : List ℕ) (n m w : Node) → pointed pointer n ≡ Some m → pointers_part pointer other ≡ true
         → pointed other (put_pointed pointer w n) ≡ pointed other n }

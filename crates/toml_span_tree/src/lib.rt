@@ -1,4 +1,4 @@
-//! Values with spans, and the errors that are told of a TOML document.
+//! Values with spans, and the errors of a TOML document.
 #![tactic(auto)]
 
 mod date;

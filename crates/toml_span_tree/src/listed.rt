@@ -10,7 +10,7 @@ use std::fmt;
 use std::fmt::{Display, Formatter, Write};
 use toml_span_lex::span::Span;
 
-/// Writes a character of white space, or a control character, as an escape.
+/// Writes a white space or control character as an escape.
 pub(crate) fn write_escaped<W: Write>(f: &mut Formatter<W>, c: char) -> fmt::Result
     ensures { WritesOnOk W.write_str_gives f.old result (escaped_char c) f.new }
 {
@@ -50,7 +50,9 @@ fn write_quoted_chars<W: Write>(f: &mut Formatter<W>, name: &str) -> fmt::Result
     Ok(())
 }
 
-/// What a list can hold.
+/// What a list can contain.
+// Toolchain: the `Debug` output of std is unspecified for text past ASCII (`debug_output` is `None`), so lists are
+// printed by this code.
 pub(crate) trait Item {
     ghost shown: { Self → List ℕ };
 
@@ -76,7 +78,7 @@ impl Item for String {
     }
 }
 
-/// Writes a span as its fields.
+/// Writes a span with its fields.
 fn write_span<W: Write>(f: &mut Formatter<W>, span: Span) -> fmt::Result
     ensures { WritesOnOk W.write_str_gives f.old result (span_text span) f.new }
 {
@@ -97,7 +99,7 @@ impl Item for (String, Span) {
     }
 }
 
-/// Writes further items, a comma and a space before each.
+/// Writes more items, each after a comma and a space.
 fn write_more<T: Item, W: Write>(f: &mut Formatter<W>, items: &[T]) -> fmt::Result
     ensures { WritesOnOk W.write_str_gives f.old result
         (flat_map (λ item. codes ", " ++ T.shown item) items.now) f.new }
@@ -122,7 +124,7 @@ fn write_items<T: Item, W: Write>(f: &mut Formatter<W>, items: &[T]) -> fmt::Res
     }
 }
 
-/// Writes items in brackets, with a comma and a space between them.
+/// Writes items in brackets, separated by commas and spaces.
 fn write_listed<T: Item, W: Write>(f: &mut Formatter<W>, items: &[T]) -> fmt::Result
     ensures { WritesOnOk W.write_str_gives f.old result (listed T.shown items.now) f.new }
 {
@@ -143,7 +145,7 @@ impl Display for Names<'_> {
     }
 }
 
-/// A list of names that are lent.
+/// A list of borrowed names.
 #[derive(Clone, Copy)]
 pub(crate) struct LentNames<'a>(pub(crate) &'a [&'a str]);
 

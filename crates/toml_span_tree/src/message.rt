@@ -1,4 +1,4 @@
-//! What errors print.
+//! The texts of errors.
 ghost use Rattle.std.specs.Prelude.{◌≡◌, ◌++◌, codes, map, Some, string_bytes};
 ghost use Rattle.std.specs.Fmt.{WritesOnOk};
 ghost use Rattle.toml_span_tree.specs.Error.{kind_of, marked_keys};
@@ -12,7 +12,7 @@ use std::fmt::{Display, Formatter, Write};
 use toml_span_lex::span::Span;
 
 impl<'s> ErrorKind<'s> {
-    /// The code of the kind, such as `duplicate-key`.
+    /// Returns the code of the kind, such as `duplicate-key`.
     pub(crate) fn code(&self) -> &'s str
         ensures { result.now ≡ code_of (kind_of self.now) }
     {
@@ -53,7 +53,7 @@ impl Display for ErrorKind<'_> {
     }
 }
 
-/// A character in a message: one of white space as an escape, any other as itself.
+/// A character in a message: white space as an escape, any other character as itself.
 #[derive(Clone, Copy)]
 pub(crate) struct Shown(pub(crate) char);
 
@@ -69,7 +69,7 @@ impl Display for Shown {
     }
 }
 
-/// Writes a text that ends with a back quote, a character, and one more back quote.
+/// Writes a text that ends with a backtick, a character, and another backtick.
 fn with_char<W: Write>(f: &mut Formatter<W>, text: &str, c: char) -> fmt::Result
     ensures { WritesOnOk W.write_str_gives f.old result (text.now ++ told_char c ++ codes "`") f.new }
 {

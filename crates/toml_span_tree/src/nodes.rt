@@ -1,4 +1,4 @@
-//! All values of a tree with the paths that lead to them.
+//! All values of a tree with their paths.
 ghost use Rattle.std.specs.Prelude.{◌≡◌, ◌++◌, ◌∷◌, [], IfOk, None, OnOk, map, option_map};
 ghost use Rattle.toml_span_tree.specs.Value.{items_view, members_view, view};
 ghost use Rattle.toml_span_tree.specs.Nodes.{items_nodes, key_of, members_nodes, nodes_from, seen, step_of};
@@ -7,16 +7,14 @@ use crate::value::{Table, Value, ValueInner};
 use std::alloc::{AllocError, Global};
 use toml_span_lex::key::Key;
 
-/// A step down: to the entry of a table with a name, or to the element of an array at a position,
-/// counted from 0.
+/// A step: to the entry of a table with this name, or to the element of an array at this position, counted from 0.
 #[derive(Clone, Copy, Debug, PartialEq, Eq)]
 pub enum Step<'t> {
     Key(&'t str),
     Position(usize),
 }
 
-/// A value of a tree, with the steps that lead to it, and its key: the one that names it in its table. The root
-/// and elements of arrays have none.
+/// A value of a tree with its path, and its key if it is an entry of a table.
 #[derive(Drop)]
 pub struct Visited<'t, 'de> {
     pub path: Vec<Step<'t>>,
@@ -24,11 +22,11 @@ pub struct Visited<'t, 'de> {
     pub value: &'t Value<'de>,
 }
 
-/// All values of a tree, each before those in it: an array's elements in order, a table's entries in the
-/// order of their names. The first is the value itself, with no steps. One that is taken is listed, and
-/// nothing below it.
+/// Lists all values of a tree, each before those inside it: the elements of an array in order, the entries of a table
+/// in the order of their names. The first is the value itself, with an empty path. A value that has been taken is
+/// listed without those inside it.
 ///
-/// Takes memory for the list and for the steps of each value.
+/// Allocates the list and the path of each value. Fails if an allocation fails.
 pub fn nodes<'t, 'de>(
     alloc: Global,
     value: &'t Value<'de>,
@@ -40,7 +38,7 @@ pub fn nodes<'t, 'de>(
     Ok(list)
 }
 
-/// A path with one more step.
+/// Returns a path followed by a step. Fails if an allocation fails.
 fn with_step<'t>(
     alloc: Global,
     path: &[Step<'t>],
@@ -53,7 +51,7 @@ fn with_step<'t>(
     Ok(steps)
 }
 
-/// Adds a value with the steps that lead to it.
+/// Appends a value with its path. Fails if an allocation fails.
 fn push_visited<'t, 'de>(
     alloc: Global,
     value: &'t Value<'de>,
@@ -73,7 +71,7 @@ fn push_visited<'t, 'de>(
     Ok(())
 }
 
-/// Adds a value and those in it.
+/// Appends a value and those inside it. Fails if an allocation fails.
 #[cycle(push_node)]
 fn push_node<'t, 'de>(
     alloc: Global,
@@ -96,7 +94,7 @@ fn push_node<'t, 'de>(
     }
 }
 
-/// Adds the values in an array.
+/// Appends the values in an array. Fails if an allocation fails.
 #[cycle(push_node)]
 fn push_elements<'t, 'de>(
     alloc: Global,
@@ -114,7 +112,7 @@ fn push_elements<'t, 'de>(
     Ok(())
 }
 
-/// Adds the values in a table.
+/// Appends the values in a table. Fails if an allocation fails.
 #[cycle(push_node)]
 fn push_entries<'t, 'de>(
     alloc: Global,

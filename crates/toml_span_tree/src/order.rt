@@ -7,8 +7,8 @@ use crate::value::{Table, Value};
 use std::alloc::{AllocError, Global};
 use toml_span_lex::key::Key;
 
-/// The entries of a table in the order in which their keys stand in the text: by the starts of the keys'
-/// spans. Takes memory for the list.
+/// Lists the entries of a table in the order in which their keys occur in the text, that is, by the starts of the keys'
+/// spans. Fails if an allocation fails.
 pub fn in_text_order<'t, 'de>(
     alloc: Global,
     table: &'t Table<'de>,
@@ -21,7 +21,7 @@ pub fn in_text_order<'t, 'de>(
     Ok(entries)
 }
 
-/// The entries of a table in the order of their names.
+/// Lists the entries of a table in the order of their names. Fails if an allocation fails.
 fn listed<'t, 'de>(
     alloc: Global,
     table: &'t Table<'de>,

@@ -1,8 +1,7 @@
-//! Pointers: texts that name a place in a tree.
+//! Pointers: strings that name a place in a tree.
 //!
-//! The empty text names the value itself. Another text begins with `/`, and names a place by the
-//! segments behind it, cut at each `/`: in a table a segment is a key's name, in an array it is a
-//! position in decimal.
+//! The empty pointer names the value itself. Any other begins with `/` and names a place by the segments after it,
+//! which are separated by `/`: a segment is a key's name in a table, and a decimal position in an array.
 ghost use Rattle.std.specs.Prelude.{◌≡◌, ◌<◌, ◌∷◌, [], ◌^◌, option_map, option_and_then, IfOk, IfErr, IsSome, Some};
 ghost use Rattle.std.specs.Prelude.{None, List, ℕ, drop, false, length, slice_index_or, true, vec_len};
 ghost use Rattle.std.specs.Borrow.{sem};
@@ -22,7 +21,7 @@ use crate::value::{Array, Table, Value, ValueInner};
 use std::mem;
 use toml_span_lex::key::Key;
 
-/// The position that the text spells. None also where it is past every list.
+/// Returns the position that the segment denotes, or `None` if it denotes none below 2^64.
 fn position(segment: &str) -> Option<usize>
     ensures { PositionIs result (position_of segment.now) }
 {
@@ -36,7 +35,7 @@ fn position(segment: &str) -> Option<usize>
     segment.parse::<usize>().ok()
 }
 
-/// The first segment, and what stands behind its slash, if one stands there.
+/// Returns the first segment, and what follows its slash, if there is one.
 pub(crate) fn cut<'p>(path: &'p str) -> (&'p str, Option<&'p str>)
     ensures { SplitAtSlash path.now result.0.now (option_map (λ rest. rest.now) result.1) }
 {
@@ -60,7 +59,7 @@ pub(crate) fn array_entry<'v, 'de>(array: &'v Array<'de>, segment: &str) -> Opti
 }
 
 impl<'de> ValueInner<'de> {
-    /// What a segment names here.
+    /// Returns the value that a segment names here.
     fn entry(&self, segment: &'de str) -> Option<&Value<'de>>
         ensures { option_map (λ v. view v.now) result ≡ entry segment.now (inner_view self.now) }
     {
@@ -73,7 +72,7 @@ impl<'de> ValueInner<'de> {
 }
 
 impl<'de> Value<'de> {
-    /// What a segment names here, unless it is taken.
+    /// Returns the value that a segment names here, unless it has been taken.
     fn entry(&self, segment: &'de str) -> Option<&Self>
         ensures { option_map (λ v. view v.now) result ≡ untaken_entry segment.now (view self.now) }
     {
@@ -83,14 +82,14 @@ impl<'de> Value<'de> {
         }
     }
 
-    /// This value, unless it is taken.
+    /// Returns this value, unless it has been taken.
     pub(crate) fn if_untaken(&self) -> Option<&Self>
         ensures { option_map (λ v. view v.now) result ≡ if_not_taken (view self.now) }
     {
         if self.is_taken() { None } else { Some(self) }
     }
 
-    /// What the segments name, from here on.
+    /// Returns the value that the segments name, beginning here.
     fn found(&self, path: &'de str) -> Option<&Self>
         ensures { option_map (λ v. view v.now) result ≡ value_named (segments path.now) (view self.now) }
     {
@@ -102,12 +101,12 @@ impl<'de> Value<'de> {
         }
     }
 
-    /// The value that the pointer names, if it names one.
+    /// Returns the value that the pointer names, if there is one.
     ///
-    /// The empty text names the value itself, taken or not. Another text must begin with `/`; the
-    /// segments behind it are cut at each `/`. In a table a segment is a key's name. In an array it
-    /// is a position: decimal digits, with no sign and no leading zero but `0` itself, in range.
-    /// A value below the start that is taken is not named, nor is anything below it.
+    /// The empty pointer names the value itself, even if it has been taken. Any other must begin with `/`, and its
+    /// segments are separated by `/`. In a table a segment is a key's name. In an array it is a position in range:
+    /// decimal digits, without a sign or a leading zero, except for `0` itself. Values that have been taken below the
+    /// start, and those inside them, are not found.
     pub fn pointer(&self, pointer: &'de str) -> Option<&Self>
         ensures { option_map (λ v. view v.now) result ≡ pointed pointer.now (view self.now) }
     {
@@ -119,7 +118,8 @@ impl<'de> Value<'de> {
 }
 
 impl<'de> ValueInner<'de> {
-    /// Replaces what the segments name from here on.
+    /// Replaces the value that the segments name, beginning here. Returns the old value, or `new` as the error if they
+    /// name none.
     #[cycle(replace)]
     fn replace_found(
         &mut self,
@@ -181,10 +181,10 @@ fn replace_element<'de>(
 }
 
 impl<'de> Value<'de> {
-    /// The value that the pointer names, to write. It names what it names for `pointer`.
+    /// Returns a mutable reference to the value that the pointer names. It names the same value as for `pointer`.
     ///
-    /// Once the loan has ended, the tree is as it was, with what is left behind the loan in that
-    /// place. Where the pointer names no value, nothing changes.
+    /// Once the borrow ends, the tree is unchanged except for what was written through the reference. If the pointer
+    /// names no value, nothing changes.
     pub fn pointer_mut(&mut self, pointer: &'de str) -> Option<&mut Self>
         ensures* writes_back { sem 𝓛 (lends_pointed self.entry pointer.now result) }
         ensures value { option_map (λ v. view v.now) result ≡ pointed pointer.now (view self.old) }
@@ -196,7 +196,7 @@ impl<'de> Value<'de> {
         None
     }
 
-    /// Replaces this value, or what stands below it, unless it is taken.
+    /// Replaces this value or one below it, unless this one has been taken.
     #[cycle(replace)]
     fn replace_here(&mut self, rest: Option<&'de str>, new: Self) -> Result<Self, Self>
         ensures { Exchanged result new.entry (segments_behind (option_map (λ r. r.now) rest.entry))
@@ -211,7 +211,8 @@ impl<'de> Value<'de> {
         }
     }
 
-    /// Replaces what the segments name, from here on.
+    /// Replaces the value that the segments name, beginning here. Returns the old value, or `new` as the error if they
+    /// name none.
     #[cycle(replace)]
     fn replace_found(&mut self, path: &'de str, new: Self) -> Result<Self, Self>
         ensures { Exchanged result new.entry (segments path.now) (Some (view self.old)) (λ w. view self.new ≡ w)
@@ -224,16 +225,18 @@ impl<'de> Value<'de> {
         }
     }
 
-    /// Puts `new`, with its own span, in the place that the pointer names, and gives the value that
-    /// stood there. The keys, their spans and all other places stay as they are.
+    /// Replaces the value that the pointer names with `new`, whose span it keeps. Returns the old value. Keys, their
+    /// spans and all other places are unchanged.
     ///
-    /// Where the pointer names no place, `new` comes back and nothing changes.
+    /// If the pointer names no place, returns `new` as the error, and nothing changes.
     pub fn replace(&mut self, pointer: &'de str, new: Self) -> Result<Self, Self>
         ensures done { IfOk result (λ old. (pointed pointer.now (view self.old) ≡ Some (view old))
             × (view self.new ≡ put_pointed pointer.now (view new.entry) (view self.old))) }
         ensures refused { IfErr result (λ back. (back ≡ new.entry) × (pointed pointer.now (view self.old) ≡ None)
             × (view self.new ≡ view self.old)) }
     {
+        // Toolchain: a caller learns nothing from a reference `&mut Value<'de>` that `pointer_mut` lends, so what is
+        // proved after a write uses this function.
         if pointer.is_empty() {
             return Ok(mem::replace(self, new));
         }
@@ -244,7 +247,7 @@ impl<'de> Value<'de> {
     }
 }
 
-/// The inner value, to write.
+/// Returns a mutable reference to the inner value.
 fn inner_of<'v, 'de>(value: &'v mut Value<'de>) -> &'v mut ValueInner<'de>
     requires { IsHeld value.old }
     ensures* writes_back { sem 𝓛 (lends_inner value.entry result) }
@@ -275,7 +278,7 @@ fn item_of<'v, 'de>(array: &'v mut Array<'de>, position: usize) -> &'v mut Value
     &mut array[position]
 }
 
-/// What a key's name names here, to write.
+/// Returns a mutable reference to the value that a key names here.
 fn entry_of<'v, 'de, 'k>(inner: &'v mut ValueInner<'de>, key: &'k Key<'de>) -> &'v mut Value<'de>
     requires { IsSome (entry (cow_str_bytes key.now.name) (inner_view inner.old)) }
     ensures* writes_back { sem 𝓛 (lends_entry inner.entry (cow_str_bytes key.now.name) result) }
@@ -304,7 +307,7 @@ fn position_named<'k, 'de>(key: &'k Key<'de>) -> usize
     }
 }
 
-/// What a key's name names here, to write.
+/// Returns a mutable reference to the value that a key names here.
 fn child_of<'v, 'de, 'k>(value: &'v mut Value<'de>, key: &'k Key<'de>) -> &'v mut Value<'de>
     requires { IsSome (untaken_entry (cow_str_bytes key.now.name) (view value.old)) }
     ensures* writes_back { sem 𝓛 (lends_child value.entry (cow_str_bytes key.now.name) result) }
@@ -316,7 +319,7 @@ fn child_of<'v, 'de, 'k>(value: &'v mut Value<'de>, key: &'k Key<'de>) -> &'v mu
 
 fn release(key: Key<'_>) {}
 
-/// What a segment names here, to write.
+/// Returns a mutable reference to the value that a segment names here.
 fn step_to<'v, 'de>(value: &'v mut Value<'de>, segment: &'de str) -> &'v mut Value<'de>
     requires { IsSome (untaken_entry segment.now (view value.old)) }
     ensures* writes_back { sem 𝓛 (lends_child value.entry segment.now result) }
@@ -328,14 +331,14 @@ fn step_to<'v, 'de>(value: &'v mut Value<'de>, segment: &'de str) -> &'v mut Val
     child
 }
 
-/// The first segment.
+/// Returns the first segment.
 fn first<'p>(path: &'p str) -> &'p str
     ensures { segments path.now ≡ result.now ∷ drop 1 (segments path.now) }
 {
     cut(path).0
 }
 
-/// Whether the first segment is the only one.
+/// Returns whether the first segment is the only one.
 fn is_last<'p>(path: &'p str) -> bool
     ensures only { result ≡ true → drop 1 (segments path.now) ≡ [] }
     ensures more { result ≡ false → 0 < length (drop 1 (segments path.now)) }
@@ -346,7 +349,7 @@ fn is_last<'p>(path: &'p str) -> bool
     }
 }
 
-/// What stands behind the first segment.
+/// Returns what follows the first segment and its slash.
 fn behind<'p>(path: &'p str) -> &'p str
     ensures { 0 < length (drop 1 (segments path.now))
         → (segments result.now ≡ drop 1 (segments path.now)) × (length result.now < length path.now) }
@@ -357,7 +360,7 @@ fn behind<'p>(path: &'p str) -> &'p str
     }
 }
 
-/// What the segments name, from here on, to write.
+/// Returns a mutable reference to the value that the segments name, beginning here.
 fn at_path<'v, 'de>(value: &'v mut Value<'de>, path: &'de str) -> &'v mut Value<'de>
     requires { IsSome (value_named (segments path.now) (view value.old)) }
     ensures* writes_back { sem 𝓛 (lends_named value.entry path.now result) }
@@ -372,7 +375,7 @@ fn at_path<'v, 'de>(value: &'v mut Value<'de>, path: &'de str) -> &'v mut Value<
     at_path(child, rest)
 }
 
-/// Whether the text is empty.
+/// Returns whether the pointer is empty.
 fn is_end<'p>(pointer: &'p str) -> bool
     ensures only { result ≡ true → length pointer.now ≡ 0 }
     ensures more { result ≡ false → 0 < length pointer.now }
@@ -380,7 +383,7 @@ fn is_end<'p>(pointer: &'p str) -> bool
     pointer.is_empty()
 }
 
-/// What stands behind the slash with which the text begins.
+/// Returns what follows the slash with which the pointer begins.
 fn behind_slash<'p>(pointer: &'p str) -> &'p str
     ensures { (path : List ℕ) → pointer.now ≡ slash ∷ path → result.now ≡ path }
 {
@@ -390,7 +393,7 @@ fn behind_slash<'p>(pointer: &'p str) -> &'p str
     }
 }
 
-/// The value that the pointer names, to write.
+/// Returns a mutable reference to the value that the pointer names.
 fn at_pointer<'v, 'de>(value: &'v mut Value<'de>, pointer: &'de str) -> &'v mut Value<'de>
     requires { IsSome (pointed pointer.now (view value.old)) }
     ensures* writes_back { sem 𝓛 (lends_at value.entry pointer.now result) }
@@ -403,8 +406,8 @@ fn at_pointer<'v, 'de>(value: &'v mut Value<'de>, pointer: &'de str) -> &'v mut 
     at_path(value, path)
 }
 
-/// Whether the pointer names a value. It takes what `pointer_mut` has, a loan to write, and
-/// leaves the value as it is.
+/// Returns whether the pointer names a value. It takes the mutable reference that `pointer_mut` has, and leaves the
+/// value unchanged.
 fn is_pointed<'x, 'de>(value: &'x mut Value<'de>, pointer: &'de str) -> bool
     ensures some { result ≡ true → IsSome (pointed pointer.now (view value.old)) }
     ensures none { result ≡ false → pointed pointer.now (view value.old) ≡ None }

@@ -14,13 +14,13 @@ use std::fmt::{Debug, Formatter, Write};
 use toml_span_lex::key::Key;
 use toml_span_lex::span::Span;
 
-/// An array's elements.
+/// The elements of an array.
 pub type Array<'de> = Vec<Value<'de>>;
 
-/// A table's entries, in the order of their names.
+/// The entries of a table, in the order of their names.
 pub type Table<'de> = BTreeMap<Key<'de>, Value<'de>>;
 
-/// What a value holds.
+/// The content of a value.
 #[cycle(tree)]
 #[derive(Debug, Drop)]
 pub enum ValueInner<'de> {
@@ -33,12 +33,12 @@ pub enum ValueInner<'de> {
     Table(Table<'de>),
 }
 
-/// A value with its span, whose inner value may be taken.
+/// A value with its span. Its content may have been taken.
 #[cycle(tree)]
 #[derive(Drop)]
 pub struct Value<'de> {
     pub(crate) value: Option<ValueInner<'de>>,
-    /// The bytes at which the value stands.
+    /// The byte span of the value in the text.
     pub span: Span,
 }
 
@@ -60,14 +60,14 @@ impl<'de> Value<'de> {
     ghost use Rattle.toml_span_tree.specs.Value.{text_in, integer_in, float_in, boolean_in, datetime_in, items_in};
     ghost use Rattle.toml_span_tree.specs.Value.{members_in, kind_name, wrong_kind, has_members};
 
-    /// A value with the span 0..0.
+    /// Creates a value with the span 0..0.
     pub fn new(value: ValueInner<'de>) -> Self
         ensures { view result ≡ node (inner_view value.entry) (record { start = 0; end = 0 }) }
     {
         Self::with_span(value, Span::default())
     }
 
-    /// A value that stands at these bytes.
+    /// Creates a value with this span.
     pub fn with_span(value: ValueInner<'de>, span: Span) -> Self
         ensures view { view result ≡ node (inner_view value.entry) span }
         ensures kept { (result.value ≡ Some value.entry) × (result.span ≡ span) }
@@ -78,21 +78,21 @@ impl<'de> Value<'de> {
         }
     }
 
-    /// Puts another inner value in the place of the one that is held or taken. The span stays.
+    /// Replaces the content, whether or not it has been taken. The span is unchanged.
     pub fn set(&mut self, value: ValueInner<'de>)
         ensures { view self.new ≡ node (inner_view value.entry) self.old.span }
     {
         drop(self.value.replace(value));
     }
 
-    /// Whether the inner value is taken.
+    /// Returns whether the content has been taken.
     pub fn is_taken(&self) -> bool
         ensures { result ≡ is_taken_node (view self.now) }
     {
         self.value.is_none()
     }
 
-    /// Whether nothing is taken here or below.
+    /// Returns whether nothing has been taken, here or in the values inside.
     #[cycle(whole)]
     pub fn is_whole(&self) -> bool
         ensures { result ≡ is_whole_node (view self.now) }
@@ -103,7 +103,7 @@ impl<'de> Value<'de> {
         }
     }
 
-    /// The inner value, which must not be taken yet (`is_taken`), and is from here on. The span stays.
+    /// Takes the content, which must not have been taken before (`is_taken`). The span is unchanged.
     pub fn take(&mut self) -> ValueInner<'de>
         requires { is_taken_node (view self.old) ≡ false }
         ensures given { view self.old ≡ node (inner_view result) self.old.span }
@@ -115,7 +115,7 @@ impl<'de> Value<'de> {
         }
     }
 
-    /// The inner value, which must not be taken (`is_taken`).
+    /// Returns the content, which must not have been taken (`is_taken`).
     pub fn as_ref(&self) -> &ValueInner<'de>
         requires { is_taken_node (view self.now) ≡ false }
         ensures { view self.now ≡ node (inner_view result.now) self.now.span }
@@ -126,10 +126,11 @@ impl<'de> Value<'de> {
         }
     }
 
-    /// The string. The value must not be taken yet, and is from here on, whether it was a string or not.
+    /// Takes the content, which must not have been taken before, and returns it if it is a string. It is taken even if
+    /// it is not a string.
     ///
-    /// Of another kind, the error is `Wanted`, at the value's span: what was expected is the message
-    /// or, where none is given, "a string", and what was found is the kind's name.
+    /// Otherwise fails with `Wanted` at the value's span: expected is `msg`, or "a string" without a message, and found
+    /// is the name of the kind.
     pub fn take_string<'s>(&mut self, msg: Option<&'s str>) -> Result<CowStr<'de>, Error<'s>>
         requires { is_taken_node (view self.old) ≡ false }
         ensures text { IfOk result (λ text. text_in (inner_of (view self.old)) ≡ Some (cow_str_bytes text)) }
@@ -152,7 +153,7 @@ impl<'de> Value<'de> {
         }
     }
 
-    /// Whether this is a table that has a key.
+    /// Returns whether this is a table that has an entry.
     pub fn has_keys(&self) -> bool
         ensures { result ≡ has_members (inner_of (view self.now)) }
     {
@@ -162,17 +163,19 @@ impl<'de> Value<'de> {
         }
     }
 
-    /// Whether this is a table that has a key of that name.
+    /// Returns whether this is a table that has an entry with this name.
     pub fn has_key(&self, key: &'de str) -> bool
         ensures { result ≡ is_some (option_and_then (get_member key.now) (members_in (inner_of (view self.now)))) }
     {
+        // Toolchain: a key can be looked up in a map only if its lifetime is that of the map's keys ("a type argument
+        // names two lifetimes that the function keeps apart"), so names live as long as the document.
         match self.as_table() {
             Some(table) => table.contains_key(&Key::named(key)),
             None => false,
         }
     }
 
-    /// The name of the kind, as that of `ValueInner`. Empty where the value is taken.
+    /// Returns the name of the kind, as `ValueInner` does, or an empty string if the content has been taken.
     pub fn type_str(&self) -> &'static str
         ensures { result.now ≡ kind_name (inner_of (view self.now)) }
     {
@@ -182,7 +185,7 @@ impl<'de> Value<'de> {
         }
     }
 
-    /// The text, if this is a string.
+    /// Returns the string, if this is one.
     pub fn as_str(&self) -> Option<&str>
         ensures { option_map (λ s. s.now) result ≡ text_in (inner_of (view self.now)) }
     {
@@ -192,7 +195,7 @@ impl<'de> Value<'de> {
         }
     }
 
-    /// The entries, if this is a table.
+    /// Returns the entries, if this is a table.
     pub fn as_table(&self) -> Option<&Table<'de>>
         ensures { option_map (λ table. members_view table.now.entries) result ≡ members_in (inner_of (view self.now)) }
     {
@@ -202,7 +205,7 @@ impl<'de> Value<'de> {
         }
     }
 
-    /// The elements, if this is an array.
+    /// Returns the elements, if this is an array.
     pub fn as_array(&self) -> Option<&Array<'de>>
         ensures { option_map (λ array. items_view array.now.items) result ≡ items_in (inner_of (view self.now)) }
     {
@@ -212,7 +215,7 @@ impl<'de> Value<'de> {
         }
     }
 
-    /// The number, if this is an integer.
+    /// Returns the number, if this is an integer.
     pub fn as_integer(&self) -> Option<i64>
         ensures { result ≡ integer_in (inner_of (view self.now)) }
     {
@@ -222,7 +225,7 @@ impl<'de> Value<'de> {
         }
     }
 
-    /// The float, if this is one.
+    /// Returns the float, if this is one.
     pub fn as_float(&self) -> Option<&FloatText>
         ensures { option_map (λ x. float_value x.now) result ≡ float_in (inner_of (view self.now)) }
     {
@@ -232,7 +235,7 @@ impl<'de> Value<'de> {
         }
     }
 
-    /// The truth value, if this is one.
+    /// Returns the boolean, if this is one.
     pub fn as_bool(&self) -> Option<bool>
         ensures { result ≡ boolean_in (inner_of (view self.now)) }
     {
@@ -242,7 +245,7 @@ impl<'de> Value<'de> {
         }
     }
 
-    /// The date or time, if this is one.
+    /// Returns the date or time, if this is one.
     pub fn as_datetime(&self) -> Option<&DateText<'de>>
         ensures { option_map (λ date. date_bytes date.now) result ≡ datetime_in (inner_of (view self.now)) }
     {
@@ -258,7 +261,7 @@ impl<'de> ValueInner<'de> {
     ghost use Rattle.toml_span_tree.specs.Value.{members_view, text_in, integer_in, float_in, boolean_in, datetime_in};
     ghost use Rattle.toml_span_tree.specs.Value.{items_in, members_in, kind_name};
 
-    /// The name of the kind: `string`, `integer`, `float`, `boolean`, `datetime`, `array` or `table`.
+    /// Returns the name of the kind: `string`, `integer`, `float`, `boolean`, `datetime`, `array` or `table`.
     pub fn type_str(&self) -> &'static str
         ensures { result.now ≡ kind_name (inner_view self.now) }
     {
@@ -284,7 +287,7 @@ impl<'de> ValueInner<'de> {
         }
     }
 
-    /// The text, if this is a string.
+    /// Returns the string, if this is one.
     pub fn as_str(&self) -> Option<&str>
         ensures { option_map (λ s. s.now) result ≡ text_in (inner_view self.now) }
     {
@@ -294,7 +297,7 @@ impl<'de> ValueInner<'de> {
         }
     }
 
-    /// The entries, if this is a table.
+    /// Returns the entries, if this is a table.
     pub fn as_table(&self) -> Option<&Table<'de>>
         ensures { option_map (λ table. members_view table.now.entries) result ≡ members_in (inner_view self.now) }
     {
@@ -304,7 +307,7 @@ impl<'de> ValueInner<'de> {
         }
     }
 
-    /// The elements, if this is an array.
+    /// Returns the elements, if this is an array.
     pub fn as_array(&self) -> Option<&Array<'de>>
         ensures { option_map (λ array. items_view array.now.items) result ≡ items_in (inner_view self.now) }
     {
@@ -314,7 +317,7 @@ impl<'de> ValueInner<'de> {
         }
     }
 
-    /// The number, if this is an integer.
+    /// Returns the number, if this is an integer.
     pub fn as_integer(&self) -> Option<i64>
         ensures { result ≡ integer_in (inner_view self.now) }
     {
@@ -324,7 +327,7 @@ impl<'de> ValueInner<'de> {
         }
     }
 
-    /// The float, if this is one.
+    /// Returns the float, if this is one.
     pub fn as_float(&self) -> Option<&FloatText>
         ensures { option_map (λ x. float_value x.now) result ≡ float_in (inner_view self.now) }
     {
@@ -334,7 +337,7 @@ impl<'de> ValueInner<'de> {
         }
     }
 
-    /// The truth value, if this is one.
+    /// Returns the boolean, if this is one.
     pub fn as_bool(&self) -> Option<bool>
         ensures { result ≡ boolean_in (inner_view self.now) }
     {
@@ -344,7 +347,7 @@ impl<'de> ValueInner<'de> {
         }
     }
 
-    /// The date or time, if this is one.
+    /// Returns the date or time, if this is one.
     pub fn as_datetime(&self) -> Option<&DateText<'de>>
         ensures { option_map (λ date. date_bytes date.now) result ≡ datetime_in (inner_view self.now) }
     {

@@ -25,7 +25,7 @@ def _library() -> ctypes.CDLL:
     places = [os.path.join(folder, NAME), os.path.join(folder, "..", "..", "..", "out", "lib", NAME)]
     named = os.environ.get("TOML_SPAN_LIBRARY")
     try:
-        library = ctypes.CDLL(named or next(filter(os.path.exists, places), NAME))
+        library = ctypes.CDLL(named or next((place for place in places if os.path.exists(place)), NAME))
     except OSError as error:
         raise ImportError(f"{error} (scripts/c_library.sh makes it; TOML_SPAN_LIBRARY may name it)") from None
     size, pointer, text = ctypes.c_size_t, ctypes.c_void_p, ctypes.c_char_p
@@ -34,6 +34,7 @@ def _library() -> ctypes.CDLL:
         ("message", ctypes.c_uint32, [text, size, pointer, size, pointer]),
         ("report", ctypes.c_uint32, [text, size, text, size, pointer, size, pointer]),
         ("code", None, [ctypes.c_uint32, pointer, size, pointer]),
+        ("find", size, [pointer, size, pointer, size, text]),
         ("sort", None, [pointer, size, pointer]),
         ("pickle", None, [pointer, size, pointer, ctypes.c_int, pointer, size, pointer]),
     ):

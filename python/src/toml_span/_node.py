@@ -6,7 +6,7 @@ from bisect import bisect_right
 from typing import Any, Dict, Iterator, List, Optional, Tuple, Union, overload
 
 from ._decode import Document, Span, TOMLDecodeError, encoded
-from ._native import ARRAY, NONE, TABLE
+from ._native import ARRAY, NONE, TABLE, lib
 
 _KINDS = ("string", "integer", "float", "boolean", "datetime", "array", "table")
 Key = Union[str, int]
@@ -47,9 +47,9 @@ class _Source(Document):
         """The line and the column of a byte, both counted from 1, and the characters before it."""
         if self.starts is None:
             bytes_before, chars_before = [0], [0]
-            for line in self.data.split(b"\n")[:-1]:
-                bytes_before.append(bytes_before[-1] + len(line) + 1)
-                chars_before.append(chars_before[-1] + len(line.decode()) + 1)
+            for row in self.data.split(b"\n")[:-1]:
+                bytes_before.append(bytes_before[-1] + len(row) + 1)
+                chars_before.append(chars_before[-1] + len(row.decode()) + 1)
             self.starts = bytes_before, chars_before
         line = bisect_right(self.starts[0], offset)
         column = len(self.data[self.starts[0][line - 1] : offset].decode())
@@ -135,6 +135,15 @@ class Node:
     def column(self) -> int:
         """The column at which it starts, in characters counted from 1."""
         return self._source.place(self._record[2])[1]
+
+    def find(self, path: str) -> Optional[Node]:
+        """The value at a dotted key with positions, such as ``server.ports[0]`` or ``dependencies."a/b"``, or, if the
+        path begins with a slash, at a JSON Pointer, such as ``/server/ports/0``; None if there is none."""
+        source, name = self._source, path.encode("utf-8", "surrogatepass")
+        if b"\0" in name:
+            return None
+        number: int = lib.toml_span_find(source.address, source.count, source.sources, self._number, name)
+        return None if number == NONE else Node(source, number)
 
     def pointer(self, pointer: str) -> Optional[Node]:
         """The value at a JSON Pointer, such as ``/server/ports/0``; None if there is none."""

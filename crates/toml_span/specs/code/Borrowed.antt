@@ -1,4 +1,4 @@
--- Which strings and keys are borrowed in the tree under construction, and of those from which it is made.
+-- Which strings and keys are borrowed in the tree under construction, and in what it is made from.
 use Rattle.std.specs.Prelude.{◌≡◌, ℕ, ◌⊎◌, List, ◌∷◌, ◌++◌, map, Option, Some, None, Result, IfOk, OnOk, option_map}
 use Rattle.std.specs.Box.{box_value}
 use Rattle.std.specs.Global.{Box}
@@ -19,18 +19,18 @@ use Rattle.toml_span.specs.code.Machine.{key_spans}
 use Rattle.toml_span.specs.code.Marks.{Halt, first}
 use Rattle.toml_span.specs.code.Tree.{cells, marks, value_shows, IsFresh}
 
--- what stands in a table
+-- the strings and keys of a table
 abbrev pub table_held : List (Key × Value) → Held
 table_held es = entries_standing (map (λ e. (e.0, held e.1)) es)
 
 -- ---- finished values
 
--- the spans of the keys in a value, which has this key or none
+-- the spans of the keys in a value, whose own key has this span, if it has one
 abbrev pub own_spans : Option Span → Node → KeySpans
 own_spans at n p = option_map (λ d. d.key) (value_shows at n p)
 
--- what stands in a value that has this key, or none, in elements, and in a table, if keys are written where they have
--- their spans
+-- the strings and keys of a value whose key has this span, if it has one, assuming that keys are written at their
+-- spans; the same for elements and for a table
 abbrev pub own_held : Option Span → Value → List StringOrKey
 own_held at v = held v (own_spans at (view v))
 
@@ -46,18 +46,18 @@ value_standing e = (e.0.name, Some e.0.span) ∷ own_held (Some e.0.span) e.1
 
 -- ---- branches
 
--- a branch has its name from the first claim on it
+-- The name of a branch is that of the first claim on it.
 abbrev pub name_span : List Mark → Option Span
 name_span ms = option_map (λ m. m.key) (first ms)
 
--- where the name of a branch is written, and what stands in the branch
+-- the span where the name of a branch is written, and the strings and keys in the branch
 abbrev pub Contents : Type 0
 Contents = Option Span × List StringOrKey
 
 abbrev pub named_standing : Key × Box Contents → List StringOrKey
 named_standing e = (e.0.name, (box_value e.1).0) ∷ (box_value e.1).1
 
--- the assigned values, what headers and dotted keys made, and the elements
+-- those of the assigned values, of what headers and dotted keys created, and of the elements
 abbrev pub node_step : Branch-F Contents → Contents
 node_step n = (
   name_span n.marks.items,
@@ -69,41 +69,43 @@ node_step n = (
 abbrev pub standing : Branch → List StringOrKey
 standing n = (fold-Branch Contents node_step n).1
 
--- ---- what the functions keep
+-- ---- what the functions preserve
 
--- where nothing goes wrong, what is right of the branch stays so, and its claims stay
+-- If nothing fails, strings and keys that were borrowed correctly still are, and the claims on the branch are
+-- unchanged.
 abbrev pub Keeps : List ℕ → Branch → Branch → Result (Unit {0}) Halt → Type 0
 Keeps text old new r =
     AreBorrowedRight text (standing old)
     → OnOk r (AreBorrowedRight text (standing new) × (marks new ≡ marks old))
 
--- the branch's name is written here; or nothing is claimed on it, and its name will be written there
+-- The branch's name is written at this span; or the branch has no claim yet, and its name will be written there.
 abbrev pub IsWrittenAt : Span → Span → Branch → Type 0
 IsWrittenAt next at n = (name_span (marks n) ≡ Some at) ⊎ (IsFresh n × (next ≡ at))
 
--- the same of a branch that is claimed by a key, and its name is written where it was before
+-- The same for a branch that is claimed by a key. Its name is still written where it was before.
 abbrev pub KeepsName : List ℕ → Span → Branch → Branch → Result (Unit {0}) Halt → Type 0
 KeepsName text next old new r =
     AreBorrowedRight text (standing old)
     → OnOk r (AreBorrowedRight text (standing new)
     × ((at : Span) → IsWrittenAt next at old → name_span (marks new) ≡ Some at))
 
--- the value, if there is one, is right by the spans of its own keys
+-- The strings and keys in the value, if there is one, are borrowed correctly with respect to the spans of its own keys.
 abbrev pub ValueRight : List ℕ → Result Value Halt → Type 0
 ValueRight text r = IfOk r (λ v. (at : Option Span) → AreBorrowedRight text (own_held at v))
 
--- this holds where these parts of a key, and what is pending behind them, are right
+-- P holds if these parts of a key, and the pending value with its last part, are borrowed correctly.
 abbrev pub IfPairRight : List ℕ → List Key → Pending → Type 0 → Type 0
 IfPairRight text inner d P =
     AreWrittenRight text (keys_written inner) → IsWrittenRight text (key_written d.last) → ValueRight text d.value
     → P
 
--- this holds where these parts of a header, and the assignments behind it, are right
+-- P holds if these parts of a header, and the assignments of its section, are borrowed correctly.
 abbrev pub IfSectionRight : List ℕ → List Key → List Assignment → Type 0 → Type 0
 IfSectionRight text parts pairs P =
     AreWrittenRight text (keys_written parts) → AreWrittenRight text (assignments_written pairs) → P
 
--- what is right in a branch is right in what it becomes, by the keys of the first claims
+-- If the strings and keys of a branch are borrowed correctly, so are those of the value made from it, by the keys of
+-- the first claims.
 abbrev pub StaysRight : Branch → Held → Type 0
 StaysRight n h =
     (text : List ℕ) → AreBorrowedRight text (standing n) → AreBorrowedRight text (h (key_spans (cells n)))

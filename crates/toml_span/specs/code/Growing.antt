@@ -1,4 +1,4 @@
--- What the sections that are read so far make, whatever sections follow.
+-- The tree of the sections read so far, whatever sections follow.
 use Rattle.std.specs.Box.{box_value}
 use Rattle.std.specs.Global.{Box}
 use Rattle.std.specs.Prelude.{◌≡◌, ℕ, List, [], ◌++◌, map, Result, Ok, Err, Option, Some, None, IfNone, IfSome}
@@ -24,13 +24,13 @@ use Rattle.toml_span.specs.code.Borrowed.{standing}
 use Rattle.toml_span.specs.declared.branch.Branch.TheViews.{out-Branch}
 use Rattle.toml_span.specs.declared.sections.Grown.{Grown}
 
--- a section placed from the root on
+-- The section has been placed, beginning at the root.
 abbrev pub PlacesBlock : Block → Branch → Branch → Result (Unit {0}) Halt → Type 0
 PlacesBlock b root new r =
     Places root new r (section_at (counts root) (head_of b) b.header (key_value_claims b.key_values []))
     (counts_after (counts root) (head_of b) b.header)
 
--- what is left to place behind some sections, into a tree of what they claim
+-- the sections that are left to place into the tree of the earlier sections' claims
 pub record Remaining (all rest : List Block) (root : Branch) : Type 0 where
   pub earlier : List Block
   pub headers : AreSections rest
@@ -39,7 +39,7 @@ pub record Remaining (all rest : List Block) (root : Branch) : Type 0 where
   pub counting : counts root ≡ elements_added (opened_by earlier)
   pub scope : IsScope root
 
--- The tree has what these sections claim, and those that follow are left to place. Or this is their first clash.
+-- The tree has the claims of these sections, and those that follow are left to place; or this is their first clash.
 abbrev pub GrowsTo : List Block → Branch → Option (Box Clash) → Type 0
 GrowsTo bs root None = (rest : List Block) → AreSections rest → Remaining (bs ++ rest) rest root
 GrowsTo bs root (Some c) =
@@ -48,19 +48,19 @@ GrowsTo bs root (Some c) =
 abbrev pub Grows : List Block → Grown → Type 0
 Grows bs g = GrowsTo bs g.root g.clash
 
--- a clash is told inside the first n bytes
+-- The clash has a span inside the first n bytes.
 abbrev pub IsGrownInside : ℕ → Grown → Type 0
 IsGrownInside n g = IfSome g.clash (λ c. IsInside n (box_value c).meeting.span)
 
--- what stands in the tree is borrowed as it was read
+-- The strings and keys in the tree are borrowed as they were read.
 abbrev pub GrownRight : List ℕ → Grown → Type 0
 GrownRight text g = IfNone g.clash (AreBorrowedRight text (standing g.root))
 
--- no two clash, and no table is to be finished
+-- No two claims clash, and no table has to be finished.
 abbrev pub IsBare : Grown → Type 0
 IsBare g = (g.clash ≡ None) × ((out-Branch g.root).tables.entries ≡ [])
 
--- Reading the text gives these sections, and this is what they make.
+-- Reading the text results in these sections, and this is what has been built from them.
 pub record IsGrown (text : List ℕ) (limit : ℕ) (g : Grown) : Type 0 where
   pub sections : List Section
   pub document : document text limit (Ok (map block sections))

@@ -27,28 +27,28 @@ sort_number Assigned = 5
 abbrev pub same_sort : Sort → Sort → Bool
 same_sort a b = nat_eq (sort_number a) (sort_number b)
 
--- whether one of these claims is of this sort
+-- Whether one of these claims has this sort.
 abbrev pub has_sort : List Mark → Sort → Bool
 has_sort marks sort = list_any (λ mark. same_sort mark.sort sort) marks
 
--- the first claim of each sort is kept, in the order of the text
+-- The first claim of each sort is kept, in the order of the text.
 abbrev pub remember : List Mark → Mark → List Mark
 remember marks mark = if has_sort marks mark.sort then marks else marks ++ mark ∷ []
 
--- the clash of a claim with the earliest of these that it clashes with
+-- the clash of a claim with the earliest of those with which it clashes
 abbrev pub earliest_meeting : List Mark → Mark → Option Meeting
 earliest_meeting [] later = None
 earliest_meeting (earlier ∷ marks) later = or_else (meeting_between earlier later) (earliest_meeting marks later)
 
--- why no tree is given: memory ran out, or a clash
+-- why no tree was built: a clash, or a failed allocation
 abbrev pub Halt : Type 0
 Halt = Stop (Box code.Clash)
 
--- a clash over a name
+-- a clash over this name
 abbrev pub IsClashOver : code.Clash → Meeting → List ℕ → Type 0
 IsClashOver c m name = (c.meeting ≡ m) × (string_bytes c.name ≡ name)
 
--- the halt at a clash over a name; or want of memory
+-- the `Halt` of a clash over this name, or a failed allocation
 abbrev pub Halts : Halt → Meeting → List ℕ → Type 0
 Halts (Fault c) m name = IsClashOver (box_value c) m name
 Halts (Memory e) m name = ⊤
@@ -61,11 +61,11 @@ abbrev pub first : List Mark → Option Mark
 first [] = None
 first (mark ∷ marks) = Some mark
 
--- the claim that says where a branch stands: that of the first header, or else the first one
+-- the claim that decides for a branch: that of the first header, or else the first one
 abbrev pub deciding : List Mark → Option Mark
 deciding marks = or_else (first_by_header marks) (first marks)
 
--- a clash is told inside the first n bytes
+-- A clash has a span inside the first n bytes.
 abbrev pub IsHaltInside : ℕ → Halt → Type 0
 IsHaltInside n (Memory e) = ⊤
 IsHaltInside n (Fault c) = IsInside n (box_value c).meeting.span

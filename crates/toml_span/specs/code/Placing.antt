@@ -1,4 +1,4 @@
--- What the functions that place claims give.
+-- What the functions that place claims return.
 use Rattle.std.specs.Prelude.{◌≡◌, ⊤, ℕ, ◌⊎◌, false, List, [], ◌∷◌, map, Result, Ok, Err}
 use Rattle.std.specs.Prelude.{Option, Some, None, option_map}
 use Rattle.std.specs.BTreeMap.{BTreeMap}
@@ -40,7 +40,8 @@ use Rattle.toml_span_lex.specs.declared.stop.Stop.TheVariants.{Memory, Fault}
 use Rattle.toml_span.specs.Clashes.{Resolves, first_clash}
 use Rattle.toml_span.specs.Flat.{Shows, flat}
 
--- The claims are placed from a branch on, which then has so many entries, or else the first clash is told.
+-- The claims have been placed, beginning at a branch, which then has this many entries; or the result is the first
+-- clash.
 abbrev pub Reaches : (Branch → Type 0) → (Branch → Type 0) → Branch → Branch → Result (Unit {0}) Halt → Claims
     → (Path → ℕ) → Type 0
 Reaches Before After old new r cs entries =
@@ -48,15 +49,15 @@ Reaches Before After old new r cs entries =
     → Gives r (clash_met (cells old) cs)
     (λ _. (cells new ≡ put_all (cells old) cs) × (counts new ≡ entries) × After new)
 
--- below a table, whose own claims stay
+-- the same below a table, whose own claims are unchanged
 abbrev pub Places : Branch → Branch → Result (Unit {0}) Halt → Claims → (Path → ℕ) → Type 0
 Places old new r cs entries = Reaches IsScope (λ n. IsScope n × (marks n ≡ marks old)) old new r cs entries
 
--- from a branch on that stands at a name
+-- the same beginning at a branch below a name
 abbrev pub Passes : Branch → Branch → Result (Unit {0}) Halt → Claims → (Path → ℕ) → Type 0
 Passes old new r cs entries = Reaches IsChild IsHeld old new r cs entries
 
--- from a table on, which is claimed
+-- the same beginning at a table, which is claimed
 abbrev pub Opening : (Branch → Type 0) → Mark → Branch → Branch → Result (Unit {0}) Halt → Claims → (Path → ℕ) → Type 0
 Opening Before m old new r cs entries =
     Reaches Before (λ n. IsScope n × (marks n ≡ remember (marks old) m)) old new r cs entries
@@ -67,31 +68,31 @@ Opens sort n = Sound n × ((sort ≡ StandardTable) ⊎ ((sort ≡ TableElement)
 
 -- ---- keys and headers
 
--- what these assignments claim, seen from their table
+-- the claims of these assignments, seen from their table
 abbrev pub claims_of : List Assignment → Claims
 claims_of pairs = key_value_claims (map key_value pairs) []
 
--- what is pending is placed from the branch of a part on, behind which these parts follow
+-- The pending value has been placed, beginning at the branch of a part that is followed by the parts `rest`.
 abbrev pub PassesPair : Branch → Branch → Result (Unit {0}) Halt
     → Key → List Key → Pending → Read → Type 0
 PassesPair old new r part rest d v =
     Passes old new r (through_pair (simple_key part) (map simple_key rest) (simple_key d.last) v) (counts old)
 
--- a section, of whose header these parts are left, is placed below a branch
+-- A section has been placed below a branch; `parts` are the remaining parts of its header.
 abbrev pub PlacesSection : Branch → Branch → Result (Unit {0}) Halt
     → Head → List Key → List Assignment → Type 0
 PlacesSection old new r h parts pairs =
     Places old new r (section_at (counts old) h (map simple_key parts) (claims_of pairs))
     (counts_after (counts old) h (map simple_key parts))
 
--- from the branch of a part on
+-- the same beginning at the branch of a part
 abbrev pub PassesHeader : Branch → Branch → Result (Unit {0}) Halt
     → Head → Key → List Key → List Assignment → Type 0
 PassesHeader old new r h part rest pairs =
     Passes old new r (through (counts old) h (simple_key part) (map simple_key rest) (claims_of pairs))
     (counts_after_through (counts old) h (map simple_key rest))
 
--- from a table on that the header passes through
+-- the same beginning at a table through which the header passes
 abbrev pub PassesTable : Branch → Branch → Result (Unit {0}) Halt
     → Head → Key → List Key → List Assignment → Type 0
 PassesTable old new r h part rest pairs =
@@ -101,7 +102,7 @@ PassesTable old new r h part rest pairs =
 
 -- ---- values
 
--- the finished value shows what was read, itself and below it what it claims, and its tables are in order
+-- The finished value shows what was read, at its own path and at those below it, and its tables are in order.
 abbrev pub IsFinished : Read → Value → Type 0
 IsFinished v x =
     ((at : Option Span)
@@ -113,23 +114,23 @@ IsFinished v x =
 abbrev pub ValueGives : Result Value Halt → Read → Type 0
 ValueGives r v = Gives r (clash_met nothing (value_claims v [])) (IsFinished v)
 
--- the place, whatever decides it
+-- the place, without what decides it
 abbrev pub place_shown : Cell → Option Place
 place_shown x = option_map (λ d. d.place) x.shown
 
--- below it a tree shows what a state shows
+-- Below it, a tree shows the places of a state.
 abbrev pub ShowsBelow : tree.Inner → State → Type 0
 ShowsBelow i st =
     (s : Step) (p : Path)
     → option_map tree_place (reached (s ∷ p) (None, tree.node i (record { start = 0; end = 0 })))
     ≡ place_shown (st (s ∷ p))
 
--- the same, with what decides, which no header does
+-- the same with what decides, which is never a header
 abbrev pub ShowsPlain : tree.Inner → State → Type 0
 ShowsPlain i st =
     (s : Step) (p : Path) → value_shows None (tree.node i (record { start = 0; end = 0 })) (s ∷ p) ≡ (st (s ∷ p)).shown
 
--- what a scope of an inline table, or of an array, gives
+-- the result for the scope of an inline table or of an array
 abbrev pub ScopeGives : {A : Type 0} → Result A Halt → (A → tree.Inner) → Claims → Type 0
 ScopeGives r seen cs =
     Gives r (clash_met nothing cs) (λ x. ShowsPlain (seen x) (show_all nothing cs) × HoldsOrdered (seen x))
@@ -139,7 +140,7 @@ ScopeGives r seen cs =
 abbrev pub Table : Type 0
 Table = BTreeMap Key Value
 
--- the names of a table ascend
+-- The names of a table ascend.
 abbrev pub NamesAscend : Table → Type 0
 NamesAscend t =
     IsStrictlySortedBy (λ k l. slice_cmp nat_cmp (cow_str_bytes k.name) (cow_str_bytes l.name)) (keys_of t.entries)
@@ -147,7 +148,8 @@ NamesAscend t =
 abbrev pub Array : Type 0
 Array = Vec Value
 
--- the table of a branch's values and of what its branches have become, which borrows right where the branch does
+-- the table of a branch's values and of those made from its branches, whose strings and keys are borrowed correctly if
+-- those of the branch are
 abbrev pub Finishes : BTreeMap Key (Box Branch) → Table → Result Table AllocError → Type 0
 Finishes tables values (Ok t) =
     (n : Branch) → (out-Branch n).tables ≡ tables → (out-Branch n).values ≡ values → IsScope n
@@ -155,7 +157,7 @@ Finishes tables values (Ok t) =
     × StaysRight n (table_held t.entries)
 Finishes tables values (Err e) = ⊤
 
--- the key's span and the value that a branch has become
+-- the span of the key and the value made from a branch
 abbrev pub Becomes : Branch → Result (Span × Value) AllocError → Type 0
 Becomes n (Ok r) =
     Sound n
@@ -165,24 +167,24 @@ Becomes n (Ok r) =
     × ShowsBelow (tree_inner (view r.1)) (cells n) × IsOrdered (view r.1) × StaysRight n (held r.1)
 Becomes n (Err e) = ⊤
 
--- an entry's value, which stands at no key
+-- the value of an entry, which has no key
 abbrev pub BecomesEntry : Branch → Value → Type 0
 BecomesEntry n v = (at : Span) × Becomes n (Ok (at, v))
 
--- the elements that the entries of an array of tables have become, place by place
+-- the elements made from the entries of an array of tables, in order
 abbrev pub EachBecomes : List Branch → Result Array AllocError → Type 0
 EachBecomes ns (Ok a) = AllZip BecomesEntry ns a.items
 EachBecomes ns (Err e) = ⊤
 
 -- ---- the document
 
--- a section without a header is no array of tables
+-- A section without a header is not an element of an array of tables.
 abbrev pub AreSections : List Block → Type 0
 AreSections [] = ⊤
 AreSections (b ∷ bs) = (b.header ≡ [] → b.array ≡ false) × AreSections bs
 
--- The tree is given exactly where no two claims clash, shows the flat document, and is in order. Or the first clash is
--- told.
+-- The result is a tree exactly if no two claims clash; it shows the flat document and is in order. Otherwise it is the
+-- first clash.
 abbrev pub Assembles : List Block → ℕ → Result Value Halt → Type 0
 Assembles bs length (Ok root) =
     Resolves (claims bs) × Shows (view root) (flat length (claims bs)) × IsOrdered (view root)

@@ -1,4 +1,4 @@
--- What headers and assignments claim, seen from the branch at which they start.
+-- The claims of headers and assignments, seen from the branch at which they begin.
 use Rattle.std.specs.Prelude.{ℕ, zero, suc, if◌then◌else◌, List, [], ◌∷◌}
 use Rattle.toml_span_tree.specs.Path.{Step, key, position, Path}
 use Rattle.toml_span_read.specs.Data.{ParsedValue, SimpleKey}
@@ -20,40 +20,40 @@ under s (scope inner cs) = scope (under s inner) (under s cs)
 
 -- ---- assignments
 
--- a value assigned to the last part of a key, behind these inner parts
+-- The claims of a value that is assigned to the last part of a key, after these inner parts.
 unfoldable pub pair_at : List SimpleKey → SimpleKey → ParsedValue → Claims
 pair_at [] last v = under (key last.name) (claimed (assigned [] last v) (value_claims v []))
 pair_at (k ∷ inner) last v = under (key k.name) (claimed (dotted [] k v) (pair_at inner last v))
 
--- the same, from the branch of the first inner part
+-- the same, beginning at the branch of the first inner part
 abbrev pub through_pair : SimpleKey → List SimpleKey → SimpleKey → ParsedValue → Claims
 through_pair k inner last v = claimed (dotted [] k v) (pair_at inner last v)
 
 -- ---- sections
 
--- what a part of a header claims that is followed by these, where nothing stands yet
+-- the sort of claim of a header's part that these parts follow, if it is the first claim
 abbrev pub part_sort : Head → List SimpleKey → Sort
 part_sort h [] = if h.array then ArrayOfTables else StandardTable
 part_sort h (l ∷ more) = Passed
 
--- from a branch with n entries, the latest of them or the branch itself
+-- beginning at the latest entry of a branch, or, without entries, at the branch itself
 abbrev pub entered : ℕ → (Path → ℕ) → ((Path → ℕ) → Claims) → Claims
 entered zero e f = f e
 entered (suc latest) e f = under (position latest) (f (λ q. e (position latest ∷ q)))
 
--- a claim of a table, and those below it
+-- the claim of a table, and those below it
 abbrev pub opening : Head → Sort → SimpleKey → Claims → Claims
 opening h sort k tail = claimed (header_claim h sort [] k) tail
 
--- the entry behind n others
+-- the entry that follows n others
 abbrev pub adding : Head → SimpleKey → Claims → ℕ → Claims
 adding h k tail n = under (position n) (opening h TableElement k tail)
 
--- at the branch at which a header ends, where n entries are open
+-- the claims at the branch at which a header ends, if n entries have been added
 abbrev pub ending : Head → SimpleKey → Claims → ℕ → Claims
 ending h k tail n = if h.array then array_claims h [] k n (adding h k tail n) else opening h StandardTable k tail
 
--- `tail` are the claims below the table that the header opens
+-- the claims of a section, where `tail` are those below the table that the header opens
 unfoldable pub section_at : (Path → ℕ) → Head → List SimpleKey → Claims → Claims
 section_at e h [] tail = tail
 section_at e h (k ∷ []) tail = under (key k.name) (ending h k tail (e (key k.name ∷ [])))
@@ -61,16 +61,16 @@ section_at e h (k ∷ l ∷ more) tail =
     under (key k.name)
     (entered (e (key k.name ∷ [])) (λ q. e (key k.name ∷ q)) (λ f. opening h Passed k (section_at f h (l ∷ more) tail)))
 
--- from a branch that the header passes through
+-- beginning at a branch through which the header passes
 abbrev pub passing : Head → SimpleKey → List SimpleKey → Claims → (Path → ℕ) → Claims
 passing h k rest tail f = opening h Passed k (section_at f h rest tail)
 
--- from the branch of the part k on
+-- beginning at the branch of the part k
 abbrev pub through : (Path → ℕ) → Head → SimpleKey → List SimpleKey → Claims → Claims
 through e h k [] tail = ending h k tail (e [])
 through e h k (l ∷ more) tail = entered (e []) e (passing h k (l ∷ more) tail)
 
--- ---- how many entries there are then
+-- ---- the number of entries afterwards
 
 abbrev pub counts_after_adding : (Path → ℕ) → Path → ℕ
 counts_after_adding e [] = suc (e [])

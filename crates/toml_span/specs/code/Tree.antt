@@ -1,4 +1,4 @@
--- What a branch of the tree under construction holds, path by path.
+-- What a branch of the tree under construction has at each path.
 use Rattle.std.specs.Prelude.{◌≡◌, ℕ, zero, suc, ◌⊎◌, Bool, true, false, List, [], ◌∷◌, length, Option, Some, None}
 use Rattle.std.specs.Prelude.{option_map}
 use Rattle.std.specs.Cow.{cow_str_bytes}
@@ -26,7 +26,7 @@ use Rattle.toml_span.specs.code.Marks.{deciding}
 use Rattle.toml_span.specs.declared.claims.Sort.{Sort}
 use Rattle.toml_span.specs.Ordered.{IsOrdered}
 
--- the key is of this name
+-- Whether the key has this name.
 abbrev pub is_named : List ℕ → Key → Bool
 is_named name k = is_eq (slice_cmp nat_cmp name (cow_str_bytes k.name))
 
@@ -36,7 +36,7 @@ marks n = (out-Branch n).marks.items
 abbrev pub entries : Branch → List Branch
 entries n = (out-Branch n).entries.items
 
--- the branch of a name, the value of a name with its key, and the entry at a position
+-- the branch with this name, the value with this name and its key, and the entry at a position
 abbrev pub child : List ℕ → Branch → Option Branch
 child name n = option_map box_value (lookup (is_named name) (out-Branch n).tables.entries)
 
@@ -51,7 +51,7 @@ item i [] = None
 item zero (x ∷ xs) = Some x
 item (suc i) (x ∷ xs) = item i xs
 
--- the branch of a name among such branches, and the claims on it
+-- the branch with this name among those of a map, and the claims on it
 abbrev pub child_in : List ℕ → BTreeMap Key (Box Branch) → Option Branch
 child_in name tables = option_map box_value (lookup (is_named name) tables.entries)
 
@@ -64,12 +64,12 @@ held_marks (Some n) = marks n
 abbrev pub by_mark : Mark → Decided
 by_mark m = record { header = by_header m.sort; place = place_claimed m; key = m.key }
 
--- what these claims show, the first of which has the key
+-- What these claims show. The first of them has the key.
 abbrev pub by_marks : List Mark → Option Decided
 by_marks [] = None
 by_marks (m ∷ ms) = option_map (λ x. with_span m.key (by_mark x)) (deciding (m ∷ ms))
 
--- the span of an element in brackets, which has no key
+-- the key's span, or, for an element in brackets, which has no key, its own span
 abbrev pub span_or : Span → Option Span → Span
 span_or span None = span
 span_or span (Some at) = at
@@ -77,7 +77,7 @@ span_or span (Some at) = at
 abbrev pub plain : Place → Decided
 plain p = record { header = false; place = p; key = span_or p.span p.key_span }
 
--- what a finished value shows below a step to it, which has a key's span or none
+-- what a finished value, whose key has this span, if it has one, shows at each path inside it
 abbrev pub value_shows : Option Span → tree.Node → Path → Option Decided
 value_shows at n p = option_map (λ m. plain (tree_place m)) (reached p (at, n))
 
@@ -116,7 +116,7 @@ abbrev pub or_zero : Option ℕ → ℕ
 or_zero (Some n) = n
 or_zero None = 0
 
--- how many entries the array of tables at a path has
+-- the number of entries of the array of tables at a path
 unfoldable pub count_at : Path → Branch → ℕ
 count_at [] n = length (entries n)
 count_at (key name ∷ p) n = or_zero (option_map (count_at p) (child name n))
@@ -125,7 +125,7 @@ count_at (position i ∷ p) n = or_zero (option_map (count_at p) (item i (entrie
 abbrev pub counts : Branch → Path → ℕ
 counts n p = count_at p n
 
--- ---- what always holds of it
+-- ---- invariants
 
 abbrev pub is_array_sort : Sort → Bool
 is_array_sort ArrayOfTables = true
@@ -135,14 +135,14 @@ abbrev pub is_entry_sort : Sort → Bool
 is_entry_sort TableElement = true
 is_entry_sort _ = false
 
--- no claim of an array of tables, and none of an entry, is among them
+-- No claim is one of an array of tables, or of an entry.
 abbrev pub NoArray : List Mark → Type 0
 NoArray ms = AllByRecursion (λ m. is_array_sort m.sort ≡ false) ms
 
 abbrev pub NoEntry : List Mark → Type 0
 NoEntry ms = AllByRecursion (λ m. is_entry_sort m.sort ≡ false) ms
 
--- the claims on a branch that stands at a name, and on an entry
+-- the claims on a branch below a name, and those on an entry
 abbrev pub IsNamed : List Mark → Type 0
 IsNamed [] = ⊥
 IsNamed (m ∷ ms) = NoEntry (m ∷ ms)
@@ -151,14 +151,14 @@ abbrev pub IsEntry : List Mark → Type 0
 IsEntry [] = ⊥
 IsEntry (m ∷ ms) = m.sort ≡ TableElement
 
--- nothing is claimed on the branch, and nothing stands below it
+-- The branch has no claims, and nothing below it.
 pub record IsFresh (n : Branch) : Type 0 where
   pub no_marks : marks n ≡ []
   pub no_values : (out-Branch n).values.entries ≡ []
   pub no_tables : (out-Branch n).tables.entries ≡ []
   pub no_entries : entries n ≡ []
 
--- an array of tables is claimed once, and holds nothing but entries
+-- An array of tables is claimed once, and has only entries.
 pub record IsArray (n : Branch) : Type 0 where
   pub claim : Mark
   pub only : marks n ≡ claim ∷ []
@@ -166,23 +166,23 @@ pub record IsArray (n : Branch) : Type 0 where
   pub no_values : (out-Branch n).values.entries ≡ []
   pub no_tables : (out-Branch n).tables.entries ≡ []
 
--- without entries a branch is a table, and with entries an array of tables
+-- A branch without entries is a table, and a branch with entries is an array of tables.
 abbrev pub IsTableOrArray : Branch → List Branch → Type 0
 IsTableOrArray n [] = NoArray (marks n)
 IsTableOrArray n (x ∷ xs) = IsArray n
 
--- what stands at names, and in the entries
+-- the branches below names, and those that are entries
 abbrev pub AreNamed : Branch → Type 0
 AreNamed n = (name : List ℕ) (c : Branch) → child name n ≡ Some c → (closed name n ≡ None) × IsNamed (marks c)
 
 abbrev pub AreEntries : List Branch → Type 0
 AreEntries ns = (i : ℕ) (c : Branch) → item i ns ≡ Some c → (entries c ≡ []) × IsEntry (marks c)
 
--- the tables of the values are in the order of their names
+-- The tables of the values are in the order of their names.
 abbrev pub HoldsOrderedValues : Branch → Type 0
 HoldsOrderedValues n = (name : List ℕ) (e : Key × Value) → closed name n ≡ Some e → IsOrdered (view e.1)
 
--- A branch is a table or an array of tables, and so is all below it. No name stands both in `values` and in `tables`.
+-- A branch is a table or an array of tables, and so is everything below it. No name is in both `values` and `tables`.
 -- The values are in order.
 pub data Sound : Branch → Type 0 where
   sound : (n : Branch)
@@ -191,18 +191,18 @@ pub data Sound : Branch → Type 0 where
       → ((i : ℕ) (c : Branch) → item i (entries n) ≡ Some c → Sound c)
       → Sound n
 
--- the root, an inline table, or an entry; and any other table
+-- the root, an inline table, an entry, or any other table
 abbrev pub IsScope : Branch → Type 0
 IsScope n = Sound n × (entries n ≡ [])
 
--- a branch that stands at a name, or will stand there once it is claimed
+-- a branch below a name, or one that will be there once it is claimed
 abbrev pub IsChild : Branch → Type 0
 IsChild n = Sound n × (IsFresh n ⊎ IsNamed (marks n))
 
 abbrev pub IsHeld : Branch → Type 0
 IsHeld n = Sound n × IsNamed (marks n)
 
--- an array of tables to which an entry is added: its first one or a further one
+-- an array of tables to which an entry is added, be it the first or a later one
 pub record IsOpen (n : Branch) : Type 0 where
   pub array : IsArray n
   pub added : AreEntries (entries n)

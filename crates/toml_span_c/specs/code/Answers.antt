@@ -1,4 +1,4 @@
--- What the bytes of a document are answered.
+-- The answer to the bytes of a document.
 use Rattle.std.specs.Prelude.{◌≡◌, ℕ, List}
 use Rattle.toml_span.specs.Parsing.{IsTree, IsRefusal}
 use Rattle.toml_span_c.specs.Calls.{IsText}

@@ -1,33 +1,33 @@
--- How arrays are filled a part at a time.
+-- How arrays are filled, one part at a time.
 use Rattle.std.specs.Prelude.{◌≡◌, ◌≤◌, ℕ, zero, suc, ◌+◌, List, [], ◌∷◌, length}
 use Rattle.toml_span_c.specs.declared.records.Counts.{Counts}
 use Rattle.toml_span_c.specs.declared.records.Record.{Record}
 use Rattle.toml_span_c.specs.Records.{Entry, records_of, strings_of}
 use Rattle.toml_span_c.specs.declared.records.TheConstants.{NONE}
 
--- an array with this list at this place, as far as there is room
+-- an array with this list at this index, as far as there is room
 abbrev pub laid : {A : Type 0} → ℕ → List A → List A → List A
 laid at xs [] = []
 laid zero [] (y ∷ ys) = y ∷ ys
 laid zero (x ∷ xs) (y ∷ ys) = x ∷ laid zero xs ys
 laid (suc at) xs (y ∷ ys) = y ∷ laid at xs ys
 
--- behind m bytes these ones were put
+-- These bytes were written after the first m.
 pub record PutsBytes (m : ℕ) (added old new : List ℕ) (total : ℕ) : Type 0 where
   pub bytes : new ≡ laid m added old
   pub count : total ≡ m + length added
 
--- so many records and bytes were put
+-- This many records and bytes have been written.
 pub record IsAt (k m : ℕ) (counts : Counts) : Type 0 where
   pub nodes : counts.nodes ≡ k
   pub strings : counts.strings ≡ m
 
--- behind k records and m bytes those of these entries can be counted
+-- After k records and m bytes, those of these entries can be counted.
 pub record Fits (document : List ℕ) (k m : ℕ) (es : List Entry) : Type 0 where
   pub few : k + length es ≤ NONE
   pub short : m + length (strings_of document es) ≤ NONE
 
--- behind k records and m bytes those of these entries were put
+-- After k records and m bytes, those of these entries were written.
 pub record Puts (document : List ℕ) (k m : ℕ) (es : List Entry) (old new : List Record) (bytes bytes' : List ℕ)
     (total : Counts) : Type 0 where
   pub nodes : new ≡ laid k (records_of document m es) old

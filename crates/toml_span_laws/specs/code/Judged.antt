@@ -1,4 +1,4 @@
--- What stands at a place of a text.
+-- What is at an offset in a text.
 use Rattle.std.specs.Prelude.{◌≡◌, ◌≤◌, ◌+◌, ℕ, true, List, Result, Ok, Err, Option}
 use Rattle.std.specs.Str.{IsCharBoundary}
 use Rattle.toml_span_lex.specs.Bytes.{is_blank, is_keylike, MaximalRun}
@@ -10,16 +10,16 @@ use Rattle.toml_span_read.specs.Gaps.{MaximalGap}
 use Rattle.toml_span_read.specs.Dates.{begins_date}
 use Rattle.toml_span_read.specs.Read as read
 
--- j is at i or behind it, and a character begins there or the text ends
+-- j is i or after it, and is a character boundary.
 abbrev pub Onto : List ℕ → ℕ → ℕ → Type 0
 Onto text i j = (i ≤ j) × IsCharBoundary text j
 
--- what is read ends behind i
+-- What is read ends after i.
 abbrev pub EndsPast : {A : Type 0} → List ℕ → ℕ → Result (A × ℕ) Fault → Type 0
 EndsPast text i (Ok found) = Onto text (i + 1) found.1
 EndsPast text i (Err fault) = Unit {0}
 
--- What stands at i and is read without a look at other forms.
+-- The forms at i that are read without regard to other forms.
 pub record Judged (text : List ℕ) (i : ℕ) : Type 0 where
   pub stands : SomethingStands text i
   pub gap : (j : ℕ) × MaximalGap text i j × Onto text i j

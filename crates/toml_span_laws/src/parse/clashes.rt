@@ -1,4 +1,4 @@
-//! Laws of which clash is told.
+//! Laws about which clash is reported.
 ghost use Rattle.std.specs.Prelude.{◌≡◌, ◌≢◌, ◌↔◌, ◌++◌, ◌∷◌, ℕ, List, [], Some};
 ghost use Rattle.toml_span_tree.specs.Path.{Path, position};
 ghost use Rattle.toml_span.specs.declared.claims.Sort.TheVariants.{Assigned, Dotted, Passed};
@@ -9,17 +9,17 @@ ghost use Rattle.toml_span_read.specs.Data.{Block};
 ghost use Rattle.toml_span_read.specs.Grammar.{SpellsDocument};
 ghost use Rattle.toml_span_laws.specs.Clashing.{IsFirstPair, IsIn, ShareScope};
 
-/// The clash that is told is that of the first two by their places: the later claim starts before every
-/// other one of a document that clashes with an earlier one of its scope, and its partner before every
-/// other one that it clashes with.
+/// The clash that is reported is that of the first two claims by their offsets: the later claim starts before every
+/// other one of the document that clashes with an earlier one of its scope, and its partner before every other one with
+/// which it clashes.
 pub fn told_is_first_by_place()
     ensures { (text : List ℕ) (limit : ℕ) (blocks : List Block) (told : NamedClash) → SpellsDocument blocks text limit
         → (first_clash (claims blocks) ≡ Some told) ↔ ((c d : Claim) × IsFirstPair [] (claims blocks) c d
         × (clash c d ≡ Some told)) }
 {}
 
-/// What stands at a position is never said by a header that passes through it: the claim of the element decides there,
-/// of an array of tables or of an array in brackets.
+/// A header that passes through an element never decides at its position: the claim of the element does, for an array
+/// of tables as well as an array in brackets.
 pub fn no_header_through_an_element_decides()
     ensures { (text : List ℕ) (limit : ℕ) (blocks : List Block) (path : Path) (index : ℕ) (c : Claim)
         → SpellsDocument blocks text limit
@@ -27,16 +27,16 @@ pub fn no_header_through_an_element_decides()
         → c.mark.sort ≢ Passed }
 {}
 
-/// Where no two claims of a document clash, those on one path are of one scope.
+/// If no two claims of a document clash, those on the same path belong to the same scope.
 pub fn claims_on_one_path_are_of_one_scope()
     ensures { (text : List ℕ) (limit : ℕ) (blocks : List Block) (c d : Claim) → SpellsDocument blocks text limit
         → Resolves (claims blocks) → IsIn c (all_claims (claims blocks)) → IsIn d (all_claims (claims blocks))
         → c.path ≡ d.path → ShareScope (claims blocks) c d }
 {}
 
-/// A dotted key that goes through a value is never what is told first. Within a section or an inline table the reader
-/// tells it, so that no document is spelled. A dotted key of another section leads through a value only where two
-/// earlier claims clash: on a table that is opened twice, or that is opened and made by a dotted key.
+/// A dotted key that goes through a value is never the first clash. Within a section or an inline table the reader
+/// reports it, so the text spells no document. A dotted key of another section goes through a value only if two earlier
+/// claims clash: on a table that is opened twice, or that is both opened and created by a dotted key.
 pub fn no_dotted_key_through_a_value_is_told()
     ensures { (text : List ℕ) (limit : ℕ) (blocks : List Block) (c d : Claim) → SpellsDocument blocks text limit
         → IsFirstPair [] (claims blocks) c d → c.mark.sort ≡ Assigned → d.mark.sort ≢ Dotted }

@@ -1,4 +1,4 @@
--- How many elements headers added to each array of tables, as it is kept.
+-- The map of how many elements headers have added to each array of tables.
 use Rattle.std.specs.Prelude.{ℕ, suc, Bool, if◌then◌else◌, List, [], map, unwrap_or, Vec}
 use Rattle.std.specs.Global.{Global}
 use Rattle.std.specs.Map.{lookup}
@@ -16,7 +16,7 @@ sorted_step (sorted.Position i) = position i
 abbrev pub sorted_steps : Vec SortedStep Global → Path
 sorted_steps v = map sorted_step v.items
 
--- how many elements the array at a path has
+-- the number of elements of the array at a path
 abbrev pub counts_in : List (Vec SortedStep Global × ℕ) → Path → ℕ
 counts_in es p = unwrap_or (lookup (λ k. same_path p (sorted_steps k)) es) 0
 
@@ -26,18 +26,18 @@ counts_of o = counts_in o.elements.entries
 abbrev pub no_counts : Path → ℕ
 no_counts p = 0
 
--- one more at a path
+-- one element more at a path
 abbrev pub one_more : (Path → ℕ) → Path → (Path → ℕ)
 one_more counts q p = if same_path q p then suc (counts p) else counts p
 
--- and behind a header with this path, if it stands in double brackets
+-- the same after a header with this path, if it has double brackets
 abbrev pub with_counted : (Path → ℕ) → Bool → Path → (Path → ℕ)
 with_counted counts doubled p = if doubled then one_more counts p else counts
 
--- the path below which a section assigns whose header names this one
+-- the path below which a section assigns, given the path of its header
 abbrev pub assigned_below : (Path → ℕ) → Bool → Path → Path
 assigned_below counts doubled p = if doubled then with_position p (counts p) else p
 
--- and behind a section
+-- the same after a section
 abbrev pub counts_behind : (Path → ℕ) → Block → (Path → ℕ)
 counts_behind counts b = with_counted counts b.array (target counts [] b.header)

@@ -1,4 +1,4 @@
--- What a value has whose text spells it.
+-- Properties of values that can be written as TOML source.
 use Rattle.std.specs.Prelude.{FitsSigned}
 use Rattle.std.specs.Str.{IsUtf8}
 use Rattle.toml_span_tree.specs.Date.{IsDateText}
@@ -6,9 +6,9 @@ use Rattle.toml_span_tree.specs.Node.{Scalar, text, integer, float, boolean, dat
 use Rattle.toml_span_tree.specs.Node.{array, table, Items, no_items, item, Members, no_members, member}
 use mir.Syntax.{w64}
 
--- ---- what every value in memory has
+-- ---- properties of every value in memory
 
--- a text is UTF-8, an integer has 64 bits, a date is the text of one
+-- a string is UTF-8, an integer has 64 bits, and a date is a valid date text
 abbrev pub IsHeldScalar : Scalar → Type 0
 IsHeldScalar (text s) = IsUtf8 s
 IsHeldScalar (integer z) = FitsSigned w64 z

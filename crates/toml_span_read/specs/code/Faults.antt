@@ -1,4 +1,4 @@
--- Faults of single functions: a placed one, or what is read.
+-- The faults of single functions.
 use Rattle.std.specs.Prelude.{◌≡◌, ℕ, ◌+◌, ◌<◌, List, Result, Ok, Err}
 use Rattle.toml_span_lex.specs.declared.stop.Stop.{Stop}
 use Rattle.toml_span_lex.specs.declared.stop.Stop.TheVariants as stops
@@ -10,7 +10,7 @@ use Rattle.toml_span_read.specs.Faults.{StartsInside, token_fault}
 use Rattle.toml_span_read.specs.Read.{Reading}
 use Rattle.toml_span_read.specs.code.Gaps.{Further}
 
--- the code gives what is read, seen so, or the fault, unless memory runs out
+-- The code returns what the definition reads, or its fault, unless an allocation fails.
 abbrev pub Gives : {A B : Type 0} → (A → B) → Reading B → Result A (Stop Fault) → Type 0
 Gives view m (Ok a) = m (Ok (view a))
 Gives view m (Err (stops.Memory e)) = Unit {0}
@@ -20,7 +20,7 @@ abbrev pub IsPlacedStop : List ℕ → Stop Fault → Type 0
 IsPlacedStop text (stops.Memory e) = Unit {0}
 IsPlacedStop text (stops.Fault fault) = StartsInside text fault
 
--- what is read ends further on, or the fault is placed
+-- What is read ends after i, or the fault is within the text.
 abbrev pub Advances : {A : Type 0} → List ℕ → ℕ → Result (A × ℕ) (Stop Fault) → Type 0
 Advances text i (Ok found) = Further text i found.1
 Advances text i (Err stop) = IsPlacedStop text stop
@@ -29,11 +29,11 @@ abbrev pub IsPlacedEnd : {A : Type 0} → List ℕ → Result A (Stop Fault) →
 IsPlacedEnd text (Ok found) = Unit {0}
 IsPlacedEnd text (Err stop) = IsPlacedStop text stop
 
--- no token stands at i, and this is told
+-- The tokenizer has this fault at i.
 abbrev pub IsTokenFault : List ℕ → ℕ → Fault → Type 0
 IsTokenFault text i fault = (j : ℕ) × (e : Error) × IsNoToken text i j e × (fault ≡ token_fault e)
 
--- the places that a token's refusal names are below n
+-- The offsets in a tokenizer's error are below n.
 abbrev pub Bounded : ℕ → Error → Type 0
 Bounded n (errors.InvalidCharInString at c) = at < n
 Bounded n (errors.InvalidEscape at c) = at < n

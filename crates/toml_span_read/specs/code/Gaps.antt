@@ -1,4 +1,4 @@
--- What the functions of gaps and separators give.
+-- What the functions for gaps and separators return.
 use Rattle.std.specs.Prelude.{◌≡◌, ℕ, ◌<◌, ◌≤◌, false, ◌==◌, List, slice_index, Result, Ok, Err, Option, Some, None}
 use Rattle.std.specs.Str.{IsCharBoundary}
 use Rattle.toml_span_lex.specs.Bytes.{is_blank, MaximalRun, comma, equals}
@@ -7,7 +7,7 @@ use Rattle.toml_span_read.specs.Gaps.{MaximalGap, Equals}
 use Rattle.toml_span_read.specs.declared.gaps.Behind.{Behind}
 use Rattle.toml_span_read.specs.declared.gaps.Behind.TheVariants as behind
 
--- j is behind i, and a character begins there or the text ends
+-- j is after i, and is a character boundary.
 pub record Further (text : List ℕ) (i j : ℕ) : Type 0 where
   pub on : i < j
   pub boundary : IsCharBoundary text j
@@ -29,7 +29,7 @@ BehindGives c text i (behind.Comma j) = Separator comma text i j × Further text
 BehindGives c text i (behind.Closed j) = Closes c text i j × Further text i j
 BehindGives c text i (behind.Neither j) = Neither c text i j × IsCharBoundary text j
 
--- a byte with gaps round it, or where it is due
+-- a byte with gaps around it, or the offset at which it was expected
 abbrev pub SeparatorGives : ℕ → List ℕ → ℕ → Result ℕ ℕ → Type 0
 SeparatorGives c text i (Ok j) = Separator c text i j × Further text i j
 SeparatorGives c text i (Err k) = MaximalGap text i k × ((slice_index text k == c) ≡ false) × IsCharBoundary text k

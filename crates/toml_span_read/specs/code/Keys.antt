@@ -1,4 +1,4 @@
--- What the functions of keys give.
+-- What the functions for keys return.
 use Rattle.std.specs.Prelude.{ℕ, ◌-◌, ◌<◌, Bool, List, map, Result, Ok, Err, Option}
 use Rattle.smallvec.specs.SmallVec.{SmallVec}
 use Rattle.toml_span_lex.specs.declared.key.Key.{Key}
@@ -21,7 +21,7 @@ parts_found (key, j) = (parts key, j)
 abbrev pub header_found : SmallVec Key × ℕ → Parts
 header_found (keys, j) = (map simple_key keys.items, j)
 
--- behind n parts one more stands, and a dot or none, or reading is stopped there
+-- After n parts there is another one, followed by a dot or not, or reading ends with a fault there.
 abbrev pub PartGives : Bool → List ℕ → ℕ → ℕ → ℕ → Result (Key × ℕ × Option ℕ) (Stop Fault) → Type 0
 PartGives header text limit n i (Ok (key, j, next)) =
     read.simple_key_at text i (Ok (simple_key key, j)) × (n < limit) × Further text i j × DotGives text j next

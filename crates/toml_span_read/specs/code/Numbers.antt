@@ -1,4 +1,4 @@
--- What the functions of numbers give.
+-- What the functions for numbers return.
 use Rattle.std.specs.Char.{digit_value}
 use Rattle.std.specs.Prelude.{◌≡◌, ℕ, ◌^◌, ◌<◌, ◌≤◌, true, false, List, length, slice_index, slice_range, Result, Ok}
 use Rattle.std.specs.Prelude.{Err, Option, Some, None}
@@ -13,18 +13,18 @@ abbrev pub DigitGives : ℕ → ℕ → Option ℕ → Type 0
 DigitGives radix c None = is_digit_in radix c ≡ false
 DigitGives radix c (Some value) = (is_digit_in radix c ≡ true) × (value ≡ digit_value c)
 
--- this number, or it is past 64 bits
+-- the number, or None if it does not fit in 64 bits
 abbrev pub WithinGives : ℕ → Option ℕ → Type 0
 WithinGives n None = 2 ^ 64 ≤ n
 WithinGives n (Some m) = m ≡ n
 
--- the text from i to j is the literal of what was read
+-- The text from i to j is a literal of the number read.
 abbrev pub NumeralStands : List ℕ → ℕ → ℕ → Numeral → Type 0
 NumeralStands text i j n = IsNumber (scalar_of n (slice_range text i j)) text i j
 
--- ---- runs, and where a fault is
+-- ---- runs, and where faults are
 
--- a run from i to j, as far as it goes
+-- From i to j all bytes are those of bare keys, and the byte at j is not.
 pub record Passes (text : List ℕ) (i j : ℕ) : Type 0 where
   pub forward : i ≤ j
   pub within : j ≤ length text

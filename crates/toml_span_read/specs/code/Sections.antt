@@ -1,4 +1,4 @@
--- What the functions of lines, headers and sections give.
+-- What the functions for lines, headers and sections return.
 use Rattle.std.specs.Prelude.{◌≡◌, ℕ, ◌≤◌, ◌⊎◌, List, [], ◌∷◌, map, length, slice_index, Vec, Result, Ok, Err, Option}
 use Rattle.std.specs.Prelude.{Some, None, IfSome}
 use Rattle.std.specs.Global.{Global}
@@ -15,7 +15,7 @@ use Rattle.toml_span_read.specs.Borrowed.{AreWrittenRight, section_written}
 use Rattle.toml_span_read.specs.code.Faults.{IsPlacedStop}
 use Rattle.toml_span_read.specs.code.Gaps.{Further}
 
--- ---- what is read, seen so
+-- ---- the code's values as plain data
 
 abbrev pub lines_found : Vec Assignment Global × ℕ → Pairs
 lines_found (found, j) = (map key_value found.items, j)
@@ -38,29 +38,29 @@ sections_found found = map block found.items
 
 -- ---- where reading ends
 
--- what is read ends there or further on, or the fault is placed
+-- What is read ends at i or after it, or the fault is within the text.
 abbrev pub EndsBehind : {A : Type 0} → List ℕ → ℕ → Result (A × ℕ) (Stop Fault) → Type 0
 EndsBehind text i (Ok found) = (i ≤ found.1) × IsCharBoundary text found.1
 EndsBehind text i (Err stop) = IsPlacedStop text stop
 
--- the assignments end where a header begins, or with the text
+-- The assignments end where a header begins, or at the end of the text.
 abbrev pub EndsAtHeader : {A : Type 0} → List ℕ → Result (A × ℕ) (Stop Fault) → Type 0
 EndsAtHeader text (Ok found) = (found.1 ≡ length text) ⊎ (slice_index text found.1 ≡ left_bracket)
 EndsAtHeader text (Err stop) = Unit {0}
 
--- the rest of a line, or of a header, ends at a place further on, or where it is due
+-- The rest of a line or of a header ends at i or after it, or the fault is within the text.
 abbrev pub LineReads : List ℕ → ℕ → Result ℕ (Stop Fault) → Type 0
 LineReads text i (Ok j) = (i ≤ j) × IsCharBoundary text j
 LineReads text i (Err stop) = IsPlacedStop text stop
 
--- a header begins at i and ends further on
+-- A header begins at i and ends after it.
 abbrev pub HeaderReads : List ℕ → ℕ → Result Header (Stop Fault) → Type 0
 HeaderReads text i (Ok h) = (h.extent.start ≡ i) × Further text i h.extent.end
 HeaderReads text i (Err stop) = IsPlacedStop text stop
 
 -- ---- section by section
 
--- sections end where a header begins, or with the text
+-- A section ends where a header begins, or at the end of the text.
 abbrev pub EndsSection : List ℕ → ℕ → Type 0
 EndsSection text j = IsCharBoundary text j × ((j ≡ length text) ⊎ (slice_index text j ≡ left_bracket))
 

@@ -1,4 +1,4 @@
--- What the functions give that read a string.
+-- What the functions that read strings return.
 use Rattle.std.specs.Prelude.{ℕ, List, Result, Ok, Err}
 use Rattle.std.specs.Cow.{cow_str_bytes}
 use Rattle.toml_span_lex.specs.declared.stop.Stop.{Stop}
@@ -9,7 +9,7 @@ use Rattle.toml_span_read.specs.declared.strings.StringToken.{StringToken}
 use Rattle.toml_span_read.specs.code.Faults.{IsTokenFault}
 use Rattle.toml_span_read.specs.code.Gaps.{Further}
 
--- what reading a string at i gives
+-- what reading a string at i returns
 abbrev pub StringReads : List ℕ → ℕ → Result StringToken (Stop Fault) → Type 0
 StringReads text i (Ok token) =
     (source : List ℕ) × IsString text i token.end token.span source (cow_str_bytes token.content) token.is_multiline

@@ -1,4 +1,4 @@
--- What the functions of values give.
+-- What the functions for values return.
 use Rattle.std.specs.Prelude.{◌≡◌, ℕ, ◌⊎◌, Bool, true, false, List, Result, Ok, Err, codes}
 use Rattle.toml_span_lex.specs.declared.stop.Stop.{Stop}
 use Rattle.toml_span_lex.specs.declared.stop.Stop.TheVariants as stops
@@ -20,7 +20,7 @@ value_found (v, j) = (view v, j)
 abbrev pub key_value_found : Assignment × ℕ → KeyValue × ℕ
 key_value_found (a, j) = (key_value a, j)
 
--- a value that is neither an array nor an inline table
+-- Whether a value is neither an array nor an inline table.
 abbrev pub is_scalar : ParsedInner → Bool
 is_scalar (scalar s) = true
 is_scalar (array vs) = false
@@ -30,25 +30,25 @@ abbrev pub IsScalarKind : Result (ValKind × ℕ) (Stop Fault) → Type 0
 IsScalarKind (Ok found) = is_scalar (kind_view found.0) ≡ true
 IsScalarKind (Err stop) = Unit {0}
 
--- the scalar that is read, or the fault, unless memory runs out
+-- the scalar that the definition reads, or its fault, unless an allocation fails
 abbrev pub ScalarGives : Reading (Scalar × ℕ) → Result (ValKind × ℕ) (Stop Fault) → Type 0
 ScalarGives m (Ok (kind, j)) = (s : Scalar) × (kind_view kind ≡ scalar s) × m (Ok (s, j))
 ScalarGives m (Err (stops.Memory e)) = Unit {0}
 ScalarGives m (Err (stops.Fault fault)) = m (Err fault)
 
--- the fault of a value that is too deep
+-- the fault of a value that is nested too deeply
 abbrev pub IsTooDeep : ℕ → Stop Fault → Type 0
 IsTooDeep i (stops.Memory e) = ⊥
 IsTooDeep i (stops.Fault fault) = fault ≡ fault_at kinds.ExceededDepthLimit i
 
--- neither a truth value nor a number of letters
+-- The run is neither a boolean nor `inf` or `nan`.
 pub record IsOtherWord (word : List ℕ) : Type 0 where
   pub no_true : word ≡ codes "true" → ⊥
   pub no_false : word ≡ codes "false" → ⊥
   pub no_infinity : word ≡ codes "inf" → ⊥
   pub no_nan : word ≡ codes "nan" → ⊥
 
--- what a run of letters is
+-- what kind of run the bytes are
 abbrev pub IsRunOf : List ℕ → Run → Type 0
 IsRunOf bytes runs.True = bytes ≡ codes "true"
 IsRunOf bytes runs.False = bytes ≡ codes "false"

@@ -1,4 +1,4 @@
--- What the functions give that look at a place where another token is due.
+-- What the functions that look at unexpected tokens return.
 use Rattle.std.specs.Prelude.{◌≡◌, ℕ, ◌⊎◌, List, length, Result, Ok, Err}
 use Rattle.toml_span_lex.specs.declared.span.Span.{Span}
 use Rattle.toml_span_lex.specs.declared.stop.Stop.{Stop}
@@ -12,7 +12,7 @@ use Rattle.toml_span_read.specs.Read.{Standing, StandsAt, wanted, string_value}
 use Rattle.toml_span_read.specs.declared.fault.Due.{Due}
 use Rattle.toml_span_read.specs.code.Faults.{IsTokenFault}
 
--- from i to j stands a token of this name, or the text ends at i
+-- The text from i to j is a token with this name, or the text ends at i.
 abbrev pub IsFound : List ℕ → ℕ → ℕ → Found → Type 0
 IsFound text i j found =
     ((i ≡ length text) × (j ≡ i) × (found ≡ founds.EndOfText))
@@ -23,7 +23,7 @@ FoundGives text i (Ok (found, j)) = IsFound text i j found
 FoundGives text i (Err (stops.Memory e)) = Unit {0}
 FoundGives text i (Err (stops.Fault fault)) = IsTokenFault text i fault
 
--- what is told where this is due at i
+-- the fault if the expected token is not at i
 abbrev pub WantedGives : List ℕ → ℕ → Due → Stop Fault → Type 0
 WantedGives text i due (stops.Memory e) = Unit {0}
 WantedGives text i due (stops.Fault fault) =

@@ -1,4 +1,4 @@
--- Keys and headers that say one thing twice.
+-- Definitions that clash.
 use Rattle.std.specs.Prelude.{ℕ, ◌==◌, ◌&&◌, ◌||◌, not, List, codes, slice_index, Option, Some, None, if◌then◌else◌}
 use Rattle.toml_span_lex.specs.declared.span.Span.{Span}
 use Rattle.toml_span_report.specs.Bytes.{ahead, begins, byte_behind, end_of, first_of_line}
@@ -11,7 +11,7 @@ use Rattle.toml_span_report.specs.declared.finding.ClashMistake.TheVariants as o
 abbrev pub with_other : Mistake → Span → Span → FindingContent
 with_other mistake span other = record (marked mistake span.start span.end) { also = other }
 
--- Each header may be that of an array of tables.
+-- Either header may be that of an array of tables.
 unfoldable pub table_twice : List ℕ → Span → Span → FindingContent
 table_twice text span first =
     let was_array = begins text first.start (codes "[[") in
@@ -20,7 +20,7 @@ table_twice text span first =
     else if was_array && not is_array then with_other (mistakes.Clash of_clash.TableOfArray) span first
     else with_other (mistakes.Clash of_clash.TableTwice) span first
 
--- the first byte of the value of a key, or of what else follows the key
+-- the first byte of the value of a key, or of whatever else follows the key
 unfoldable pub value_of : List ℕ → ℕ → ℕ
 value_of text end =
     let equals = end_of class.Blank text end in

@@ -26,7 +26,7 @@ slash_date text start end =
 abbrev pub zero_for : ℕ → ℕ → List ℕ
 zero_for from to = if to - from == 1 then codes "0" else []
 
--- two digits are a number past the one of two other digits
+-- two digits make a number greater than that of two other digits
 abbrev pub is_past : List ℕ → ℕ → ℕ → ℕ → Bool
 is_past text at tens ones =
     nat_lt tens (slice_index text at)

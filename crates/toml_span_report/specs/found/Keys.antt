@@ -18,7 +18,7 @@ unfoldable pub comment : List ℕ → ℕ → ℕ → FindingContent
 comment text at length = mended (mistakes.Symbol of_symbol.Comment) (span_of at (last_of_line text at)) (span_of at (ahead text at length))
     (pieces (codes "#") [] [])
 
--- the part of a header, and the key, at an offset, where it needs quotes
+-- the part of a header, and the key, at an offset, if it needs quotes
 unfoldable pub header_key : List ℕ → ℕ → Option FindingContent
 header_key text at =
     let from = end_of class.Blank text (start_of class.Header text at) in
@@ -60,7 +60,7 @@ other_sign mistake text from to =
     mended mistake (span_of from to) (span_of start stop)
     (pieces (part text start end) (codes " = ") (part text value stop))
 
--- a key and a colon with nothing behind it on the line
+-- a key and a colon with nothing after it on the line
 unfoldable pub yaml : List ℕ → ℕ → FindingContent
 yaml text at =
     let end = ahead text at 1 in
@@ -88,7 +88,7 @@ lone_key text end =
     if bytes_eq (part text start end) (codes "---") then marked (mistakes.Format of_format.DocumentMarker) start end
     else marked (mistakes.Key of_key.NoValue) start end
 
--- a key that another word follows
+-- a key followed by another word
 unfoldable pub spaced_key : List ℕ → ℕ → ℕ → ℕ → FindingContent
 spaced_key text end at stop =
     let start = start_of class.Name text end in
@@ -127,7 +127,7 @@ brace_header text at =
     (pieces (codes "[") (part text name end) (codes "]")))
     else None
 
--- a placeholder of a template in two braces on each side
+-- a template's placeholder in double braces
 unfoldable pub placeholder : List ℕ → ℕ → FindingContent
 placeholder text at =
     let close = end_of class.Enclosed text at in
@@ -144,7 +144,7 @@ brace text at =
     else if slice_index text (end_of class.Gap text next) == 34 then Some (marked (mistakes.Format of_format.JsonDocument) at next)
     else brace_header text at
 
--- a dot or a comma too many
+-- an extra dot or comma
 unfoldable pub extra : Mistake → List ℕ → ℕ → FindingContent
 extra mistake text at = replaced mistake at (ahead text at 1) (pieces [] [] [])
 

@@ -1,14 +1,14 @@
--- Values that are missing, and arrays, inline tables and headers that are not closed.
+-- Missing values, and arrays, inline tables and headers that are not closed.
 use Rattle.std.specs.Prelude.{ℕ, ◌-◌, ◌==◌, ◌&&◌, ◌||◌, Bool, not, nat_lt, nat_le, List, [], codes, slice_index}
 use Rattle.std.specs.Prelude.{Option, Some, None, if◌then◌else◌}
 use Rattle.std.specs.Str.{bytes_eq}
 use Rattle.toml_span_lex.specs.declared.span.Span.{Span}
 use Rattle.toml_span_report.specs.Bytes.{ahead, begins, byte_before, byte_behind, end_of, first_of_line, last_of_line}
-use Rattle.toml_span_report.specs.Bytes.{part, start_of}
+use Rattle.toml_span_report.specs.Bytes.{is_last, part, start_of}
 use Rattle.toml_span_report.specs.Finding.{FindingContent, first_found, marked, mended, pieces, replaced, span_of}
 use Rattle.toml_span_report.specs.Scan.{is_in_header, is_long, open_before}
 use Rattle.toml_span_report.specs.found.Keys.{header_key, other_sign}
-use Rattle.toml_span_report.specs.found.Values.{unquoted_value}
+use Rattle.toml_span_report.specs.found.Values.{unquoted, unquoted_value}
 use Rattle.toml_span_report.specs.declared.bytes.Class.TheVariants as class
 use Rattle.toml_span_report.specs.declared.finding.Mistake.{Mistake}
 use Rattle.toml_span_report.specs.declared.finding.Mistake.TheVariants as mistakes
@@ -107,7 +107,21 @@ is_assignment text at =
     let end = end_of class.Dotted text at in
     first_of_line text at == at && (nat_lt at end && byte_behind text end == 61)
 
--- a comma that is missing
+-- the line is a header
+unfoldable pub is_heading : List ℕ → ℕ → Bool
+is_heading text at =
+    let end = end_of class.Dotted text at in
+    slice_index text (start_of class.Line text at) == 91 && slice_index text end == 93
+    && (is_last text (ahead text end 1) || is_last text (ahead text end 2))
+
+-- a word in place of a value
+unfoldable pub word : List ℕ → ℕ → FindingContent
+word text at =
+    if (is_assignment text at || is_heading text at) && nat_lt 0 (open_before text at).depth
+    then unclosed text at
+    else unquoted text at
+
+-- a missing comma
 unfoldable pub missing_comma : Mistake → List ℕ → ℕ → FindingContent
 missing_comma mistake text at =
     let end = start_of class.Gap text at in
@@ -128,7 +142,7 @@ wrong_closing mistake text at closing =
       also = bracket_span text (open_before text at).bracket;
     }
 
--- a period or the like behind a value
+-- a period or the like after a value
 unfoldable pub glued : List ℕ → ℕ → Option FindingContent
 glued text at =
     let start = start_of class.Atom text at in
@@ -140,7 +154,7 @@ abbrev pub is_glue : List ℕ → Bool
 is_glue found =
     bytes_eq found (codes "a period") || bytes_eq found (codes "a colon") || bytes_eq found (codes "a plus")
 
--- where `]` is expected, and where a comma is, in an inline table
+-- where `]` is expected, and where a comma is expected in an inline table
 abbrev pub in_array : List ℕ → List ℕ → ℕ → Option FindingContent
 in_array found text at =
     if bytes_eq found (codes "eof") then Some (unclosed text at)

@@ -1,4 +1,4 @@
--- Numbers that TOML does not have.
+-- Numbers that are not valid in TOML.
 use Rattle.std.specs.Prelude.{ℕ, ◌-◌, ◌==◌, ◌&&◌, ◌||◌, not, nat_lt, nat_le, List, [], codes, length, slice_index}
 use Rattle.std.specs.Prelude.{Option, Some, None, if◌then◌else◌}
 use Rattle.toml_span_report.specs.Bytes.{ahead, begins, end_of, is_digit, part, start_of}
@@ -35,7 +35,7 @@ prefixed text start zero_at end =
     (pieces (lower_prefix letter) (part text (ahead text zero_at 2) end) []))
     else Some (record (marked (mistakes.Number of_number.OtherDigit) start end) { name = digits_of letter })
 
--- a number with zeros before its digits
+-- a number with leading zeros
 unfoldable pub zeros : List ℕ → ℕ → ℕ → ℕ → FindingContent
 zeros text start digits end =
     let more = ahead text digits 1 in
@@ -47,7 +47,7 @@ zeros text start digits end =
     then replaced (mistakes.Number of_number.Octal) start end (pieces (codes "0o") (part text more end) [])
     else replaced (mistakes.Number of_number.LeadingZero) start end (pieces (part text start digits) (part text kept end) [])
 
--- a decimal point without a digit behind it
+-- a decimal point without a digit after it
 unfoldable pub trailing_point : List ℕ → ℕ → ℕ → ℕ → Option FindingContent
 trailing_point text start point end =
     let next = ahead text point 1 in
@@ -90,7 +90,7 @@ number text at =
     first_found (slash_date text start end)
     (first_found (prefixed text start digits end) (signed text start digits end))
 
--- digits that commas group, up to the first comma
+-- digits grouped by commas, up to the first comma
 unfoldable pub thousands : List ℕ → ℕ → Option FindingContent
 thousands text at =
     let start = start_of class.Atom text at in

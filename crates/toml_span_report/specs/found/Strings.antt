@@ -1,4 +1,4 @@
--- Strings that end too late, and characters and escapes that they do not have.
+-- Strings that are not closed in time, and characters and escapes that they can't contain.
 use Rattle.std.specs.Prelude.{ℕ, ◌+◌, ◌-◌, ◌*◌, ◌==◌, ◌&&◌, ◌||◌, Bool, not, nat_lt, nat_le, List, [], ◌∷◌, codes}
 use Rattle.std.specs.Prelude.{slice_index, Option, Some, None, if◌then◌else◌}
 use Rattle.toml_span_report.specs.Bytes.{ahead, begins, end_of, first_of_line, last_of_line, part, start_of}
@@ -17,7 +17,7 @@ open_string text quote end =
     else if slice_index text quote == 34 then marked (mistakes.Text of_text.OpenString) quote end
     else marked (mistakes.Text of_text.OpenLiteral) quote end
 
--- two hexadecimal digits of a byte below 32, or of 127
+-- two hexadecimal digits for a byte below 32, or for 127
 unfoldable pub hex_of : ℕ → List ℕ
 hex_of byte =
     if byte == 127 then codes "7f"
@@ -50,7 +50,7 @@ backslash text at end =
 abbrev pub escape : List ℕ → ℕ → FindingContent
 escape text at = backslash text (at - 1) (ahead text at 1)
 
--- the zeros that an escape lacks
+-- the zeros missing from an escape
 unfoldable pub zeros_of : ℕ → ℕ → List ℕ
 zeros_of letter count =
     part (codes "00000000") 0 ((if letter == 85 then 8 else if letter == 117 then 4 else 2) - count)
@@ -93,7 +93,7 @@ abbrev pub requoted : List ℕ → ℕ → ℕ → ℕ → ℕ → List ℕ → 
 requoted text open_at content close end quote = Some (mended (mistakes.Line of_line.QuoteInString) (span_of open_at end)
     (span_of open_at end) (pieces quote (part text content close) quote))
 
--- a string with its own quote in it
+-- a string that contains its own quote
 unfoldable pub quote_in_string : List ℕ → ℕ → Option FindingContent
 quote_in_string text at =
     let equals = end_of class.Left text (first_of_line text at) in

@@ -100,7 +100,7 @@ at_line_start text at =
     else if begins text at (codes "<") && slice_index text (end - 1) == 62 then Some (marked (mistakes.Symbol of_symbol.Markup) at end)
     else None
 
--- a comment or an end of a line as other languages have them
+-- a comment or a line's end as other languages write them
 unfoldable pub foreign : List ℕ → ℕ → Option FindingContent
 foreign text at =
     if begins text at (codes "//") then Some (comment text at 2)
@@ -109,7 +109,7 @@ foreign text at =
     else if begins text at (13 ∷ []) then Some (marked (mistakes.Symbol of_symbol.LoneReturn) at (ahead text at 1))
     else None
 
--- a character of a key that needs quotes, or of a value that does
+-- a character in a key, or in a value, that needs quotes
 unfoldable pub unquoted : List ℕ → ℕ → ℕ → Option FindingContent
 unquoted text at start =
     let state = open_before text at in

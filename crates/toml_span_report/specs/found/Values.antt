@@ -1,4 +1,4 @@
--- Words in the place of values.
+-- Words in place of values.
 use Rattle.std.specs.Prelude.{ℕ, ◌==◌, ◌&&◌, ◌||◌, max, Bool, true, false, not, nat_le, List, [], codes, length}
 use Rattle.std.specs.Prelude.{slice_index, Option, Some, None, if◌then◌else◌}
 use Rattle.std.specs.Str.{bytes_eq}
@@ -31,7 +31,7 @@ known_word word =
     then Some (as_meant (mistakes.Value of_value.OtherFloat) [] (codes "inf"))
     else None
 
--- where words end that may be meant as one string
+-- where the words end that may be meant as one string
 abbrev pub ends_phrase : ℕ → Bool
 ends_phrase b = b == 0 || b == 10 || b == 13 || b == 35 || b == 44 || b == 93 || b == 125
 

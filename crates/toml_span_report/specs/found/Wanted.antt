@@ -1,4 +1,4 @@
--- Tokens, and values of a read, that are others than those expected.
+-- Tokens other than the expected ones, and values of another kind than a typed read expects.
 use Rattle.std.specs.Prelude.{ℕ, ◌-◌, ◌==◌, ◌&&◌, ◌||◌, Bool, nat_lt, List, [], ◌∷◌, codes, slice_index, Option, Some}
 use Rattle.std.specs.Prelude.{None, if◌then◌else◌}
 use Rattle.std.specs.Str.{bytes_eq}
@@ -23,7 +23,7 @@ abbrev pub broken : Mistake → List ℕ → ℕ → ℕ → FindingContent
 broken mistake text from at = mended mistake (span_of at (end_of class.Dotted text at)) (span_of from at)
     (pieces (10 ∷ []) [] [])
 
--- a comma behind a value, on its line
+-- a comma after a value, on its line
 abbrev pub or_comma : Option FindingContent → FindingContent → FindingContent
 or_comma (Some f) other = f
 or_comma None other = other
@@ -38,7 +38,7 @@ comma text at =
     (pieces (10 ∷ []) [] [])
     else marked (mistakes.Line of_line.AfterValue) at end)
 
--- more behind a header, on its line
+-- more after a header, on its line
 unfoldable pub header_value : List ℕ → ℕ → ℕ → FindingContent
 header_value text line at =
     replaced (mistakes.Line of_line.ValueOfHeader) line (last_of_line text at)
@@ -66,7 +66,7 @@ zone text at end =
     let start = start_of class.Atom text before in
     mended (mistakes.Line of_line.ZoneName) (span_of at end) (span_of start end) (pieces (part text start before) (codes "Z") [])
 
--- a word behind a value, on its line
+-- a word after a value, on its line
 unfoldable pub word_behind : List ℕ → ℕ → FindingContent
 word_behind text at =
     let end = end_of class.Word text at in
@@ -78,7 +78,7 @@ word_behind text at =
     then broken (mistakes.Line of_line.SecondKey) text (start_of class.Blank text at) at
     else marked (mistakes.Line of_line.AfterValue) at end
 
--- what is found behind a value, on its line
+-- what was found after a value, on its line
 unfoldable pub behind_value : List ℕ → List ℕ → ℕ → Option FindingContent
 behind_value found text at =
     let is_string = byte_before text at == 34 || byte_before text at == 39 in
@@ -101,7 +101,7 @@ no_newline found text at =
     if slice_index text line == 91 && byte_before text at == 93 then behind_header found text line at
     else behind_value found text at
 
--- another kind of value than the one that a read expects
+-- another kind of value than a typed read expects
 unfoldable pub other_kind : List ℕ → List ℕ → List ℕ → Span → Option FindingContent
 other_kind expected found text span =
     if bytes_eq found (codes "integer") && (bytes_eq expected (codes "a float")

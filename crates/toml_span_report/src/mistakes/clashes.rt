@@ -1,4 +1,4 @@
-//! Keys and headers that say one thing twice.
+//! Definitions that clash.
 ghost use Rattle.std.specs.Prelude.{◌≡◌, option_map};
 ghost use Rattle.toml_span_report.specs.Finding.{finding_content};
 ghost use Rattle.toml_span_report.specs.found.Clashes as spec;
@@ -7,7 +7,7 @@ use crate::bytes::{Class, ahead, begins, byte_at, byte_behind, end_of, first_of_
 use crate::finding::{ClashMistake, Finding, Mistake, marked};
 use toml_span_lex::span::Span;
 
-/// A mistake with another place.
+/// Makes a mistake with another place.
 fn with_other<'a>(mistake: Mistake, span: Span, other: Span) -> Finding<'a>
     ensures { finding_content result ≡ spec.with_other mistake span other }
 {
@@ -16,7 +16,7 @@ fn with_other<'a>(mistake: Mistake, span: Span, other: Span) -> Finding<'a>
     found
 }
 
-/// A table with two headers: each may be that of an array of tables.
+/// Finds the mistake of a table with two headers, either of which may be that of an array of tables.
 #[tactic(auto, unfolding(crate::specs::found::Clashes::table_twice))]
 pub(crate) fn table_twice<'a>(text: &'a str, span: Span, first: Span) -> Finding<'a>
     ensures { finding_content result ≡ spec.table_twice text.now span first }
@@ -33,7 +33,7 @@ pub(crate) fn table_twice<'a>(text: &'a str, span: Span, first: Span) -> Finding
     with_other(mistake, span, first)
 }
 
-/// The first byte of the value of a key that ends at an offset, or of what else follows the key.
+/// Returns the first byte of the value of a key that ends at an offset, or of whatever else follows the key.
 #[tactic(auto, unfolding(crate::specs::found::Clashes::value_of))]
 fn value_of(text: &str, end: usize) -> u8
     ensures { result ≡ spec.value_of text.now end }
@@ -46,7 +46,7 @@ fn value_of(text: &str, end: usize) -> u8
     }
 }
 
-/// A key or a header through an earlier value.
+/// Finds the mistake of a key or a header that goes through an earlier value.
 #[tactic(auto, unfolding(crate::specs::found::Clashes::through_value))]
 pub(crate) fn through_value<'a>(text: &'a str, span: Span, first: Span) -> Option<Finding<'a>>
     ensures { option_map finding_content result ≡ spec.through_value text.now span first }
@@ -63,7 +63,7 @@ pub(crate) fn through_value<'a>(text: &'a str, span: Span, first: Span) -> Optio
     Some(with_other(mistake, span, first))
 }
 
-/// A key that is claimed twice: a header or a dotted key through an earlier value has help.
+/// Finds the mistake of a key that is defined twice: a header or a dotted key through an earlier value has help.
 #[tactic(auto, unfolding(crate::specs::found::Clashes::key_twice))]
 pub(crate) fn key_twice<'a>(text: &'a str, span: Span, first: Span) -> Option<Finding<'a>>
     ensures { option_map finding_content result ≡ spec.key_twice text.now span first }

@@ -6,14 +6,14 @@ ghost use Rattle.toml_span_report.specs.found.Dates as spec;
 use crate::bytes::{Class, ahead, byte_at, end_of, is_in, part, start_of};
 use crate::finding::{Code, DateMistake, Finding, Mistake, marked, pieces, replaced};
 
-/// Whether there are so many digits from one offset to another.
+/// Returns whether there are exactly this many digits between two offsets.
 fn are_digits(text: &str, from: usize, count: usize) -> bool
     ensures { result ≡ spec.are_digits text.now from count }
 {
     end_of(Class::Digit, text, from) == ahead(text, from, count)
 }
 
-/// A date with slashes, of a year that is first or last.
+/// Returns the code for a date with slashes, whose year is first or last.
 #[tactic(auto, unfolding(crate::specs::found::Dates::slash_date))]
 pub(crate) fn slash_date<'a>(text: &'a str, start: usize, end: usize) -> Option<Finding<'a>>
     ensures { option_map finding_content result ≡ spec.slash_date text.now start end }
@@ -40,7 +40,7 @@ pub(crate) fn slash_date<'a>(text: &'a str, start: usize, end: usize) -> Option<
     }
 }
 
-/// The zero that a number of one digit lacks.
+/// Returns the zero that a number of one digit lacks.
 fn zero_for(from: usize, to: usize) -> &'static str
     ensures { result.now ≡ spec.zero_for from to }
 {
@@ -51,7 +51,7 @@ fn zero_for(from: usize, to: usize) -> &'static str
     }
 }
 
-/// Whether two digits are a number past the one of two other digits.
+/// Returns whether two digits make a number greater than that of two other digits.
 fn is_past(text: &str, at: usize, tens: u8, ones: u8) -> bool
     ensures { result ≡ spec.is_past text.now at tens ones }
 {
@@ -59,7 +59,7 @@ fn is_past(text: &str, at: usize, tens: u8, ones: u8) -> bool
     first > tens || first == tens && byte_at(text, ahead(text, at, 1)) > ones
 }
 
-/// A date and time whose offset has no colon, or a time that does not exist.
+/// Finds the mistake of a date and time whose offset has no colon, or of a time that does not exist.
 #[tactic(auto, unfolding(crate::specs::found::Dates::time))]
 fn time<'a>(text: &'a str, start: usize, hour: usize, end: usize) -> Finding<'a>
     ensures { finding_content result ≡ spec.time text.now start hour end }
@@ -79,7 +79,7 @@ fn time<'a>(text: &'a str, start: usize, hour: usize, end: usize) -> Finding<'a>
     marked(Mistake::Date(DateMistake::Datetime), start, end)
 }
 
-/// A date of four digits, whose month begins at `month` and whose day at `day`.
+/// Finds the mistake of a date with a year of four digits, whose month begins at `month` and whose day at `day`.
 #[tactic(auto, unfolding(crate::specs::found::Dates::date))]
 fn date<'a>(text: &'a str, start: usize, month: usize, day: usize, end: usize) -> Finding<'a>
     ensures { finding_content result ≡ spec.date text.now start month day end }
@@ -108,7 +108,7 @@ fn date<'a>(text: &'a str, start: usize, month: usize, day: usize, end: usize) -
     time(text, start, ahead(text, day_end, 1), end)
 }
 
-/// A date or a time that is none of TOML's.
+/// Finds the mistake of an invalid date or time.
 #[tactic(auto, unfolding(crate::specs::found::Dates::datetime))]
 pub(crate) fn datetime<'a>(text: &'a str, at: usize) -> Finding<'a>
     ensures { finding_content result ≡ spec.datetime text.now at }

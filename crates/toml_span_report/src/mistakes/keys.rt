@@ -12,7 +12,7 @@ use crate::finding::{
     pieces, quoted, replaced, span_of,
 };
 
-/// A comment of another language, whose sign has this length.
+/// Makes the mistake of a comment of another language, whose sign has this length.
 #[tactic(auto, unfolding(crate::specs::found::Keys::comment))]
 pub(crate) fn comment<'a>(text: &'a str, at: usize, length: usize) -> Finding<'a>
     ensures { finding_content result ≡ spec.comment text.now at length }
@@ -25,7 +25,7 @@ pub(crate) fn comment<'a>(text: &'a str, at: usize, length: usize) -> Finding<'a
     )
 }
 
-/// The part of a header at an offset, where it needs quotes.
+/// Finds the mistake of a header's part at an offset that needs quotes.
 #[tactic(auto, unfolding(crate::specs::found::Keys::header_key))]
 pub(crate) fn header_key<'a>(text: &'a str, at: usize) -> Option<Finding<'a>>
     ensures { option_map finding_content result ≡ spec.header_key text.now at }
@@ -40,7 +40,7 @@ pub(crate) fn header_key<'a>(text: &'a str, at: usize) -> Option<Finding<'a>>
     }
 }
 
-/// The key at an offset, where it has characters that need quotes.
+/// Finds the mistake of the key at an offset, if it has characters that need quotes.
 #[tactic(auto, unfolding(crate::specs::found::Keys::other_key))]
 pub(crate) fn other_key<'a>(text: &'a str, at: usize) -> Option<Finding<'a>>
     ensures { option_map finding_content result ≡ spec.other_key text.now at }
@@ -54,7 +54,7 @@ pub(crate) fn other_key<'a>(text: &'a str, at: usize) -> Option<Finding<'a>>
     }
 }
 
-/// Where the key begins that ends at an offset: one in quotes, or one of bare parts.
+/// Returns where the key begins that ends at an offset: a quoted one, or one of bare parts.
 #[tactic(auto, unfolding(crate::specs::found::Keys::key_start))]
 fn key_start(text: &str, end: usize) -> usize
     ensures { result ≡ spec.key_start text.now end }
@@ -66,7 +66,7 @@ fn key_start(text: &str, end: usize) -> usize
     }
 }
 
-/// Where the value at an offset ends, as far as it is on the line.
+/// Returns where the value at an offset ends, as far as it is on the line.
 #[tactic(auto, unfolding(crate::specs::found::Keys::value_end))]
 fn value_end(text: &str, at: usize) -> usize
     ensures { result ≡ spec.value_end text.now at }
@@ -78,7 +78,7 @@ fn value_end(text: &str, at: usize) -> usize
     }
 }
 
-/// A key and its value with another sign than `=` between them, which the key and the value enclose.
+/// Makes the mistake of a key and a value with another sign than `=` between them.
 #[tactic(auto, unfolding(crate::specs::found::Keys::other_sign))]
 pub(crate) fn other_sign<'a>(mistake: Mistake, text: &'a str, from: usize, to: usize) -> Finding<'a>
     ensures { finding_content result ≡ spec.other_sign mistake text.now from to }
@@ -91,7 +91,7 @@ pub(crate) fn other_sign<'a>(mistake: Mistake, text: &'a str, from: usize, to: u
     mended(mistake, span_of(from, to), span_of(start, stop), code)
 }
 
-/// A key and a colon with nothing behind it on the line.
+/// Makes the mistake of a key and a colon with nothing after it on the line.
 #[tactic(auto, unfolding(crate::specs::found::Keys::yaml))]
 fn yaml<'a>(text: &'a str, at: usize) -> Finding<'a>
     ensures { finding_content result ≡ spec.yaml text.now at }
@@ -110,7 +110,7 @@ fn yaml<'a>(text: &'a str, at: usize) -> Finding<'a>
     )
 }
 
-/// A colon in the place of `=`.
+/// Finds the mistake of a colon in place of `=`.
 #[tactic(auto, unfolding(crate::specs::found::Keys::colon))]
 fn colon<'a>(text: &'a str, at: usize) -> Finding<'a>
     ensures { finding_content result ≡ spec.colon text.now at }
@@ -132,14 +132,14 @@ fn colon<'a>(text: &'a str, at: usize) -> Finding<'a>
     }
 }
 
-/// Whether a word stands before a key or an assignment in other languages.
+/// Returns whether other languages put a word before a key or an assignment.
 fn is_keyword(word: &str) -> bool
     ensures { result ≡ spec.is_keyword word.now }
 {
     matches!(word, "export" | "let" | "var" | "const" | "set" | "local")
 }
 
-/// A key alone on its line, up to an offset.
+/// Finds the mistake of a key alone on its line, up to an offset.
 #[tactic(auto, unfolding(crate::specs::found::Keys::lone_key))]
 fn lone_key<'a>(text: &'a str, end: usize) -> Finding<'a>
     ensures { finding_content result ≡ spec.lone_key text.now end }
@@ -151,7 +151,7 @@ fn lone_key<'a>(text: &'a str, end: usize) -> Finding<'a>
     }
 }
 
-/// A key that another word follows, at an offset, with an equals sign behind it.
+/// Finds the mistake of a key that is followed by another word, at an offset, and an equals sign.
 #[tactic(auto, unfolding(crate::specs::found::Keys::spaced_key))]
 fn spaced_key<'a>(text: &'a str, end: usize, at: usize, stop: usize) -> Finding<'a>
     ensures { finding_content result ≡ spec.spaced_key text.now end at stop }
@@ -170,7 +170,7 @@ fn spaced_key<'a>(text: &'a str, end: usize, at: usize, stop: usize) -> Finding<
     quoted(Mistake::Key(KeyMistake::BareKey), text, from, to)
 }
 
-/// Another token where `=` is expected, behind a key that ends at an offset.
+/// Finds the mistake of another token where `=` is expected, after a key that ends at an offset.
 #[tactic(auto, unfolding(crate::specs::found::Keys::second_word))]
 fn second_word<'a>(text: &'a str, end: usize, at: usize) -> Option<Finding<'a>>
     ensures { option_map finding_content result ≡ spec.second_word text.now end at }
@@ -198,7 +198,7 @@ fn second_word<'a>(text: &'a str, end: usize, at: usize) -> Option<Finding<'a>>
     }
 }
 
-/// What is found where `=` is expected.
+/// Finds the mistake of what was found where `=` is expected.
 #[tactic(auto, unfolding(crate::specs::found::Keys::no_equals))]
 pub(crate) fn no_equals<'a>(found: &str, text: &'a str, at: usize) -> Option<Finding<'a>>
     ensures { option_map finding_content result ≡ spec.no_equals found.now text.now at }
@@ -211,7 +211,7 @@ pub(crate) fn no_equals<'a>(found: &str, text: &'a str, at: usize) -> Option<Fin
     }
 }
 
-/// A brace where a key is expected.
+/// Finds the mistake of a brace where a key is expected.
 #[tactic(auto, unfolding(crate::specs::found::Keys::brace))]
 fn brace<'a>(text: &'a str, at: usize) -> Option<Finding<'a>>
     ensures { option_map finding_content result ≡ spec.brace text.now at }
@@ -233,7 +233,7 @@ fn brace<'a>(text: &'a str, at: usize) -> Option<Finding<'a>>
     }
 }
 
-/// A header in braces.
+/// Finds the mistake of a header in braces.
 #[tactic(auto, unfolding(crate::specs::found::Keys::brace_header))]
 fn brace_header<'a>(text: &'a str, at: usize) -> Option<Finding<'a>>
     ensures { option_map finding_content result ≡ spec.brace_header text.now at }
@@ -253,7 +253,7 @@ fn brace_header<'a>(text: &'a str, at: usize) -> Option<Finding<'a>>
     }
 }
 
-/// A placeholder of a template in two braces on each side, in the place of a value.
+/// Finds the mistake of a template's placeholder in double braces, in place of a value.
 #[tactic(auto, unfolding(crate::specs::found::Keys::placeholder))]
 fn placeholder<'a>(text: &'a str, at: usize) -> Finding<'a>
     ensures { finding_content result ≡ spec.placeholder text.now at }
@@ -271,7 +271,7 @@ fn placeholder<'a>(text: &'a str, at: usize) -> Finding<'a>
     quoted(Mistake::Format(FormatMistake::Template), text, at, end)
 }
 
-/// A dot or a comma too many.
+/// Makes the mistake of an extra dot or comma.
 #[tactic(auto, unfolding(crate::specs::found::Keys::extra))]
 pub(crate) fn extra<'a>(mistake: Mistake, text: &'a str, at: usize) -> Finding<'a>
     ensures { finding_content result ≡ spec.extra mistake text.now at }
@@ -279,7 +279,7 @@ pub(crate) fn extra<'a>(mistake: Mistake, text: &'a str, at: usize) -> Finding<'
     replaced(mistake, at, ahead(text, at, 1), pieces("", "", ""))
 }
 
-/// An equals sign or a closing bracket where a key is expected.
+/// Makes the mistake of an equals sign or a closing bracket where a key is expected.
 #[tactic(auto, unfolding(crate::specs::found::Keys::missing_key))]
 fn missing_key<'a>(mistake: Mistake, text: &'a str, at: usize) -> Finding<'a>
     ensures { finding_content result ≡ spec.missing_key mistake text.now at }
@@ -302,7 +302,7 @@ fn missing_key<'a>(mistake: Mistake, text: &'a str, at: usize) -> Finding<'a>
     }
 }
 
-/// What is found where a key is expected.
+/// Finds the mistake of what was found where a key is expected.
 #[tactic(auto, unfolding(crate::specs::found::Keys::no_key))]
 pub(crate) fn no_key<'a>(found: &str, text: &'a str, at: usize) -> Option<Finding<'a>>
     ensures { option_map finding_content result ≡ spec.no_key found.now text.now at }

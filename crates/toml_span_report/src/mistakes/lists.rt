@@ -1,21 +1,21 @@
-//! Values that are missing, and arrays, inline tables and headers that are not closed.
+//! Missing values, and arrays, inline tables and headers that are not closed.
 ghost use Rattle.std.specs.Prelude.{◌≡◌, option_map};
 ghost use Rattle.toml_span_report.specs.Finding.{finding_content};
 ghost use Rattle.toml_span_report.specs.found.Lists as spec;
 
 use crate::bytes::{
-    Class, ahead, begins, byte_at, byte_before, byte_behind, end_of, first_of_line, last_of_line,
-    part, start_of,
+    Class, ahead, begins, byte_at, byte_before, byte_behind, end_of, first_of_line, is_last,
+    last_of_line, part, start_of,
 };
 use crate::finding::{
     Finding, KeyMistake, ListMistake, Mistake, NumberMistake, ValueMistake, marked, mended, pieces,
     replaced, span_of,
 };
 use crate::mistakes::keys::{header_key, other_sign};
-use crate::mistakes::values::unquoted_value;
+use crate::mistakes::values::{unquoted, unquoted_value};
 use crate::scan::{is_in_header, is_long, open_before};
 
-/// The outermost bracket before an offset is not closed there.
+/// Makes the mistake of a bracket that is not closed: the outermost one open before an offset.
 #[tactic(auto, unfolding(crate::specs::found::Lists::unclosed))]
 pub(crate) fn unclosed<'a>(text: &'a str, at: usize) -> Finding<'a>
     ensures { finding_content result ≡ spec.unclosed text.now at }
@@ -31,7 +31,7 @@ pub(crate) fn unclosed<'a>(text: &'a str, at: usize) -> Finding<'a>
     found
 }
 
-/// The end of the text, where a bracket or a brace may be open.
+/// Finds the mistake at the end of the text, where a bracket or a brace may be open.
 #[tactic(auto, unfolding(crate::specs::found::Lists::open_end))]
 pub(crate) fn open_end<'a>(text: &'a str, at: usize) -> Option<Finding<'a>>
     ensures { option_map finding_content result ≡ spec.open_end text.now at }
@@ -43,7 +43,7 @@ pub(crate) fn open_end<'a>(text: &'a str, at: usize) -> Option<Finding<'a>>
     }
 }
 
-/// The value of a key is on a line below.
+/// Finds the mistake of a key whose value is on a line below.
 #[tactic(auto, unfolding(crate::specs::found::Lists::value_below))]
 fn value_below<'a>(text: &'a str, at: usize) -> Option<Finding<'a>>
     ensures { option_map finding_content result ≡ spec.value_below text.now at }
@@ -70,7 +70,7 @@ fn value_below<'a>(text: &'a str, at: usize) -> Option<Finding<'a>>
     }
 }
 
-/// The end of a line, or of the text, where a value is expected.
+/// Finds the mistake of a missing value: the line or the text ends where one is expected.
 #[tactic(auto, unfolding(crate::specs::found::Lists::missing_value))]
 pub(crate) fn missing_value<'a>(text: &'a str, at: usize) -> Option<Finding<'a>>
     ensures { option_map finding_content result ≡ spec.missing_value text.now at }
@@ -85,7 +85,7 @@ pub(crate) fn missing_value<'a>(text: &'a str, at: usize) -> Option<Finding<'a>>
     }
 }
 
-/// A comment where a value is expected.
+/// Finds the mistake of a comment where a value is expected.
 #[tactic(auto, unfolding(crate::specs::found::Lists::hash))]
 fn hash<'a>(text: &'a str, at: usize) -> Option<Finding<'a>>
     ensures { option_map finding_content result ≡ spec.hash text.now at }
@@ -99,7 +99,7 @@ fn hash<'a>(text: &'a str, at: usize) -> Option<Finding<'a>>
     }
 }
 
-/// A comma where a value is expected.
+/// Finds the mistake of a comma where a value is expected.
 #[tactic(auto, unfolding(crate::specs::found::Lists::comma))]
 fn comma<'a>(text: &'a str, at: usize) -> Option<Finding<'a>>
     ensures { option_map finding_content result ≡ spec.comma text.now at }
@@ -117,7 +117,7 @@ fn comma<'a>(text: &'a str, at: usize) -> Option<Finding<'a>>
     }
 }
 
-/// A decimal point where a value is expected.
+/// Finds the mistake of a decimal point where a value is expected.
 #[tactic(auto, unfolding(crate::specs::found::Lists::point))]
 fn point<'a>(text: &'a str, at: usize) -> Option<Finding<'a>>
     ensures { option_map finding_content result ≡ spec.point text.now at }
@@ -134,7 +134,7 @@ fn point<'a>(text: &'a str, at: usize) -> Option<Finding<'a>>
     }
 }
 
-/// An equals sign where a value is expected.
+/// Finds the mistake of an equals sign where a value is expected.
 #[tactic(auto, unfolding(crate::specs::found::Lists::equals))]
 fn equals<'a>(text: &'a str, at: usize) -> Option<Finding<'a>>
     ensures { option_map finding_content result ≡ spec.equals text.now at }
@@ -152,7 +152,7 @@ fn equals<'a>(text: &'a str, at: usize) -> Option<Finding<'a>>
     }
 }
 
-/// What is found where a value is expected.
+/// Finds the mistake of what was found where a value is expected.
 #[tactic(auto, unfolding(crate::specs::found::Lists::no_value))]
 pub(crate) fn no_value<'a>(found: &str, text: &'a str, at: usize) -> Option<Finding<'a>>
     ensures { option_map finding_content result ≡ spec.no_value found.now text.now at }
@@ -167,7 +167,7 @@ pub(crate) fn no_value<'a>(found: &str, text: &'a str, at: usize) -> Option<Find
     }
 }
 
-/// A header that is not closed on its line.
+/// Finds the mistake of a header that is not closed on its line.
 #[tactic(auto, unfolding(crate::specs::found::Lists::open_header))]
 fn open_header<'a>(text: &'a str, bracket: usize) -> Finding<'a>
     ensures { finding_content result ≡ spec.open_header text.now bracket }
@@ -183,7 +183,7 @@ fn open_header<'a>(text: &'a str, bracket: usize) -> Finding<'a>
     replaced(Mistake::List(ListMistake::OpenHeader), bracket, end, code)
 }
 
-/// What is found where a header should end.
+/// Finds the mistake of what was found where a header should end.
 #[tactic(auto, unfolding(crate::specs::found::Lists::header))]
 fn header<'a>(found: &str, text: &'a str, at: usize, bracket: usize) -> Option<Finding<'a>>
     ensures { option_map finding_content result ≡ spec.header found.now text.now at bracket }
@@ -199,7 +199,7 @@ fn header<'a>(found: &str, text: &'a str, at: usize, bracket: usize) -> Option<F
     }
 }
 
-/// Whether an assignment begins at an offset, at the beginning of a line.
+/// Returns whether an assignment begins at an offset, at the start of a line.
 #[tactic(auto, unfolding(crate::specs::found::Lists::is_assignment))]
 fn is_assignment(text: &str, at: usize) -> bool
     ensures { result ≡ spec.is_assignment text.now at }
@@ -208,7 +208,32 @@ fn is_assignment(text: &str, at: usize) -> bool
     first_of_line(text, at) == at && at < end && byte_behind(text, end) == b'='
 }
 
-/// A comma that is missing before an offset.
+/// Returns whether the line of an offset is a header: its first byte is a bracket, and one closes after the word at
+/// the offset.
+#[tactic(auto, unfolding(crate::specs::found::Lists::is_heading))]
+fn is_heading(text: &str, at: usize) -> bool
+    ensures { result ≡ spec.is_heading text.now at }
+{
+    let end = end_of(Class::Dotted, text, at);
+    byte_at(text, start_of(Class::Line, text, at)) == b'['
+        && byte_at(text, end) == b']'
+        && (is_last(text, ahead(text, end, 1)) || is_last(text, ahead(text, end, 2)))
+}
+
+/// Finds the mistake of a word in place of a value: after a bracket that is not closed it begins the next assignment,
+/// or is the name of the next header.
+#[tactic(auto, unfolding(crate::specs::found::Lists::word))]
+pub(crate) fn word<'a>(text: &'a str, at: usize) -> Finding<'a>
+    ensures { finding_content result ≡ spec.word text.now at }
+{
+    if (is_assignment(text, at) || is_heading(text, at)) && open_before(text, at).depth > 0 {
+        unclosed(text, at)
+    } else {
+        unquoted(text, at)
+    }
+}
+
+/// Makes the mistake of a missing comma before an offset.
 #[tactic(auto, unfolding(crate::specs::found::Lists::missing_comma))]
 fn missing_comma<'a>(mistake: Mistake, text: &'a str, at: usize) -> Finding<'a>
     ensures { finding_content result ≡ spec.missing_comma mistake text.now at }
@@ -226,7 +251,7 @@ fn missing_comma<'a>(mistake: Mistake, text: &'a str, at: usize) -> Finding<'a>
     found
 }
 
-/// Another token where an array or an inline table goes on or ends.
+/// Finds the mistake of another token where an array or an inline table continues or ends.
 #[tactic(auto, unfolding(crate::specs::found::Lists::unseparated))]
 fn unseparated<'a>(mistake: Mistake, text: &'a str, at: usize) -> Finding<'a>
     ensures { finding_content result ≡ spec.unseparated mistake text.now at }
@@ -239,7 +264,7 @@ fn unseparated<'a>(mistake: Mistake, text: &'a str, at: usize) -> Finding<'a>
     }
 }
 
-/// A closing bracket of the wrong kind.
+/// Makes the mistake of a closing bracket of the wrong kind.
 #[tactic(auto, unfolding(crate::specs::found::Lists::wrong_closing))]
 fn wrong_closing<'a>(
     mistake: Mistake,
@@ -256,7 +281,8 @@ fn wrong_closing<'a>(
     found
 }
 
-/// A period or the like behind a value in an array or an inline table, whose word needs quotes.
+/// Makes the mistake of a value in an array or an inline table that is followed by a period or the like, so that the
+/// word needs quotes.
 #[tactic(auto, unfolding(crate::specs::found::Lists::glued))]
 fn glued<'a>(text: &'a str, at: usize) -> Option<Finding<'a>>
     ensures { option_map finding_content result ≡ spec.glued text.now at }
@@ -269,7 +295,7 @@ fn glued<'a>(text: &'a str, at: usize) -> Option<Finding<'a>>
     }
 }
 
-/// What is found where `]` is expected.
+/// Finds the mistake of what was found where `]` is expected.
 #[tactic(auto, unfolding(crate::specs::found::Lists::no_bracket))]
 pub(crate) fn no_bracket<'a>(found: &str, text: &'a str, at: usize) -> Option<Finding<'a>>
     ensures { option_map finding_content result ≡ spec.no_bracket found.now text.now at }
@@ -291,7 +317,7 @@ pub(crate) fn no_bracket<'a>(found: &str, text: &'a str, at: usize) -> Option<Fi
     }
 }
 
-/// What is found where a comma is expected, in an inline table.
+/// Finds the mistake of what was found where a comma is expected in an inline table.
 #[tactic(auto, unfolding(crate::specs::found::Lists::no_comma))]
 pub(crate) fn no_comma<'a>(found: &str, text: &'a str, at: usize) -> Option<Finding<'a>>
     ensures { option_map finding_content result ≡ spec.no_comma found.now text.now at }

@@ -1,4 +1,4 @@
-//! Numbers that TOML does not have.
+//! Numbers that are not valid in TOML.
 ghost use Rattle.std.specs.Prelude.{◌≡◌, option_map};
 ghost use Rattle.toml_span_report.specs.Finding.{finding_content};
 ghost use Rattle.toml_span_report.specs.found.Numbers as spec;
@@ -9,7 +9,7 @@ use crate::finding::{
 };
 use crate::mistakes::dates::slash_date;
 
-/// Where a number begins behind its sign.
+/// Returns where a number begins after its sign.
 fn behind_sign(text: &str, at: usize) -> usize
     ensures { result ≡ spec.behind_sign text.now at }
 {
@@ -20,7 +20,7 @@ fn behind_sign(text: &str, at: usize) -> usize
     }
 }
 
-/// The digits of a number with a prefix, or nothing.
+/// Returns the digits of a number with a prefix, or nothing.
 fn digits_of(letter: u8) -> &'static str
     ensures { result.now ≡ spec.digits_of letter }
 {
@@ -32,7 +32,7 @@ fn digits_of(letter: u8) -> &'static str
     }
 }
 
-/// The prefix that a letter in upper case is meant as, or nothing.
+/// Returns the prefix that an upper-case letter probably stands for, or nothing.
 fn lower_prefix(letter: u8) -> &'static str
     ensures { result.now ≡ spec.lower_prefix letter }
 {
@@ -44,7 +44,7 @@ fn lower_prefix(letter: u8) -> &'static str
     }
 }
 
-/// A number with a prefix, whose `0` is at `zero`.
+/// Finds the mistake of a number with a prefix, whose `0` is at `zero`.
 #[tactic(auto, unfolding(crate::specs::found::Numbers::prefixed))]
 fn prefixed<'a>(text: &'a str, start: usize, zero: usize, end: usize) -> Option<Finding<'a>>
     ensures { option_map finding_content result ≡ spec.prefixed text.now start zero end }
@@ -71,7 +71,7 @@ fn prefixed<'a>(text: &'a str, start: usize, zero: usize, end: usize) -> Option<
     }
 }
 
-/// A number with zeros before its digits, which begin at `digits`.
+/// Finds the mistake of a number with leading zeros, whose other digits begin at `digits`.
 #[tactic(auto, unfolding(crate::specs::found::Numbers::zeros))]
 fn zeros<'a>(text: &'a str, start: usize, digits: usize, end: usize) -> Finding<'a>
     ensures { finding_content result ≡ spec.zeros text.now start digits end }
@@ -98,7 +98,7 @@ fn zeros<'a>(text: &'a str, start: usize, digits: usize, end: usize) -> Finding<
     )
 }
 
-/// A number whose decimal point, at `point`, has no digit behind it.
+/// Finds the mistake of a number whose decimal point, at `point`, has no digit after it.
 #[tactic(auto, unfolding(crate::specs::found::Numbers::trailing_point))]
 fn trailing_point<'a>(text: &'a str, start: usize, point: usize, end: usize) -> Option<Finding<'a>>
     ensures { option_map finding_content result ≡ spec.trailing_point text.now start point end }
@@ -117,7 +117,7 @@ fn trailing_point<'a>(text: &'a str, start: usize, point: usize, end: usize) -> 
     }
 }
 
-/// An integer of digits and `_`, which begin at `digits`.
+/// Finds the mistake of an integer of digits and `_`, which begin at `digits`.
 #[tactic(auto, unfolding(crate::specs::found::Numbers::integer))]
 fn integer<'a>(text: &'a str, start: usize, digits: usize, end: usize) -> Finding<'a>
     ensures { finding_content result ≡ spec.integer text.now start digits end }
@@ -143,7 +143,7 @@ fn integer<'a>(text: &'a str, start: usize, digits: usize, end: usize) -> Findin
     }
 }
 
-/// A number without a prefix, whose digits begin at `digits`.
+/// Finds the mistake of a number without a prefix, whose digits begin at `digits`.
 #[tactic(auto, unfolding(crate::specs::found::Numbers::plain))]
 fn plain<'a>(text: &'a str, start: usize, digits: usize, end: usize) -> Option<Finding<'a>>
     ensures { option_map finding_content result ≡ spec.plain text.now start digits end }
@@ -162,7 +162,7 @@ fn plain<'a>(text: &'a str, start: usize, digits: usize, end: usize) -> Option<F
     }
 }
 
-/// A number that is none of TOML's.
+/// Finds the mistake of an invalid number.
 #[tactic(auto, unfolding(crate::specs::found::Numbers::number))]
 pub(crate) fn number<'a>(text: &'a str, at: usize) -> Option<Finding<'a>>
     ensures { option_map finding_content result ≡ spec.number text.now at }
@@ -183,7 +183,7 @@ pub(crate) fn number<'a>(text: &'a str, at: usize) -> Option<Finding<'a>>
     plain(text, start, digits, end)
 }
 
-/// Digits that commas group, up to the first comma, which is at `at`.
+/// Finds the mistake of digits grouped by commas, of which the first is at `at`.
 #[tactic(auto, unfolding(crate::specs::found::Numbers::thousands))]
 pub(crate) fn thousands<'a>(text: &'a str, at: usize) -> Option<Finding<'a>>
     ensures { option_map finding_content result ≡ spec.thousands text.now at }

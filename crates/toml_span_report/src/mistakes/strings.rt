@@ -1,4 +1,4 @@
-//! Strings that end too late, and characters and escapes that they do not have.
+//! Strings that are not closed in time, and characters and escapes that they can't contain.
 ghost use Rattle.std.specs.Prelude.{◌≡◌, option_map};
 ghost use Rattle.toml_span_report.specs.Finding.{finding_content};
 ghost use Rattle.toml_span_report.specs.found.Strings as spec;
@@ -12,7 +12,7 @@ use crate::finding::{
 };
 use crate::scan::{is_long, open_before};
 
-/// A string on one line, of the quote at `quote`, that is not closed before `end`.
+/// Makes the mistake of a string on one line, with its quote at `quote`, that is not closed before `end`.
 #[tactic(auto, unfolding(crate::specs::found::Strings::open_string))]
 fn open_string<'a>(text: &'a str, quote: usize, end: usize) -> Finding<'a>
     ensures { finding_content result ≡ spec.open_string text.now quote end }
@@ -27,7 +27,7 @@ fn open_string<'a>(text: &'a str, quote: usize, end: usize) -> Finding<'a>
     marked(mistake, quote, end)
 }
 
-/// Two hexadecimal digits of a byte below 32, or of 127.
+/// Returns two hexadecimal digits for a byte below 32, or for 127.
 #[tactic(auto, unfolding(crate::specs::found::Strings::hex_of))]
 fn hex_of(byte: u8) -> &'static str
     ensures { result.now ≡ spec.hex_of byte }
@@ -44,7 +44,7 @@ fn hex_of(byte: u8) -> &'static str
     }
 }
 
-/// A control character in a string.
+/// Finds the mistake of a control character in a string.
 #[tactic(auto, unfolding(crate::specs::found::Strings::control))]
 fn control<'a>(text: &'a str, at: usize, quote: usize) -> Finding<'a>
     ensures { finding_content result ≡ spec.control text.now at quote }
@@ -58,7 +58,7 @@ fn control<'a>(text: &'a str, at: usize, quote: usize) -> Finding<'a>
     }
 }
 
-/// A character that a string does not have.
+/// Finds the mistake of a character that a string can't contain.
 #[tactic(auto, unfolding(crate::specs::found::Strings::character))]
 pub(crate) fn character<'a>(text: &'a str, at: usize, c: char) -> Finding<'a>
     ensures { finding_content result ≡ spec.character text.now at c }
@@ -72,7 +72,7 @@ pub(crate) fn character<'a>(text: &'a str, at: usize, c: char) -> Finding<'a>
     }
 }
 
-/// A backslash that begins no escape, up to an offset.
+/// Makes the mistake of a backslash that begins no escape, up to an offset.
 #[tactic(auto, unfolding(crate::specs::found::Strings::backslash))]
 fn backslash<'a>(text: &'a str, at: usize, end: usize) -> Finding<'a>
     ensures { finding_content result ≡ spec.backslash text.now at end }
@@ -92,14 +92,14 @@ fn backslash<'a>(text: &'a str, at: usize, end: usize) -> Finding<'a>
     )
 }
 
-/// A character behind a backslash that begins no escape.
+/// Finds the mistake of a character after a backslash that begins no escape.
 pub(crate) fn escape<'a>(text: &'a str, at: usize) -> Finding<'a>
     ensures { finding_content result ≡ spec.escape text.now at }
 {
     backslash(text, at.saturating_sub(1), ahead(text, at, 1))
 }
 
-/// The zeros that an escape of some digits lacks: it has two, four or eight.
+/// Returns the zeros missing from an escape of some digits: it has two, four or eight.
 #[tactic(auto, unfolding(crate::specs::found::Strings::zeros_of))]
 fn zeros_of<'a>(letter: u8, count: usize) -> &'a str
     ensures { result.now ≡ spec.zeros_of letter count }
@@ -112,7 +112,7 @@ fn zeros_of<'a>(letter: u8, count: usize) -> &'a str
     part("00000000", 0, wanted.saturating_sub(count))
 }
 
-/// The digits that an escape needs.
+/// Returns the digits that an escape needs.
 fn digits_after(letter: u8) -> &'static str
     ensures { result.now ≡ spec.digits_after letter }
 {
@@ -123,7 +123,7 @@ fn digits_after(letter: u8) -> &'static str
     }
 }
 
-/// A character in the place of a hexadecimal digit.
+/// Finds the mistake of a character in place of a hexadecimal digit.
 #[tactic(auto, unfolding(crate::specs::found::Strings::hex_escape))]
 pub(crate) fn hex_escape<'a>(text: &'a str, at: usize) -> Finding<'a>
     ensures { finding_content result ≡ spec.hex_escape text.now at }
@@ -141,7 +141,7 @@ pub(crate) fn hex_escape<'a>(text: &'a str, at: usize) -> Finding<'a>
     replaced(Mistake::Text(TextMistake::ShortEscape), start, at, code)
 }
 
-/// Digits of an escape that are no character's. Its letter is at `at`.
+/// Finds the mistake of digits that name no character. The escape's letter is at `at`.
 #[tactic(auto, unfolding(crate::specs::found::Strings::escape_value))]
 pub(crate) fn escape_value<'a>(text: &'a str, at: usize, value: u32) -> Finding<'a>
     ensures { finding_content result ≡ spec.escape_value text.now at value }
@@ -156,7 +156,7 @@ pub(crate) fn escape_value<'a>(text: &'a str, at: usize, value: u32) -> Finding<
     marked(mistake, start, ahead(text, at, length))
 }
 
-/// A string in which the text ends.
+/// Finds the mistake of a string that is still open at the end of the text.
 #[tactic(auto, unfolding(crate::specs::found::Strings::unterminated))]
 pub(crate) fn unterminated<'a>(text: &'a str, at: usize) -> Finding<'a>
     ensures { finding_content result ≡ spec.unterminated text.now at }
@@ -174,7 +174,7 @@ pub(crate) fn unterminated<'a>(text: &'a str, at: usize) -> Finding<'a>
     }
 }
 
-/// A string of several lines as a key.
+/// Makes the mistake of a multi-line string as a key.
 #[tactic(auto, unfolding(crate::specs::found::Strings::long_key))]
 pub(crate) fn long_key<'a>(text: &'a str, at: usize) -> Finding<'a>
     ensures { finding_content result ≡ spec.long_key text.now at }
@@ -182,7 +182,7 @@ pub(crate) fn long_key<'a>(text: &'a str, at: usize) -> Finding<'a>
     marked(Mistake::Key(KeyMistake::LongKey), at, ahead(text, at, 3))
 }
 
-/// A word right behind a string, or between two: the string has its own quote in it.
+/// Finds the mistake of a word right after a string, or between two: the string contains its own quote.
 #[tactic(auto, unfolding(crate::specs::found::Strings::quote_in_string))]
 pub(crate) fn quote_in_string<'a>(text: &'a str, at: usize) -> Option<Finding<'a>>
     ensures { option_map finding_content result ≡ spec.quote_in_string text.now at }
@@ -217,7 +217,7 @@ pub(crate) fn quote_in_string<'a>(text: &'a str, at: usize) -> Option<Finding<'a
     }
 }
 
-/// Whether a part of a text has a quote.
+/// Returns whether a part of a text contains a quote.
 fn has(text: &str, from: usize, to: usize, quote: u8) -> bool
     ensures { result ≡ spec.has text.now from to quote }
 {

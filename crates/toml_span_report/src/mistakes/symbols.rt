@@ -14,7 +14,7 @@ use crate::mistakes::keys::{comment, header_key, other_key, other_sign};
 use crate::mistakes::values::unquoted_value;
 use crate::scan::{is_in_header, open_before};
 
-/// A character that looks like another one of TOML's: the mistake, its Unicode name, and the other one.
+/// Returns the TOML character that a character looks like, with the mistake and the character's Unicode name.
 #[tactic(auto, unfolding(crate::specs::found::Symbols::look_alike))]
 fn look_alike(c: char) -> Option<Meant>
     ensures { option_map meant_content result ≡ spec.look_alike c }
@@ -79,7 +79,7 @@ fn look_alike(c: char) -> Option<Meant>
     }
 }
 
-/// The name of a curly quote, or nothing.
+/// Returns the name of a curly quote, or nothing.
 #[tactic(auto, unfolding(crate::specs::found::Symbols::curly_name))]
 fn curly_name(c: char) -> &'static str
     ensures { result.now ≡ spec.curly_name c }
@@ -95,7 +95,7 @@ fn curly_name(c: char) -> &'static str
     }
 }
 
-/// A curly quote of this name, and the string that it begins.
+/// Finds the mistake of a curly quote with this name, and of the string that it begins.
 #[tactic(auto, unfolding(crate::specs::found::Symbols::curly))]
 fn curly<'a>(text: &'a str, at: usize, name: &'static str) -> Finding<'a>
     ensures { finding_content result ≡ spec.curly text.now at name.now }
@@ -118,7 +118,7 @@ fn curly<'a>(text: &'a str, at: usize, name: &'static str) -> Finding<'a>
     found
 }
 
-/// A character that is meant as another one.
+/// Makes the mistake of a character that stands for another one.
 #[tactic(auto, unfolding(crate::specs::found::Symbols::other_character))]
 fn other_character<'a>(text: &'a str, at: usize, meant: Meant) -> Finding<'a>
     ensures { finding_content result ≡ spec.other_character text.now at (meant_content meant) }
@@ -130,7 +130,7 @@ fn other_character<'a>(text: &'a str, at: usize, meant: Meant) -> Finding<'a>
     found
 }
 
-/// A character that looks like another one.
+/// Finds the mistake of a character that looks like another one.
 #[tactic(auto, unfolding(crate::specs::found::Symbols::alike))]
 fn alike<'a>(text: &'a str, at: usize, c: char) -> Option<Finding<'a>>
     ensures { option_map finding_content result ≡ spec.alike text.now at c }
@@ -145,7 +145,7 @@ fn alike<'a>(text: &'a str, at: usize, c: char) -> Option<Finding<'a>>
     }
 }
 
-/// A semicolon: the end of a line, or a comment.
+/// Finds the mistake of a semicolon: the end of a line, or a comment.
 #[tactic(auto, unfolding(crate::specs::found::Symbols::semicolon))]
 fn semicolon<'a>(text: &'a str, at: usize) -> Finding<'a>
     ensures { finding_content result ≡ spec.semicolon text.now at }
@@ -163,7 +163,7 @@ fn semicolon<'a>(text: &'a str, at: usize) -> Finding<'a>
     }
 }
 
-/// A string between backticks.
+/// Finds the mistake of a string between backticks.
 #[tactic(auto, unfolding(crate::specs::found::Symbols::backticks))]
 fn backticks<'a>(text: &'a str, at: usize) -> Finding<'a>
     ensures { finding_content result ≡ spec.backticks text.now at }
@@ -182,7 +182,7 @@ fn backticks<'a>(text: &'a str, at: usize) -> Finding<'a>
     )
 }
 
-/// A list in parentheses.
+/// Finds the mistake of a list in parentheses.
 #[tactic(auto, unfolding(crate::specs::found::Symbols::parentheses))]
 fn parentheses<'a>(text: &'a str, at: usize) -> Finding<'a>
     ensures { finding_content result ≡ spec.parentheses text.now at }
@@ -201,7 +201,7 @@ fn parentheses<'a>(text: &'a str, at: usize) -> Finding<'a>
     )
 }
 
-/// What is found at the beginning of a line.
+/// Finds the mistake of what was found at the beginning of a line.
 #[tactic(auto, unfolding(crate::specs::found::Symbols::at_line_start))]
 fn at_line_start<'a>(text: &'a str, at: usize) -> Option<Finding<'a>>
     ensures { option_map finding_content result ≡ spec.at_line_start text.now at }
@@ -219,7 +219,7 @@ fn at_line_start<'a>(text: &'a str, at: usize) -> Option<Finding<'a>>
     None
 }
 
-/// A comment or an end of a line as other languages have them.
+/// Finds the mistake of a comment or a line's end as other languages write them.
 #[tactic(auto, unfolding(crate::specs::found::Symbols::foreign))]
 fn foreign<'a>(text: &'a str, at: usize) -> Option<Finding<'a>>
     ensures { option_map finding_content result ≡ spec.foreign text.now at }
@@ -245,7 +245,7 @@ fn foreign<'a>(text: &'a str, at: usize) -> Option<Finding<'a>>
     }
 }
 
-/// A character of a key that needs quotes, or of a value that does.
+/// Finds the mistake of a character in a key, or in a value, that needs quotes.
 #[tactic(auto, unfolding(crate::specs::found::Symbols::unquoted))]
 fn unquoted<'a>(text: &'a str, at: usize, start: usize) -> Option<Finding<'a>>
     ensures { option_map finding_content result ≡ spec.unquoted text.now at start }
@@ -261,7 +261,7 @@ fn unquoted<'a>(text: &'a str, at: usize, start: usize) -> Option<Finding<'a>>
     }
 }
 
-/// A character after `=`, which begins or continues a value.
+/// Finds the mistake of a character after `=` that begins or continues a value.
 #[tactic(auto, unfolding(crate::specs::found::Symbols::value))]
 fn value<'a>(text: &'a str, at: usize, start: usize) -> Option<Finding<'a>>
     ensures { option_map finding_content result ≡ spec.value text.now at start }
@@ -290,7 +290,7 @@ fn value<'a>(text: &'a str, at: usize, start: usize) -> Option<Finding<'a>>
     }
 }
 
-/// A character that begins no token.
+/// Finds the mistake of a character that begins no token.
 #[tactic(auto, unfolding(crate::specs::found::Symbols::unexpected))]
 pub(crate) fn unexpected<'a>(text: &'a str, at: usize, c: char) -> Option<Finding<'a>>
     ensures { option_map finding_content result ≡ spec.unexpected text.now at c }

@@ -1,4 +1,4 @@
-//! Words in the place of values.
+//! Words in place of values.
 ghost use Rattle.std.specs.Prelude.{◌≡◌, option_map};
 ghost use Rattle.toml_span_report.specs.Finding.{finding_content, meant_content};
 ghost use Rattle.toml_span_report.specs.found.Values as spec;
@@ -8,7 +8,7 @@ use crate::finding::{
     Finding, Meant, Mistake, ValueMistake, as_meant, marked, pieces, quoted, replaced,
 };
 
-/// What TOML has for a word of other languages: the mistake, and the code to write.
+/// Returns what TOML has for a word of other languages: the mistake, and the code to write.
 #[tactic(auto, unfolding(crate::specs::found::Values::known_word))]
 fn known_word(word: &str) -> Option<Meant>
     ensures { option_map meant_content result ≡ spec.known_word word.now }
@@ -41,8 +41,8 @@ fn known_word(word: &str) -> Option<Meant>
     }
 }
 
-/// Where words end that may be meant as one string: with the last of them, if a comment, the line, a comma or a closing
-/// bracket is next, or else with the first, whose end is given.
+/// Returns where the words end that may be meant as one string: with the last one, if a comment, the line's end, a
+/// comma or a closing bracket is next, or else with the first one, whose end is given.
 #[tactic(auto, unfolding(crate::specs::found::Values::phrase_end))]
 pub(crate) fn phrase_end(text: &str, at: usize, end: usize) -> usize
     ensures { result ≡ spec.phrase_end text.now at end }
@@ -54,7 +54,7 @@ pub(crate) fn phrase_end(text: &str, at: usize, end: usize) -> usize
     }
 }
 
-/// A value that needs quotes.
+/// Finds the mistake of a value that needs quotes.
 #[tactic(auto, unfolding(crate::specs::found::Values::unquoted_value))]
 pub(crate) fn unquoted_value<'a>(text: &'a str, at: usize) -> Finding<'a>
     ensures { finding_content result ≡ spec.unquoted_value text.now at }
@@ -71,7 +71,7 @@ pub(crate) fn unquoted_value<'a>(text: &'a str, at: usize) -> Finding<'a>
     }
 }
 
-/// A string with a prefix, as other languages have them, whose quote is at `quote`.
+/// Finds the mistake of a string with a prefix, as other languages have them, whose quote is at `quote`.
 #[tactic(auto, unfolding(crate::specs::found::Values::prefixed))]
 fn prefixed<'a>(text: &'a str, at: usize, quote: usize) -> Finding<'a>
     ensures { finding_content result ≡ spec.prefixed text.now at quote }
@@ -97,7 +97,7 @@ fn prefixed<'a>(text: &'a str, at: usize, quote: usize) -> Finding<'a>
     }
 }
 
-/// A word of other languages in the place of a value.
+/// Makes the mistake of another language's word in place of a value.
 fn known_value<'a>(at: usize, end: usize, known: Meant) -> Finding<'a>
     ensures { finding_content result ≡ spec.known_value at end (meant_content known) }
 {
@@ -108,7 +108,7 @@ fn known_value<'a>(at: usize, end: usize, known: Meant) -> Finding<'a>
     }
 }
 
-/// A word in the place of a value.
+/// Finds the mistake of a word in place of a value.
 #[tactic(auto, unfolding(crate::specs::found::Values::unquoted))]
 pub(crate) fn unquoted<'a>(text: &'a str, at: usize) -> Finding<'a>
     ensures { finding_content result ≡ spec.unquoted text.now at }

@@ -1,4 +1,4 @@
-//! Tokens, and values of a read, that are others than those expected.
+//! Tokens other than the expected ones, and values of another kind than a typed read expects.
 ghost use Rattle.std.specs.Prelude.{◌≡◌, option_map};
 ghost use Rattle.toml_span_report.specs.Finding.{finding_content};
 ghost use Rattle.toml_span_report.specs.found.Wanted as spec;
@@ -18,7 +18,7 @@ use crate::mistakes::strings::quote_in_string;
 use crate::mistakes::values::unquoted_value;
 use toml_span_lex::span::Span;
 
-/// A key that needs a line of its own, in place of what is before it from an offset on.
+/// Makes the mistake of a key that needs its own line: a line feed replaces what precedes it from an offset on.
 fn broken<'a>(mistake: Mistake, text: &'a str, from: usize, at: usize) -> Finding<'a>
     ensures { finding_content result ≡ spec.broken mistake text.now from at }
 {
@@ -26,7 +26,7 @@ fn broken<'a>(mistake: Mistake, text: &'a str, from: usize, at: usize) -> Findin
     mended(mistake, mark, span_of(from, at), pieces("\n", "", ""))
 }
 
-/// A comma behind a value, on its line.
+/// Finds the mistake of a comma after a value, on its line.
 #[tactic(auto, unfolding(crate::specs::found::Wanted::comma))]
 fn comma<'a>(text: &'a str, at: usize) -> Finding<'a>
     ensures { finding_content result ≡ spec.comma text.now at }
@@ -54,7 +54,7 @@ fn comma<'a>(text: &'a str, at: usize) -> Finding<'a>
     }
 }
 
-/// A value behind a header, whose equals sign is at `at`.
+/// Makes the mistake of a value after a header, whose equals sign is at `at`.
 #[tactic(auto, unfolding(crate::specs::found::Wanted::header_value))]
 fn header_value<'a>(text: &'a str, line: usize, at: usize) -> Finding<'a>
     ensures { finding_content result ≡ spec.header_value text.now line at }
@@ -66,7 +66,7 @@ fn header_value<'a>(text: &'a str, line: usize, at: usize) -> Finding<'a>
     replaced(Mistake::Line(LineMistake::ValueOfHeader), line, last, code)
 }
 
-/// A header behind which there is more, on its line.
+/// Finds the mistake of a header with more after it on its line.
 #[tactic(auto, unfolding(crate::specs::found::Wanted::behind_header))]
 fn behind_header<'a>(found: &str, text: &'a str, line: usize, at: usize) -> Option<Finding<'a>>
     ensures { option_map finding_content result ≡ spec.behind_header found.now text.now line at }
@@ -82,21 +82,21 @@ fn behind_header<'a>(found: &str, text: &'a str, line: usize, at: usize) -> Opti
     }
 }
 
-/// Whether a word follows a time in other notations.
+/// Returns whether a word follows a time in other notations.
 fn is_half_day(word: &str) -> bool
     ensures { result ≡ spec.is_half_day word.now }
 {
     matches!(word, "AM" | "PM" | "am" | "pm")
 }
 
-/// Whether a word is a name of the offset that TOML writes as `Z`.
+/// Returns whether a word is a name of the offset that TOML writes as `Z`.
 fn is_zone(word: &str) -> bool
     ensures { result ≡ spec.is_zone word.now }
 {
     matches!(word, "UTC" | "GMT")
 }
 
-/// The name of an offset behind a date and time.
+/// Finds the mistake of an offset's name after a date and time.
 #[tactic(auto, unfolding(crate::specs::found::Wanted::zone))]
 fn zone<'a>(text: &'a str, at: usize, end: usize) -> Finding<'a>
     ensures { finding_content result ≡ spec.zone text.now at end }
@@ -112,7 +112,7 @@ fn zone<'a>(text: &'a str, at: usize, end: usize) -> Finding<'a>
     )
 }
 
-/// A word behind a value, on its line.
+/// Finds the mistake of a word after a value, on its line.
 #[tactic(auto, unfolding(crate::specs::found::Wanted::word_behind))]
 fn word_behind<'a>(text: &'a str, at: usize) -> Finding<'a>
     ensures { finding_content result ≡ spec.word_behind text.now at }
@@ -137,7 +137,7 @@ fn word_behind<'a>(text: &'a str, at: usize) -> Finding<'a>
     marked(Mistake::Line(LineMistake::AfterValue), at, end)
 }
 
-/// What is found behind a value, on its line.
+/// Finds the mistake of what was found after a value, on its line.
 #[tactic(auto, unfolding(crate::specs::found::Wanted::behind_value))]
 fn behind_value<'a>(found: &str, text: &'a str, at: usize) -> Option<Finding<'a>>
     ensures { option_map finding_content result ≡ spec.behind_value found.now text.now at }
@@ -168,7 +168,7 @@ fn behind_value<'a>(found: &str, text: &'a str, at: usize) -> Option<Finding<'a>
     }
 }
 
-/// What is found where a line should end.
+/// Finds the mistake of what was found where a line should end.
 #[tactic(auto, unfolding(crate::specs::found::Wanted::no_newline))]
 fn no_newline<'a>(found: &str, text: &'a str, at: usize) -> Option<Finding<'a>>
     ensures { option_map finding_content result ≡ spec.no_newline found.now text.now at }
@@ -181,7 +181,7 @@ fn no_newline<'a>(found: &str, text: &'a str, at: usize) -> Option<Finding<'a>>
     }
 }
 
-/// Another token, or in a read another kind of value, than the expected one.
+/// Finds the mistake of another token than the expected one, or, in a typed read, of another kind of value.
 #[tactic(auto, unfolding(crate::specs::found::Wanted::wanted))]
 pub(crate) fn wanted<'a>(
     expected: &str,
@@ -203,7 +203,7 @@ pub(crate) fn wanted<'a>(
     }
 }
 
-/// Another kind of value than the one that a read expects, where it is easily mended.
+/// Finds the mistake of another kind of value than a typed read expects, if it is easily repaired.
 #[tactic(auto, unfolding(crate::specs::found::Wanted::other_kind))]
 fn other_kind<'a>(expected: &str, found: &str, text: &'a str, span: Span) -> Option<Finding<'a>>
     ensures { option_map finding_content result ≡ spec.other_kind expected.now found.now text.now span }

@@ -16,7 +16,7 @@ use Rattle.toml_span.specs.Parsing.{IsTree}
 use Rattle.toml_span_laws.specs.Document.{IsDocument, StandsAt}
 use Rattle.toml_span.proofs.ShownWhole.{shown-filled}
 
--- ---- what a pointer names in a tree, and what stands there
+-- ---- what a pointer names in a tree, and the value there
 
 abbrev At : Type 0
 At = Option Span × Node
@@ -29,7 +29,7 @@ place-node : (o : Option At) (x : Place) → option_map place_of o ≡ Some x �
 place-node None x h = absurd (none-some x h)
 place-node (Some r) x h = (r.0, r.1, refl, same_Some (place_of r) x h)
 
--- where the pointer names a value that value stands
+-- where the pointer names a value, that value is
 pub pointed-stands : (pointer : List ℕ) (n m : Node) (places : Path → Option Place) (P : Place → Type 0) → Shows n places → pointed pointer n ≡ Some m
     → ((k : Option Span) → P (place_of (k, m))) → StandsAt pointer places P
 pointed-stands pointer n m places P shows is h =
@@ -37,7 +37,7 @@ pointed-stands pointer n m places P shows is h =
     let at = node-place (reached path (None, n)) m there in
     (names, path, place_of (at.0, m), cut, named, sym (shows path) ∙ at.1, h at.0)
 
--- what stands where the pointer leads in the tree of sections is what it names
+-- the value at the pointer's path in the tree of sections is the one that it names
 pub stands-pointed : (pointer : List ℕ) (n : Node) (length : ℕ) (bs : List Block) (P : Place → Type 0) → Shows n (flat length (claims bs)) → StandsAt pointer (flat length (claims bs)) P
     → (k : Option Span) × (m : Node) × (pointed pointer n ≡ Some m) × P (place_of (k, m))
 stands-pointed pointer n length bs P shows (names, path, place, cut, named, is, h) =
@@ -47,7 +47,7 @@ stands-pointed pointer n length bs P shows (names, path, place, cut, named, is, 
 
 -- ---- answers of callers
 
--- An answer that is read of the value that the pointer names is read of what stands there in the flat document.
+-- An answer read from the value that the pointer names is read from the value there in the flat document.
 pub reads-value : {X : Type 0} (s pointer : List ℕ) (root : Value) (m : Node) (o : Option X) (P : X → Place → Type 0) → IsTree s 128 root → pointed pointer (view root) ≡ Some m
     → ((k : Option Span) (x : X) → (o ≡ Some x) ↔ P x (place_of (k, m))) → IsDocument s (λ places. (x : X) → (o ≡ Some x) ↔ StandsAt pointer places (P x))
 reads-value s pointer root m o P tree is reads =
@@ -62,7 +62,7 @@ reads-value s pointer root m o P tree is reads =
         let (k, w, found, holds) = stands-pointed pointer (view root) (length s) bs (P x) shows h in
         (reads k x).1 (subst (λ (w : Node). P x (place_of (k, w))) (same_Some w m (sym found ∙ is)) holds)
 
--- Where the pointer names nothing, nothing stands.
+-- Where the pointer names nothing, there is no value.
 pub reads-nothing : {X : Type 0} (s pointer : List ℕ) (root : Value) (P : X → Place → Type 0) → IsTree s 128 root → pointed pointer (view root) ≡ None
     → IsDocument s (λ places. (x : X) → (None ≡ Some x) ↔ StandsAt pointer places (P x))
 reads-nothing s pointer root P tree is =

@@ -27,7 +27,7 @@ on-document : (s : List ℕ) (root : Value) (P : (Path → Option Place) → Typ
 on-document s root P tree holds =
     let (bs, has, made) = tree in (bs, has.0, has.1, holds (flat (length s) (claims bs)) (made.ordered, made.shows))
 
--- ---- what a value gives is what its place gives
+-- ---- a value and its place read the same
 
 integer-face : (name : List ℕ) (limit : ℕ) (n : Node) → read_integer name (unsigned limit) n ≡ read_integer name (unsigned limit) (face (place_of (None, n)))
 integer-face name limit (node taken at) = refl
@@ -46,11 +46,11 @@ read-place otherwise (Some x) value is =
 
 -- ---- `required`
 
--- the read of the value below a key is that of what stands at the key
+-- the read of the value below a key is that of the value at the key
 part-read : (otherwise : Result ℕ Errors) (places : Path → Option Place) (name : List ℕ) (r : Result ℕ Errors) → ReadsPart (Gives number) (subtree places (key name ∷ [])) r → read_or otherwise number (places (key name ∷ [])) ≡ r
 part-read otherwise places name r (value, left, is, given) = read-place otherwise (places (key name ∷ [])) value (is.1 []) ∙ sym given.0
 
--- what the answer says of the field
+-- the field in the answer
 abbrev ReadAs : Result ℕ Errors → Result ℕ (Stop Error) → Type 0
 ReadAs field (Ok x) = field ≡ Ok x
 ReadAs field (Err (stops.Fault error)) = (faults : Errors) × (field ≡ Err faults) × (content_of error ≡ faults.last)

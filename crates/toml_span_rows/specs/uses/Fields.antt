@@ -19,7 +19,7 @@ inner_with (shape_scalar s) = scalar s
 inner_with shape_array = array no_items
 inner_with shape_table = table no_members
 
--- a value that stands at the place; of an array or a table an empty one
+-- a value at the place; for an array or a table an empty one
 abbrev pub face : Place → Node
 face x = node (inner_with x.shape) x.span
 
@@ -31,7 +31,7 @@ read_or otherwise read (Some x) = read (face x)
 abbrev pub lacks : List ℕ → Span → ErrorContent
 lacks name span = record { kind = missing_field name; span = span; line_info = None }
 
--- what is read at a key of the root, whose span this is; `MissingField` where nothing stands there
+-- the value read at a key of the root, whose span this is; `MissingField` if there is none
 abbrev pub required_field : {T : Type 0} → (Node → Result T Errors) → List ℕ → Span → (Path → Option Place)
     → Result T Errors
 required_field read name span places = read_or (Err (one (lacks name span))) read (places (key name ∷ []))

@@ -27,7 +27,7 @@ pub struct Settings<'a> {
     pub servers: Vec<Server<'a>>,
 }
 
-/// Returns the settings, or why there are none.
+/// Returns the settings, or the error.
 pub fn shown(alloc: Global, text: &str) -> Result<String, AllocError> {
     match from_str::<Settings<'_>>(alloc, text) {
         Ok(settings) => format!(in alloc; "{settings:?}"),

@@ -5,7 +5,7 @@ use std::borrow::CowStr;
 use toml_span::Error;
 use toml_span::value::{Step, Value, ValueInner, nodes};
 
-/// Adds the path of steps, which is empty at the root. In a name `%` and two digits stand for each byte that is not
+/// Appends the path of steps, which is empty at the root. In a name, `%` and two digits replace each byte that is not
 /// printed, a slash or a percent sign.
 fn push_path(steps: &[Step<'_>], out: &mut Out) {
     for step in steps {

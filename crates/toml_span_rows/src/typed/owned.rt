@@ -1,7 +1,7 @@
 //! Types that own their text, and errors that outlive the text that is read.
 //!
-//! - `load_file NAME`: what is read of a file of `data`, whose text is let go: the listener, or the text of the errors,
-//!   and how many reports there are.
+//! - `load_file NAME`: the value read from a file of `data`, whose text is dropped: the listener, or the text of the
+//!   errors, and the number of reports.
 use crate::told::Out;
 use std::alloc::Global;
 use toml_span::de_helpers::parse_with;
@@ -55,9 +55,9 @@ fn load(rt: &HostRuntime, name: &str) -> Result<Listener, LoadError> {
     file.read::<Listener>(rt.alloc())
 }
 
-/// Adds a listener, or why there is none.
-fn push_listener(read: Result<Listener, LoadError>, out: &mut Out) {
-    match read {
+/// Answers `load_file`.
+pub fn push_file(rt: &HostRuntime, name: &str, out: &mut Out) {
+    match load(rt, name) {
         Ok(listener) => out.told(listener),
         Err(LoadError::Reported(reported)) => {
             let count = reported.reports.len();
@@ -69,9 +69,4 @@ fn push_listener(read: Result<Listener, LoadError>, out: &mut Out) {
             out.push_str("\n");
         }
     }
-}
-
-/// Answers `load_file`.
-pub fn push_file(rt: &HostRuntime, name: &str, out: &mut Out) {
-    push_listener(load(rt, name), out);
 }

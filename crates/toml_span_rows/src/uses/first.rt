@@ -3,7 +3,7 @@ use std::alloc::{AllocError, Global};
 use toml_span::parse;
 use toml_span_report::{Style, render_stop};
 
-/// Where the port of a server stands, or what is wrong with the text.
+/// The bytes of the port of a server, or what is wrong with the text.
 pub fn port_told(alloc: Global, text: &str) -> Result<String, AllocError> {
     match parse(alloc, text) {
         Ok(root) => match root.pointer("/server/port") {

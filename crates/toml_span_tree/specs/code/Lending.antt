@@ -39,7 +39,7 @@ table_row =
 abbrev pub lends_inner : MutBor Value → MutBor ValueInner → Fml
 lends_inner s r = Lends value_row inner_row s r (λ w. record { value = Some w; span = s.now.span })
 
--- s ends as something of which P holds, with the last value behind r
+-- When the borrows end, P holds for the final values of s and r.
 abbrev pub LendsBy : (R T : RattleType) → MutBor R.Denot → MutBor T.Denot → (R.Denot → T.Denot → Type 0) → Fml
 LendsBy R T s r P = follows_so R T s.ghost_name (some r.ghost_name) (λ w n. P n w) (λ _. ⊤)
 
@@ -66,7 +66,7 @@ lends_named s path r = LendsBy value_row value_row s r (λ n w. view n ≡ put_n
 abbrev pub lends_at : MutBor Value → List ℕ → MutBor Value → Fml
 lends_at s p r = LendsBy value_row value_row s r (λ n w. view n ≡ put_pointed p (view w) (view s.now))
 
--- it holds something; it is an array; it is a table
+-- the value has not been taken; it is an array; it is a table
 abbrev pub IsHeld : Value → Type 0
 IsHeld v = (i : ValueInner) × (v.value ≡ Some i)
 

@@ -1,4 +1,4 @@
-//! Pointers that are read once, and looked up many times.
+//! Pointers that are parsed once and looked up many times.
 ghost use Rattle.std.specs.Prelude.{◌≡◌, [], ◌∷◌, ◌++◌, IfOk, OnOk, map, option_map};
 ghost use Rattle.toml_span_tree.specs.Names.{name_in, names_in};
 ghost use Rattle.toml_span_tree.specs.Node.{get_member};
@@ -13,18 +13,19 @@ use std::borrow::CowStr;
 use toml_span_lex::key::Key;
 use toml_span_lex::span::Span;
 
-/// A pointer that is cut into its segments. It owns them, and borrows nothing of the text that it was made
-/// of, nor of a tree: it can be made before the document is read, and serves for all trees of documents
-/// that live equally long.
+// Toolchain: with a second lifetime for its text, `at` would be refused ("what is returned holds or points to a
+// reference at another lifetime"), so a `Pointer` owns its keys.
+/// A pointer split into its segments. It owns them and borrows neither from its text nor from a tree, so it can be
+/// created before the document is parsed. It works for all trees of documents with the same lifetime.
 #[derive(Debug, Drop)]
 pub struct Pointer<'de> {
     names: Vec<Key<'de>>,
 }
 
 impl<'de> Pointer<'de> {
-    /// The pointer of a text. None where the text is none: it is not empty, and has no `/` in front.
+    /// Parses a pointer. Returns `None` if the text is neither empty nor begins with `/`.
     ///
-    /// Takes memory for a copy of the segments.
+    /// Copies the segments. Fails if an allocation fails.
     pub fn new(alloc: Global, pointer: &str) -> Result<Option<Self>, AllocError>
         ensures { IfOk result (λ made. option_map (λ p. names_in p.names) made ≡ pointer_segments pointer.now) }
     {
@@ -42,7 +43,7 @@ impl<'de> Pointer<'de> {
     }
 }
 
-/// Adds the segments of a text, each as a key that owns its name.
+/// Appends the segments of a text, each as a key that owns its name. Fails if an allocation fails.
 fn push_segments<'de>(
     alloc: Global,
     path: &str,
@@ -58,7 +59,7 @@ fn push_segments<'de>(
     }
 }
 
-/// Adds a key that owns its name, to look a table up by.
+/// Appends a key that owns its name. Fails if an allocation fails.
 fn push_name<'de>(alloc: Global, name: &str, names: &mut Vec<Key<'de>>) -> Result<(), AllocError>
     ensures { OnOk result (names_in names.new ≡ names_in names.old ++ name.now ∷ []) }
 {
@@ -76,7 +77,7 @@ fn table_at<'v, 'de>(table: &'v Table<'de>, name: &Key<'de>) -> Option<&'v Value
 }
 
 impl<'de> ValueInner<'de> {
-    /// What a name names here.
+    /// Returns the value that a name denotes here.
     fn entry_at(&self, name: &Key<'de>) -> Option<&Value<'de>>
         ensures { option_map (λ v. view v.now) result ≡ entry (name_in name.now) (inner_view self.now) }
     {
@@ -89,7 +90,7 @@ impl<'de> ValueInner<'de> {
 }
 
 impl<'de> Value<'de> {
-    /// What a name names here, unless it is taken.
+    /// Returns the value that a name denotes here, unless it has been taken.
     fn entry_at(&self, name: &Key<'de>) -> Option<&Self>
         ensures { option_map (λ v. view v.now) result ≡ untaken_entry (name_in name.now) (view self.now) }
     {
@@ -99,7 +100,7 @@ impl<'de> Value<'de> {
         }
     }
 
-    /// What the names name one by one, from here on.
+    /// Returns the value that the names denote one by one, beginning here.
     fn found_at(&self, names: &[Key<'de>]) -> Option<&Self>
         ensures { option_map (λ v. view v.now) result ≡ value_named (map name_in names.now) (view self.now) }
     {
@@ -109,9 +110,9 @@ impl<'de> Value<'de> {
         }
     }
 
-    /// The value that the pointer names, as `pointer` gives it of the pointer's text.
+    /// Returns the value that the pointer names, like `pointer` with the same text.
     ///
-    /// In each table on the way it looks the name up, in logarithmic time. Takes no memory.
+    /// In each table on the way it looks up the name in logarithmic time. Allocates nothing.
     pub fn at(&self, pointer: &Pointer<'de>) -> Option<&Self>
         ensures { option_map (λ v. view v.now) result ≡ value_named (names_in pointer.now.names) (view self.now) }
     {

@@ -3,7 +3,7 @@ use Rattle.toml_span_read.proofs.MemoryLemmas.{Begun}
 use Rattle.toml_span.proofs.Growth.{Growing}
 use Rattle.toml_span.proofs.de.grown_of.Given as goal
 
--- what the sections so far make; whatever is read behind them is the document
+-- the tree of the sections so far; what is read after them completes the document
 abbrev pub invariant-sections : goal.invariant-sections
 invariant-sections l = record {
   boundary : IsCharBoundary l.text l.at;

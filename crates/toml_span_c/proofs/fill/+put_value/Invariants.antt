@@ -1,4 +1,4 @@
--- The measure is how many parts of the tree are left; what is left makes what is wanted.
+-- The measure is the number of parts of the tree that are left; writing what is left completes the result.
 use Rattle.toml_span_lex.proofs.Common.{◌≡◌, ◌+◌, ◌-◌, ◌*◌, ◌≤◌, ℕ, suc, drop, length}
 use Rattle.toml_span_tree.specs.Value.{view, inner_of, items_view, members_view}
 use Rattle.toml_span_tree.proofs.Sizes.{node_size, inner_size, items_size, members_size}

@@ -3,7 +3,7 @@ use Rattle.toml_span_lex.specs.Tokens.{Lexeme, punctuator, string, words}
 use Rattle.toml_span_read.specs.Faults.{found_of, found_words}
 use Rattle.toml_span_laws.proofs.reading.one_wording.Goals as goal
 
--- a token is called the same by the reader and by the lexer
+-- a token has the same name in the reader and in the lexer
 called : (l : Lexeme) → found_words (found_of l) ≡ words l
 called (punctuator c) = grind (arith, nat_tests)
 called (string src value true) = refl

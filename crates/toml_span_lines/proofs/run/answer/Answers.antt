@@ -2,7 +2,7 @@ use Rattle.toml_span_lex.proofs.Common.{◌≡◌, ◌≤◌, ℕ, List, Vec, Re
 use Rattle.toml_span_lines.specs.Run.{bound, IsAnswer, IsShown}
 use Rattle.toml_span_lines.proofs.run.answer.Goals as goal
 
--- what is shown for a text is the answer to its bytes
+-- the output for a text is the answer to its bytes
 answered : (r : Result (ℕ × Vec ℕ Global) AllocError) (bytes text : List ℕ) (limit : ℕ) → length bytes ≤ bound → IsUtf8 bytes → text ≡ bytes →
     IfOk r (λ a. IsShown text limit a.0 a.1.items) → IfOk r (λ a. IsAnswer bytes limit a.0 a.1.items)
 answered (Err e) bytes text limit small utf8 is h = tt

@@ -3,7 +3,7 @@ use Rattle.toml_span_read.specs.Borrowed.{AreWrittenRight, keys_written}
 use Rattle.toml_span_read.proofs.KeyLemmas.{Behind}
 use Rattle.toml_span_read.proofs.keys.header_key.Given as goal
 
--- whatever is read from here on is read from the start on
+-- what is read from here on completes what is read from the start
 abbrev pub invariant-parts : goal.invariant-parts
 invariant-parts l = record {
   forward : l.at ≤ l.next;

@@ -6,7 +6,7 @@ use Rattle.toml_span_read.specs.Gaps.{MaximalGap}
 use Rattle.toml_span_read.proofs.LineRead.{LinesFrom}
 use Rattle.toml_span_read.proofs.sections.assignments.Given as goal
 
--- whatever is read behind the assignments so far is read from the first line on
+-- what is read after the assignments so far completes what is read from the first line on
 abbrev pub invariant-lines : goal.invariant-lines
 invariant-lines l = record {
   forward : l.from ≤ l.at;

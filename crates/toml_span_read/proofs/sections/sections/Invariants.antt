@@ -5,7 +5,7 @@ use Rattle.toml_span_read.proofs.LineRead.{DocumentFrom}
 use Rattle.toml_span_read.proofs.MemoryLemmas.{Begun}
 use Rattle.toml_span_read.proofs.sections.sections.Given as goal
 
--- whatever is read behind the sections so far is the document
+-- what is read after the sections so far completes the document
 abbrev pub invariant-sections : goal.invariant-sections
 invariant-sections l = record {
   boundary : IsCharBoundary l.text l.at;

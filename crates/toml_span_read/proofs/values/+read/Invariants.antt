@@ -17,7 +17,7 @@ decreases-inline_table l = 3 * ((l.limit + 1) - l.depth) + 1
 abbrev pub decreases-pair : goal.decreases-pair
 decreases-pair l = 3 * ((l.limit + 2) - l.depth)
 
--- whatever is read from here on is read as the array, or the inline table
+-- what is read from here on completes the array, or the inline table
 abbrev pub invariant-array-items : goal.invariant-array-items
 invariant-array-items l = record {
   forward : l.at < l.next;

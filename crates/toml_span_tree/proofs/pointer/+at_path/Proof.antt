@@ -1,4 +1,4 @@
--- What segments name is lent, a segment at a time.
+-- The value that segments name is lent, one segment at a time.
 use Rattle.toml_span_tree.proofs.Walks.{◌≡◌, ℕ, ◌<◌, List, [], ◌∷◌, length, refl, sym, ap, ◌∙◌, id⊢, ftrue, flft, named, Val, vptr, fact, tables, ‵, raw, ◌⊛◌, at_ret, ◌$◌, ◌∵◌, !, qed, move, keep, use1, use2, split, join, enter, addr, stop, no_more, and_then, returns, alloc_all, pass_all, free_all, look_at, get, through, sets, lands_as, env, MutRef, mut_vals, heard, only, calls_at, lasts, triple_of, walk_of, ends_at, framed, via, SProp, true, false, T_not, bool, walked_at, walk_meets_at, calls_from, WpFn, Str, shr_slice_vals, shows, facts, first, branches, skips, exec, returns_within, Some, IsSome, drop_l, view, segments, untaken_entry, value_named, after, begins, ends, hands, hands1, gives, lends, is-true, is-false, lends_child, lends_named}
 use contract.Running.{tables_of}
 use mathlib.Core.Path.{subst}

@@ -1,4 +1,4 @@
--- What a pointer names is lent.
+-- The value that a pointer names is lent.
 use Rattle.toml_span_tree.proofs.Walks.{◌≡◌, ℕ, ◌<◌, List, [], ◌∷◌, length, refl, sym, ap, ◌∙◌, id⊢, ftrue, flft, named, Val, vptr, fact, tables, ‵, raw, ◌⊛◌, at_ret, ◌$◌, ◌∵◌, !, qed, move, keep, use0, use1, split, join, enter, addr, stop, no_more, and_then, returns, alloc_all, pass_all, free_all, look_at, get, through, sets, lands_as, env, MutRef, mut_vals, heard, only, calls_at, lasts, triple_of, walk_of, ends_at, framed, SProp, true, false, T_not, bool, Str, shr_slice_vals, shows, facts, first, branches, skips, exec, returns_within, Some, IsSome, view, segments, pointed, value_named, after, follows, follows_itself, proved, begins, ends, hands, hands1, gives, lends, is-true, is-false, lends_at, lends_named}
 use mathlib.Core.Path.{subst}
 use Rattle.toml_span_tree.proofs.Lent.{slash-of, slash-set}

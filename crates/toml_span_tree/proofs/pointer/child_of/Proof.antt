@@ -1,4 +1,4 @@
--- The value that a key's name names is lent.
+-- The value with a key's name is lent.
 use Rattle.toml_span_tree.proofs.Walks.{◌≡◌, [], ◌∷◌, refl, proved, id⊢, emp, ftrue, flft, named, vptr, fact, fact_i, tables, ‵, raw, ◌⊛◌, ◌$◌, ◌∵◌, !, qed, move, use2, split, split3, enter, addr, stop, no_more, and_then, returns, alloc_all, pass_all, free_all, look_at, get, through, sets, lands_as, yes, no, MutRef, mut_vals, mut_Tells, plain, mut_ref_to, named_lft, calls_at, lasts, triple_of, Stays, stay_dropped, Goes-dropped, Goes-spent_ref, ends_at, framed, NamedLft, ShrRef, shr_vals, shr_Tells, shr_ref_to, Lfts, Some, IsSome, cow_str_bytes, view, inner_view, entry, untaken_entry, lends_entry, lends_child, begins, ends, hands, hands1, lends, group}
 use Rattle.toml_span_tree.proofs.Lent.{held-of, entry-under, child-is, child-set}
 use Rattle.toml_span_tree.proofs.Loans.{so_on}

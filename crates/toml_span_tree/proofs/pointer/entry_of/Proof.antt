@@ -1,4 +1,4 @@
--- What a key's name names in a table or in an array is lent.
+-- The value with a key's name in a table or in an array is lent.
 use Rattle.toml_span_tree.proofs.Walks.{◌≡◌, ℕ, ◌<◌, ◌+◌, [], ◌∷◌, length, refl, sym, ap, ◌∙◌, w64, MutBor, proved, id⊢, ftrue, flft, named, erased, Ty, vptr, fact, tables, ‵, raw, ◌⊛◌, at_ret, ◌$◌, ◌∵◌, !, qed, move, drop, use1, use2, split, split3, fsplit3, group, enter, of_opd, addr, stop, no_more, and_then, returns, alloc_all, pass_all, free_all, look_at, get, through, sets, sets_last, lands_as, env, yes, no, MutRef, mut_vals, mut_Tells, plain, mut_ref_to, named_lft, heard, only, calls_at, lasts, triple_of, Stays, walk_of, stay_dropped, Goes-dropped, Goes-spent_ref, ends_at, framed, NamedLft, ShrRef, shr_vals, shr_Tells, shr_ref_to, Lfts, follows, shows, mem, facts, owned, uint_vals, uint_Makes, usize, open_ref, load, fld, first, exec, switches_on, vrt, look_tag, whole, ⊎_elim, BTreeMap, Vec, Global, Some, IsSome, slice_index_or, ◌^◌, with_item, cow_str_bytes, Key, Value, Table, Array, get_member, view, inner_view, members_view, entry, lends_member, lends_item, lends_entry, begins, ends, hands, hands1, gives, lends, follows_then, after, head, arm_body, then_runs}
 use mathlib.Core.Path.{subst}
 use Rattle.toml_span_tree.specs.Pointer.{position_of}

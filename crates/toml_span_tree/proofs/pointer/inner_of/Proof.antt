@@ -22,7 +22,7 @@ a_of κs = named_lft 2 1 tt κs
 abbrev stayed : Stays f.ended.signature.params f.ended.kept
 stayed = (stay_dropped (mut_ref_to (0 ∷ []) tt (plain (λ κs. value.the_row (a_of κs)))) no, tt)
 
--- the inner value, where it lies and what is kept while it is lent
+-- the inner value: where it is in memory, and what is kept while it is lent
 module _ (a : NamedLft) where
   abbrev V : RattleType
   V = value.the_row a

@@ -1,4 +1,4 @@
--- What a segment names is lent, by a key that is made and dropped on the way.
+-- The value that a segment names is lent, with a key that is created and dropped on the way.
 use Rattle.toml_span_tree.proofs.Walks.{◌≡◌, ℕ, List, [], ◌∷◌, refl, sym, ap, full_share, Bor, proved, id⊢, emp, ftrue, flft, named, erased, Ty, Val, vptr, fact, tables, ‵, raw, ◌⊛◌, some, later, ◌$◌, ◌∵◌, !, qed, move, drop, use1, use2, split, split3, join, feq_l, pick, await, rewrite, enter, of_opd, addr, stop, no_more, and_then, returns, alloc_all, pass_all, free_all, look_at, get, through, sets, lands_as, MutRef, mut_vals, named_lft, heard, only, calls_at, lasts, triple_of, ends_at, framed, ShrRef, shr_vals, Str, shr_slice_vals, shows, Is, part_at, peeks, unit, SProp, sep, wand, apply∗, Lft, fat, fdead, flent, left, right, common, from, take_at, give_at, lft_new, lft_end, lft-common, part_out_at, part_in_at, ◌⊑◌, meet_⊑_left, meet_⊑_right, Some, IsSome, cow_str_bytes, Key, view, untaken_entry, begins, ends, hands, hands1, gives, lends, group, lends_child}
 use denote.Lend.{lends_shr}
 use types.Tokens.{lent_back}

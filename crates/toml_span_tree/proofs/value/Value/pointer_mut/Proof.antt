@@ -1,4 +1,4 @@
--- What a pointer names is lent, if it names something.
+-- The value that a pointer names is lent, if there is one.
 use Rattle.toml_span_tree.proofs.Walks.{◌≡◌, ℕ, List, [], ◌∷◌, refl, sym, ap, lit<, full_share, Bor, MutBor, id⊢, ftrue, flft, named, Val, vptr, fact, tables, ‵, raw, ◌⊛◌, some, later, at_ret, ◌$◌, ◌∵◌, !, qed, move, keep, drop, use1, use2, split, split3, fsplit, pick, await, rewrite, by, enter, addr, stop, no_more, and_then, returns, alloc_all, pass_all, free_all, look_at, get, through, sets, lands_as, env, MutRef, mut_vals, RattleType, follows_so, nothing, heard, only, calls_at, Lasts, lasts, triple_of, walk_of, ends_at, framed, Ura, Logic, Item, ⋆, ent, SProp, Fun, Lfts, Shares, Bool, true, false, T_not, bool, Str, shr_slice_vals, shows, facts, first, branches, skips, exec, returns_within, some', ⊤, Some, IsSome, Value, view, pointed, live, vnil, after, sep, wand, apply∗, Lft, fres, fdead, left, right, common, fsplit3, use3, lft_new, lft_end, lft-common, agg, lit, ◌⊑◌, meet_⊑_left, meet_⊑_right, GName, proved, None, ends, args, hands, lends, is-true, is-false, group, lends_at}
 use prog.Memory.{Memory}
 use prog.Routine.{Routine}

@@ -1,0 +1,4 @@
+pub mod CommentLemmas
+pub mod Lists
+pub mod Texts
+pub mod Values

@@ -1,0 +1,44 @@
+-- What a formatted document keeps.
+use Rattle.std.specs.Prelude.{◌≡◌, ℕ, List, map, Vec, Result, Ok, Err, String, string_bytes}
+use Rattle.std.specs.Global.{Global}
+use Rattle.toml_span_lex.specs.declared.stop.Stop.{Stop}
+use Rattle.toml_span_lex.specs.declared.stop.Stop.TheVariants as stops
+use Rattle.toml_span_tree.specs.Error.{content_of}
+use Rattle.toml_span_read.specs.Data.{Block, block, depth_limit}
+use Rattle.toml_span_read.specs.Faults.{Tells}
+use Rattle.toml_span_read.specs.Read.{document}
+use Rattle.toml_span_read.specs.declared.fault.Fault.{Fault}
+use Rattle.toml_span_read.specs.declared.section.Section.{Section}
+use Rattle.toml_span_format.specs.Comments.{HasComments}
+use Rattle.toml_span_format.specs.Same.{bare_section}
+use Rattle.toml_span_format.specs.declared.errors.FormatError.{FormatError}
+use Rattle.toml_span_format.specs.declared.errors.FormatError.TheVariants as errors
+
+-- the sections of a text, or the fault of reading
+abbrev pub ReadsSections : List ℕ → Result (Vec Section Global) (Stop FormatError) → Type 0
+ReadsSections text (Ok found) = document text depth_limit (Ok (map block found.items))
+ReadsSections text (Err (stops.Memory e)) = Unit {0}
+ReadsSections text (Err (stops.Fault (errors.Invalid error))) =
+    (fault : Fault) × document text depth_limit (Err fault) × Tells text fault (content_of error)
+ReadsSections text (Err (stops.Fault errors.WouldDiffer)) = ⊥
+
+-- Both texts have the same sections in the same order: the same headers, and the same keys in the same order with the
+-- same values.
+abbrev pub SameSections : List ℕ → List ℕ → Type 0
+SameSections old new = (bs : List Block) × (cs : List Block) × document old depth_limit (Ok bs)
+    × document new depth_limit (Ok cs) × (map bare_section bs ≡ map bare_section cs)
+
+-- Both texts have the same comments in the same order.
+abbrev pub SameComments : List ℕ → List ℕ → Type 0
+SameComments old new = (ts : List (List ℕ)) × HasComments old ts × HasComments new ts
+
+abbrev pub SameDocument : List ℕ → List ℕ → Type 0
+SameDocument old new = SameSections old new × SameComments old new
+
+-- a text with the same sections and comments, or the fault of reading
+abbrev pub Formats : List ℕ → Result (String Global) (Stop FormatError) → Type 0
+Formats text (Ok new) = SameDocument text (string_bytes new)
+Formats text (Err (stops.Memory e)) = Unit {0}
+Formats text (Err (stops.Fault (errors.Invalid error))) =
+    (fault : Fault) × document text depth_limit (Err fault) × Tells text fault (content_of error)
+Formats text (Err (stops.Fault errors.WouldDiffer)) = (bs : List Block) × document text depth_limit (Ok bs)

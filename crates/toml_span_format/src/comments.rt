@@ -1,0 +1,51 @@
+//! The comments of a text.
+ghost use Rattle.std.specs.Prelude.{IfOk, OnOk, map};
+ghost use Rattle.toml_span_lex.specs.Tokens.{lexeme};
+ghost use Rattle.toml_span_format.specs.Comments.{Adds, HasComments};
+
+use std::alloc::{AllocError, Global};
+use toml_span_lex::stop::Stop;
+use toml_span_lex::tokenizer::Tokenizer;
+use toml_span_lex::tokens::{Error, Token};
+
+/// Adds a token if it is a comment, without the white space at its end.
+fn push_comment<'t>(token: &Token<'t>, found: &mut Vec<&'t str>) -> Result<(), AllocError>
+    ensures { OnOk result (Adds (lexeme token.now) (map (λ t. t.now) found.old.items)
+        (map (λ t. t.now) found.new.items)) }
+{
+    match token {
+        Token::Comment(comment) => {
+            found.push(comment.trim_ascii_end())?;
+            Ok(())
+        }
+        Token::Whitespace(_)
+        | Token::Newline
+        | Token::Equals
+        | Token::Period
+        | Token::Comma
+        | Token::Colon
+        | Token::Plus
+        | Token::LeftBrace
+        | Token::RightBrace
+        | Token::LeftBracket
+        | Token::RightBracket
+        | Token::Keylike(_)
+        | Token::String { .. } => Ok(()),
+    }
+}
+
+/// Returns the comments of a text in its order, each from its `#` to its last character that is no space or tab.
+///
+/// The error is the first fault of the tokens.
+pub fn comments_of<'t>(alloc: Global, text: &'t str) -> Result<Vec<&'t str>, Stop<Error>>
+    ensures { IfOk result (λ found. HasComments text.now (map (λ t. t.now) found.items)) }
+{
+    let mut tokenizer = Tokenizer::new(text);
+    let mut found = Vec::new(alloc);
+    'tokens: loop {
+        let Some((_, token)) = tokenizer.step(alloc)? else {
+            return Ok(found);
+        };
+        push_comment(&token, &mut found)?;
+    }
+}

@@ -1,0 +1,392 @@
+//! Reads a document into pieces.
+use crate::pieces::{Form, Gap, Kind, Piece, columns};
+use std::alloc::{AllocError, Global};
+use toml_span_lex::span::Span;
+use toml_span_lex::stop::Stop;
+use toml_span_lex::tokenizer::Tokenizer;
+use toml_span_lex::tokens::{Error, Token};
+
+/// What the tokens that follow belong to.
+#[derive(Clone, Copy, PartialEq, Eq)]
+enum Place {
+    /// A header, or the key of a line.
+    Line,
+    Header,
+    Key,
+    Value,
+}
+
+/// An array or an inline table that is not closed yet.
+#[derive(Drop)]
+struct Frame {
+    is_table: bool,
+    /// The index of its opening bracket among the pieces.
+    at: usize,
+    /// The columns of its elements, with the equals signs of its pairs but without commas.
+    width: usize,
+    elements: usize,
+    /// Whether a comma is the last thing in it.
+    ends_in_comma: bool,
+    has_comment: bool,
+    /// Whether it has a line end outside of its elements, or is a table with such a table in it.
+    has_line_end: bool,
+    /// Whether an element has more than one line.
+    has_lines: bool,
+}
+
+impl Frame {
+    /// Returns the columns that all of it takes on one line.
+    fn whole_width(&self) -> usize {
+        let brackets = if self.is_table && self.elements > 0 {
+            4
+        } else {
+            2
+        };
+        let commas = self.elements.saturating_sub(1).saturating_mul(2);
+        self.width.saturating_add(commas).saturating_add(brackets)
+    }
+
+    /// Returns how it is to be written.
+    ///
+    /// An inline table that was on one line stays on one line, since TOML 1.0 has no others.
+    fn form(&self) -> Form {
+        if self.has_comment || self.ends_in_comma {
+            Form::Lines
+        } else if self.is_table && !self.has_line_end {
+            Form::OneLine
+        } else if self.has_lines {
+            Form::Lines
+        } else {
+            Form::IfFits(self.whole_width())
+        }
+    }
+}
+
+/// The pieces that are read so far.
+#[derive(Drop)]
+struct Reader<'t> {
+    text: &'t str,
+    pieces: Vec<Piece<'t>>,
+    /// The key of a pair whose value has not begun. Comments before the value go before the key.
+    key: Vec<Piece<'t>>,
+    open: Vec<Frame>,
+    place: Place,
+    /// Whether the last piece is a scalar that may go on.
+    in_scalar: bool,
+    /// What is between the last piece and the next token.
+    gap: Gap,
+    /// The first line end outside of strings.
+    line_end: Option<&'static str>,
+}
+
+/// A text in pieces.
+#[derive(Drop)]
+pub(crate) struct Pieces<'t> {
+    pub(crate) pieces: Vec<Piece<'t>>,
+    /// The first line end outside of strings, or a line feed.
+    pub(crate) line_end: &'static str,
+}
+
+impl<'t> Reader<'t> {
+    /// Returns the piece of a token, and what is between pieces begins anew.
+    fn piece(&mut self, kind: Kind, text: &'t str, start: usize) -> Piece<'t> {
+        let gap = self.gap;
+        self.gap = Gap::SameLine;
+        Piece {
+            kind,
+            text,
+            start,
+            gap,
+        }
+    }
+
+    /// Adds columns to the array or inline table around.
+    fn widen(&mut self, by: usize) {
+        if let Some(frame) = self.open.last_mut() {
+            frame.width = frame.width.saturating_add(by);
+        }
+    }
+
+    /// Counts an element of the array or inline table around.
+    fn count(&mut self) {
+        if let Some(frame) = self.open.last_mut() {
+            frame.elements = frame.elements.saturating_add(1);
+            frame.ends_in_comma = false;
+        }
+    }
+
+    /// Returns whether the innermost bracket that is open is a brace.
+    fn is_in_table(&self) -> bool {
+        match self.open.last() {
+            Some(frame) => frame.is_table,
+            None => false,
+        }
+    }
+
+    /// Adds a line end.
+    fn line_end(&mut self, span: Span) {
+        self.gap = self.gap.with_line_end();
+        if self.line_end.is_none() {
+            self.line_end = Some(if span.end.saturating_sub(span.start) == 1 {
+                "\n"
+            } else {
+                "\r\n"
+            });
+        }
+        match self.open.last_mut() {
+            Some(frame) => frame.has_line_end = true,
+            None => self.place = Place::Line,
+        }
+    }
+
+    /// Adds a comment.
+    fn comment(&mut self, text: &'t str, start: usize) -> Result<(), AllocError> {
+        let mut piece = self.piece(Kind::Comment, text, start);
+        if let Some(key) = self.key.first_mut() {
+            piece.gap = key.gap.on_new_line();
+            key.gap = Gap::NextLine;
+        }
+        if let Some(frame) = self.open.last_mut() {
+            frame.has_comment = true;
+        }
+        self.pieces.push(piece)?;
+        Ok(())
+    }
+
+    /// Begins a header: it gets a blank line before it and the comments right above it.
+    fn header(&mut self, start: usize) -> Result<(), AllocError> {
+        let piece = self.piece(Kind::Header, "[", start);
+        self.place = Place::Header;
+        self.pieces.push(piece)?;
+        for at in (1..self.pieces.len()).rev() {
+            let is_attached = match self.pieces.get(at - 1) {
+                Some(before) => before.is_own_comment(),
+                None => false,
+            };
+            if let Some(first) = self.pieces.get_mut(at) {
+                if first.gap == Gap::BlankLine {
+                    break;
+                }
+                if !is_attached {
+                    first.gap = Gap::BlankLine;
+                    break;
+                }
+            }
+        }
+        Ok(())
+    }
+
+    /// Adds a dot or a part of a key.
+    fn part(&mut self, text: &'t str, start: usize) -> Result<(), AllocError> {
+        self.widen(columns(text));
+        if self.key.is_empty() {
+            self.count();
+            self.place = Place::Key;
+            let piece = self.piece(Kind::Key, text, start);
+            self.key.push(piece)?;
+        } else {
+            let piece = self.piece(Kind::Part, text, start);
+            self.key.push(piece)?;
+        }
+        Ok(())
+    }
+
+    /// Adds the equals sign.
+    fn equals(&mut self, start: usize) -> Result<(), AllocError> {
+        self.widen(3);
+        self.place = Place::Value;
+        self.in_scalar = false;
+        let piece = self.piece(Kind::Equals, "=", start);
+        self.key.push(piece)?;
+        Ok(())
+    }
+
+    /// Begins a value: its key, if it has one, comes before it.
+    fn begin_value(&mut self) -> Result<(), AllocError> {
+        if self.key.is_empty() {
+            self.count();
+        }
+        self.pieces.append(&mut self.key)
+    }
+
+    /// Adds a scalar, or a part of one.
+    fn scalar(&mut self, text: &'t str, start: usize) -> Result<(), AllocError> {
+        if !self.in_scalar {
+            self.begin_value()?;
+            self.widen(columns(text));
+            let piece = self.piece(Kind::Scalar, text, start);
+            self.pieces.push(piece)?;
+            self.in_scalar = true;
+            return Ok(());
+        }
+        let end = start.saturating_add(text.len());
+        let Some(last) = self.pieces.last_mut() else {
+            return Ok(());
+        };
+        let before = last.text.len();
+        last.text = self.text.get(last.start..end).unwrap_or("");
+        // (what is not a string has a column for each byte)
+        let more = last.text.len().saturating_sub(before);
+        self.widen(more);
+        Ok(())
+    }
+
+    /// Opens an array or an inline table.
+    fn begin(&mut self, is_table: bool, start: usize) -> Result<(), AllocError> {
+        self.begin_value()?;
+        let at = self.pieces.len();
+        let piece = if is_table {
+            self.place = Place::Key;
+            self.piece(Kind::OpenTable(Form::Lines), "{", start)
+        } else {
+            self.piece(Kind::OpenArray(Form::Lines), "[", start)
+        };
+        self.pieces.push(piece)?;
+        self.open.push(Frame {
+            is_table,
+            at,
+            width: 0,
+            elements: 0,
+            ends_in_comma: false,
+            has_comment: false,
+            has_line_end: false,
+            has_lines: false,
+        })?;
+        Ok(())
+    }
+
+    /// Tells the array or inline table around what is in it now.
+    fn hold(&mut self, frame: &Frame, form: Form) {
+        self.widen(frame.whole_width());
+        if let Some(outer) = self.open.last_mut() {
+            outer.has_line_end |= frame.is_table && form != Form::OneLine;
+            outer.has_lines |= frame.has_lines || form == Form::Lines;
+        }
+    }
+
+    /// Closes an array or an inline table.
+    fn close(&mut self, text: &'t str, start: usize) -> Result<(), AllocError> {
+        self.in_scalar = false;
+        self.place = Place::Value;
+        let piece = self.piece(Kind::Close, text, start);
+        self.pieces.push(piece)?;
+        let Some(frame) = self.open.pop() else {
+            return Ok(());
+        };
+        let form = frame.form();
+        if let Some(opening) = self.pieces.get_mut(frame.at) {
+            opening.kind = if frame.is_table {
+                Kind::OpenTable(form)
+            } else {
+                Kind::OpenArray(form)
+            };
+        }
+        self.hold(&frame, form);
+        Ok(())
+    }
+
+    /// Adds a comma.
+    fn comma(&mut self) {
+        self.in_scalar = false;
+        if let Some(frame) = self.open.last_mut() {
+            frame.ends_in_comma = true;
+        }
+        if self.is_in_table() {
+            self.place = Place::Key;
+        }
+    }
+
+    /// Adds a part of a key, a header or a scalar.
+    fn word(&mut self, text: &'t str, start: usize) -> Result<(), AllocError> {
+        match self.place {
+            Place::Line | Place::Key => self.part(text, start),
+            Place::Header => {
+                let piece = self.piece(Kind::Part, text, start);
+                self.pieces.push(piece)?;
+                Ok(())
+            }
+            Place::Value => self.scalar(text, start),
+        }
+    }
+
+    /// Adds a string.
+    fn string(&mut self, src: &'t str, start: usize, multiline: bool) -> Result<(), AllocError> {
+        self.word(src, start)?;
+        if multiline && src.contains('\n') {
+            if let Some(frame) = self.open.last_mut() {
+                frame.has_lines = true;
+            }
+        }
+        Ok(())
+    }
+
+    /// Adds an opening bracket.
+    fn left_bracket(&mut self, start: usize) -> Result<(), AllocError> {
+        match self.place {
+            Place::Line => self.header(start),
+            Place::Header => self.word("[", start),
+            _ => self.begin(false, start),
+        }
+    }
+
+    /// Adds a closing bracket.
+    fn right_bracket(&mut self, start: usize) -> Result<(), AllocError> {
+        match self.place {
+            Place::Header => self.word("]", start),
+            _ => self.close("]", start),
+        }
+    }
+
+    /// Adds a token.
+    fn token(&mut self, span: Span, token: Token<'t>) -> Result<(), AllocError> {
+        let start = span.start;
+        match token {
+            Token::Whitespace(_) => Ok(()),
+            Token::Newline => {
+                self.line_end(span);
+                Ok(())
+            }
+            Token::Comment(text) => self.comment(text, start),
+            Token::Equals => self.equals(start),
+            Token::Period => self.word(".", start),
+            Token::Comma => {
+                self.comma();
+                Ok(())
+            }
+            Token::Colon => self.word(":", start),
+            Token::Plus => self.word("+", start),
+            Token::LeftBrace => self.begin(true, start),
+            Token::RightBrace => self.close("}", start),
+            Token::LeftBracket => self.left_bracket(start),
+            Token::RightBracket => self.right_bracket(start),
+            Token::Keylike(text) => self.word(text, start),
+            Token::String { src, multiline, .. } => self.string(src, start, multiline),
+        }
+    }
+}
+
+/// Returns the pieces of a text that is read as TOML. Of another one they are anything, up to the first fault.
+pub(crate) fn pieces_of<'t>(alloc: Global, text: &'t str) -> Result<Pieces<'t>, AllocError> {
+    let mut tokenizer = Tokenizer::new(text);
+    let mut reader = Reader {
+        text,
+        pieces: Vec::new(alloc),
+        key: Vec::new(alloc),
+        open: Vec::new(alloc),
+        place: Place::Line,
+        in_scalar: false,
+        gap: Gap::NextLine,
+        line_end: None,
+    };
+    for _ in 0..text.len() {
+        match tokenizer.step(alloc) {
+            Ok(Some((span, token))) => reader.token(span, token)?,
+            Ok(None) | Err(Stop::Fault(_)) => break,
+            Err(Stop::Memory(error)) => return Err(error),
+        }
+    }
+    Ok(Pieces {
+        pieces: reader.pieces,
+        line_end: reader.line_end.unwrap_or("\n"),
+    })
+}
