@@ -261,9 +261,9 @@ class Page:
         command = re.sub(r"^\$ \S+ ", "", command)
         for run in found(f"crates/*/runs/**/{name}.args") + found(f"crates/*/runs/{name}/args"):
             files = [run.removesuffix("args") + end for end in ("stdout", "stderr")]
-            told = [text_of(it).rstrip("\n") for it in files if os.path.isfile(f"{TOP}/{it}")]
+            told = "".join(text_of(it) for it in files if os.path.isfile(f"{TOP}/{it}")).rstrip("\n")
             words = text_of(run).splitlines()
-            if command in (" ".join(words), shlex.join(words)) and said == "\n".join(filter(None, told)).split("\n"):
+            if command in (" ".join(words), shlex.join(words)) and said == (told.split("\n") if told else []):
                 return
         self.fault(at, f"no run crates/*/runs/{name} is like this")
 

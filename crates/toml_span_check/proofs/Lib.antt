@@ -1,5 +1,6 @@
 pub mod Commas
 pub mod Endings
+pub mod Fixings
 pub mod Judged
 pub mod Pieces
 pub mod Statuses

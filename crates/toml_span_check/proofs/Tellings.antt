@@ -4,8 +4,9 @@ use Rattle.std.proofs.lemmas.List.{append-nil}
 use Rattle.toml_span_check.specs.declared.answer.Task.{Task}
 use Rattle.toml_span_check.specs.declared.answer.Task.TheVariants.{Check, Show}
 use Rattle.toml_span_check.specs.declared.faults.Format.{Format}
-use Rattle.toml_span_check.specs.Run.{Asked, Reading, Gathered, Finds, FindsAll, no_name, one_more, Logs, Shows, Tells, TellsFirst, nothing, answered, unread, together, whole}
+use Rattle.toml_span_check.specs.Run.{Asked, Reading, Gathered, Finds, FindsAll, no_name, one_more, Logs, Shows, Tells, TellsFirst, nothing, answered, unread, none_wrong, together, whole}
 use Rattle.toml_span_check.specs.code.Telling.{Adds, BegunOne, Holds, TellsAll, TellsFiles, TellsOne, TextsOf}
+use Rattle.toml_span_check.specs.declared.run.Tally.{Tally}
 use Rattle.toml_span_check.specs.declared.run.Telling.{Telling}
 use Rattle.toml_span_lines.specs.Held.{HoldsRest}
 use Rattle.toml_span_lines.specs.Run.{HasWritten}
@@ -19,15 +20,15 @@ logs-none log = grind (arith, nat_tests, common_steps)
 logs-more : (a b c : Option Asked) (rs : List Reading) (r : Reading) → Logs a b rs → Logs b c (r ∷ []) → Logs a c (rs ++ r ∷ [])
 logs-more a b c rs r h k = grind (arith, nat_tests, common_steps)
 
-pub finds-none : (log : Option Asked) (files : List (List ℕ)) → files ≡ [] → FindsAll [] log log files
-finds-none log files none = rw none (no_name log)
+pub finds-none : (excludes : List (List ℕ)) (log : Option Asked) (files : List (List ℕ)) → files ≡ [] → FindsAll excludes [] log log files
+finds-none excludes log files none = rw none (no_name log)
 
-pub finds-more : (names more : List (List ℕ)) (name : List ℕ) (old mid new : Option Asked) (files found all : List (List ℕ)) →
-    FindsAll names old mid files → more ≡ names ++ name ∷ [] → Finds mid new (name, found) → all ≡ files ++ found → FindsAll more old new all
-finds-more names more name old mid new files found all before n search a = rw (n, a) (one_more names old mid new files name found before search)
+pub finds-more : (excludes names more : List (List ℕ)) (name : List ℕ) (old mid new : Option Asked) (files found all : List (List ℕ)) →
+    FindsAll excludes names old mid files → more ≡ names ++ name ∷ [] → Finds mid new (excludes, name, found) → all ≡ files ++ found → FindsAll excludes more old new all
+finds-more excludes names more name old mid new files found all before n search a = rw (n, a) (one_more names old mid new files name found before search)
 
 pub tells-start : (format : Format) (task : Task) (pointer : List ℕ) (log : Option Asked) (out errors : List ℕ) → out ≡ [] → errors ≡ [] →
-    Tells format task pointer [] log log out errors 0 0
+    Tells format task pointer [] log log out errors 0 none_wrong
 tells-start format task pointer log out errors none silent =
     record { readings = []; asked = refl; logged = logs-none log; told = rw (none, silent) nothing }
 
@@ -64,7 +65,7 @@ written-behind a b c all held text h w =
     let front = written-front b c text w in
     front-written a c (h.0 ++ text) front.0 (holds-behind a b c all held text front.0 h front.1)
 
-adds-behind : (format : Format) (task : Task) (pointer name : List ℕ) (reading : Result (List ℕ) (List ℕ)) (held errors : List ℕ) (status wrong : ℕ) (t : TextsOf) (front all : List ℕ) →
+adds-behind : (format : Format) (task : Task) (pointer name : List ℕ) (reading : Result (List ℕ) (List ℕ)) (held errors : List ℕ) (status : ℕ) (wrong : Tally) (t : TextsOf) (front all : List ℕ) →
     Adds format task pointer name reading (held, errors, status, wrong) t → front ++ held ≡ all →
     Adds format task pointer name reading (all, errors, status, wrong) (front ++ t.0, t.1, t.2, t.3)
 adds-behind format task pointer name reading held errors status wrong t front all a is = grind (arith, nat_tests, common_steps)
@@ -169,18 +170,18 @@ stops-telling format task pointer names more rest files name old mid new reading
 -- ---- the files that names are for
 
 -- memory is refused before a file is looked at
-pub stops-finding : (format : Format) (task : Task) (pointer : List ℕ) (names : List (List ℕ)) (old new : Option Asked) (a b : Option (List ℕ)) (failed : Bool) (r : Result Telling Unwritten) →
-    b ≡ a → failed ≡ false → IsErrAnd r (λ y. y ≡ Memory) → TellsAll format task pointer names r old new a b failed
-stops-finding format task pointer names old new a b failed r same good err = grind (arith, nat_tests, common_steps)
+pub stops-finding : (format : Format) (task : Task) (pointer : List ℕ) (excludes names : List (List ℕ)) (watched : Bool) (old new : Option Asked) (a b : Option (List ℕ)) (failed : Bool) (r : Result Telling Unwritten) →
+    b ≡ a → failed ≡ false → IsErrAnd r (λ y. y ≡ Memory) → TellsAll format task pointer excludes names watched r old new a b failed
+stops-finding format task pointer excludes names watched old new a b failed r same good err = grind (arith, nat_tests, common_steps)
 
-stops-all : (format : Format) (task : Task) (pointer : List ℕ) (names files : List (List ℕ)) (old mid new : Option Asked) (a b : Option (List ℕ)) (failed : Bool) (e : Unwritten) →
-    FindsAll names old mid files → TellsFiles format task pointer files (Err e) mid new a b failed → TellsAll format task pointer names (Err e) old new a b failed
-stops-all format task pointer names files old mid new a b failed e found h = grind (arith, nat_tests, common_steps)
+stops-all : (format : Format) (task : Task) (pointer : List ℕ) (excludes names files : List (List ℕ)) (watched : Bool) (old mid new : Option Asked) (a b : Option (List ℕ)) (failed : Bool) (e : Unwritten) →
+    FindsAll excludes names old mid files → TellsFiles format task pointer files (Err e) mid new a b failed → TellsAll format task pointer excludes names watched (Err e) old new a b failed
+stops-all format task pointer excludes names files watched old mid new a b failed e found h = grind (arith, nat_tests, common_steps)
 
 -- memory is refused behind the files
-pub stops-counting : (format : Format) (task : Task) (pointer : List ℕ) (names files : List (List ℕ)) (old mid new : Option Asked) (a b : Option (List ℕ)) (failed : Bool) (t : Telling) (r : Result Telling Unwritten) →
-    FindsAll names old mid files → TellsFiles format task pointer files (Ok t) mid new a b failed → IsErrAnd r (λ y. y ≡ Memory) → TellsAll format task pointer names r old new a b failed
-stops-counting format task pointer names files old mid new a b failed t r found told err =
+pub stops-counting : (format : Format) (task : Task) (pointer : List ℕ) (excludes names files : List (List ℕ)) (watched : Bool) (old mid new : Option Asked) (a b : Option (List ℕ)) (failed : Bool) (t : Telling) (r : Result Telling Unwritten) →
+    FindsAll excludes names old mid files → TellsFiles format task pointer files (Ok t) mid new a b failed → IsErrAnd r (λ y. y ≡ Memory) → TellsAll format task pointer excludes names watched r old new a b failed
+stops-counting format task pointer excludes names files watched old mid new a b failed t r found told err =
     let text : TextsOf = (t.held.items, string_bytes t.errors, t.status, t.wrong) in
     let first = first-upto format task pointer files [] files mid new a b text (told.1, told.2) (sym (append-nil files)) in
-    grind (arith, nat_tests, common_steps, stops-all format task pointer names files old mid new a b failed Memory found (told.0, first))
+    grind (arith, nat_tests, common_steps, stops-all format task pointer excludes names files watched old mid new a b failed Memory found (told.0, first))

@@ -5,7 +5,7 @@ use Rattle.toml_span_tree.specs.declared.error.Error.{Error}
 use Rattle.toml_span_tree.specs.declared.value.Value.{Value}
 use Rattle.toml_span_tree.specs.Error.{content_of}
 use Rattle.toml_span_tree.specs.Node.{Node}
-use Rattle.toml_span_tree.specs.Pointer.{pointed}
+use Rattle.toml_span_tree.specs.Pointer.{pointer_segments}
 use Rattle.toml_span_tree.specs.Value.{view}
 use Rattle.toml_span_lex.specs.declared.stop.Stop.TheVariants as stops
 use Rattle.toml_span.specs.Parsing.{IsTree, IsRefusal}
@@ -21,6 +21,7 @@ use Rattle.toml_span_check.specs.declared.answer.Form.{Form}
 use Rattle.toml_span_check.specs.declared.answer.Form.TheVariants.{Plain, Tagged, Items, Raw, Toml}
 use Rattle.toml_span_lines.specs.Lines.{tree_lines}
 use Rattle.toml_span_lines.specs.Run.{bound}
+use Rattle.toml_span_places.specs.Dotted.{IsPath, named}
 use Rattle.toml_span_places.specs.Spelled.{value_text}
 use Rattle.toml_span_read.specs.Data.{depth_limit}
 
@@ -45,9 +46,16 @@ abbrev pub found : Format → Form → List ℕ → List ℕ → Option Node →
 found format form pointer name (Some n) = (0, formed form n)
 found format form pointer name None = nothing_there format pointer name
 
-abbrev pub given : Format → Task → List ℕ → List ℕ → Node → ℕ × List ℕ
-given format Check pointer name n = (0, [])
-given format (Show form) pointer name n = found format form pointer name (pointed pointer n)
+-- What a path names: a pointer or a dotted key by its segments, and any other text nothing.
+abbrev pub Locates : List ℕ → Node → Option Node → Type 0
+Locates path n place =
+    ((segments : List (List ℕ)) × IsPath path segments × (place ≡ named segments n))
+    ⊎ ((pointer_segments path ≡ None) × (place ≡ None))
+
+abbrev pub IsGiven : Format → Task → List ℕ → List ℕ → Node → ℕ × List ℕ → Type 0
+IsGiven format Check pointer name n answer = answer ≡ (0, [])
+IsGiven format (Show form) pointer name n answer =
+    (place : Option Node) × Locates pointer n place × (answer ≡ found format form pointer name place)
 
 -- the text of an error: that of its report
 abbrev pub IsFaultText : Format → Error → List ℕ → List ℕ → List ℕ → Type 0
@@ -58,7 +66,7 @@ IsFaultText format error name text out =
 -- a document, and what it gives; or none, and status 1 with the fault or the first clash
 abbrev pub IsRead : Format → Task → List ℕ → List ℕ → List ℕ → ℕ × List ℕ → Type 0
 IsRead format task pointer name text answer =
-    ((root : Value) × IsTree text depth_limit root × (answer ≡ given format task pointer name (view root)))
+    ((root : Value) × IsTree text depth_limit root × IsGiven format task pointer name (view root) answer)
     ⊎ ((error : Error) × (out : List ℕ) × IsRefusal text depth_limit (stops.Fault error)
     × IsFaultText format error name text out × (answer ≡ (1, out)))
 

@@ -1,7 +1,9 @@
 pub mod Answer
 pub mod Dates
 pub mod Faults
+pub mod Fixing
 pub mod Github
+pub mod Patterns
 pub mod Run
 pub mod Sarif
 pub mod Shown

@@ -103,11 +103,11 @@ fn not_utf8(alloc: Global, format: Format, name: &str) -> Result<Vec<u8>, AllocE
     )
 }
 
-/// What is told of the bytes of a file, once they are judged.
+/// What the bytes of a file are.
 pub(crate) enum Judged<'t> {
-    /// A status and a text.
-    Text(u8, Vec<u8>),
-    /// A document, which is to be shown in a form.
+    /// Nothing to show: the number of errors, and their text.
+    Text(usize, Vec<u8>),
+    /// A document, which is shown in a form.
     Document(Form, Value<'t>),
 }
 

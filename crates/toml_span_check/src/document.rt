@@ -1,21 +1,21 @@
-//! A document is shown.
-ghost use Rattle.std.specs.Prelude.{◌≡◌, ◌++◌, OnOk, IfOk, codes, false, string_bytes};
+//! Shows a document, or a value in it.
+ghost use Rattle.std.specs.Prelude.{◌≡◌, ◌++◌, OnOk, IfOk, codes, false, option_map, string_bytes};
 ghost use Rattle.toml_span_lines.specs.Held.{Streams};
-ghost use Rattle.toml_span_tree.specs.Pointer.{pointed};
 ghost use Rattle.toml_span_tree.specs.Value.{view};
-ghost use Rattle.toml_span_check.specs.Answer.{formed, found};
+ghost use Rattle.toml_span_check.specs.Answer.{formed, Locates};
+ghost use Rattle.toml_span_check.specs.code.Judged.{ShowsPlace};
 
 use crate::answer::{Form, nothing_there};
 use crate::faults::Format;
 use crate::shown::{raw, shown};
 use std::alloc::{AllocError, Global};
-use toml_span::Value;
+use toml_span::{Stop, Value};
 use toml_span_lines::held::{Unwritten, write_held};
 use toml_span_lines::lines::write_lines;
 use toml_span_lines::sink::Sink;
-use toml_span_places::to_toml;
+use toml_span_places::{path_segments, to_toml, value_at};
 
-/// Adds a text and an end of line.
+/// Adds a text and a line end.
 fn push_line(mut text: String, held: &mut Vec<u8>) -> Result<(), AllocError>
     ensures { OnOk result (held.new.items ≡ held.old.items ++ (string_bytes text ++ codes "\n")) }
 {
@@ -46,31 +46,43 @@ fn write_value<W: Sink>(
     write_held(writer, held)
 }
 
-/// Writes what a pointer names, or the fault that it names nothing. The last bytes are held. Answers the status.
+/// Returns the value that a path names in a document.
+fn located<'v, 't>(
+    alloc: Global,
+    root: &'v Value<'t>,
+    path: &str,
+) -> Result<Option<&'v Value<'t>>, AllocError>
+    ensures { IfOk result (λ place. Locates path.now (view root.now) (option_map (λ v. view v.now) place)) }
+{
+    match path_segments(alloc, path) {
+        Ok(segments) => Ok(value_at(root, segments.as_slice())),
+        Err(Stop::Fault(_)) => Ok(None),
+        Err(Stop::Memory(error)) => Err(error),
+    }
+}
+
+/// Writes what a path names, or that it names nothing. The last bytes are held. Returns the number of errors.
 pub(crate) fn show<'t, W: Sink>(
     alloc: Global,
     format: Format,
     form: Form,
-    pointer: &'t str,
+    path: &str,
     name: &str,
     root: &Value<'t>,
     held: &mut Vec<u8>,
     writer: &mut W,
-) -> Result<u8, Unwritten>
+) -> Result<usize, Unwritten>
     requires { W.failed writer.old ≡ false }
-    ensures status { IfOk result (λ s. s
-        ≡ (found format form pointer.now name.now (pointed pointer.now (view root.now))).0) }
-    ensures out { Streams result (W.contents writer.old) (W.contents writer.new) (W.failed writer.new)
-        (held.old.items ++ (found format form pointer.now name.now (pointed pointer.now (view root.now))).1)
-        held.new.items }
+    ensures { ShowsPlace format form path.now name.now (view root.now) result
+        (W.contents writer.old) (W.contents writer.new) (W.failed writer.new) held.old.items held.new.items }
 {
-    match root.pointer(pointer) {
+    match located(alloc, root, path)? {
         Some(value) => {
             write_value(alloc, form, value, held, writer)?;
             Ok(0)
         }
         None => {
-            let mut text = nothing_there(alloc, format, pointer, name)?;
+            let mut text = nothing_there(alloc, format, path, name)?;
             held.append(&mut text)?;
             Ok(1)
         }

@@ -13,5 +13,6 @@ command_named name =
     else if bytes_eq name (codes "rename") then Some commands.Rename
     else if bytes_eq name (codes "remove") then Some commands.Remove
     else if bytes_eq name (codes "add") then Some commands.Add
+    else if bytes_eq name (codes "explain") then Some commands.Explain
     else if bytes_eq name (codes "help") then Some commands.Help
     else None

@@ -2,7 +2,7 @@
 ghost use Rattle.std.specs.Prelude.{◌≡◌};
 ghost use Rattle.toml_span_cli.specs.Commands as spec;
 
-use crate::help::{ADD, CHECK, GET, HELP, REMOVE, RENAME, SET, SHOW};
+use crate::help::{ADD, CHECK, EXPLAIN, GET, HELP, REMOVE, RENAME, SET, SHOW};
 
 /// A command.
 #[derive(Clone, Copy, PartialEq, Eq)]
@@ -14,12 +14,13 @@ pub(crate) enum Command {
     Rename,
     Remove,
     Add,
+    Explain,
     Help,
 }
 
 /// The names of the commands.
-pub(crate) const NAMES: [&str; 8] = [
-    "check", "show", "get", "set", "rename", "remove", "add", "help",
+pub(crate) const NAMES: [&str; 9] = [
+    "check", "show", "get", "set", "rename", "remove", "add", "explain", "help",
 ];
 
 /// Returns the command of this name.
@@ -34,6 +35,7 @@ pub(crate) fn command_named(name: &str) -> Option<Command>
         "rename" => Some(Command::Rename),
         "remove" => Some(Command::Remove),
         "add" => Some(Command::Add),
+        "explain" => Some(Command::Explain),
         "help" => Some(Command::Help),
         _ => None,
     }
@@ -49,6 +51,7 @@ pub(crate) fn arguments_of(command: Command) -> &'static str {
         Command::Rename => "rename FILE PATH NAME",
         Command::Remove => "remove FILE PATH",
         Command::Add => "add FILE PATH KEY VALUE",
+        Command::Explain => "explain [CODE]",
         Command::Help => "help [COMMAND]",
     }
 }
@@ -63,6 +66,7 @@ pub(crate) fn help_of(command: Command) -> &'static str {
         Command::Rename => RENAME,
         Command::Remove => REMOVE,
         Command::Add => ADD,
+        Command::Explain => EXPLAIN,
         Command::Help => HELP,
     }
 }

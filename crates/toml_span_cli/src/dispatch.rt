@@ -1,13 +1,14 @@
 //! Which command the arguments ask for.
 ghost use Rattle.std.specs.Prelude.{◌≡◌, false};
 
+use crate::check::check;
 use crate::commands::{Command, NAMES, command_named, help_of};
 use crate::edit::{edit, edit_help, is_help};
+use crate::explain::explain;
+use crate::get::get;
 use crate::help::{HELP, VERSION};
-use crate::options::Reader;
 use crate::say::{quoted_word, say, say_misuse};
 use crate::show::show;
-use crate::start::start;
 use std::alloc::{AllocError, Global};
 use std::fs;
 use toml_span_check::input::Host;
@@ -115,6 +116,7 @@ fn perform<O: Sink, E: Sink>(
     command: Command,
     words: &[String],
     is_coloured: bool,
+    is_watched: bool,
     host: &mut Host,
     out: &mut O,
     errors: &mut E,
@@ -123,9 +125,10 @@ fn perform<O: Sink, E: Sink>(
     requires errors { E.failed errors.old ≡ false }
 {
     match command {
-        Command::Check => Ok(start(alloc, Reader::Check, words, is_coloured, host, out, errors)),
-        Command::Get => Ok(start(alloc, Reader::Get, words, is_coloured, host, out, errors)),
+        Command::Check => check(alloc, words, is_coloured, is_watched, host, out, errors),
+        Command::Get => get(alloc, words, is_coloured, is_watched, host, out, errors),
         Command::Show => show(alloc, words, host, out, errors),
+        Command::Explain => explain(alloc, words, out, errors),
         Command::Help => help(alloc, words, out, errors),
         Command::Set | Command::Rename | Command::Remove | Command::Add => {
             edit(alloc, command, words, host, out, errors)
@@ -140,6 +143,7 @@ pub(crate) fn dispatch<O: Sink, E: Sink>(
     alloc: Global,
     words: &[String],
     is_coloured: bool,
+    is_watched: bool,
     host: &mut Host,
     out: &mut O,
     errors: &mut E,
@@ -153,7 +157,16 @@ pub(crate) fn dispatch<O: Sink, E: Sink>(
         Request::Version => Ok(say(out, VERSION, 0)),
         Request::Unknown(word) => say_unknown(alloc, word, errors),
         Request::Command(command, rest) => {
-            perform(alloc, command, rest, is_coloured, host, out, errors)
+            perform(
+                alloc,
+                command,
+                rest,
+                is_coloured,
+                is_watched,
+                host,
+                out,
+                errors,
+            )
         }
     }
 }

@@ -8,14 +8,15 @@ Usage: toml-span COMMAND [ARGUMENT]..
        toml-span FILE..    the same as `toml-span check FILE..`
 
 Commands:
-  check   report the errors of files
-  show    print every value of a file with its byte range
-  get     print one value
-  set     replace a value
-  rename  rename a key
-  remove  remove a value with its key, or an array element
-  add     add a key to a table
-  help    print this help, or the help of a command
+  check    report the errors of files
+  show     print every value of a file with its byte range
+  get      print one value
+  set      replace a value
+  rename   rename a key
+  remove   remove a value with its key, or an array element
+  add      add a key to a table
+  explain  print what an error code means
+  help     print this help, or the help of a command
 
 Options:
   -h, --help     print this help
@@ -30,8 +31,9 @@ Checks TOML files and reports errors.
 
 Usage: toml-span check [OPTION].. [FILE|DIRECTORY|-]..
 
-Directories are searched recursively for `*.toml`. Without a file, and for `-`,
-standard input is read.
+Directories are searched recursively for `*.toml`, without what `.gitignore`
+files in them list, hidden directories, `target` and `node_modules`. Without a
+file, and for `-`, standard input is read.
 
 Options:
   --format FORMAT  how to report errors [default: text]
@@ -42,6 +44,10 @@ Options:
                      sarif   one SARIF 2.1.0 document for all files
   --color WHEN     auto, always or never [default: auto]; auto means on a
                    terminal, unless NO_COLOR or CLICOLOR_FORCE decides
+  --fix            make the safe fixes that reports show, and check the result;
+                   files that have fixes are replaced, standard input is not
+  --exclude GLOB   leave out what matches in directories: a name, or with a `/`
+                   a path, as in a `.gitignore` file; can be repeated
   --quiet          print nothing; only the exit status tells the result
   --               take all later arguments as files
   -h, --help       print this help
@@ -79,8 +85,9 @@ Prints one value of a TOML file.
 
 Usage: toml-span get [OPTION].. FILE PATH
 
-PATH is a pointer, as /server/ports/0: keys, and positions in arrays from 0.
-The empty path '' is the whole document. For `-`, standard input is read.
+PATH is a dotted key, as server.ports[0] or dependencies.\"a/b\", or a pointer, as
+/server/ports/0. Positions in arrays count from 0. The empty path '' is the
+whole document. For `-`, standard input is read.
 
 Options:
   --json           as JSON, floats and dates as strings (the default)
@@ -97,6 +104,27 @@ Exit status:
   0  the value was printed
   1  the file has an error, or no value at PATH
   2  the file can't be read, or the arguments are wrong
+  3  output can't be written
+  4  out of memory
+";
+
+/// The help of `explain`.
+pub(crate) const EXPLAIN: &str = "\
+Prints what an error code means, with an example and how to repair it.
+
+Usage: toml-span explain [CODE]
+
+Reports have the code in brackets: error[duplicate-key]. Without a code, all
+codes are listed.
+
+  toml-span explain duplicate-key
+
+Options:
+  -h, --help  print this help
+
+Exit status:
+  0  done
+  2  no such code, or the arguments are wrong
   3  output can't be written
   4  out of memory
 ";

@@ -32,9 +32,13 @@ pub(crate) struct Options<'w> {
     pub(crate) task: Task,
     /// The path of the value to show: empty for the whole document.
     pub(crate) pointer: &'w str,
+    /// The patterns of what is left out of directories.
+    pub(crate) excludes: Vec<&'w str>,
     pub(crate) names: Vec<&'w str>,
     /// Write nothing.
     pub(crate) is_quiet: bool,
+    /// Make safe replacements before.
+    pub(crate) is_fixing: bool,
 }
 
 /// What is wrong with arguments that clap takes.
@@ -48,8 +52,6 @@ enum Mistake {
     Forms,
     /// The path is not valid UTF-8.
     Path,
-    /// The path does not begin with a slash.
-    Slash,
     /// Errors as SARIF, which is one document, where a value is shown.
     Sarif,
 }
@@ -68,6 +70,14 @@ fn choice<'w>(alloc: Global, name: &'w str, default: &'w str) -> Arg<'w>
     ensures own { result.global ≡ false }
 {
     Arg::new(alloc, name).long(name).default_value(default)
+}
+
+/// An option that can be given several times.
+fn several<'w>(alloc: Global, name: &'w str) -> Arg<'w>
+    ensures rule { rule_of result ≡ spec.several name.entry.now }
+    ensures own { result.global ≡ false }
+{
+    Arg::new(alloc, name).long(name).action(ArgAction::Append)
 }
 
 /// The names of files.
@@ -104,6 +114,8 @@ fn check_command<'w>(alloc: Global) -> Result<Command<'w>, AllocError>
 {
     common(alloc, "toml-span check", CHECK)?
         .arg(flag(alloc, "quiet"))?
+        .arg(flag(alloc, "fix"))?
+        .arg(several(alloc, "exclude"))?
         .arg(files(alloc))
 }
 
@@ -222,7 +234,6 @@ fn task_of(reader: Reader, matches: &ArgMatches<'_>) -> Result<Task, Mistake>
     match reader {
         Reader::Check => Ok(Task::Check),
         Reader::Get if is_bytes(value_of(matches, "PATH")) => Err(Mistake::Path),
-        Reader::Get if !is_pointer(value_of(matches, "PATH")) => Err(Mistake::Slash),
         Reader::Get => match form_of(matches) {
             Ok(form) => Ok(Task::Show(form.unwrap_or(Form::Plain))),
             Err(mistake) => Err(mistake),
@@ -265,8 +276,7 @@ fn kind_of(mistake: Mistake) -> ErrorKind
     ensures { result ≡ spec.kind_of mistake }
 {
     match mistake {
-        Mistake::Format | Mistake::Color | Mistake::Path | Mistake::Slash =>
-            ErrorKind::InvalidValue,
+        Mistake::Format | Mistake::Color | Mistake::Path => ErrorKind::InvalidValue,
         Mistake::Forms | Mistake::Sarif => ErrorKind::ArgumentConflict,
     }
 }
@@ -279,7 +289,6 @@ fn message_of(mistake: Mistake) -> &'static str {
         Mistake::Forms =>
             "only one of '--json', '--raw', '--toml', '--tagged' and '--items' can be used",
         Mistake::Path => "PATH is not valid UTF-8",
-        Mistake::Slash => NO_POINTER,
         Mistake::Sarif => "'--format sarif' can only be used with `check`",
     }
 }
@@ -293,7 +302,8 @@ pub(crate) fn options_of<'w>(
     is_terminal: bool,
 ) -> Result<Options<'w>, Error>
     ensures ok { IfOk result (λ o. spec.Asks reader (map (λ w. string_bytes w) words.entry.now) is_terminal
-        o.format o.task o.pointer.now (map (λ name. name.now) o.names.items) o.is_quiet) }
+        o.format o.task o.pointer.now (map (λ pattern. pattern.now) o.excludes.items)
+        (map (λ name. name.now) o.names.items) o.is_quiet o.is_fixing) }
     ensures fails { FailsBy (spec.faults reader (map (λ w. string_bytes w) words.entry.now) is_terminal) result }
 {
     let mut command = command(alloc, reader)?;
@@ -303,8 +313,10 @@ pub(crate) fn options_of<'w>(
             format,
             task,
             pointer: value_of(&matches, "PATH"),
+            excludes: Vec::from_slice(alloc, matches.get_strs("exclude").unwrap_or(&[]))?,
             names: Vec::from_slice(alloc, matches.get_strs("FILE").unwrap_or(&[]))?,
             is_quiet: is_given(&matches, "quiet"),
+            is_fixing: is_given(&matches, "fix"),
         }),
         Err(mistake) => Err(command.error(kind_of(mistake), message_of(mistake))?),
     }

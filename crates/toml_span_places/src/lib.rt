@@ -2,6 +2,7 @@
 //! texts.
 #![tactic(auto)]
 
+mod dotted;
 mod keys;
 mod lines;
 mod literals;
@@ -17,6 +18,7 @@ mod spelled;
 mod spots;
 mod tables;
 
+pub use dotted::{PathError, PathFault, path_segments, value_at};
 pub use keys::{KeyPlace, Role, key_places, with_quotes};
 pub use lines::{assignment_lines, section_lines};
 pub use literals::literal_span;

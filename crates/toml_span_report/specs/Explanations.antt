@@ -1,30 +1,12 @@
--- The codes that are explained.
-use Rattle.std.specs.Prelude.{ℕ, Bool, ◌||◌, List, codes}
+-- The pages of codes.
+use Rattle.std.specs.Prelude.{ℕ, List, [], ◌∷◌, map, Option, Some, None, if◌then◌else◌}
 use Rattle.std.specs.Str.{bytes_eq}
+use Rattle.toml_span_report.specs.declared.explanations.TheConstants.{PAGES}
 
-unfoldable pub is_known : List ℕ → Bool
-is_known code =
-    bytes_eq code (codes "unexpected")
-    || bytes_eq code (codes "unterminated-string")
-    || bytes_eq code (codes "invalid-char-in-string")
-    || bytes_eq code (codes "invalid-escape")
-    || bytes_eq code (codes "invalid-hex-escape")
-    || bytes_eq code (codes "invalid-escape-value")
-    || bytes_eq code (codes "multiline-string-key")
-    || bytes_eq code (codes "unquoted-string")
-    || bytes_eq code (codes "invalid-number")
-    || bytes_eq code (codes "invalid-datetime")
-    || bytes_eq code (codes "unexpected-eof")
-    || bytes_eq code (codes "wanted")
-    || bytes_eq code (codes "exceeded-depth-limit")
-    || bytes_eq code (codes "dotted-key-invalid-type")
-    || bytes_eq code (codes "duplicate-key")
-    || bytes_eq code (codes "duplicate-table")
-    || bytes_eq code (codes "redefine-as-array")
-    || bytes_eq code (codes "out-of-range")
-    || bytes_eq code (codes "custom")
-    || bytes_eq code (codes "unexpected-keys")
-    || bytes_eq code (codes "missing-field")
-    || bytes_eq code (codes "deprecated")
-    || bytes_eq code (codes "unexpected-value")
-    || bytes_eq code (codes "duplicate-name")
+-- the page of a code in a table
+unfoldable pub page_in : List (List ℕ × List ℕ) → List ℕ → Option (List ℕ)
+page_in [] code = None
+page_in (entry ∷ entries) code = if bytes_eq entry.0 code then Some entry.1 else page_in entries code
+
+unfoldable pub explained : List ℕ → Option (List ℕ)
+explained code = page_in (map (λ entry. (entry.0.now, entry.1.now)) PAGES) code

@@ -1,5 +1,5 @@
 //! What the codes of errors mean.
-ghost use Rattle.std.specs.Prelude.{◌≡◌, is_some};
+ghost use Rattle.std.specs.Prelude.{◌≡◌, map, option_map};
 ghost use Rattle.toml_span_report.specs.Explanations as spec;
 
 /// The codes that `explain` knows, in the order of the documentation: those of errors of `parse`, and then of reads.
@@ -30,86 +30,130 @@ pub const CODES: [&str; 24] = [
     "duplicate-name",
 ];
 
-/// Returns what an error of this code means: a title, an empty line, and a few lines with an example and how to repair
-/// it. The lines have at most 80 columns, and no line feed ends the last. Returns `None` for other codes, such as those
-/// of a program's own reports.
-#[tactic(auto, unfolding(crate::specs::Explanations::is_known))]
-pub fn explain(code: &str) -> Option<&'static str>
-    ensures { is_some result ≡ spec.is_known code.now }
+/// The codes, each with its page.
+const PAGES: [(&str, &str); 24] = [
+    (
+        "unexpected",
+        "a character that is not part of TOML here\n\nA character begins no token of TOML where it stands outside of strings and\ncomments. Keys of other characters than A-Z, a-z, 0-9, `_` and `-` need quotes,\nand so does each value that is not a number, a boolean, a date or a time.\n\n    größe = 1         # write \"größe\" = 1\n    home = ~/data     # write home = \"~/data\"\n    // a comment      # write # a comment",
+    ),
+    (
+        "unterminated-string",
+        "a string that is not closed before the end of the file\n\nThe string ends with the quotes with which it begins: three where it has several\nlines, else one.\n\n    text = \"\"\"\n    hello\n\nWrite `\"\"\"` at the end of the string.",
+    ),
+    (
+        "invalid-char-in-string",
+        "a character that a string cannot contain\n\nA string in one quote ends on its line, and strings contain no control\ncharacters but tabs.\n\n    name = \"x         # write name = \"x\"\n\nClose the string, use three quotes for one of several lines, or write a control\ncharacter as an escape, such as `\\u0001`.",
+    ),
+    (
+        "invalid-escape",
+        "a backslash that begins no escape\n\nEscapes are `\\b`, `\\t`, `\\n`, `\\f`, `\\r`, `\\e`, `\\\"`, `\\\\`, `\\xHH`, `\\uHHHH` and\n`\\UHHHHHHHH`. They occur in strings in double quotes.\n\n    path = \"C:\\dir\"   # write path = 'C:\\dir'\n\nWrite two backslashes for one, or use single quotes.",
+    ),
+    (
+        "invalid-hex-escape",
+        "an escape with too few hexadecimal digits\n\n`\\x` has two digits, `\\u` four and `\\U` eight.\n\n    a = \"\\u12\"         # write a = \"\\u0012\"\n    path = \"C:\\Users\"  # write path = 'C:\\Users'\n\nWrite zeros before the digits, or, for a path, use single quotes.",
+    ),
+    (
+        "invalid-escape-value",
+        "an escape that is no character\n\nCharacters are U+0000 to U+10FFFF without the surrogates, U+D800 to U+DFFF.\n\n    a = \"\\uD83D\\uDE00\"   # write a = \"\\U0001F600\"\n\nWrite the character itself, or its own number after `\\U`.",
+    ),
+    (
+        "multiline-string-key",
+        "a string of several lines as a key\n\nA key has no quotes, or one on each side.\n\n    \"\"\"a\"\"\" = 1         # write \"a\" = 1",
+    ),
+    (
+        "unquoted-string",
+        "a value without quotes\n\nStrings have quotes. A value without quotes is a number, `true`, `false`, `inf`,\n`nan`, a date or a time.\n\n    host = localhost  # write host = \"localhost\"\n    debug = True      # write debug = true",
+    ),
+    (
+        "invalid-number",
+        "a number that TOML does not have\n\nNumbers have no leading zeros, a digit on both sides of the point and of each\n`_`, one sign at most, and the prefixes `0x`, `0o` and `0b`, which have no sign.\nIntegers fit into 64 bits.\n\n    mode = 0755       # write mode = 0o755\n    half = .5         # write half = 0.5\n    time = 10s        # write time = \"10s\"",
+    ),
+    (
+        "invalid-datetime",
+        "a date or a time that does not exist, or is written differently\n\nDates are written as year-month-day, times in 24 hours.\n\n    day = 2024-1-5                      # write day = 2024-01-05\n    at = 2024-01-05T07:32:00+0100       # write +01:00",
+    ),
+    (
+        "unexpected-eof",
+        "a value is missing at the end of the file\n\n    port =\n\nWrite the value, or remove the key.",
+    ),
+    (
+        "wanted",
+        "something else was expected here\n\nA line of TOML is a key, `=` and a value, or a header in brackets. Elements of\narrays and pairs of inline tables are separated by commas, and both are closed.\n\n    port: 80          # write port = 80\n    a = [1 2]         # write a = [1, 2]\n    [server           # write [server]\n\nWhere a program reads the values, one is of another kind than the program\nexpects, such as a string where it expects an integer.",
+    ),
+    (
+        "exceeded-depth-limit",
+        "keys or values that are too deeply nested\n\nBrackets, braces and the parts of keys are nested no deeper than a limit, which\nis 128. Remove some levels.",
+    ),
+    (
+        "dotted-key-invalid-type",
+        "a dotted key that goes through a value\n\nEach part of a dotted key before the last names a table that is open. A number\nor a string is no table, and an inline table is closed by its brace.\n\n    a = {x = 1}\n    a.y = 2           # write a = {x = 1, y = 2}",
+    ),
+    (
+        "duplicate-key",
+        "a key that is defined twice\n\nA table has each key once. A header, too, defines the last of its keys.\n\n    port = 80\n    port = 8080       # remove one of the two",
+    ),
+    (
+        "duplicate-table",
+        "a table that is defined twice\n\nA table has one header. A list of tables has a header `[[name]]` for each.\n\n    [server]\n    port = 80\n    [server]          # write its keys below the first header\n    host = \"h\"",
+    ),
+    (
+        "redefine-as-array",
+        "a list of tables with the name of a table\n\n    [a.b]\n    [[a]]             # write [[a]] before [a.b], or use another name\n\n`[a.b]` makes `a` a table, and `[[a]]` makes it a list of tables.",
+    ),
+    (
+        "out-of-range",
+        "a number that is too large or too small\n\nThe program reads this number into a type that does not hold it. The help says\nfrom where to where the type goes.\n\n    port = 70000      # a port is from 0 to 65535",
+    ),
+    (
+        "custom",
+        "a value that the program refuses\n\nThe message is the program's own, and says what is expected.",
+    ),
+    (
+        "unexpected-keys",
+        "keys that the program does not know\n\nThey may be misspelt, or belong to another table.\n\n    hots = \"h\"        # write host = \"h\"\n\nThe note lists the keys of the table, and the help the nearest of them.",
+    ),
+    (
+        "missing-field",
+        "a key is missing\n\nThe program needs a key that the table does not have. Write it below the header\nthat is marked. The root table is marked at the start of the file.",
+    ),
+    (
+        "deprecated",
+        "a key under its old name\n\nThe program still reads the old name. Write the new one.",
+    ),
+    (
+        "unexpected-value",
+        "a text that is not one of those expected\n\n    log = \"trminal\"   # write log = \"terminal\"\n\nThe message lists the texts that are expected.",
+    ),
+    (
+        "duplicate-name",
+        "a name that two elements of an array have\n\nThe program tells the elements apart by this name. Change one of the two.",
+    ),
+];
+
+/// Returns the page of a code in a table.
+#[tactic(auto, unfolding(crate::specs::Explanations::page_in))]
+fn page_in<'p>(pages: &[(&'p str, &'p str)], code: &str) -> Option<&'p str>
+    ensures { option_map (λ page. page.now) result
+        ≡ spec.page_in (map (λ entry. (entry.0.now, entry.1.now)) pages.now) code.now }
 {
-    match code {
-        "unexpected" => Some(
-            "a character that is not part of TOML here\n\nA character begins no token of TOML where it stands outside of strings and\ncomments. Keys of other characters than A-Z, a-z, 0-9, `_` and `-` need quotes,\nand so does each value that is not a number, a boolean, a date or a time.\n\n    größe = 1         # write \"größe\" = 1\n    home = ~/data     # write home = \"~/data\"\n    // a comment      # write # a comment",
-        ),
-        "unterminated-string" => Some(
-            "a string that is not closed before the end of the file\n\nThe string ends with the quotes with which it begins: three where it has several\nlines, else one.\n\n    text = \"\"\"\n    hello\n\nWrite `\"\"\"` at the end of the string.",
-        ),
-        "invalid-char-in-string" => Some(
-            "a character that a string cannot contain\n\nA string in one quote ends on its line, and strings contain no control\ncharacters but tabs.\n\n    name = \"x         # write name = \"x\"\n\nClose the string, use three quotes for one of several lines, or write a control\ncharacter as an escape, such as `\\u0001`.",
-        ),
-        "invalid-escape" => Some(
-            "a backslash that begins no escape\n\nEscapes are `\\b`, `\\t`, `\\n`, `\\f`, `\\r`, `\\e`, `\\\"`, `\\\\`, `\\xHH`, `\\uHHHH` and\n`\\UHHHHHHHH`. They occur in strings in double quotes.\n\n    path = \"C:\\dir\"   # write path = 'C:\\dir'\n\nWrite two backslashes for one, or use single quotes.",
-        ),
-        "invalid-hex-escape" => Some(
-            "an escape with too few hexadecimal digits\n\n`\\x` has two digits, `\\u` four and `\\U` eight.\n\n    a = \"\\u12\"         # write a = \"\\u0012\"\n    path = \"C:\\Users\"  # write path = 'C:\\Users'\n\nWrite zeros before the digits, or, for a path, use single quotes.",
-        ),
-        "invalid-escape-value" => Some(
-            "an escape that is no character\n\nCharacters are U+0000 to U+10FFFF without the surrogates, U+D800 to U+DFFF.\n\n    a = \"\\uD83D\\uDE00\"   # write a = \"\\U0001F600\"\n\nWrite the character itself, or its own number after `\\U`.",
-        ),
-        "multiline-string-key" => Some(
-            "a string of several lines as a key\n\nA key has no quotes, or one on each side.\n\n    \"\"\"a\"\"\" = 1         # write \"a\" = 1",
-        ),
-        "unquoted-string" => Some(
-            "a value without quotes\n\nStrings have quotes. A value without quotes is a number, `true`, `false`, `inf`,\n`nan`, a date or a time.\n\n    host = localhost  # write host = \"localhost\"\n    debug = True      # write debug = true",
-        ),
-        "invalid-number" => Some(
-            "a number that TOML does not have\n\nNumbers have no leading zeros, a digit on both sides of the point and of each\n`_`, one sign at most, and the prefixes `0x`, `0o` and `0b`, which have no sign.\nIntegers fit into 64 bits.\n\n    mode = 0755       # write mode = 0o755\n    half = .5         # write half = 0.5\n    time = 10s        # write time = \"10s\"",
-        ),
-        "invalid-datetime" => Some(
-            "a date or a time that does not exist, or is written differently\n\nDates are written as year-month-day, times in 24 hours.\n\n    day = 2024-1-5                      # write day = 2024-01-05\n    at = 2024-01-05T07:32:00+0100       # write +01:00",
-        ),
-        "unexpected-eof" => Some(
-            "a value is missing at the end of the file\n\n    port =\n\nWrite the value, or remove the key.",
-        ),
-        "wanted" => Some(
-            "something else was expected here\n\nA line of TOML is a key, `=` and a value, or a header in brackets. Elements of\narrays and pairs of inline tables are separated by commas, and both are closed.\n\n    port: 80          # write port = 80\n    a = [1 2]         # write a = [1, 2]\n    [server           # write [server]\n\nWhere a program reads the values, one is of another kind than the program\nexpects, such as a string where it expects an integer.",
-        ),
-        "exceeded-depth-limit" => Some(
-            "keys or values that are too deeply nested\n\nBrackets, braces and the parts of keys are nested no deeper than a limit, which\nis 128. Remove some levels.",
-        ),
-        "dotted-key-invalid-type" => Some(
-            "a dotted key that goes through a value\n\nEach part of a dotted key before the last names a table that is open. A number\nor a string is no table, and an inline table is closed by its brace.\n\n    a = {x = 1}\n    a.y = 2           # write a = {x = 1, y = 2}",
-        ),
-        "duplicate-key" => Some(
-            "a key that is defined twice\n\nA table has each key once. A header, too, defines the last of its keys.\n\n    port = 80\n    port = 8080       # remove one of the two",
-        ),
-        "duplicate-table" => Some(
-            "a table that is defined twice\n\nA table has one header. A list of tables has a header `[[name]]` for each.\n\n    [server]\n    port = 80\n    [server]          # write its keys below the first header\n    host = \"h\"",
-        ),
-        "redefine-as-array" => Some(
-            "a list of tables with the name of a table\n\n    [a.b]\n    [[a]]             # write [[a]] before [a.b], or use another name\n\n`[a.b]` makes `a` a table, and `[[a]]` makes it a list of tables.",
-        ),
-        "out-of-range" => Some(
-            "a number that is too large or too small\n\nThe program reads this number into a type that does not hold it. The help says\nfrom where to where the type goes.\n\n    port = 70000      # a port is from 0 to 65535",
-        ),
-        "custom" => Some(
-            "a value that the program refuses\n\nThe message is the program's own, and says what is expected.",
-        ),
-        "unexpected-keys" => Some(
-            "keys that the program does not know\n\nThey may be misspelt, or belong to another table.\n\n    hots = \"h\"        # write host = \"h\"\n\nThe note lists the keys of the table, and the help the nearest of them.",
-        ),
-        "missing-field" => Some(
-            "a key is missing\n\nThe program needs a key that the table does not have. Write it below the header\nthat is marked. The root table is marked at the start of the file.",
-        ),
-        "deprecated" => Some(
-            "a key under its old name\n\nThe program still reads the old name. Write the new one.",
-        ),
-        "unexpected-value" => Some(
-            "a text that is not one of those expected\n\n    log = \"trminal\"   # write log = \"terminal\"\n\nThe message lists the texts that are expected.",
-        ),
-        "duplicate-name" => Some(
-            "a name that two elements of an array have\n\nThe program tells the elements apart by this name. Change one of the two.",
-        ),
-        _ => None,
+    for (name, page) in pages {
+        if *name == code {
+            return Some(*page);
+        }
     }
+    None
 }
+
+/// Returns the page of a code: what an error of this code means, in a line, and after an empty line some more with an
+/// example and its repair. The lines have at most 80 columns, and no line feed ends the last. Returns `None` for other
+/// codes, such as those of a program's own reports.
+pub fn explain(code: &str) -> Option<&'static str>
+    ensures { option_map (λ page. page.now) result ≡ spec.explained code.now }
+{
+    page_in(&PAGES, code)
+}
+
+/// The codes of the pages are those of `CODES`, in their order.
+pub(crate) fn all_codes()
+    ensures { map (λ entry. entry.0.now) PAGES ≡ map (λ code. code.now) CODES }
+{}

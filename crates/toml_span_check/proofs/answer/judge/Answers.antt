@@ -26,7 +26,7 @@ judged : (r : Result Judged AllocError) (format : Format) (task : Task) (name by
 judged (Err e) format task name bytes text small utf8 is h = tt
 judged (Ok (Text status out)) format task name bytes text small utf8 is h = λ pointer. read format task pointer name bytes text _ small utf8 is (h pointer)
 judged (Ok (Document form root)) format task name bytes text small utf8 is h =
-    λ pointer. let both = h pointer in (both.0, read format task pointer name bytes text _ small utf8 is both.1)
+    λ pointer. let both = h pointer in (both.0, λ place locates. read format task pointer name bytes text _ small utf8 is (both.1 place locates))
 
 pub returns-in-Ok : goal.returns-in-Ok
 returns-in-Ok c = judged _ _ _ _ _ _ c.if-bytes-gt-BOUND.false c.in-Ok.ensures.cases.1 c.in-Ok.ensures.cases.0 c.judge_text.ensures
