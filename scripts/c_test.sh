@@ -6,11 +6,10 @@
 # calls under sanitizers (walk.c), with each request for memory refused (hold.c), between guard pages (fuzz.c), in
 # threads and with little stack (threads.c); the wheel, installed without network into a fresh environment. Times are
 # shown, and count only with --times, since a machine that others share shakes them. The last line counts.
-set -uo pipefail
-cd "$(dirname "$0")/.." || exit
-top=$PWD
-work=$(mktemp -d)
-trap 'rm -rf "$work"' EXIT
+source "$(dirname -- "$(readlink -f -- "$0")")/common.sh"
+set +e
+cd -- "$top" || exit
+scratch
 unset TOML_SPAN_LIBRARY PYTHONPATH
 passed=0
 failed=0
@@ -20,14 +19,12 @@ for word; do if [ "$word" = --times ]; then times=told; else words+=("$word"); f
 
 # told NAME COMMAND..: counts a check that passes or fails as a whole
 told() {
-    local name=$1
-    shift
-    if "$@" >"$work/said" 2>&1; then
+    if "${@:2}" >"$work/said" 2>&1; then
         passed=$((passed + 1))
         grep -E '^(hold|fuzz|threads|walk|speed|times):' "$work/said"
     else
         failed=$((failed + 1))
-        echo "c_test: failed: $name"
+        echo "c_test: failed: $1"
         tail -n 20 "$work/said"
     fi
 }
@@ -60,23 +57,24 @@ tests=scripts/c_tests
 runs=crates/toml_span_cli/runs
 documents=("$runs"/data/*.toml "$runs"/tagged_*/stdin)
 
-# exits STATUS COMMAND..
-exits() {
-    local wanted=$1 status=0
-    "${@:2}" || status=$?
-    [ "$status" -eq "$wanted" ]
-}
+# exits STATUS COMMAND..: whether a command ends so
+exits() { "${@:2}"; [ $? -eq "$1" ]; }
 
-# keys PROGRAM: the example writes what it should
+# keys PROGRAM: the example writes what it should, and values PROGRAM: so does the one for C++
 keys() { "$1" examples/c/example.toml | diff - examples/c/example.keys; }
-
-# values PROGRAM: so does the example for C++
 values() { "$1" examples/c/example.toml | diff - examples/c/example.values; }
 
 # refused PROGRAM: for a document that is refused it ends with status 1 and the report
 refused() {
     exits 1 "$1" "$runs/data/settings.toml" >"$work/out" 2>"$work/report" &&
         [ ! -s "$work/out" ] && grep -q '^error\[duplicate-key\]' "$work/report"
+}
+
+# example CHECK PROGRAM COMPILE..: compiles an example, and checks what it writes of a document and of an error
+example() {
+    told "the example ${2##*/}" "${@:3}" -o "$2"
+    told "what ${2##*/} writes" "$1" "$2"
+    told "what ${2##*/} writes of an error" refused "$2"
 }
 
 # exports FILE WORD..: the names that nm shows
@@ -100,19 +98,12 @@ told "the interface" abi
 for language in c:gcc c:clang c++:g++ c++:clang++; do
     compiler=${language#*:}
     command -v "$compiler" >/dev/null || continue
-    program=$work/keys.$compiler
-    told "the example with $compiler" "$compiler" -x "${language%:*}" "${strict[@]}" examples/c/keys.c \
-        -x none "$archive" -o "$program"
-    told "what it writes" keys "$program"
-    told "what it writes of a fault" refused "$program"
+    example keys "$work/keys.$compiler" "$compiler" -x "${language%:*}" "${strict[@]}" examples/c/keys.c \
+        -x none "$archive"
     told "records.c with $compiler" "$compiler" -x "${language%:*}" "${strict[@]}" -c c/records.c -o "$work/records.o"
-done
-for compiler in g++ clang++; do
-    command -v "$compiler" >/dev/null || continue
-    told "the header with $compiler" "$compiler" -std=c++17 -pedantic -Wshadow -fno-exceptions -fno-rtti \
-        "${strict[@]}" "${sanitize[@]}" examples/c/values.cpp "$archive" -o "$work/values.$compiler"
-    told "what its example writes" values "$work/values.$compiler"
-    told "what its example writes of a fault" refused "$work/values.$compiler"
+    if [ "${language%:*}" = c ]; then continue; fi
+    example values "$work/values.$compiler" "$compiler" -std=c++17 -pedantic -Wshadow -fno-exceptions -fno-rtti \
+        "${strict[@]}" "${sanitize[@]}" examples/c/values.cpp "$archive"
 done
 
 # packaged, cmade, mesoned: programs that are linked as docs/C.md says start by themselves
@@ -135,9 +126,7 @@ if has pkg-config && has meson; then told "meson" mesoned; fi
 build() { told "$1.c" gcc -std=c11 "${strict[@]}" "$tests/$1.c" "${@:2}" -pthread -o "$work/$1"; }
 build walk "${sanitize[@]}" c/records.c "$shared" "-Wl,-rpath,$lib"
 told "lookups and orders" "$work/walk" "${documents[@]}"
-told "the example with sanitizers" gcc -std=c11 "${strict[@]}" "${sanitize[@]}" examples/c/keys.c "$archive" \
-    -o "$work/keys.asan"
-told "what it writes with sanitizers" keys "$work/keys.asan"
+example keys "$work/keys.asan" gcc -std=c11 "${strict[@]}" "${sanitize[@]}" examples/c/keys.c "$archive"
 build hold "$archive" -Wl,--wrap=malloc,--wrap=realloc
 told "refused memory and each room" "$work/hold" "${documents[@]}"
 if has valgrind; then

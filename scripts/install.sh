@@ -11,17 +11,9 @@
 #
 # Status: 0 done, 2 wrong arguments, 3 PREFIX can't be written or has nothing to uninstall, 5 the program can't be
 # built, 130 interrupted.
-set -euo pipefail
-shopt -s inherit_errexit nullglob
-unset CDPATH
-script=$(readlink -f -- "${BASH_SOURCE[0]}")
+source "$(dirname -- "$(readlink -f -- "$0")")/common.sh"
+shopt -s nullglob
 stage=
-
-# fail STATUS LINE..: ends with a message
-fail() {
-    printf 'install.sh: %s\n' "${@:2}" >&2
-    exit "$1"
-}
 trap 'if [ -n "$stage" ]; then rm -rf -- "$stage"; fi' EXIT
 
 uninstall=
@@ -29,7 +21,7 @@ if [ "${1-}" = --uninstall ]; then uninstall=1 && shift; fi
 if [ $# -gt 1 ] || [[ ${1-} == -* ]]; then fail 2 "usage: bash scripts/install.sh [--uninstall] [PREFIX]"; fi
 prefix=${1-${HOME:+$HOME/.local}}
 if [ -z "$prefix" ]; then fail 2 "HOME is not set: name a folder, bash scripts/install.sh PREFIX"; fi
-if [[ $prefix != /* ]]; then prefix=$PWD/$prefix; fi
+prefix=$(absolute "$prefix")
 
 if [ -n "$uninstall" ]; then
     cd -- "$prefix" 2>/dev/null || fail 3 "there is no folder ${prefix@Q}"
@@ -44,13 +36,10 @@ if [ -n "$uninstall" ]; then
 fi
 
 mkdir -p -- "$prefix" && stage=$(mktemp -d -- "$prefix/.toml-span-XXXXXX") || fail 3 "${prefix@Q} can't be written"
-status=0
-program=$(bash "${script%/*}/native.sh" --static toml_span_cli </dev/null) || status=$?
-case $status in
-0) ;;
-130) exit 130 ;;
-*) fail 5 "the program can't be built, so nothing is installed: see above" ;;
-esac
+program=$(bash "$top/scripts/native.sh" --static toml_span_cli </dev/null) || {
+    if [ $? -eq 130 ]; then exit 130; fi
+    fail 5 "the program can't be built, so nothing is installed: see above"
+}
 mkdir -- "$stage/bin" && cp -- "$program" "$stage/bin/toml-span" || fail 3 "${prefix@Q} can't be written"
 "$stage/bin/toml-span" --version >/dev/null 2>&1 || fail 3 "programs can't run in ${prefix@Q}: name another folder"
 
@@ -197,11 +186,9 @@ write(
     "#compdef toml-span",
     f"local -a commands=({' '.join(quoted(f'{name}:{text}') for name, text in commands.items())})",
     "if (( CURRENT == 2 )); then",
-    "    _describe -t commands command commands || _files",
-    "    return",
+    "    _describe -t commands command commands || _files; return",
     "fi",
-    "shift words",
-    "(( CURRENT-- ))",
+    "shift words; (( CURRENT-- ))",
     "case $words[1] in",
     *zsh,
     "esac",
@@ -230,7 +217,6 @@ kind="built without proofs"
 case $program in */out/toml_span_cli | */proved-*) kind="the proved build" ;; esac
 case $program in */static/*) kind+=", statically linked" ;; *) kind+=", dynamically linked" ;; esac
 echo "$("$prefix/bin/toml-span" --version) ($kind)"
-case :${PATH-}: in
-*":$prefix/bin:"*) ;;
-*) echo "install.sh: $prefix/bin is not on PATH: add it to run toml-span by its name" >&2 ;;
-esac
+if [[ :${PATH-}: != *":$prefix/bin:"* ]]; then
+    echo "install.sh: $prefix/bin is not on PATH: add it to run toml-span by its name" >&2
+fi

@@ -9,26 +9,22 @@
 # applies, and that its clauses exist.
 #
 # Status: 0 if each is refused, 1 if one is not, or cannot be tried.
-set -uo pipefail
-cd "$(dirname "$0")/.." || exit
+source "$(dirname -- "$(readlink -f -- "$0")")/common.sh"
+cd -- "$top"
 crates=("$@")
 if [ $# -eq 0 ]; then mapfile -t crates < <(printf '%s\n' crates/*/mistakes | cut -d / -f 2); fi
 for crate in "${crates[@]}"; do
-    if ! compgen -G "crates/$crate/mistakes/*.edit" >/dev/null; then
-        echo "mistakes: there is no crates/$crate/mistakes/*.edit" >&2
-        exit 1
-    fi
+    compgen -G "crates/$crate/mistakes/*.edit" >/dev/null || fail 1 "there is no crates/$crate/mistakes/*.edit"
 done
-work=$(mktemp -d) || exit
-trap 'rm -rf "$work"' EXIT
+scratch
 # shellcheck disable=SC2016 # (the words of `sh -c` are its own)
 git ls-files -z --cached --others --exclude-standard -- crates crates.txt HANDLES |
-    xargs -0 sh -c 'for file; do [ ! -f "$file" ] || cp --parents -- "$file" "$0"; done' "$work" || exit
-cd "$work" || exit
+    xargs -0 sh -c 'for file; do [ ! -f "$file" ] || cp --parents -- "$file" "$0"; done' "$work"
+cd -- "$work"
 rm -rf crates/*/must-fail
 for folder in crates/*/mistakes; do mv -- "$folder" "${folder%/*}/must-fail"; done
-rt must-fail "${crates[@]}" | tee log
-status=${PIPESTATUS[0]}
+status=0
+rt must-fail "${crates[@]}" | tee log || status=$?
 count=0
 for crate in "${crates[@]}"; do count=$((count + $(find "crates/$crate/must-fail" -name '*.edit' | wc -l))); done
 echo "mistakes: $(grep -c '^rt: must-fail .*: refused' log) of $count refused"

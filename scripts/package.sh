@@ -7,19 +7,8 @@
 # files have the time of the last commit, or SOURCE_DATE_EPOCH. The packages are listed with their SHA-256.
 #
 # Status: 0 done, 2 wrong arguments, 3 DEST can't be written, 5 a package can't be made.
-set -euo pipefail
-shopt -s inherit_errexit
-unset CDPATH
-script=$(readlink -f -- "${BASH_SOURCE[0]}")
-top=${script%/scripts/*}
+source "$(dirname -- "$(readlink -f -- "$0")")/common.sh"
 umask 022
-
-# fail STATUS LINE..: ends with a message
-fail() {
-    printf 'package.sh: %s\n' "${@:2}" >&2
-    exit "$1"
-}
-
 if [ $# -gt 1 ] || [[ ${1-} == -* ]]; then fail 2 "usage: bash scripts/package.sh [DEST]"; fi
 for tool in dpkg-deb gzip tar; do
     command -v "$tool" >/dev/null || fail 5 "the command $tool is missing (Debian: dpkg, gzip, tar)"
@@ -27,16 +16,13 @@ done
 SOURCE_DATE_EPOCH=${SOURCE_DATE_EPOCH-$(git -C "$top" log -1 --format=%ct)} ||
     fail 5 "there is no commit to take the time from: set SOURCE_DATE_EPOCH (seconds since 1970)"
 export SOURCE_DATE_EPOCH
-destination=${1-$top/out}
-if [[ $destination != /* ]]; then destination=$PWD/$destination; fi
+destination=$(absolute "${1-$top/out}")
 mkdir -p -- "$destination" && work=$(mktemp -d -- "$destination/.package-XXXXXX") ||
     fail 3 "${destination@Q} can't be written"
 trap 'rm -rf -- "$work"' EXIT
 
 root=$work/root
-status=0
-said=$(PATH=$root/usr/bin:$PATH bash "$top/scripts/install.sh" "$root/usr") || status=$?
-if [ "$status" -ne 0 ]; then exit "$status"; fi
+said=$(PATH=$root/usr/bin:$PATH bash "$top/scripts/install.sh" "$root/usr") || exit
 if [[ $said != *"statically linked)" ]]; then
     fail 5 "the program can't be packaged, since it is dynamically linked: a package needs a C compiler with a static" \
         "C library (Debian: gcc, libc6-dev) and, for the proved build, \`rt run\` in crates/toml_span_cli"

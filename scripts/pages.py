@@ -287,27 +287,23 @@ class Page:
 
     def marked(self, at, mark, end):
         kind, _, of = mark.partition(": ")
-        rows = [self.cells(self.lines[k]) for k in range(at, end)]
-        if kind == "rules":
-            self.rules(at, end)
-        elif kind not in ("rows", "calls"):
+        if kind not in ("rules", "rows", "calls"):
             self.fault(at - 1, f"`{mark}` is not a mark: see scripts/pages.py")
-        for k in range(at, end) if kind in ("rows", "calls") else []:
-            first, *told = split_outside_code(self.lines[k].removeprefix("- "), ": ")
-            if kind == "calls":
+        for k in range(at, end):
+            line = self.lines[k]
+            first, *told = split_outside_code(line.removeprefix("- "), ": ")
+            if kind == "rules":
+                self.rule(k, line)
+            elif kind == "calls":
                 self.calls(k, first, told[-1] if told else "")
-            elif self.lines[k].startswith("- "):
+            elif kind == "rows" and line.startswith("- "):
                 said = re.findall(rf"(?:\b({'|'.join(FIELDS)}) )?`([^`]+)`", told[0] if told else "")
                 self.example(k, of or "parse 128", first, said)
-            elif k > at + 1:
-                heads = [it.strip("`") for it in rows[0]]
-                said = [(it, words) for it, cell in zip(heads[1:], rows[k - at][1:]) if it for words in codes_in(cell)]
-                said = [(it if it in FIELDS else "", words) for it, words in said]
-                self.example(k, of or "parse 128", rows[k - at][0], said)
-
-    @staticmethod
-    def cells(line):
-        return [cell.strip() for cell in line.strip().strip("|").split("|")]
+            elif kind == "rows" and k > at + 1:
+                (_, *heads), (row, *cells) = (self.lines[j].strip().strip("|").split("|") for j in (at, k))
+                said = [(head.strip(" `"), code) for head, cell in zip(heads, cells) for code in codes_in(cell)]
+                said = [(head if head in FIELDS else "", code) for head, code in said if head]
+                self.example(k, of or "parse 128", row.strip(), said)
 
     def example(self, at, call, text, told):
         """A row, and what is said of its answer: words of one of its lines, or a field."""
@@ -334,29 +330,23 @@ class Page:
             if name not in contract:
                 self.fault(at, f"no contract of {', '.join(names)} has `{name}`")
 
-    def rules(self, at, end):
-        """Each line of a list names definitions, functions and rows that exist."""
-        for k in range(at, end):
-            *words, code, row = split_outside_code(f"; ; {self.lines[k]}", "; ")
-            words = split_outside_code("; ".join(words), ". ")
-            for told in (words[-1] if len(words) > 1 else "", code, row):
-                if "`" not in told and not told.startswith("none"):
-                    self.fault(k, "this is not `- WORDS. DEFINITIONS; FUNCTIONS; ROWS`, nor is it said why it has none")
-            for told in codes_in(f"{words[-1]} {code}"):
-                *_, module, names = re.split(r"::|\.(?!\.)", f"x.{told}")
-                for name in re.findall(r"[^\s,{}]+", names):
-                    if not re.search(rf"(?<!\w){re.escape(name)}(?!\w)", self.sources.modules.get(module, "")):
-                        self.fault(k, f"no file {module} of src/ or specs/ has {name}")
-            self.rows_of_rule(k, row)
-
-    def rows_of_rule(self, at, told):
-        for code in codes_in(told):
-            if re.match(r"(?:toml_span\w*|crates|scripts)/", code):
-                continue
-            row = re.compile(f"(?:parse 128: )?{re.escape(code)}".replace(r"\.\.", ".*"), re.DOTALL)
+    def rule(self, at, line):
+        """A line of a list names definitions, functions and rows that exist."""
+        *words, code, rows = split_outside_code(f"; ; {line}", "; ")
+        words = split_outside_code("; ".join(words), ". ")
+        for told in (words[-1] if len(words) > 1 else "", code, rows):
+            if "`" not in told and not told.startswith("none"):
+                self.fault(at, "this is not `- WORDS. DEFINITIONS; FUNCTIONS; ROWS`, nor is it said why it has none")
+        for told in codes_in(f"{words[-1]} {code}"):
+            *_, module, names = re.split(r"::|\.(?!\.)", f"x.{told}")
+            for name in re.findall(r"[^\s,{}]+", names):
+                if not re.search(rf"(?<!\w){re.escape(name)}(?!\w)", self.sources.modules.get(module, "")):
+                    self.fault(at, f"no file {module} of src/ or specs/ has {name}")
+        for told in codes_in(rows):
+            row = re.compile(f"(?:parse 128: )?{re.escape(told)}".replace(r"\.\.", ".*"), re.DOTALL)
             count = sum(bool(row.fullmatch(it)) for it in self.sources.answers)
-            if count != 1:
-                self.fault(at, f"{count} rows are `{code}`")
+            if count != 1 and not re.match(r"(?:toml_span\w*|crates|scripts)/", told):
+                self.fault(at, f"{count} rows are `{told}`")
 
 
 def edits(sources):
@@ -410,18 +400,19 @@ def head_of(item):
     return line_of(HEAD.match(item)[1])
 
 
-def items_of(text):
-    return [it.strip("\n") for it in re.split(r"(?m)^(?=#!?\[|\w)", text) if it.strip()]
-
-
 def body_of(item):
     inner = re.search(r"(?ms)\{\n(.*)^\}", item)
     return re.sub(r"(?m)^    ", "", inner[1]) if inner else ""
 
 
-def calls_of(name, body, kinds):
-    """The lines of the calls in the body of an impl or a trait."""
-    calls = [it for it in items_of(re.sub(r"(?m)^#\[.*\n", "", body)) if re.match(kinds, it)]
+def items_of(text):
+    """The attributes of each item of a text, and the item."""
+    return re.findall(r"(?ms)^((?:#!?\[(?:[^\n]|\n[ )])*\]\n)*)(\w.*?)(?=^[#\w]|\Z)", text)
+
+
+def calls_of(name, item, kinds):
+    """The lines of the calls in an impl or a trait."""
+    calls = [it for _, it in items_of(body_of(item)) if re.match(kinds, it)]
     return [f"{name}::{head_of(re.sub(r'^(pub )?(const )?(fn |type )?', '', it))}" for it in calls]
 
 
@@ -433,62 +424,56 @@ def lines_of(kind, name, item, held):
         yield head_of(own) + (f" derives {line_of(derived)}" if derived else "")
     elif kind in ("const", "static"):
         yield line_of(own.split("=")[0])
+    elif kind == "macro_rules":
+        yield f"macro {name}!"
     elif kind == "use":
-        base, _, group = own[len("use ") :].rstrip("};").partition("{")
+        base, _, group = own[len("use ") :].rstrip("};\n").partition("{")
         yield from (f"use {base.strip()}{one.strip()}" for one in group.strip(" ,\n").split(","))
     if kind == "struct":
         yield from (f"{name}.{field}" for field in re.findall(r"(?m)^pub (\w+: .*),$", body_of(own)))
     elif kind == "enum":
         yield from (f"{name}::{line_of(variant)}" for variant in re.split(r",\n(?=\w)", body_of(own)))
     elif kind == "trait":
-        yield from calls_of(name, body_of(own), r"(?:const )?fn|type")
+        yield from calls_of(name, own, r"(?:const )?fn|type")
 
 
-class Crate:
+def module(path, text, folder, is_open):
+    """The items of a module and of those in it: where each is, whether callers reach that, its attributes and text."""
+    for held, item in items_of(text):
+        is_public, kind, name = HEADED.match(item).groups()
+        if kind == "mod" and name != "laws":
+            inner = body_of(item) if "{" in item else code_of(f"{folder}/{name}.rt")
+            yield from module(f"{path}::{name}", inner, f"{folder}/{name}", is_open and is_public)
+        elif kind != "mod":
+            yield path, is_open, held, item
+
+
+def public_lines(crate):
     """The public items of a library, each as a line with the module that it is in."""
-
-    def __init__(self, name):
-        self.lines, self.impls, self.private = [], [], {"Model"}
-        src = f"crates/{name}/src"
-        texts = "".join(code_of(it) for it in found(f"{src}/**/*.rt"))
-        self.handed_on = {*re.findall(r"\w+", " ".join(re.findall(r"(?ms)^ *pub use ([^;]*);", texts)))}
-        self.module(name, code_of(f"{src}/lib.rt"), src, True)
-        for path, item in self.impls:
-            head = head_of(item)
-            if not self.private & {*re.findall(r"\w+", head)}:
-                name = re.sub(r"<.*>", "", re.sub(r"^impl(<[^>]*>)? ", "", head))
-                calls = calls_of(name, body_of(item), r"pub (?:const )?(?:fn|const)")
-                self.add(path, [head] if " for " in head else calls)
-
-    def add(self, path, lines):
-        self.lines += [f"{path}: {line}" for line in lines]
-
-    def module(self, path, text, folder, is_open):
-        held = ""
-        for item in items_of(text):
-            if item.startswith("#"):
-                held += item
-                continue
-            is_public, kind, name = HEADED.match(item).groups()
-            if kind == "impl":
-                self.impls.append((path, item))
-            elif kind == "mod" and name != "laws":
-                inner = body_of(item) if "{" in item else code_of(f"{folder}/{name}.rt")
-                self.module(f"{path}::{name}", inner, f"{folder}/{name}", is_open and is_public)
-            elif kind == "macro_rules" and "#[macro_export]" in held:
-                self.add(path, [f"macro {name}!"])
-            elif is_public and (kind == "use" or is_open or name in self.handed_on):
-                self.add(path, lines_of(kind, name, item, held))
-            elif kind in TYPES:
-                self.private.add(name)
-            held = ""
+    texts = "".join(code_of(it) for it in found(f"crates/{crate}/src/**/*.rt"))
+    handed_on = {*re.findall(r"\w+", " ".join(re.findall(r"(?ms)^ *pub use ([^;]*);", texts)))}
+    private, impls = {"Model"}, []
+    for path, is_open, held, item in module(crate, code_of(f"crates/{crate}/src/lib.rt"), f"crates/{crate}/src", True):
+        is_public, kind, name = HEADED.match(item).groups()
+        if kind == "impl":
+            impls.append((path, item))
+        elif is_public and (kind == "use" or is_open or name in handed_on) or "#[macro_export]" in held:
+            yield from (f"{path}: {line}" for line in lines_of(kind, name, item, held))
+        elif kind in TYPES:
+            private.add(name)
+    for path, item in impls:
+        head = head_of(item)
+        if not private & {*re.findall(r"\w+", head)}:
+            name = re.sub(r"<.*>", "", re.sub(r"^impl(<[^>]*>)? ", "", head))
+            calls = calls_of(name, item, r"pub (?:const )?(?:fn|const)")
+            yield from (f"{path}: {line}" for line in ([head] if " for " in head else calls))
 
 
 def public_items(words):
     """Compares docs/public_items.txt with the libraries, except those of laws alone, or writes it."""
     libraries = re.findall(r"(?m)^(\w+)(?: \w+)*:", text_of("crates.txt"))
     libraries = [it for it in libraries if found(f"crates/{it}/src/lib.rt") and not it.endswith("_laws")]
-    items = sorted(line for library in libraries for line in Crate(library).lines)
+    items = sorted(line for library in libraries for line in public_lines(library))
     if "--items" in words:
         with open(f"{TOP}/docs/public_items.txt", "w", encoding="utf-8") as file:
             print(*items, sep="\n", file=file)

@@ -10,14 +10,10 @@
 # finds those on these inputs, and wrong output; what holds for all inputs is proved by scripts/test.sh. QUICK_JOBS
 # programs run side by side, by default one for each processor. The last line counts. Status 5: the toolchain's command
 # rt is missing.
-set -uo pipefail
-unset CDPATH
-script=$(readlink -f -- "${BASH_SOURCE[0]}")
-cd -- "${script%/scripts/*}" || exit
-if ! command -v rt >/dev/null; then
-    echo "quick: the toolchain's command rt is not here: put it on PATH" >&2
-    exit 5
-fi
+source "$(dirname -- "$(readlink -f -- "$0")")/common.sh"
+set +e
+cd -- "$top" || exit
+command -v rt >/dev/null || fail 5 "the toolchain's command rt is not here: put it on PATH"
 
 # sum_of_runs CRATE PROGRAM: the checksum of a program, of its runs and of what compares them
 sum_of_runs() {

@@ -5,17 +5,15 @@
 # program: it makes `stdin` of the lines of `stdout` that are not answers, runs it, and shows each answer that differs
 # (< as stored, > now), with status 1. docs/ARCHITECTURE.md ("Tests are rows of data") says how a row is read. The
 # program is a native build (scripts/native.sh), which is made once after a change of the sources.
-set -euo pipefail
-cd "$(dirname "$0")/.."
-program=$(bash scripts/native.sh toml_span_rows </dev/null)
+source "$(dirname -- "$(readlink -f -- "$0")")/common.sh"
+program=$(bash "$top/scripts/native.sh" toml_span_rows </dev/null)
+cd -- "$top/crates/toml_span_rows/data"
 if [ $# -gt 0 ]; then
     printf '%s\n' "$@" | "$program"
     exit
 fi
-cd crates/toml_span_rows
-work=$(mktemp -d)
-trap 'rm -rf "$work"' EXIT
-grep -v '^    ' stdout >"$work/stdin"
-cmp -s "$work/stdin" stdin || cp "$work/stdin" stdin
-(cd data && exec "$program" <../stdin) >"$work/stdout" || true
-diff stdout "$work/stdout"
+scratch
+grep -v '^    ' ../stdout >"$work/stdin"
+cmp -s "$work/stdin" ../stdin || cp "$work/stdin" ../stdin
+"$program" <../stdin >"$work/stdout" || true
+diff ../stdout "$work/stdout"

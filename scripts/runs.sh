@@ -7,21 +7,14 @@
 # runs/data and of its own `data`. These must be as before afterwards, with their permissions, except for the files of
 # its folder `after`, and no other file may be there. Further checks of some programs follow, such as runs with each
 # request for memory refused in turn. PROGRAM is the proved build by default.
-set -uo pipefail
-unset CDPATH NO_COLOR CLICOLOR_FORCE
-script=$(readlink -f -- "${BASH_SOURCE[0]}")
-top=${script%/scripts/*}
+source "$(dirname -- "$(readlink -f -- "$0")")/common.sh"
+set +e
+unset NO_COLOR CLICOLOR_FORCE
 crate=${1?usage: bash scripts/runs.sh CRATE [PROGRAM]}
-program=$(realpath -- "${2-$top/crates/$crate/out/$crate}")
+program=$(realpath -m -- "${2-$top/crates/$crate/out/$crate}")
 cd -- "$top/crates/$crate" || exit
-if [ ! -x "$program" ]; then
-    echo "runs: there is no program $program"
-    exit 1
-fi
-source "$top/scripts/refuse.sh"
-work=$(mktemp -d)
-trap 'rm -rf "$work"' EXIT
-make_faults "$work" || exit 1
+if [ ! -x "$program" ]; then fail 1 "there is no program $program"; fi
+scratch
 count=0
 wrong=0
 with=()
@@ -130,15 +123,55 @@ refused() {
     holds test "$made" -ge "$2" -a "$spared" -eq "$3"
 }
 
-toml_span_example() {
-    refused 1 20 20
+toml_span_example() { refused 1 20 20; }
+
+# row ROW: prints a row of calls that allocate, its answer and, after each refused request that a call reports
+# (`AllocError`, or the text of it), the answer from then on as a diff, with the number of requests that lead to it
+row() {
+    local request made=1 usual with answer answers=()
+    local -A times=()
+    echo "$1" >"$input"
+    for ((request = 0; request <= made; request++)); do
+        with=("LD_PRELOAD=$work/faults.so" "REFUSED=$request")
+        go
+        answer=$(cat "$work/stdout" && echo ".$status")
+        if [ "$request" -eq 0 ]; then
+            made=$(<"$work/made")
+            usual=${answer%$'\n'.0}
+        elif silent 1; then
+            count=$((count + 1))
+        else
+            holds grep -qE 'AllocError|memory allocation failed' "$work/stdout" >&2
+            if [ -z "${times[$answer]-}" ]; then answers+=("$answer"); fi
+            times[$answer]=$((${times[$answer]-0} + 1))
+            reported=$((reported + 1))
+        fi
+    done
+    printf '%s\n' "$usual"
+    for answer in "${answers[@]}"; do
+        printf '  refused: %s\n' "${times[$answer]}"
+        diff <(printf '%s\n' "$usual") <(printf '%s\n' "${answer%$'\n'.0}") | sed 's/^/  /'
+    done
 }
 
+# The rows of the file `refused` must have the answers that it has: so a refusal that is not reported, a request more or
+# less, and another state after a refusal are seen. A row without `refused:` makes no request.
 toml_span_rows() {
-    local calls='nodes|text_order|key_places|section_places|table_forms a|insertion_point bin|node_at 1[0-5]'
+    local calls='key_places|section_places|table_forms a|insertion_point bin|node_at 1[0-5]'
+    local line reported=0
     grep -E "^($calls|quote_key|quote_string|replaced|write[^:]*(look|at)=)" stdin >"$work/rows"
     input=$work/rows
     refused 1 200 0
+    input=$work/row
+    while IFS= read -r line; do
+        case $line in
+        "" | "#"*) printf '%s\n' "$line" ;;
+        " "*) ;;
+        *) row "$line" ;;
+        esac
+    done <refused >"$work/answers"
+    holds diff refused "$work/answers"
+    holds test "$reported" -ge 200
 }
 
 toml_span_show() {
@@ -235,10 +268,9 @@ toml_span_cli() {
     local terminal='import os, pty, sys; sys.exit(os.waitstatus_to_exitcode(pty.spawn(sys.argv[1:])))'
     fresh
     for part in cuts names prefixes; do "$part"; done
-    for words in "check settings.toml" "check --help" "show tree.toml"; do
-        # shellcheck disable=SC2086 # (words)
-        out=/dev/full ends 3 $words
-    done
+    out=/dev/full ends 3 check settings.toml
+    out=/dev/full ends 3 check --help
+    out=/dev/full ends 3 show tree.toml
     err=/dev/full ends 3 check --format
     err=/dev/full ends 3 set tree.toml /nothing 1
     colored '' TERM=xterm
@@ -274,6 +306,40 @@ toml_span_cli() {
         refused 4 20 0
     done
 }
+
+# $work/faults.so, made with the kit's clang, for LD_PRELOAD: the request for memory number $REFUSED is refused; the
+# number of requests, counted before the C library sees them, is written to file descriptor 9. The write number $FAILED
+# and all later ones fail as if a disk were full. With $INTERRUPTED, every other read and write fails as if a signal came.
+kit=$(dirname "$(rt doc)")/toolchain/bin
+cat >"$work/faults.c" <<'END'
+extern void *__libc_malloc(unsigned long);
+extern void *__libc_realloc(void *, unsigned long);
+extern int dprintf(int, const char *, ...);
+extern long syscall(long, ...);
+extern int *__errno_location(void);
+extern char *getenv(const char *);
+static long requests, writes, calls;
+static long number_of(const char *name) {
+    const char *digit = getenv(name);
+    long number = 0;
+    while (digit && *digit) number = number * 10 + (*digit++ - '0');
+    return number;
+}
+static int is_refused(void) { return ++requests == number_of("REFUSED"); }
+static long transfer(long call, int file, const void *at, unsigned long size) {
+    if (number_of("INTERRUPTED") && ++calls % 2) *__errno_location() = 4;
+    else if (call == 1 && number_of("FAILED") && ++writes >= number_of("FAILED")) *__errno_location() = 28;
+    else return syscall(call, file, at, size);
+    return -1;
+}
+long read(int file, void *at, unsigned long size) { return transfer(0, file, at, size); }
+long write(int file, const void *at, unsigned long size) { return transfer(1, file, at, size); }
+void *malloc(unsigned long size) { return is_refused() ? 0 : __libc_malloc(size); }
+void *realloc(void *block, unsigned long size) { return is_refused() ? 0 : __libc_realloc(block, size); }
+__attribute__((destructor)) static void tell(void) { dprintf(9, "%ld\n", requests); }
+END
+"$kit/clang" --target=x86_64-unknown-linux-gnu -O1 -fPIC -c "$work/faults.c" -o "$work/faults.o" &&
+    "$kit/ld.lld" -shared "$work/faults.o" -o "$work/faults.so" || exit
 
 for name in . runs/*/; do
     name=${name%/}

@@ -5,12 +5,10 @@
 # must not have), and a command. The commands run in order in one folder. `fresh` makes a new repository in a folder with
 # a blank in its name. The toolchain is a stand-in, whose `rt try` compiles C, and FAULT names a step of it that fails; so
 # a case takes milliseconds. The last cases try docs/CI.md with the program itself, and the toolchain that is here.
-set -uo pipefail
-unset CDPATH TMPDIR XDG_CACHE_HOME SOURCE_DATE_EPOCH
-script=$(readlink -f -- "${BASH_SOURCE[0]}")
-top=${script%/scripts/*}
-work=$(realpath "$(mktemp -d)") || exit
-trap 'rm -rf "$work"' EXIT
+source "$(dirname -- "$(readlink -f -- "$0")")/common.sh"
+set +e
+unset TMPDIR XDG_CACHE_HOME SOURCE_DATE_EPOCH
+scratch
 real_home=$HOME real_path=$PATH
 export HOME=$work/home TRIES=$work/tries PATH=$work/kit/bin:$PATH
 repository="$work/a folder"

@@ -3,21 +3,20 @@
 speed.py [--bytes N,..] [--instructions] [--crate FOLDER] [KIND|FILE..]
 speed.py --limits [PROGRAM..]
 
-A document of each kind, of about N bytes (1,000,000), or a file, is parsed by toml_span_bench: by the proved build if
-it is no older than the sources, else by a native build (scripts/native.sh). With --crate, an unpacked copy of the Rust
-crate toml-span is measured beside it, by a small program that cargo builds.
+A document of each kind, of about N bytes (1,000,000), or a file, is parsed by toml_span_bench: the proved build if it
+is no older than the sources, else a native build (scripts/native.sh). With --crate, an unpacked copy of the Rust crate
+toml-span is measured beside it, by a small program that cargo builds.
 
 A line has, for each byte of the text, the nanoseconds of processor time of a parse and the drop of its tree: `user` is
 the program's own time, `all` includes the system's. It is the difference between a run of one parse and a run of ten
-more (or of a megabyte each, for a shorter text), so that start and reading are left out; the best of three rounds.
-`peak` is the most memory of one parse in MB (some 20 MB are this script's own). A ratio says how many times as long the
-Rust crate took. With --instructions a line has the instructions of a parse for each byte, as valgrind's callgrind
-counts them: they do not change with what else the machine does.
+more (or of a megabyte each, for a shorter text), the best of three rounds. `peak` is the most memory of one parse in MB
+(some 20 MB are this script's own). A ratio says how many times as long the Rust crate took. With --instructions a line
+has the instructions of a parse for each byte (valgrind): other load of the machine does not change them.
 
 --limits runs programs that read standard input (native builds of toml-span and toml_span_show unless they are given) on
-the worst documents at the limit of 128 nested levels (a path has at most 128 keys of a header and 128 of an
-assignment). Stack: the least `ulimit -s`, in KB and to 4 KB, with which the program ends by itself, without an
-environment. Memory: the greatest resident size as a multiple of the text, up to 1 GB; some minutes.
+the worst documents at the limit of 128 nested levels, for some minutes. Stack: the least `ulimit -s`, in KB and to
+4 KB, with which the program ends by itself, without an environment. Memory: the greatest resident size as a multiple of
+the text.
 """
 
 import argparse
@@ -28,17 +27,13 @@ import resource
 import subprocess
 import sys
 import tempfile
+from pathlib import Path
 
 TOP = os.path.dirname(os.path.dirname(os.path.abspath(__file__)))
 
 # a program that does what toml_span_bench does, over the Rust crate
-CARGO = """[package]
-name = "measured"
-version = "0.0.0"
-edition = "2021"
-
-[dependencies]
-toml-span = {{ path = "{crate}" }}
+CARGO = """package = { name = "measured", version = "0.0.0", edition = "2021" }
+dependencies = { toml-span = { path = "%s" } }
 """
 MAIN = """fn main() {
     let words: Vec<String> = std::env::args().collect();
@@ -57,8 +52,8 @@ WORDS = "amber basil cedar delta ember flint grove heron iris juniper karst lume
 # ---- documents: each generator gives one piece after the other, by a running number
 
 
-def word(rng):
-    return rng.choice(WORDS)
+def words(rng, count=1, between=" "):
+    return between.join(rng.choice(WORDS) for _ in range(count))
 
 
 def scalar(rng):
@@ -67,31 +62,24 @@ def scalar(rng):
         return str(rng.randrange(-10**6, 10**6))
     if kind == 1:
         return f"{rng.randrange(1000)}.{rng.randrange(10, 100)}"
-    if kind == 2:
-        return rng.choice(["true", "false"])
-    return f'"{word(rng)} {word(rng)}"'
+    return rng.choice(["true", "false"]) if kind == 2 else f'"{words(rng)} {words(rng)}"'
 
 
-def words(rng, count, between=" "):
-    return between.join(word(rng) for _ in range(count))
+def pair(rng):
+    return rng.randrange(100), rng.randrange(100)
 
 
 def lockfile(rng, n):
     lines = [
         "[[package]]",
-        f'name = "{word(rng)}-{n}"',
+        f'name = "{words(rng)}-{n}"',
         f'version = "{rng.randrange(9)}.{rng.randrange(30)}.{rng.randrange(9)}"',
         'source = "registry+https://example.org/an-index"',
         f'checksum = "{rng.getrandbits(256):064x}"',
     ]
     if rng.randrange(2):
-        lines += ["dependencies = [", *(f' "{word(rng)}-{k}",' for k in range(1, 2 + rng.randrange(6))), "]"]
+        lines += ["dependencies = [", *(f' "{words(rng)}-{k}",' for k in range(1, 2 + rng.randrange(6))), "]"]
     return "\n".join(lines) + "\n\n"
-
-
-def arrays(rng, n):
-    items = ", ".join(f"[{rng.randrange(100)}, {rng.randrange(100)}]" for _ in range(6))
-    return f"points_{n} = [{items}]\nat_{n} = {{x = {rng.randrange(100)}, y = {rng.randrange(100)}}}\n"
 
 
 def strings(rng, n):
@@ -99,19 +87,16 @@ def strings(rng, n):
     return f"text_{n} = '{text}'\n" if n % 4 else f'text_{n} = """\n{text}\n{text}"""\n'
 
 
-def dotted_sections(rng, n):
-    lines = [f"[[{word(rng)}_{n}]]", *(f"{words(rng, 2, '.')}.k{k} = {rng.randrange(1000)}" for k in range(8))]
-    return "\n".join(lines) + "\n"
-
-
 KINDS = {
-    "flat": lambda rng, n: f"{word(rng)}_{n} = {scalar(rng)}\n",
+    "flat": lambda rng, n: f"{words(rng)}_{n} = {scalar(rng)}\n",
     "lockfile": lockfile,
     "headers": lambda rng, n: f"[{words(rng, 2, '.')}.t{n}]\nvalue = {rng.randrange(1000)}\n",
-    "arrays": arrays,
+    "arrays": lambda rng, n: f"points_{n} = [{', '.join('[%d, %d]' % pair(rng) for _ in range(6))}]\n"
+    "at_%d = {x = %d, y = %d}\n" % (n, *pair(rng)),
     "strings": strings,
     "dotted": lambda rng, n: f"{words(rng, 3, '.')}.key_{n} = {rng.randrange(1000)}\n",
-    "dotted_sections": dotted_sections,
+    "dotted_sections": lambda rng, n: f"[[{words(rng)}_{n}]]\n"
+    + "".join(f"{words(rng, 2, '.')}.k{k} = {rng.randrange(1000)}\n" for k in range(8)),
     "comments": lambda rng, n: "".join(f"# {words(rng, 10)}\n" for _ in range(5)) + f"\nkey_{n} = {n}\n",
 }
 
@@ -131,13 +116,9 @@ def documents(given, work):
             yield os.path.basename(kind), kind
             continue
         for size in given.bytes.split(","):
-            yield kind, written(f"{work}/{kind}.toml", document(kind, int(size)))
-
-
-def written(path, text):
-    with open(path, "w", encoding="utf-8") as file:
-        file.write(text)
-    return path
+            path = Path(f"{work}/{kind}.toml")
+            path.write_text(document(kind, int(size)))
+            yield kind, path
 
 
 # ---- runs
@@ -202,12 +183,13 @@ def instructions(programs, path):
 
 def built_over(crate, work):
     """The program over the Rust crate."""
-    os.makedirs(f"{work}/measured/src")
-    written(f"{work}/measured/Cargo.toml", CARGO.format(crate=os.path.abspath(crate)))
-    written(f"{work}/measured/src/main.rs", MAIN)
-    if subprocess.run(["cargo", "build", "--release", "--quiet"], cwd=f"{work}/measured", check=False).returncode:
+    folder = Path(work) / "measured"
+    (folder / "src").mkdir(parents=True)
+    (folder / "Cargo.toml").write_text(CARGO % os.path.abspath(crate))
+    (folder / "src/main.rs").write_text(MAIN)
+    if subprocess.run(["cargo", "build", "--release", "--quiet"], cwd=folder, check=False).returncode:
         sys.exit(f"speed: cargo could not build a program over {crate}")
-    return f"{work}/measured/target/release/measured"
+    return folder / "target/release/measured"
 
 
 # ---- stack and memory
@@ -327,5 +309,4 @@ def main():
             print("| " + " | ".join(row) + " |", flush=True)
 
 
-if __name__ == "__main__":
-    main()
+main()

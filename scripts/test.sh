@@ -49,7 +49,6 @@ start "no handles" grep -qx 'Handles allowed: none.' HANDLES
 for program in cli show example rows; do
     start "stored runs of toml_span_$program" bash scripts/runs.sh "toml_span_$program"
 done
-start "rows with requests for memory refused" bash scripts/refuse.sh
 start "scripts that people start" bash scripts/scripts_test.sh
 start "pages, edits and public items" python3 scripts/pages.py
 ended

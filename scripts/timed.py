@@ -80,17 +80,13 @@ def main(words):
     seen, began = {}, time.monotonic()
     with subprocess.Popen(words) as ran:
         signal.signal(signal.SIGTERM, lambda *_: ran.terminate())
-        while True:
-            try:
-                status = ran.wait(1)
-                break
-            except subprocess.TimeoutExpired:
-                look(ran.pid, seen)
+        while ran.poll() is None:
+            look(ran.pid, seen)
+            time.sleep(1)
     used = resource.getrusage(resource.RUSAGE_CHILDREN)
     name = f"{' '.join(words)}, {time.monotonic() - began:.0f} s"
     report(seen, (name, used.ru_utime + used.ru_stime))
-    return status if status >= 0 else 128 - status
+    return ran.returncode if ran.returncode >= 0 else 128 - ran.returncode
 
 
-if __name__ == "__main__":
-    sys.exit(main(sys.argv[1:]))
+sys.exit(main(sys.argv[1:]))

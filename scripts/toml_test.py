@@ -116,5 +116,4 @@ def main(program):
         return 2
 
 
-if __name__ == "__main__":
-    sys.exit(main(sys.argv[1:]))
+sys.exit(main(sys.argv[1:]))

@@ -8,20 +8,10 @@
 #
 # A crate that is there already in another version is an error, and nothing is copied. With --replace it is replaced
 # (its out/ stays). `vendor.sh --list CRATE..` copies nothing: it prints the lines of crates.txt for these crates and
-# those below them.
+# those below them, and `vendor.sh --folders CRATE..` their folders src and specs.
 #
 # Status: 0 copied, 1 DEST has another version of a crate, 2 wrong arguments, 3 DEST can't be written.
-set -euo pipefail
-shopt -s inherit_errexit
-unset CDPATH
-script=$(readlink -f -- "${BASH_SOURCE[0]}")
-top=${script%/scripts/*}
-
-# fail STATUS LINE..: ends with a message
-fail() {
-    printf 'vendor.sh: %s\n' "${@:2}" >&2
-    exit "$1"
-}
+source "$(dirname -- "$(readlink -f -- "$0")")/common.sh"
 
 # lines_of CRATE..: the lines of crates.txt for these crates and those below them
 lines_of() {
@@ -40,6 +30,11 @@ lines_of() {
 replace=
 case ${1-} in
 --list) lines_of "${@:2}" && exit ;;
+--folders)
+    cd -- "$top"
+    lines_of "${@:2}" | sed -E 's,^(\w+).*,crates/\1/src\ncrates/\1/specs,' | xargs -rd '\n' ls -d 2>/dev/null || true
+    exit
+    ;;
 --replace) replace=1 && shift ;;
 esac
 if [[ ${1--} == -* ]]; then fail 2 "usage: bash scripts/vendor.sh [--replace] DEST [NAME].."; fi

@@ -1,13 +1,17 @@
 //! Which command the arguments ask for.
-ghost use Rattle.std.specs.Prelude.{◌≡◌, false};
+ghost use Rattle.std.specs.Prelude.{◌≡◌, ◌≤◌, IfOk, false, map, string_bytes};
+ghost use Rattle.toml_span_cli.specs.Dispatch.{Dispatches, Performs};
+ghost use Rattle.toml_span_cli.specs.Dispatch as spec;
+ghost use Rattle.toml_span_cli.specs.Say.{Warns};
 
 use crate::commands::{Command, NAMES, command_named, help_of};
-use crate::edit::{edit, edit_help, is_help};
+use crate::edit::{edit, edit_help};
 use crate::help::{HELP, VERSION};
 use crate::options::Reader;
 use crate::say::{quoted_word, say, say_misuse};
 use crate::show::show;
 use crate::start::start;
+use crate::words::{is_file, is_help, is_version};
 use std::alloc::{AllocError, Global};
 use std::fs;
 use toml_span_check::input::Host;
@@ -15,56 +19,43 @@ use toml_span_lines::sink::Sink;
 use toml_span_report::nearest;
 
 /// What the first argument asks for.
-enum Request<'w> {
-    /// A command. The words are its name, or the program's, and its arguments.
-    Command(Command, &'w [String]),
-    /// Nothing: there is no argument.
-    Nothing,
+#[derive(Clone, Copy, PartialEq, Eq)]
+enum Request {
+    /// The command of this name.
+    Command(Command),
+    /// A check of files: the argument is an option or the name of a file.
+    Files,
     /// The help of the program.
     Help,
     /// The version.
     Version,
     /// Neither a command nor a file.
-    Unknown(&'w str),
+    Unknown,
 }
 
-/// Returns whether a word is a file's name rather than a misspelled command.
-fn is_file(rt: &HostRuntime, word: &str) -> bool {
-    word.starts_with('-')
-        || word.contains('.')
-        || word.contains('/')
-        || word.contains('\0')
-        || fs::symlink_metadata(rt, word).is_ok()
-}
-
-/// Returns what the words of the command line ask for, of which the first is the program's name, and the next one,
-/// `word`, does not name a command.
-fn other_request<'w>(rt: &HostRuntime, words: &'w [String], word: &'w str) -> Request<'w> {
-    match word {
-        "-h" | "--help" => Request::Help,
-        "-V" | "--version" => Request::Version,
-        _ if is_file(rt, word) => Request::Command(Command::Check, words),
-        _ => Request::Unknown(word),
+/// Returns what the first argument asks for. A word may be the name of a file, if one exists.
+#[tactic(auto, unfolding(crate::specs::Dispatch::request_of))]
+fn request_of(word: &str, exists: bool) -> Request
+    ensures { result ≡ spec.request_of word.now exists }
+{
+    if is_help(word) {
+        return Request::Help;
     }
-}
-
-/// Returns what the words of the command line ask for. The first one is the program's name.
-fn request_of<'w>(rt: &HostRuntime, words: &'w [String]) -> Request<'w> {
-    let [_, rest @ ..] = words else {
-        return Request::Nothing;
-    };
-    let [first, ..] = rest else {
-        return Request::Nothing;
-    };
-    match command_named(first.as_str()) {
-        Some(command) => Request::Command(command, rest),
-        None => other_request(rt, words, first.as_str()),
+    if is_version(word) {
+        return Request::Version;
+    }
+    match command_named(word) {
+        Some(command) => Request::Command(command),
+        None if is_file(word) || exists => Request::Files,
+        None => Request::Unknown,
     }
 }
 
 /// Reports a word that is neither a command nor a file. Returns status 2.
 fn say_unknown<E: Sink>(alloc: Global, word: &str, errors: &mut E) -> Result<u8, AllocError>
     requires { E.failed errors.old ≡ false }
+    ensures { IfOk result (λ status.
+        Warns (E.contents errors.old) (E.contents errors.new) (E.failed errors.new) 2 status) }
 {
     let shown = quoted_word(alloc, word)?;
     let mut text = format!(in alloc; "error: no such command or file: {shown}\n")?;
@@ -86,6 +77,7 @@ fn help<O: Sink, E: Sink>(
 ) -> Result<u8, AllocError>
     requires out { O.failed out.old ≡ false }
     requires errors { E.failed errors.old ≡ false }
+    ensures { IfOk result (λ status. status ≤ 4) }
 {
     match words {
         [_, name] if !is_help(name.as_str()) => match command_named(name.as_str()) {
@@ -100,6 +92,7 @@ fn help<O: Sink, E: Sink>(
 /// Prints the help of a command.
 fn say_help<O: Sink>(alloc: Global, command: Command, out: &mut O) -> Result<u8, AllocError>
     requires { O.failed out.old ≡ false }
+    ensures { IfOk result (λ status. status ≤ 4) }
 {
     match command {
         Command::Set | Command::Rename | Command::Remove | Command::Add => {
@@ -121,6 +114,9 @@ fn perform<O: Sink, E: Sink>(
 ) -> Result<u8, AllocError>
     requires out { O.failed out.old ≡ false }
     requires errors { E.failed errors.old ≡ false }
+    ensures { IfOk result (λ status. Performs command (map (λ w. string_bytes w) words.now) is_coloured
+        (O.contents out.old) (O.contents out.new) (O.failed out.new)
+        (E.contents errors.old) (E.contents errors.new) (E.failed errors.new) status) }
 {
     match command {
         Command::Check => Ok(start(alloc, Reader::Check, words, is_coloured, host, out, errors)),
@@ -146,14 +142,21 @@ pub(crate) fn dispatch<O: Sink, E: Sink>(
 ) -> Result<u8, AllocError>
     requires out { O.failed out.old ≡ false }
     requires errors { E.failed errors.old ≡ false }
+    ensures { IfOk result (λ status. Dispatches (map (λ w. string_bytes w) words.now) is_coloured
+        (O.contents out.old) (O.contents out.new) (O.failed out.new)
+        (E.contents errors.old) (E.contents errors.new) (E.failed errors.new) status) }
 {
-    match request_of(&host.rt, words) {
-        Request::Nothing => Ok(say(errors, HELP, 2)),
+    let Some(word) = words.get(1) else {
+        return Ok(say(errors, HELP, 2));
+    };
+    let word = word.as_str();
+    match request_of(word, fs::symlink_metadata(&host.rt, word).is_ok()) {
+        Request::Command(command) => {
+            perform(alloc, command, &words[1..], is_coloured, host, out, errors)
+        }
+        Request::Files => { perform(alloc, Command::Check, words, is_coloured, host, out, errors) }
         Request::Help => Ok(say(out, HELP, 0)),
         Request::Version => Ok(say(out, VERSION, 0)),
-        Request::Unknown(word) => say_unknown(alloc, word, errors),
-        Request::Command(command, rest) => {
-            perform(alloc, command, rest, is_coloured, host, out, errors)
-        }
+        Request::Unknown => say_unknown(alloc, word, errors),
     }
 }

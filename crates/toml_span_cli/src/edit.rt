@@ -1,5 +1,6 @@
 //! The commands that edit a file.
-ghost use Rattle.std.specs.Prelude.{◌≡◌, false};
+ghost use Rattle.std.specs.Prelude.{◌≡◌, ◌≤◌, IfOk, false};
+ghost use Rattle.toml_span_cli.specs.Say.{Warns};
 
 use crate::commands::{Command, help_of};
 use crate::files::{read_file, replace};
@@ -7,6 +8,7 @@ use crate::help::EDITING;
 use crate::options::{NO_POINTER, is_pointer};
 use crate::say::{quoted_word, say, say_misuse};
 use crate::show::say_unread;
+use crate::words::is_help;
 use std::alloc::{AllocError, Global};
 use std::io;
 use std::io::ErrorKind;
@@ -50,10 +52,12 @@ fn complain<E: Sink>(
     file: &str,
     reason: &str,
     detail: &str,
-    status: u8,
+    said: u8,
     errors: &mut E,
 ) -> Result<u8, AllocError>
     requires { E.failed errors.old ≡ false }
+    ensures { IfOk result (λ status.
+        Warns (E.contents errors.old) (E.contents errors.new) (E.failed errors.new) said status) }
 {
     let mut line = String::from_str(alloc, front)?;
     line.push_str(quoted_word(alloc, file)?.as_str())?;
@@ -61,7 +65,7 @@ fn complain<E: Sink>(
     line.push_str(reason)?;
     push_visible(&mut line, detail)?;
     line.push('\n')?;
-    Ok(say(errors, line.as_str(), status))
+    Ok(say(errors, line.as_str(), said))
 }
 
 /// Reports a file that can't be written. Returns status 3.
@@ -72,6 +76,8 @@ fn say_unwritten<E: Sink>(
     errors: &mut E,
 ) -> Result<u8, AllocError>
     requires { E.failed errors.old ≡ false }
+    ensures { IfOk result (λ status.
+        Warns (E.contents errors.old) (E.contents errors.new) (E.failed errors.new) 3 status) }
 {
     let front = "error: cannot write ";
     match error.kind() {
@@ -97,6 +103,7 @@ fn perform<O: Sink, E: Sink>(
 ) -> Result<u8, AllocError>
     requires out { O.failed out.old ≡ false }
     requires errors { E.failed errors.old ≡ false }
+    ensures { IfOk result (λ status. status ≤ 4) }
 {
     let bytes = match read_file(alloc, host, change.file)? {
         Ok(bytes) => bytes,
@@ -126,6 +133,8 @@ fn say_refused<E: Sink>(
     errors: &mut E,
 ) -> Result<u8, AllocError>
     requires { E.failed errors.old ≡ false }
+    ensures { IfOk result (λ status.
+        Warns (E.contents errors.old) (E.contents errors.new) (E.failed errors.new) 1 status) }
 {
     let front = "error: cannot edit ";
     complain(
@@ -154,6 +163,8 @@ fn say_count<E: Sink>(
     errors: &mut E,
 ) -> Result<u8, AllocError>
     requires { E.failed errors.old ≡ false }
+    ensures { IfOk result (λ status.
+        Warns (E.contents errors.old) (E.contents errors.new) (E.failed errors.new) 2 status) }
 {
     let wanted = match command {
         Command::Add => 4,
@@ -175,6 +186,7 @@ pub(crate) fn edit<O: Sink, E: Sink>(
 ) -> Result<u8, AllocError>
     requires out { O.failed out.old ≡ false }
     requires errors { E.failed errors.old ≡ false }
+    ensures { IfOk result (λ status. status ≤ 4) }
 {
     let arguments = match words {
         [_, dashes, rest @ ..] if dashes.as_str() == "--" => rest,
@@ -192,9 +204,4 @@ pub(crate) fn edit<O: Sink, E: Sink>(
         }
         None => say_count(alloc, command, arguments.len(), errors),
     }
-}
-
-/// Returns whether an argument asks for help.
-pub(crate) fn is_help(word: &str) -> bool {
-    word == "-h" || word == "--help"
 }

@@ -1,6 +1,8 @@
 //! The command line of toml-span: checks, shows and edits TOML files.
 #![tactic(auto)]
 
+ghost use Rattle.std.specs.Prelude.{◌≤◌, IfOk};
+
 mod colours;
 mod commands;
 mod dispatch;
@@ -23,7 +25,9 @@ use toml_span_check::input::Host;
 use toml_span_lines::told::Told;
 
 /// Runs the program, and returns its exit status.
-fn status_of(rt: HostRuntime) -> Result<u8, AllocError> {
+fn status_of(rt: HostRuntime) -> Result<u8, AllocError>
+    ensures { IfOk result (λ status. status ≤ 4) }
+{
     let alloc = rt.alloc();
     let words = given_words(&rt)?;
     let out = rt.stdout();

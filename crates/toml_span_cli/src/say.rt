@@ -1,6 +1,6 @@
 //! What the program writes of itself: help, and what is wrong with its arguments.
-ghost use Rattle.std.specs.Prelude.{◌≡◌, false};
-ghost use Rattle.toml_span_cli.specs.Say.{Says};
+ghost use Rattle.std.specs.Prelude.{◌≡◌, IfOk, false};
+ghost use Rattle.toml_span_cli.specs.Say.{Says, Warns};
 
 use crate::commands::{Command, arguments_of};
 use std::alloc::{AllocError, Global};
@@ -38,6 +38,8 @@ pub(crate) fn say_misuse<E: Sink>(
     errors: &mut E,
 ) -> Result<u8, AllocError>
     requires { E.failed errors.old ≡ false }
+    ensures { IfOk result (λ status.
+        Warns (E.contents errors.old) (E.contents errors.new) (E.failed errors.new) 2 status) }
 {
     let arguments = arguments_of(command);
     let text = format!(in alloc;

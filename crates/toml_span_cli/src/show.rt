@@ -1,9 +1,12 @@
 //! The command `show`.
-ghost use Rattle.std.specs.Prelude.{◌≡◌, false};
+ghost use Rattle.std.specs.Prelude.{◌≡◌, IfOk, false, map, string_bytes};
+ghost use Rattle.toml_span_cli.specs.Show.{SaysUnread, Shows, ShowsFile};
 
-use crate::commands::{Command, help_of};
+use crate::commands::Command;
 use crate::files::read_file;
+use crate::help::SHOW;
 use crate::say::{say, say_misuse};
+use crate::words::is_help;
 use std::alloc::{AllocError, Global};
 use toml_span_check::input::Host;
 use toml_span_check::run::push_complaint;
@@ -20,6 +23,8 @@ pub(crate) fn say_unread<E: Sink>(
     errors: &mut E,
 ) -> Result<u8, AllocError>
     requires { E.failed errors.old ≡ false }
+    ensures { IfOk result (λ status. SaysUnread name.now reason.now
+        (E.contents errors.old) (E.contents errors.new) (E.failed errors.new) status) }
 {
     let mut line = String::new(alloc);
     let name = shown_word(alloc, name)?;
@@ -27,7 +32,30 @@ pub(crate) fn say_unread<E: Sink>(
     Ok(say(errors, line.as_str(), 2))
 }
 
-/// Prints the lines of a file's tree, or the line of its error. The words are the command's name and its arguments.
+/// Prints the lines of a file's tree, or the line of its error, or reports that it can't be read.
+fn show_file<O: Sink, E: Sink>(
+    alloc: Global,
+    name: &str,
+    host: &mut Host,
+    out: &mut O,
+    errors: &mut E,
+) -> Result<u8, AllocError>
+    requires out { O.failed out.old ≡ false }
+    requires errors { E.failed errors.old ≡ false }
+    ensures { IfOk result (λ status. ShowsFile name.now
+        (O.contents out.old) (O.contents out.new) (O.failed out.new)
+        (E.contents errors.old) (E.contents errors.new) (E.failed errors.new) status) }
+{
+    match read_file(alloc, host, name)? {
+        Ok(bytes) => Ok(run(alloc, &mut Told::new(bytes.as_slice()), out)),
+        Err(reason) => {
+            let status = say_unread(alloc, name, reason.as_str(), errors)?;
+            Ok(status)
+        }
+    }
+}
+
+/// Prints what `show_file` prints, or the help. The words are the command's name and its arguments.
 pub(crate) fn show<O: Sink, E: Sink>(
     alloc: Global,
     words: &[String],
@@ -37,15 +65,16 @@ pub(crate) fn show<O: Sink, E: Sink>(
 ) -> Result<u8, AllocError>
     requires out { O.failed out.old ≡ false }
     requires errors { E.failed errors.old ≡ false }
+    ensures { IfOk result (λ status. Shows (map (λ w. string_bytes w) words.now)
+        (O.contents out.old) (O.contents out.new) (O.failed out.new)
+        (E.contents errors.old) (E.contents errors.new) (E.failed errors.new) status) }
 {
     let [_, word] = words else {
         return say_misuse(alloc, Command::Show, "expected one argument", errors);
     };
-    match word.as_str() {
-        "-h" | "--help" => Ok(say(out, help_of(Command::Show), 0)),
-        name => match read_file(alloc, host, name)? {
-            Ok(bytes) => Ok(run(alloc, &mut Told::new(bytes.as_slice()), out)),
-            Err(reason) => say_unread(alloc, name, reason.as_str(), errors),
-        },
+    if is_help(word.as_str()) {
+        return Ok(say(out, SHOW, 0));
     }
+    let status = show_file(alloc, word.as_str(), host, out, errors)?;
+    Ok(status)
 }

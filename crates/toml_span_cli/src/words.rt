@@ -1,4 +1,7 @@
 //! The arguments of the command line.
+ghost use Rattle.std.specs.Prelude.{◌≡◌};
+ghost use Rattle.toml_span_cli.specs.Words as spec;
+
 use std::alloc::AllocError;
 use std::env::FillError;
 use std::rt::Env;
@@ -31,4 +34,42 @@ pub(crate) fn given_words(rt: &HostRuntime) -> Result<Vec<String>, AllocError> {
         words.push(word_text(rt.alloc(), word.as_slice())?)?;
     }
     Ok(words)
+}
+
+/// Returns whether an argument asks for help.
+pub(crate) fn is_help(word: &str) -> bool
+    ensures { result ≡ spec.is_help word.now }
+{
+    word == "-h" || word == "--help"
+}
+
+/// Returns whether an argument asks for the version.
+pub(crate) fn is_version(word: &str) -> bool
+    ensures { result ≡ spec.is_version word.now }
+{
+    word == "-V" || word == "--version"
+}
+
+/// Returns whether a word begins with a byte.
+fn begins_with(word: &str, byte: u8) -> bool
+    ensures { result ≡ spec.begins_with byte word.now }
+{
+    match word.as_bytes() {
+        [] => false,
+        [first, ..] => *first == byte,
+    }
+}
+
+/// Returns whether a word has a byte.
+fn has(word: &str, byte: u8) -> bool
+    ensures { result ≡ spec.has byte word.now }
+{
+    word.as_bytes().contains(&byte)
+}
+
+/// Returns whether a word is an option, `-`, or the name of a file rather than a misspelled command.
+pub(crate) fn is_file(word: &str) -> bool
+    ensures { result ≡ spec.is_file word.now }
+{
+    begins_with(word, b'-') || has(word, b'.') || has(word, b'/') || has(word, 0)
 }

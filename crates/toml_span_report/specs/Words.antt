@@ -247,6 +247,8 @@ text_words of_text.ControlInLiteral =
 text_words of_text.Backslash =
     said (codes "this is not an escape sequence") [] []
     (codes "double every backslash, or use single quotes") (codes ": ") false
+text_words of_text.BackslashInLong =
+    said (codes "this is not an escape sequence") [] [] (codes "double every backslash, or use `'''`") [] false
 text_words of_text.ShortEscape = said (codes "this escape has too few digits") [] [] (codes "write") (codes " ") false
 text_words of_text.Surrogate =
     said (codes "this escape is a surrogate, not a character") [] []
@@ -266,10 +268,12 @@ clash_words of_clash.TableOfArray =
     (codes "write `[[..]]` to add a table to it") [] false
 clash_words of_clash.ArrayAfterTable = said [] [] [] (codes "put it before the headers of its subtables") [] false
 clash_words of_clash.ClosedTable =
-    said (codes "an inline table can't be extended") (codes "this extends the table") (codes "inline table defined here")
+    said (codes "an inline table can't be extended") (codes "this extends the table")
+    (codes "inline table defined here")
     (codes "write the key inside its braces") [] false
 clash_words of_clash.ClosedTableHeader =
-    said (codes "an inline table can't be extended") (codes "this extends the table") (codes "inline table defined here")
+    said (codes "an inline table can't be extended") (codes "this extends the table")
+    (codes "inline table defined here")
     (codes "write it inside the braces, as `key = {..}`") [] false
 clash_words of_clash.ClosedArray =
     said (codes "a static array can't be extended") (codes "this extends the array") (codes "array defined here")

@@ -140,6 +140,7 @@ pub(crate) enum TextMistake {
     Control,
     ControlInLiteral,
     Backslash,
+    BackslashInLong,
     ShortEscape,
     Surrogate,
     NoCharacter,

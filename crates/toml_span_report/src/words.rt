@@ -821,6 +821,14 @@ fn text_words(mistake: TextMistake) -> Words
             joint: ": ",
             is_safe: false,
         },
+        TextMistake::BackslashInLong => Words {
+            headline: "this is not an escape sequence",
+            label: "",
+            also: "",
+            help: "double every backslash, or use `'''`",
+            joint: "",
+            is_safe: false,
+        },
         TextMistake::ShortEscape => Words {
             headline: "this escape has too few digits",
             label: "",

@@ -2,7 +2,7 @@
 //!
 //! - `settings`, `device`, `tagged` and `attributes` read the document as the struct of that name, `limits` its tree as
 //!   numbers by their names: what is read, or the code and the place of the error, the path to it, and the reason.
-//! - `shown`: the settings, or the error with its lines. `shown_device`: the error of a device.
+//! - `shown`: the settings, or the error with its lines.
 //!
 //! A read for which there is no memory is made once more.
 use crate::Row;
@@ -10,11 +10,11 @@ use crate::told::Out;
 use device::{Attributes, Device, Tagged};
 use serde::Deserialize;
 use settings::{Settings, shown};
-use std::alloc::{AllocError, Global};
+use std::alloc::Global;
 use std::collections::BTreeMap;
 use std::fmt::Debug;
 use toml_span::{Stop, parse};
-use toml_span_serde::{Error, Spanned, Style, from_str, from_value, render_stop};
+use toml_span_serde::{Error, Spanned, from_str, from_value};
 
 mod device;
 mod settings;
@@ -34,7 +34,6 @@ pub fn answer(alloc: Global, row: Row<'_>, out: &mut Out) -> bool {
             push_answer(alloc, limits_of(alloc, text), out);
         }
         "shown" => out.made(shown(alloc, text)),
-        "shown_device" => out.made(device_shown(alloc, text)),
         _ => return false,
     }
     true
@@ -97,12 +96,4 @@ fn push_error(alloc: Global, error: &Error<'_>, out: &mut Out) {
     out.told(column);
     out.push_str(" ");
     out.shown(error);
-}
-
-/// Returns the device, or why there is none.
-fn device_shown(alloc: Global, text: &str) -> Result<String, AllocError> {
-    match from_str::<Device>(alloc, text) {
-        Ok(device) => format!(in alloc; "{device:?}"),
-        Err(stop) => render_stop(alloc, Style::Plain, stop, "device.toml", text),
-    }
 }

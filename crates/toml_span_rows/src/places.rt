@@ -1,7 +1,6 @@
 //! Places in a text, for editors.
 //!
 //! - `key_places`: of each key the steps to what it names, its role, and its span without and with its quotes.
-//! - `table_places`: of each place that names a table the steps to it, the form, and the span.
 //! - `table_forms STEP ..`: the forms in which the table at these steps is named.
 //! - `insertion_point STEP ..`: where a line can be put into the table at these steps, and the text with `new = 0`
 //!   there.
@@ -10,11 +9,10 @@
 //! A word that is a number is a position, any other a key.
 use crate::Row;
 use crate::told::Out;
-use crate::trees::orders::push_steps;
 use std::alloc::{AllocError, Global};
 use toml_span::Span;
 use toml_span::value::{Step, Value};
-use toml_span_places::{insertion_point, key_places, node_at, replaced, table_forms, table_places};
+use toml_span_places::{insertion_point, key_places, node_at, replaced, table_forms};
 use toml_span_read::Section;
 
 /// Returns the steps of words.
@@ -29,22 +27,23 @@ fn steps_of<'r>(alloc: Global, words: &'r [String]) -> Result<Vec<Step<'r>>, All
     Ok(steps)
 }
 
+/// Adds steps, with a space after each.
+fn push_steps(steps: &[Step<'_>], out: &mut Out) {
+    for step in steps {
+        match step {
+            Step::Key(name) => out.told(name),
+            Step::Position(position) => out.told(position),
+        }
+        out.push_str(" ");
+    }
+}
+
 /// Answers `key_places`.
 pub fn push_keys(alloc: Global, text: &str, sections: &[Section<'_>], out: &mut Out) {
     if let Some(places) = out.kept(key_places(alloc, text, sections)) {
         for place in &places {
             push_steps(place.path.as_slice(), out);
             out.told_line((place.role, place.span, place.whole));
-        }
-    }
-}
-
-/// Answers `table_places`.
-pub fn push_tables(alloc: Global, sections: &[Section<'_>], out: &mut Out) {
-    if let Some(places) = out.kept(table_places(alloc, sections)) {
-        for place in &places {
-            push_steps(place.path.as_slice(), out);
-            out.told_line((place.form, place.span));
         }
     }
 }

@@ -2,7 +2,7 @@
 //!
 //! - `read LIMIT`: the sections of a document, a line each. A key, a value, a header and a section have their spans
 //!   after `@`, an assignment its extent.
-//! - `key_places`, `insertion_point`, `table_places` and `table_forms`: see `places`.
+//! - `key_places`, `insertion_point` and `table_forms`: see `places`.
 use crate::told::Out;
 use crate::trees::limit_of;
 use crate::trees::shown::push_fault;
@@ -62,7 +62,6 @@ fn push_call(alloc: Global, row: Row<'_>, sections: &[Section<'_>], out: &mut Ou
     match row.call {
         "read" => push_sections(sections, out),
         "key_places" => places::push_keys(alloc, row.text, sections, out),
-        "table_places" => places::push_tables(alloc, sections, out),
         "insertion_point" => places::push_point(alloc, row, sections, out),
         _ => places::push_forms(alloc, row, sections, out),
     }
@@ -72,7 +71,7 @@ fn push_call(alloc: Global, row: Row<'_>, sections: &[Section<'_>], out: &mut Ou
 pub fn answer(alloc: Global, row: Row<'_>, out: &mut Out) -> bool {
     if !matches!(
         row.call,
-        "read" | "key_places" | "table_places" | "insertion_point" | "table_forms"
+        "read" | "key_places" | "insertion_point" | "table_forms"
     ) {
         return false;
     }

@@ -3,7 +3,6 @@
 //! - `parse LIMIT`: the lines of the tree. `twice` parses twice: what the first parse gives in a word, then the lines.
 //! - `json`: the JSON value.
 //! - `again`: the values that the text spells as one piece, each parsed again.
-//! - `nodes`: the steps to each value, its kind and its key. `text_order`: the keys of the root in text order.
 //! - `node_at OFFSET`: see `places`. `write OPERATION ..`: see `writes`. Typed reads: see `typed`.
 //! - `diagnostics`: what the error prints, and its diagnostic. `copied`: copies of it.
 ghost use Rattle.std.specs.Prelude.{◌≤◌, IfSome};
@@ -18,7 +17,6 @@ use toml_span::de::parse_with_limit;
 use toml_span::value::Value;
 use toml_span::{Error, Stop, parse};
 
-pub mod orders;
 mod pieces;
 pub mod shown;
 mod writes;
@@ -60,8 +58,6 @@ fn push_call<'t>(alloc: Global, row: Row<'t>, root: &mut Value<'t>, out: &mut Ou
         "parse" | "twice" => push_lines(alloc, root, out),
         "json" => push_json(alloc, root, out),
         "again" => pieces::push_again(alloc, row.text, root, out),
-        "text_order" => orders::push_order(alloc, root, out),
-        "nodes" => orders::push_nodes(alloc, root, out),
         "node_at" => return push_node_at(alloc, row, root, out),
         "write" => return writes::push_writes(alloc, row.words, root, out),
         _ => return typed::answer(alloc, row, root, out),
@@ -78,29 +74,19 @@ fn push_refused(alloc: Global, call: &str, fault: &Error<'_>, out: &mut Out) {
     }
 }
 
-/// Adds what a first `parse` gives: `tree`, `fault`, or that there is no memory.
-fn push_first(alloc: Global, text: &str, out: &mut Out) {
-    let word = match parse(alloc, text) {
-        Ok(root) => {
-            drop(root);
-            "tree\n"
-        }
-        Err(Stop::Fault(fault)) => {
-            drop(fault);
-            "fault\n"
-        }
-        Err(Stop::Memory(_)) => "AllocError\n",
-    };
-    out.push_str(word);
-}
-
 /// Adds the answer of a row. Returns whether it can be read.
 pub fn answer(alloc: Global, row: Row<'_>, out: &mut Out) -> bool {
     let Some(limit) = limit_of(row) else {
         return false;
     };
     if row.call == "twice" {
-        push_first(alloc, row.text, out);
+        let first = parse(alloc, row.text);
+        out.push_str(match &first {
+            Ok(_) => "tree\n",
+            Err(Stop::Fault(_)) => "fault\n",
+            Err(Stop::Memory(_)) => "AllocError\n",
+        });
+        drop(first);
     }
     match parse_with_limit(alloc, row.text, limit) {
         Ok(mut root) => {

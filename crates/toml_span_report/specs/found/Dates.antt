@@ -37,7 +37,8 @@ time text start hour end =
     let offset = start_of class.Digit text end in
     let colon = ahead text offset 2 in
     if are_digits text offset 4 && (slice_index text (offset - 1) == 43 || slice_index text (offset - 1) == 45)
-    then replaced (mistakes.Date of_date.Offset) start end (pieces (part text start colon) (codes ":") (part text colon end))
+    then replaced (mistakes.Date of_date.Offset) start end
+    (pieces (part text start colon) (codes ":") (part text colon end))
     else if are_digits text hour 2 && (slice_index text (ahead text hour 2) == 58 && is_past text hour 50 51)
     then marked (mistakes.Date of_date.NoTime) start end
     else marked (mistakes.Date of_date.Datetime) start end

@@ -15,7 +15,8 @@ use Rattle.toml_span_report.specs.declared.finding.SymbolMistake.TheVariants as 
 
 -- a comment of another language, whose sign has this length
 unfoldable pub comment : List ℕ → ℕ → ℕ → FindingContent
-comment text at length = mended (mistakes.Symbol of_symbol.Comment) (span_of at (last_of_line text at)) (span_of at (ahead text at length))
+comment text at length =
+    mended (mistakes.Symbol of_symbol.Comment) (span_of at (last_of_line text at)) (span_of at (ahead text at length))
     (pieces (codes "#") [] [])
 
 -- the part of a header, and the key, at an offset, where it needs quotes
@@ -141,7 +142,8 @@ brace text at =
     if begins text (at - 1) (codes "{{") && not (at == at - 1) then Some (placeholder text (at - 1))
     else if begins text at (codes "{{") || begins text at (codes "{%") || begins text at (codes "{#")
     then Some (marked (mistakes.Format of_format.TemplateLine) at (last_of_line text at))
-    else if slice_index text (end_of class.Gap text next) == 34 then Some (marked (mistakes.Format of_format.JsonDocument) at next)
+    else if slice_index text (end_of class.Gap text next) == 34
+    then Some (marked (mistakes.Format of_format.JsonDocument) at next)
     else brace_header text at
 
 -- a dot or a comma too many

@@ -24,7 +24,9 @@ bracket_span text bracket = span_of bracket (ahead text bracket 1)
 unfoldable pub unclosed : List ℕ → ℕ → FindingContent
 unclosed text at =
     let bracket = (open_before text at).bracket in
-    record (marked (if slice_index text bracket == 123 then (mistakes.List of_list.OpenTable) else (mistakes.List of_list.OpenArray)) at at) {
+    record (marked
+    (if slice_index text bracket == 123 then mistakes.List of_list.OpenTable else mistakes.List of_list.OpenArray)
+    at at) {
       also = bracket_span text bracket;
     }
 
@@ -54,7 +56,8 @@ unfoldable pub hash : List ℕ → ℕ → Option FindingContent
 hash text at =
     let end = end_of class.Hex text (ahead text at 1) in
     if nat_lt (ahead text at 1) end && end == end_of class.Word text at
-    then Some (replaced (mistakes.Value of_value.HashValue) at end (pieces (codes "\"") (part text at end) (codes "\"")))
+    then Some (replaced (mistakes.Value of_value.HashValue) at end
+    (pieces (codes "\"") (part text at end) (codes "\"")))
     else missing_value text at
 
 unfoldable pub comma : List ℕ → ℕ → Option FindingContent
@@ -73,7 +76,8 @@ point text at =
 
 unfoldable pub equals : List ℕ → ℕ → Option FindingContent
 equals text at =
-    if begins text (at - 1) (codes "==") then Some (other_sign (mistakes.Key of_key.Equals) text (at - 1) (ahead text at 1))
+    if begins text (at - 1) (codes "==")
+    then Some (other_sign (mistakes.Key of_key.Equals) text (at - 1) (ahead text at 1))
     else None
 
 -- where a value is expected
@@ -98,7 +102,8 @@ unfoldable pub header : List ℕ → List ℕ → ℕ → ℕ → Option Finding
 header found text at bracket =
     if bytes_eq found (codes "a newline") || bytes_eq found (codes "eof") || bytes_eq found (codes "a comment")
     then Some (open_header text bracket)
-    else if bytes_eq found (codes "a comma") then Some (marked (mistakes.List of_list.ArrayAlone) bracket (last_of_line text at))
+    else if bytes_eq found (codes "a comma")
+    then Some (marked (mistakes.List of_list.ArrayAlone) bracket (last_of_line text at))
     else header_key text at
 
 -- An assignment begins here, at the beginning of a line.

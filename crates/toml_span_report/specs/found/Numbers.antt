@@ -45,7 +45,8 @@ zeros text start digits end =
     if (ahead text digits 4 == end && not (first == 48 || first == 56 || first == 57))
     && (start == digits && end_of class.Digit text digits == end)
     then replaced (mistakes.Number of_number.Octal) start end (pieces (codes "0o") (part text more end) [])
-    else replaced (mistakes.Number of_number.LeadingZero) start end (pieces (part text start digits) (part text kept end) [])
+    else replaced (mistakes.Number of_number.LeadingZero) start end
+    (pieces (part text start digits) (part text kept end) [])
 
 -- a decimal point without a digit behind it
 unfoldable pub trailing_point : List ℕ → ℕ → ℕ → ℕ → Option FindingContent
@@ -53,7 +54,8 @@ trailing_point text start point end =
     let next = ahead text point 1 in
     if slice_index text point == 46
     && (next == end || slice_index text next == 101 || slice_index text next == 69)
-    then Some (replaced (mistakes.Number of_number.TrailingPoint) start end (pieces (part text start next) (codes "0") (part text next end)))
+    then Some (replaced (mistakes.Number of_number.TrailingPoint) start end
+    (pieces (part text start next) (codes "0") (part text next end)))
     else None
 
 -- an integer of digits and `_`
@@ -64,7 +66,8 @@ integer text start digits end =
     if slice_index text (end - 1) == 95 && second == end
     then replaced (mistakes.Number of_number.Underscore) start end (pieces (part text start first) [] [])
     else if begins text first (codes "__")
-    then replaced (mistakes.Number of_number.Underscore) start end (pieces (part text start second) (part text (ahead text second 1) end) [])
+    then replaced (mistakes.Number of_number.Underscore) start end
+    (pieces (part text start second) (part text (ahead text second 1) end) [])
     else marked (mistakes.Number of_number.TooLarge) start end
 
 unfoldable pub plain : List ℕ → ℕ → ℕ → ℕ → Option FindingContent

@@ -13,7 +13,8 @@ use Rattle.toml_span_report.specs.declared.finding.TextMistake.TheVariants as of
 -- a string on one line that is not closed
 unfoldable pub open_string : List ℕ → ℕ → ℕ → FindingContent
 open_string text quote end =
-    if first_of_line text quote == quote && (open_before text quote).depth == 0 then marked (mistakes.Key of_key.OpenKey) quote end
+    if first_of_line text quote == quote && (open_before text quote).depth == 0
+    then marked (mistakes.Key of_key.OpenKey) quote end
     else if slice_index text quote == 34 then marked (mistakes.Text of_text.OpenString) quote end
     else marked (mistakes.Text of_text.OpenLiteral) quote end
 
@@ -43,7 +44,8 @@ backslash text at end =
     let quote = (open_before text at).string in
     let content = ahead text quote 1 in
     let close = end_of class.Unquoted text content in
-    if is_long text quote || not (slice_index text close == 34) then marked (mistakes.Text of_text.Backslash) at end
+    if is_long text quote then marked (mistakes.Text of_text.BackslashInLong) at end
+    else if not (slice_index text close == 34) then marked (mistakes.Text of_text.Backslash) at end
     else mended (mistakes.Text of_text.Backslash) (span_of at end) (span_of quote (ahead text close 1))
     (pieces (codes "'") (part text content close) (codes "'"))
 
@@ -74,8 +76,8 @@ hex_escape text at =
 
 unfoldable pub escape_value : List ℕ → ℕ → ℕ → FindingContent
 escape_value text at value =
-    marked (if nat_lt value 0xE000 then (mistakes.Text of_text.Surrogate) else (mistakes.Text of_text.NoCharacter)) (at - 1)
-    (ahead text at (if slice_index text at == 85 then 9 else 5))
+    marked (if nat_lt value 0xE000 then (mistakes.Text of_text.Surrogate) else (mistakes.Text of_text.NoCharacter))
+    (at - 1) (ahead text at (if slice_index text at == 85 then 9 else 5))
 
 unfoldable pub unterminated : List ℕ → ℕ → FindingContent
 unterminated text at =

@@ -16,17 +16,27 @@ use Rattle.toml_span_report.specs.declared.finding.SymbolMistake.TheVariants as 
 -- a character that looks like another one: its Unicode name, and the other one
 unfoldable pub look_alike : ℕ → Option MeantContent
 look_alike c =
-    if c == 0xA0 then Some (as_meant (mistakes.Symbol of_symbol.OtherSpace) (codes "NO-BREAK SPACE (U+00A0)") (codes " "))
-    else if c == 0x2009 then Some (as_meant (mistakes.Symbol of_symbol.OtherSpace) (codes "THIN SPACE (U+2009)") (codes " "))
-    else if c == 0x202F then Some (as_meant (mistakes.Symbol of_symbol.OtherSpace) (codes "NARROW NO-BREAK SPACE (U+202F)") (codes " "))
-    else if c == 0x3000 then Some (as_meant (mistakes.Symbol of_symbol.OtherSpace) (codes "IDEOGRAPHIC SPACE (U+3000)") (codes " "))
-    else if c == 0x200B then Some (as_meant (mistakes.Symbol of_symbol.Invisible) (codes "ZERO WIDTH SPACE (U+200B)") [])
+    if c == 0xA0
+    then Some (as_meant (mistakes.Symbol of_symbol.OtherSpace) (codes "NO-BREAK SPACE (U+00A0)") (codes " "))
+    else if c == 0x2009
+    then Some (as_meant (mistakes.Symbol of_symbol.OtherSpace) (codes "THIN SPACE (U+2009)") (codes " "))
+    else if c == 0x202F
+    then Some (as_meant (mistakes.Symbol of_symbol.OtherSpace) (codes "NARROW NO-BREAK SPACE (U+202F)") (codes " "))
+    else if c == 0x3000
+    then Some (as_meant (mistakes.Symbol of_symbol.OtherSpace) (codes "IDEOGRAPHIC SPACE (U+3000)") (codes " "))
+    else if c == 0x200B
+    then Some (as_meant (mistakes.Symbol of_symbol.Invisible) (codes "ZERO WIDTH SPACE (U+200B)") [])
     else if c == 0xFEFF then Some (as_meant (mistakes.Symbol of_symbol.Invisible) (codes "BYTE ORDER MARK (U+FEFF)") [])
-    else if c == 0x2013 then Some (as_meant (mistakes.Symbol of_symbol.OtherSign) (codes "EN DASH (U+2013)") (codes "-"))
-    else if c == 0x2014 then Some (as_meant (mistakes.Symbol of_symbol.OtherSign) (codes "EM DASH (U+2014)") (codes "-"))
-    else if c == 0x2212 then Some (as_meant (mistakes.Symbol of_symbol.OtherSign) (codes "MINUS SIGN (U+2212)") (codes "-"))
-    else if c == 0xFF1D then Some (as_meant (mistakes.Symbol of_symbol.OtherSign) (codes "FULLWIDTH EQUALS SIGN (U+FF1D)") (codes "="))
-    else if c == 0xFF0C then Some (as_meant (mistakes.Symbol of_symbol.OtherSign) (codes "FULLWIDTH COMMA (U+FF0C)") (codes ","))
+    else if c == 0x2013
+    then Some (as_meant (mistakes.Symbol of_symbol.OtherSign) (codes "EN DASH (U+2013)") (codes "-"))
+    else if c == 0x2014
+    then Some (as_meant (mistakes.Symbol of_symbol.OtherSign) (codes "EM DASH (U+2014)") (codes "-"))
+    else if c == 0x2212
+    then Some (as_meant (mistakes.Symbol of_symbol.OtherSign) (codes "MINUS SIGN (U+2212)") (codes "-"))
+    else if c == 0xFF1D
+    then Some (as_meant (mistakes.Symbol of_symbol.OtherSign) (codes "FULLWIDTH EQUALS SIGN (U+FF1D)") (codes "="))
+    else if c == 0xFF0C
+    then Some (as_meant (mistakes.Symbol of_symbol.OtherSign) (codes "FULLWIDTH COMMA (U+FF0C)") (codes ","))
     else None
 
 unfoldable pub curly_name : ℕ → List ℕ
@@ -97,7 +107,8 @@ at_line_start text at =
     let end = last_of_line text at in
     if begins text at (codes "<<<<<<<") || begins text at (codes ">>>>>>>") || begins text at (codes "|||||||")
     then Some (marked (mistakes.Symbol of_symbol.Conflict) at end)
-    else if begins text at (codes "<") && slice_index text (end - 1) == 62 then Some (marked (mistakes.Symbol of_symbol.Markup) at end)
+    else if begins text at (codes "<") && slice_index text (end - 1) == 62
+    then Some (marked (mistakes.Symbol of_symbol.Markup) at end)
     else None
 
 -- a comment or an end of a line as other languages have them

@@ -58,7 +58,8 @@ prefixed text at quote =
     then marked (mistakes.Value of_value.UnquotedText) at quote
     else if slice_index text at == 114 || slice_index text at == 82
     then replaced (mistakes.Value of_value.RawString) at (ahead text close 1) (pieces (codes "'") content (codes "'"))
-    else replaced (mistakes.Value of_value.Prefixed) at (ahead text close 1) (pieces (part text quote (ahead text close 1)) [] [])
+    else replaced (mistakes.Value of_value.Prefixed) at (ahead text close 1)
+    (pieces (part text quote (ahead text close 1)) [] [])
 
 abbrev pub known_value : ℕ → ℕ → MeantContent → FindingContent
 known_value at end known =

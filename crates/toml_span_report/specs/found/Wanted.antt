@@ -32,7 +32,8 @@ unfoldable pub comma : List ℕ → ℕ → FindingContent
 comma text at =
     let end = ahead text at 1 in
     or_comma (thousands text at)
-    (if is_last text end || byte_behind text end == 35 then replaced (mistakes.Line of_line.LastComma) at end (pieces [] [] [])
+    (if is_last text end || byte_behind text end == 35 then replaced (mistakes.Line of_line.LastComma) at end
+    (pieces [] [] [])
     else if slice_index text (end_of class.Left text end) == 61
     then mended (mistakes.Line of_line.CommaBehindValue) (span_of at end) (span_of at (end_of class.Blank text end))
     (pieces (10 ∷ []) [] [])
@@ -64,7 +65,8 @@ unfoldable pub zone : List ℕ → ℕ → ℕ → FindingContent
 zone text at end =
     let before = start_of class.Blank text at in
     let start = start_of class.Atom text before in
-    mended (mistakes.Line of_line.ZoneName) (span_of at end) (span_of start end) (pieces (part text start before) (codes "Z") [])
+    mended (mistakes.Line of_line.ZoneName) (span_of at end) (span_of start end)
+    (pieces (part text start before) (codes "Z") [])
 
 -- a word behind a value, on its line
 unfoldable pub word_behind : List ℕ → ℕ → FindingContent
@@ -86,7 +88,8 @@ behind_value found text at =
     if bytes_eq found (codes "a comma") then Some (comma text at)
     else if bytes_eq found (codes "a right bracket") || bytes_eq found (codes "a right brace")
     then Some (replaced (mistakes.List of_list.ExtraClosing) at (ahead text at 1) (pieces [] [] []))
-    else if bytes_eq found (codes "a plus") && is_string then Some (marked (mistakes.Line of_line.Joined) at (ahead text at 1))
+    else if bytes_eq found (codes "a plus") && is_string
+    then Some (marked (mistakes.Line of_line.Joined) at (ahead text at 1))
     else if (bytes_eq found (codes "a period") || bytes_eq found (codes "a colon") || bytes_eq found (codes "a plus"))
     && nat_lt start at
     then Some (unquoted_value text start)

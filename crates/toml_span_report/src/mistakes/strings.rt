@@ -80,7 +80,10 @@ fn backslash<'a>(text: &'a str, at: usize, end: usize) -> Finding<'a>
     let quote = open_before(text, at).string;
     let content = ahead(text, quote, 1);
     let close = end_of(Class::Unquoted, text, content);
-    if is_long(text, quote) || byte_at(text, close) != b'"' {
+    if is_long(text, quote) {
+        return marked(Mistake::Text(TextMistake::BackslashInLong), at, end);
+    }
+    if byte_at(text, close) != b'"' {
         return marked(Mistake::Text(TextMistake::Backslash), at, end);
     }
     let code = pieces("'", part(text, content, close), "'");

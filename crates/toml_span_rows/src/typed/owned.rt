@@ -55,9 +55,9 @@ fn load(rt: &HostRuntime, name: &str) -> Result<Listener, LoadError> {
     file.read::<Listener>(rt.alloc())
 }
 
-/// Adds a listener, or why there is none.
-fn push_listener(read: Result<Listener, LoadError>, out: &mut Out) {
-    match read {
+/// Answers `load_file`.
+pub fn push_file(rt: &HostRuntime, name: &str, out: &mut Out) {
+    match load(rt, name) {
         Ok(listener) => out.told(listener),
         Err(LoadError::Reported(reported)) => {
             let count = reported.reports.len();
@@ -69,9 +69,4 @@ fn push_listener(read: Result<Listener, LoadError>, out: &mut Out) {
             out.push_str("\n");
         }
     }
-}
-
-/// Answers `load_file`.
-pub fn push_file(rt: &HostRuntime, name: &str, out: &mut Out) {
-    push_listener(load(rt, name), out);
 }

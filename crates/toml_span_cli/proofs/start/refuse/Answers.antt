@@ -1,9 +1,6 @@
-use Rattle.toml_span_lex.proofs.Common.{◌≡◌, ◌∙◌, ℕ, Bool, List, Option, inl, inr, refl, subst, sym, Keeps-refl, arith, nat_tests, common_steps}
-use Rattle.toml_span_cli.specs.Say.{Says}
+use Rattle.toml_span_lex.proofs.Common.{◌∙◌, inl, inr, refl, sym, Keeps-refl, arith, nat_tests, common_steps}
+use Rattle.toml_span_cli.proofs.Said.{says-as}
 use Rattle.toml_span_cli.proofs.start.refuse.Goals as goal
-
-says-as : (old new : Option (List ℕ)) (failed : Bool) (text other : List ℕ) (said status : ℕ) → text ≡ other → Says old new failed text said status → Says old new failed other said status
-says-as old new failed text other said status is h = subst (λ (t : List ℕ). Says old new failed t said status) is h
 
 pub returns-in-OutOfMemory : goal.returns-in-OutOfMemory
 returns-in-OutOfMemory g c = inr (inr (inr (refl, Keeps-refl _, Keeps-refl _)))

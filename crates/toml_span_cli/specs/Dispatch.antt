@@ -1,0 +1,68 @@
+-- What the arguments ask for, and what is done then.
+use Rattle.std.specs.Prelude.{◌≤◌, ℕ, Bool, true, false, ◌||◌, List, drop, Option, Some, None, slice_get}
+use Rattle.std.specs.Prelude.{if◌then◌else◌}
+use Rattle.std.specs.Io.KnownBytes.{Keeps}
+use Rattle.toml_span_cli.specs.Commands.{command_named}
+use Rattle.toml_span_cli.specs.Say.{Says, Warns}
+use Rattle.toml_span_cli.specs.Show.{Shows}
+use Rattle.toml_span_cli.specs.Start.{Starts}
+use Rattle.toml_span_cli.specs.Words.{is_file, is_help, is_version}
+use Rattle.toml_span_cli.specs.declared.commands.Command.{Command}
+use Rattle.toml_span_cli.specs.declared.commands.Command.TheVariants as commands
+use Rattle.toml_span_cli.specs.declared.dispatch.Request.{Request}
+use Rattle.toml_span_cli.specs.declared.dispatch.Request.TheVariants as requests
+use Rattle.toml_span_cli.specs.declared.help.TheConstants.{HELP, VERSION}
+use Rattle.toml_span_cli.specs.declared.options.Reader.TheVariants as readers
+
+-- a command of this name; else a file, if the word is the name of one
+abbrev pub named : Option Command → Bool → Request
+named (Some command) is_file = requests.Command command
+named None true = requests.Files
+named None false = requests.Unknown
+
+-- What the first argument asks for, where a file of this name exists, or not.
+unfoldable pub request_of : List ℕ → Bool → Request
+request_of word exists =
+    if is_help word then requests.Help
+    else if is_version word then requests.Version
+    else named (command_named word) (is_file word || exists)
+
+-- What a command does on words, of which the first is its name, or the program's: standard output before and after and
+-- whether writing it failed, the same of standard error, and the status, which is at most 4.
+abbrev pub Performs : Command → List (List ℕ) → Bool → Option (List ℕ) → Option (List ℕ) → Bool → Option (List ℕ)
+    → Option (List ℕ) → Bool → ℕ → Type 0
+Performs commands.Check words is_coloured told told' untold warned warned' unwarned status =
+    Starts readers.Check words is_coloured None None told told' untold warned warned' unwarned status
+Performs commands.Get words is_coloured told told' untold warned warned' unwarned status =
+    Starts readers.Get words is_coloured None None told told' untold warned warned' unwarned status
+Performs commands.Show words is_coloured told told' untold warned warned' unwarned status =
+    Shows words told told' untold warned warned' unwarned status
+Performs command words is_coloured told told' untold warned warned' unwarned status = status ≤ 4
+
+-- What is done for a request: a command gets the words that follow the program's name, a check of files all of them.
+abbrev pub Answers : Request → List (List ℕ) → Bool → Option (List ℕ) → Option (List ℕ) → Bool → Option (List ℕ)
+    → Option (List ℕ) → Bool → ℕ → Type 0
+Answers (requests.Command command) words is_coloured told told' untold warned warned' unwarned status =
+    Performs command (drop 1 words) is_coloured told told' untold warned warned' unwarned status
+Answers requests.Files words is_coloured told told' untold warned warned' unwarned status =
+    Performs commands.Check words is_coloured told told' untold warned warned' unwarned status
+Answers requests.Help words is_coloured told told' untold warned warned' unwarned status =
+    Says told told' untold HELP.now 0 status × Keeps warned warned'
+Answers requests.Version words is_coloured told told' untold warned warned' unwarned status =
+    Says told told' untold VERSION.now 0 status × Keeps warned warned'
+Answers requests.Unknown words is_coloured told told' untold warned warned' unwarned status =
+    Keeps told told' × Warns warned warned' unwarned 2 status
+
+-- what is done for the first argument, or for none
+abbrev pub AnswersFirst : Option (List ℕ) → List (List ℕ) → Bool → Option (List ℕ) → Option (List ℕ) → Bool
+    → Option (List ℕ) → Option (List ℕ) → Bool → ℕ → Type 0
+AnswersFirst None words is_coloured told told' untold warned warned' unwarned status =
+    Keeps told told' × Says warned warned' unwarned HELP.now 2 status
+AnswersFirst (Some word) words is_coloured told told' untold warned warned' unwarned status =
+    (exists : Bool) × Answers (request_of word exists) words is_coloured told told' untold warned warned' unwarned status
+
+-- What is done for the words of the command line, of which the first is the program's name.
+abbrev pub Dispatches : List (List ℕ) → Bool → Option (List ℕ) → Option (List ℕ) → Bool → Option (List ℕ)
+    → Option (List ℕ) → Bool → ℕ → Type 0
+Dispatches words is_coloured told told' untold warned warned' unwarned status =
+    AnswersFirst (slice_get words 1) words is_coloured told told' untold warned warned' unwarned status

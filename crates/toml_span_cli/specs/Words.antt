@@ -1,0 +1,22 @@
+-- What single words of the command line are.
+use Rattle.std.specs.Prelude.{ℕ, Bool, ◌==◌, ◌||◌, false, List, [], ◌∷◌, codes}
+use Rattle.std.specs.List.{list_any}
+use Rattle.std.specs.Str.{bytes_eq}
+
+abbrev pub is_help : List ℕ → Bool
+is_help word = bytes_eq word (codes "-h") || bytes_eq word (codes "--help")
+
+abbrev pub is_version : List ℕ → Bool
+is_version word = bytes_eq word (codes "-V") || bytes_eq word (codes "--version")
+
+abbrev pub begins_with : ℕ → List ℕ → Bool
+begins_with byte [] = false
+begins_with byte (first ∷ rest) = first == byte
+
+abbrev pub has : ℕ → List ℕ → Bool
+has byte word = list_any (λ other. other == byte) word
+
+-- An option, `-`, or a file's name: a misspelled command has no dot, no slash, and no byte that is not UTF-8, which
+-- has a NUL before it.
+abbrev pub is_file : List ℕ → Bool
+is_file word = begins_with 45 word || has 46 word || has 47 word || has 0 word
