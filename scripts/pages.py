@@ -130,7 +130,7 @@ class Sources:
         """Adds the names of a file of src/, and the words of its contracts by functions, types and traits."""
         self.names |= {*re.findall(r"\w+", text)}
         for item in re.split(r"(?m)^(?=pub|fn|impl|trait|#)", text):
-            of = re.findall(r"\w+", re.sub(r"<[^{]*?>", "", item.split("\n")[0]))
+            of = re.findall(r"\w+", re.sub(r"<[^{]*?>", "", re.split(r"[{;]", item)[0]))
             is_block = of[:1] in (["impl"], ["trait"])
             ghosts = " ".join(re.findall(r"(?ms)^    ghost (?!use)(.*?);\n", item))
             for head in re.findall(r"(?ms)^ *(?:pub(?:\(crate\))? )?(?:const )?fn .*?(?:^ *\{$|\{\n|;$|\Z)", item):

@@ -131,7 +131,7 @@ refused() {
 }
 
 toml_span_example() {
-    refused 1 20 20
+    refused 1 20 27
 }
 
 toml_span_rows() {

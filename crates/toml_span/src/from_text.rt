@@ -1,6 +1,7 @@
 //! Reads a document as a type.
 ghost use Rattle.std.specs.Prelude.{IfOk, IfErr, Ok, map};
 ghost use Rattle.toml_span_tree.specs.Error.{content_of};
+ghost use Rattle.toml_span_typed.specs.WithWarnings.{Extends};
 ghost use Rattle.toml_span.specs.FromText.{IsRead, IsReadWithWarnings, NotRead, NotReadWithWarnings};
 
 use crate::de::parse;
@@ -38,6 +39,7 @@ pub fn from_str_with_warnings<'de, T: DeserializeWithWarnings<'de>>(
         (map content_of warnings.new.items)) }
     ensures refused { IfErr result (λ stop. NotReadWithWarnings T.reads text.now stop
         (map content_of warnings.old.items) (map content_of warnings.new.items)) }
+    ensures kept { Extends (map content_of warnings.old.items) (map content_of warnings.new.items) }
 {
     let mut root = match parse(alloc, text) {
         Ok(root) => root,

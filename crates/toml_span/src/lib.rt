@@ -17,14 +17,14 @@ pub use toml_span_lex::spanned::Spanned;
 pub use toml_span_lex::stop::Stop;
 pub use toml_span_tree::{Diagnostic, Error, ErrorKind, Label, Value};
 pub use toml_span_typed::{
-    DeserError, Deserialize, DeserializeWithWarnings, ErrorIter, Parsed, Unmerged, read_table,
-    read_tagged,
+    DeserError, Deserialize, DeserializeWithWarnings, ErrorIter, InRange, Parsed, Unmerged,
+    read_name, read_table, read_tagged,
 };
 
 /// Typed reads of a table's fields.
 pub mod de_helpers {
     pub use toml_span_typed::de_helpers::{
-        TableHelper, Unfinished, expected, parse, parse_with, parsed,
+        TableHelper, Unfinished, expected, name_of, parse, parse_with, parsed,
     };
 }
 

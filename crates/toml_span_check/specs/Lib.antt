@@ -2,6 +2,7 @@ pub mod Answer
 pub mod Dates
 pub mod Faults
 pub mod Github
+pub mod Lints
 pub mod Run
 pub mod Sarif
 pub mod Shown

@@ -8,6 +8,7 @@ pub mod faults;
 pub mod folder;
 mod github;
 pub mod input;
+pub mod lints;
 pub mod run;
 mod sarif;
 mod shown;

@@ -2,9 +2,13 @@
 use std::alloc::{AllocError, Global};
 use std::collections::BTreeMap;
 use toml_span::value::{Key, Table};
-use toml_span::{Span, Value, parse};
+use toml_span::{DeserError, Span, Stop, Value, parse};
+use toml_span_check::lints::{github_line, sarif_document, sarif_result};
 use toml_span_report::Severity::{Error, Warning};
-use toml_span_report::{Report, Severity, Style, nearest, render_all, render_stop};
+use toml_span_report::{Report, Severity, Style, nearest, render_all, reports_of};
+
+/// The name of the file in reports.
+const NAME: &str = "Cargo.toml";
 
 /// The tables of a manifest.
 static TABLES: [&str; 4] = ["package", "dependencies", "features", "profile"];
@@ -210,7 +214,7 @@ fn report_of(alloc: Global, found: Finding) -> Result<Report, AllocError> {
 }
 
 /// Returns the reports of a manifest.
-fn reports_of(alloc: Global, root: &Value) -> Result<Vec<Report>, AllocError> {
+fn lint_reports(alloc: Global, root: &Value) -> Result<Vec<Report>, AllocError> {
     let mut list = Vec::new(alloc);
     if let Some(root) = root.as_table() {
         lint(alloc, root, &mut list)?;
@@ -222,13 +226,43 @@ fn reports_of(alloc: Global, root: &Value) -> Result<Vec<Report>, AllocError> {
     Ok(reports)
 }
 
-/// Returns what is wrong with a text, which is nothing where all is well.
-pub fn shown(alloc: Global, text: &str) -> Result<String, AllocError> {
+/// Returns the reports of a text: that of its error, or else those of a manifest.
+fn text_reports(alloc: Global, text: &str) -> Result<Vec<Report>, AllocError> {
     match parse(alloc, text) {
-        Ok(root) => {
-            let reports = reports_of(alloc, &root)?;
-            render_all(alloc, Style::Plain, reports.as_slice(), "Cargo.toml", text)
+        Ok(root) => lint_reports(alloc, &root),
+        Err(stop) => {
+            let read: Result<(), Stop<DeserError<'_>>> = Err(stop.convert());
+            reports_of(alloc, &read, &[], text)
         }
-        Err(stop) => render_stop(alloc, Style::Plain, stop.convert(), "Cargo.toml", text),
     }
+}
+
+/// Returns reports as commands of GitHub's workflows.
+fn github(alloc: Global, reports: &[Report], text: &str) -> Result<String, AllocError> {
+    let mut out = String::new(alloc);
+    for report in reports {
+        out.push_str(github_line(alloc, report, NAME, text)?.as_str())?;
+    }
+    Ok(out)
+}
+
+/// Returns reports as a SARIF document.
+fn sarif(alloc: Global, reports: &[Report], text: &str) -> Result<String, AllocError> {
+    let mut results = String::new(alloc);
+    for report in reports {
+        results.push_str(sarif_result(alloc, report, NAME, text)?.as_str())?;
+    }
+    sarif_document(alloc, "manifest-lint", results.as_str())
+}
+
+/// Returns what is wrong with a text, in the format `github` or `sarif`, or else as text, and whether nothing is.
+pub fn shown(alloc: Global, text: &str, format: &str) -> Result<(String, bool), AllocError> {
+    let reports = text_reports(alloc, text)?;
+    let reports = reports.as_slice();
+    let shown = match format {
+        "github" => github(alloc, reports, text)?,
+        "sarif" => sarif(alloc, reports, text)?,
+        _ => render_all(alloc, Style::Plain, reports, NAME, text)?,
+    };
+    Ok((shown, reports.is_empty()))
 }

@@ -1,28 +1,51 @@
-//! Reads a document from standard input: a package's manifest, which begins with a header of one, or else the settings
-//! of a server. Prints what is wrong with it, and the settings. The status is 1 where there is an error, or anything to
-//! say of a manifest.
+//! Reads a document from the file that the first argument names, or else from standard input: a package's manifest,
+//! which begins with a header of one, or else the settings of a server. Prints what is wrong with it, and the settings.
+//! For a manifest, the second argument may be a format: `github` or `sarif`. The status is 1 if there is an error, or
+//! anything to say of a manifest.
 #![tactic(auto)]
 
 mod lint;
 mod settings;
 
 use std::alloc::{AllocError, Global};
+use std::env;
 use std::io;
 use std::process::ExitCode;
+use toml_span_load::{LoadError, TextFile};
 
-/// Returns what is to be printed of a text, and whether there is nothing wrong with it.
-fn shown(alloc: Global, text: &str) -> Result<(String, bool), AllocError> {
+/// Returns what is to be printed of a file, and whether there is nothing wrong with it.
+fn shown(alloc: Global, file: &TextFile, format: &str) -> Result<(String, bool), AllocError> {
+    let text = file.text.as_str();
     if !text.starts_with("[package]") && !text.starts_with("[dependencies]") {
-        return settings::shown(alloc, text);
+        return settings::shown(alloc, file);
     }
-    let shown = lint::shown(alloc, text)?;
-    let is_right = shown.is_empty();
-    Ok((shown, is_right))
+    lint::shown(alloc, text, format)
+}
+
+/// Returns what is to be printed of a file, if it was read, or else the error.
+fn opened(
+    alloc: Global,
+    file: Result<TextFile, LoadError>,
+    format: &str,
+) -> Result<(String, bool), AllocError> {
+    match file {
+        Ok(file) => shown(alloc, &file, format),
+        Err(LoadError::Memory(error)) => Err(error),
+        Err(error) => Ok((format!(in alloc; "error: {error}\n")?, false)),
+    }
 }
 
 fn main(rt: HostRuntime) -> io::Result<ExitCode> {
-    let input = io::read_to_string(rt.alloc(), rt.stdin())?;
-    let (shown, is_right) = shown(rt.alloc(), input.as_str())?;
+    let words: Vec<String> = env::args(&rt)?.skip(1).collect(rt.alloc())?;
+    let file = match words.as_slice() {
+        [name, ..] => TextFile::open(&rt, name.as_str()),
+        [] => Ok(TextFile {
+            name: String::from_str(rt.alloc(), "settings.toml")?,
+            text: io::read_to_string(rt.alloc(), rt.stdin())?,
+        }),
+    };
+    let format = words.get(1).map_or("", |word| word.as_str());
+    let (shown, is_right) = opened(rt.alloc(), file, format)?;
     print!(rt; "{shown}")?;
     Ok(ExitCode::from(u8::from(!is_right)))
 }

@@ -1,17 +1,28 @@
 //! The settings of a server, read with all that is wrong with them.
 use std::alloc::{AllocError, Global};
 use toml_span::{
-    DeserError, Deserialize, DeserializeWithWarnings, Error, Spanned, Stop, Value,
-    from_str_with_warnings, read_table, read_tagged,
+    DeserError, Deserialize, DeserializeWithWarnings, Error, Spanned, Stop, Value, read_name,
+    read_table, read_tagged,
 };
-use toml_span_report::{Style, render_all, reports_of};
+use toml_span_load::{LoadError, Loaded, TextFile};
 
 /// The settings. Other keys are refused.
 #[derive(Debug, Drop)]
 struct Settings {
     max_body: u32,
+    port: u16,
+    level: Level,
+    workers: Option<u8>,
     log: Log,
     mirrors: Vec<Mirror>,
+}
+
+/// How much is logged.
+#[derive(Debug, Drop)]
+enum Level {
+    Errors,
+    Warnings,
+    All,
 }
 
 /// Where the log goes.
@@ -36,8 +47,21 @@ impl<'de> DeserializeWithWarnings<'de> for Settings {
     ) -> Result<Self, Stop<DeserError<'de>>> {
         read_table!(alloc, value, warnings, Settings {
             max_body: u32 = "max-body", deprecated("max_body"), or(65536);
+            port: u16, range(1..=65535), or(80);
+            level: Level, or(Level::Errors);
+            workers: Option<u8>, range(1..=64);
             log: Log, or(Log::Terminal);
             mirrors: Vec<Mirror>, unique(name);
+        })
+    }
+}
+
+impl<'de> Deserialize<'de> for Level {
+    fn deserialize(alloc: Global, value: &mut Value<'de>) -> Result<Self, Stop<DeserError<'de>>> {
+        read_name!(alloc, value, {
+            "errors" => Level::Errors,
+            "warnings" => Level::Warnings,
+            "all" => Level::All,
         })
     }
 }
@@ -57,23 +81,15 @@ impl<'de> Deserialize<'de> for Mirror {
     }
 }
 
-/// Returns what is wrong with a text and the settings, and whether it has any.
-pub fn shown(alloc: Global, text: &str) -> Result<(String, bool), AllocError> {
-    let mut warnings = Vec::new(alloc);
-    let read = from_str_with_warnings::<Settings>(alloc, text, &mut warnings);
-    let reports = reports_of(alloc, &read, warnings.as_slice(), text)?;
-    let mut shown = render_all(
-        alloc,
-        Style::Plain,
-        reports.as_slice(),
-        "settings.toml",
-        text,
-    )?;
-    match read {
-        Ok(settings) => {
-            writeln!(shown, "{settings:#?}")?;
+/// Returns what is wrong with a file and the settings, and whether it has any.
+pub fn shown(alloc: Global, file: &TextFile) -> Result<(String, bool), AllocError> {
+    match file.read_with_warnings::<Settings>(alloc) {
+        Ok(Loaded { value, warnings }) => {
+            let mut shown = warnings.text;
+            writeln!(shown, "{value:#?}")?;
             Ok((shown, true))
         }
-        Err(_stop) => Ok((shown, false)),
+        Err(LoadError::Memory(error)) => Err(error),
+        Err(error) => Ok((error.to_string(alloc)?, false)),
     }
 }

@@ -1,24 +1,72 @@
 -- Why a file is not read as a type.
-use Rattle.std.specs.Prelude.{⊤, ℕ, List, Option, Some, None, Result, codes, map, string_bytes}
+use Rattle.std.specs.Prelude.{◌≡◌, ⊤, ℕ, List, [], ◌++◌, Result, Ok, Err, codes, map, string_bytes}
+use Rattle.toml_span_lex.specs.declared.stop.Stop.{Stop}
 use Rattle.toml_span_lex.specs.declared.stop.Stop.TheVariants as stops
+use Rattle.toml_span_tree.specs.Error.{ErrorContent}
 use Rattle.toml_span_tree.specs.Node.{Node}
 use Rattle.toml_span_typed.specs.Errors.{Errors, all}
-use Rattle.toml_span.specs.FromText.{NotRead}
-use Rattle.toml_span_report.specs.Report.{report_content}
+use Rattle.toml_span.specs.FromText.{IsReadWithWarnings, NotRead, NotReadWithWarnings}
+use Rattle.toml_span_report.specs.Many.{AreReportTexts}
+use Rattle.toml_span_report.specs.Reads.{AreReportsOf}
+use Rattle.toml_span_report.specs.Report.{ReportContent, report_content}
 use Rattle.toml_span_report.specs.Reported.{AreReported}
+use Rattle.toml_span_report.specs.Visible.{visible}
 use Rattle.toml_span_report.specs.declared.colours.Style.TheVariants as styles
+use Rattle.toml_span_report.specs.declared.reported.Reported as reported
 use Rattle.toml_span_load.specs.declared.LoadError.{LoadError}
 use Rattle.toml_span_load.specs.declared.LoadError.TheVariants.{Memory, Io, Reported}
+use Rattle.toml_span_load.specs.declared.Unreadable.{Unreadable}
 
--- the read of the text answers errors, and these are their reports; or memory ran out
+-- the text for a file of this name, and the system's words
+unfoldable pub unreadable_text : List ℕ → List ℕ → List ℕ
+unreadable_text name cause = codes "cannot read `" ++ visible name ++ codes "`: " ++ cause
+
+abbrev pub IsUnreadable : List ℕ → Unreadable → Type 0
+IsUnreadable name u =
+    (string_bytes u.name ≡ name) × ((cause : List ℕ) × (string_bytes u.text ≡ unreadable_text name cause))
+
+-- `open`: the file of that name can't be read, or memory ran out
+abbrev pub NotOpened : List ℕ → LoadError → Type 0
+NotOpened name (Memory e) = ⊤
+NotOpened name (Io u) = IsUnreadable name u
+NotOpened name (Reported r) = ⊥
+
+-- the read of the text returns errors, and these are their reports; or memory ran out
 abbrev pub NotLoaded : {T : Type 0} → (Node → Result T Errors → Node → Type 0) → List ℕ → List ℕ → LoadError → Type 0
 NotLoaded reads name text (Memory e) = ⊤
-NotLoaded reads name text (Io e) = ⊥
+NotLoaded reads name text (Io u) = ⊥
 NotLoaded reads name text (Reported r) = (faults : Errors) × NotRead reads text (stops.Fault faults)
     × AreReported styles.Plain name text (all faults) (map report_content r.reports.items) (string_bytes r.text)
 
--- what is told: of an error of the system, what that tells
-abbrev pub told : LoadError → Option (List ℕ)
-told (Memory e) = Some (codes "memory allocation failed")
-told (Io e) = None
-told (Reported r) = Some (string_bytes r.text)
+-- the reports of the warnings and of the errors of a read, and their text
+abbrev pub AreShown : {T : Type 0} → Result T (Stop Errors) → List ErrorContent → List ℕ → List ℕ → List ReportContent
+    → List ℕ → Type 0
+AreShown read warnings name text reports out =
+    AreReportsOf read warnings text reports × AreReportTexts styles.Plain name text reports out
+
+-- `read_with_warnings`: what the text is read as, with the reports of its warnings
+abbrev pub IsLoaded : {T : Type 0} → (Node → Result T Errors → List ErrorContent → List ErrorContent → Type 0) → List ℕ
+    → List ℕ → T → List ReportContent → List ℕ → Type 0
+IsLoaded reads name text x reports out = (warnings : List ErrorContent) × IsReadWithWarnings reads text (Ok x) [] warnings
+    × AreShown (Ok x) warnings name text reports out
+
+-- the read returns errors, and the reports are those of the warnings and of these errors; or memory ran out
+abbrev pub NotLoadedWithWarnings : {T : Type 0}
+    → (Node → Result T Errors → List ErrorContent → List ErrorContent → Type 0) → List ℕ → List ℕ → LoadError → Type 0
+NotLoadedWithWarnings reads name text (Memory e) = ⊤
+NotLoadedWithWarnings reads name text (Io u) = ⊥
+NotLoadedWithWarnings {T} reads name text (Reported r) = (faults : Errors) × (warnings : List ErrorContent)
+    × NotReadWithWarnings reads text (stops.Fault faults) [] warnings
+    × AreShown {T = T} (Err (stops.Fault faults)) warnings name text (map report_content r.reports.items)
+    (string_bytes r.text)
+
+-- the error of a read that failed
+abbrev pub failed : Stop Errors → reported.Reported → LoadError
+failed (stops.Fault faults) r = Reported r
+failed (stops.Memory e) r = Memory e
+
+-- what an error displays
+abbrev pub shown : LoadError → List ℕ
+shown (Memory e) = codes "memory allocation failed"
+shown (Io u) = string_bytes u.text
+shown (Reported r) = string_bytes r.text

@@ -1,27 +1,46 @@
-//! Reads a TOML file as a type, with errors that outlive its text.
+//! Reads a TOML file as a type, with errors and warnings that outlive its text.
 #![tactic(auto)]
 
-ghost use Rattle.std.specs.Prelude.{◌≡◌, IfErr, IfOk, Ok, string_bytes};
+ghost use Rattle.std.specs.Prelude.{◌≡◌, IfErr, IfOk, Ok, Some, map, string_bytes};
 ghost use Rattle.toml_span.specs.FromText.{IsRead};
-ghost use Rattle.toml_span_load.specs.Load.{NotLoaded, told};
+ghost use Rattle.toml_span_load.specs.Load.{AreShown, IsLoaded, IsUnreadable, NotLoaded, NotLoadedWithWarnings};
+ghost use Rattle.toml_span_load.specs.Load as spec;
+ghost use Rattle.toml_span_load.specs.Load.{NotOpened, shown};
+ghost use Rattle.toml_span_report.specs.Report.{report_content};
+ghost use Rattle.toml_span_tree.specs.Error.{content_of};
 
 use std::alloc::{AllocError, Global};
 use std::fmt::{Display, Formatter, Write};
 use std::io::ErrorKind;
 use std::rt::Files;
 use std::{fmt, fs, io};
-use toml_span::{Deserialize, from_str};
-use toml_span_report::{Reported, Style};
+use toml_span::{
+    DeserError, Deserialize, DeserializeWithWarnings, Error, Stop, from_str, from_str_with_warnings,
+};
+use toml_span_report::visible::push_visible;
+use toml_span_report::{Reported, Style, render_all, reports_of};
 
 /// Why a file was not read as a type.
 #[derive(Debug, Drop)]
 pub enum LoadError {
     /// Memory ran out.
     Memory(AllocError),
-    /// The file can't be read, or is no UTF-8.
-    Io(io::Error),
-    /// Its text is refused, or is not of the type.
+    /// The file can't be read, or is not valid UTF-8.
+    Io(Unreadable),
+    /// Its text is not valid TOML, or does not fit the type.
     Reported(Reported),
+}
+
+/// A file that can't be read, or is not valid UTF-8.
+#[derive(Debug, Drop)]
+pub struct Unreadable {
+    /// The name of the file, as it was given.
+    pub name: String,
+    /// The kind of the system's error.
+    pub kind: ErrorKind,
+    /// The name and the system's error: ``cannot read `a.toml`: No such file or directory (os error 2)``. Control
+    /// characters of the name, and those that end a line or change the direction, are escaped.
+    pub text: String,
 }
 
 impl From<AllocError> for LoadError {
@@ -34,14 +53,14 @@ impl From<AllocError> for LoadError {
     }
 }
 
-/// Its text, the system's, or that memory ran out.
+/// Writes the text of the error, or that memory ran out.
 impl Display for LoadError {
-    ghost output = { told };
+    ghost output = { λ error. Some (shown error) };
 
     fn fmt<W: Write>(&self, f: &mut Formatter<W>) -> fmt::Result {
         match self {
             LoadError::Memory(_) => f.write_str("memory allocation failed"),
-            LoadError::Io(error) => write!(f, "{error}"),
+            LoadError::Io(unreadable) => f.write_str(unreadable.text.as_str()),
             LoadError::Reported(reported) => write!(f, "{reported}"),
         }
     }
@@ -49,9 +68,17 @@ impl Display for LoadError {
 
 impl std::error::Error for LoadError {}
 
-/// A file that was read: its name, as reports tell it, and its text.
+/// What was read from a file, with its warnings.
+#[derive(Debug, Drop)]
+pub struct Loaded<T> {
+    pub value: T,
+    /// The reports of the warnings, in the order of the fields. Their text is empty if there are none.
+    pub warnings: Reported,
+}
+
+/// A file that was read: its name, which reports print, and its text.
 ///
-/// What is read of it may borrow from the text, and its errors don't:
+/// What is read from it may borrow from the text, and its errors don't:
 /// `let file = TextFile::open(&rt, "settings.toml")?; file.read::<Settings>(alloc)`.
 #[derive(Debug, Drop)]
 pub struct TextFile {
@@ -60,9 +87,10 @@ pub struct TextFile {
 }
 
 impl TextFile {
-    /// Reads the file of this name.
+    /// Reads the file of this name. If it can't be read, or is not valid UTF-8, the error says so with its name.
     pub fn open<R: Files + Alloc<A = Global>>(rt: &R, name: &str) -> Result<TextFile, LoadError>
-        ensures { IfOk result (λ file. string_bytes file.name ≡ name.now) }
+        ensures name { IfOk result (λ file. string_bytes file.name ≡ name.now) }
+        ensures refused { IfErr result (NotOpened name.now) }
     {
         match fs::read_to_string(rt, name) {
             Ok(text) => Ok(TextFile {
@@ -71,12 +99,14 @@ impl TextFile {
             }),
             Err(error) => match error.kind() {
                 ErrorKind::OutOfMemory => Err(LoadError::Memory(AllocError)),
-                _ => Err(LoadError::Io(error)),
+                _ => Err(LoadError::Io(not_readable(rt.alloc(), name, error)?)),
             },
         }
     }
 
-    /// Reads the text as a type, as `from_str` does. The errors are told as `Reported::of` tells them, without colours.
+    /// Reads the text as a type, as `from_str` does. The errors are those of `Reported::of`, without colors.
+    ///
+    /// A type that warns does not implement `Deserialize`: read it with `read_with_warnings`.
     pub fn read<'de, T: Deserialize<'de>>(&'de self, alloc: Global) -> Result<T, LoadError>
         ensures read { IfOk result (λ x. IsRead T.reads (string_bytes self.now.text) (Ok x)) }
         ensures refused { IfErr result (NotLoaded T.reads (string_bytes self.now.name) (string_bytes self.now.text)) }
@@ -90,4 +120,79 @@ impl TextFile {
             },
         }
     }
+
+    /// Reads the text as a type that warns, as `from_str_with_warnings` does. Returns the value with the reports of its
+    /// warnings. If the read fails, the error has the reports of the warnings and of all errors, without colors.
+    pub fn read_with_warnings<'de, T: DeserializeWithWarnings<'de>>(
+        &'de self,
+        alloc: Global,
+    ) -> Result<Loaded<T>, LoadError>
+        ensures read { IfOk result (λ loaded. IsLoaded T.reads (string_bytes self.now.name)
+            (string_bytes self.now.text) loaded.value (map report_content loaded.warnings.reports.items)
+            (string_bytes loaded.warnings.text)) }
+        ensures refused { IfErr result (NotLoadedWithWarnings T.reads (string_bytes self.now.name)
+            (string_bytes self.now.text)) }
+    {
+        let (name, text) = (self.name.as_str(), self.text.as_str());
+        let mut warnings = Vec::new(alloc);
+        let read = from_str_with_warnings::<T>(alloc, text, &mut warnings);
+        let reported = shown_read(alloc, &read, warnings.as_slice(), name, text)?;
+        match read {
+            Ok(value) => Ok(Loaded {
+                value,
+                warnings: reported,
+            }),
+            Err(stop) => Err(failed(stop, reported)),
+        }
+    }
+}
+
+/// Returns the reports of the warnings of a read and of its errors, with their text. Fails if memory runs out, or ran
+/// out in the read.
+fn shown_read<T>(
+    alloc: Global,
+    read: &Result<T, Stop<DeserError<'_>>>,
+    warnings: &[Error<'_>],
+    name: &str,
+    text: &str,
+) -> Result<Reported, AllocError>
+    ensures { IfOk result (λ made. AreShown read.now (map content_of warnings.now) name.now text.now
+        (map report_content made.reports.items) (string_bytes made.text)) }
+{
+    let reports = reports_of(alloc, read, warnings, text)?;
+    let text = render_all(alloc, Style::Plain, reports.as_slice(), name, text)?;
+    Ok(Reported { reports, text })
+}
+
+/// Returns the error of a read that failed, with these reports.
+fn failed(stop: Stop<DeserError<'_>>, reported: Reported) -> LoadError
+    ensures { result ≡ spec.failed stop.entry reported }
+{
+    match stop {
+        Stop::Fault(_errors) => LoadError::Reported(reported),
+        Stop::Memory(error) => LoadError::Memory(error),
+    }
+}
+
+/// Returns the error of a file that can't be read.
+fn not_readable(alloc: Global, name: &str, error: io::Error) -> Result<Unreadable, AllocError>
+    ensures { IfOk result (IsUnreadable name.now) }
+{
+    let kind = error.kind();
+    let cause = error.to_string(alloc)?;
+    let text = unreadable_text(alloc, name, cause.as_str())?;
+    let name = String::from_str(alloc, name)?;
+    Ok(Unreadable { name, kind, text })
+}
+
+/// Returns the text of the error of a file that can't be read, for this reason.
+#[tactic(auto, unfolding(crate::specs::Load::unreadable_text))]
+fn unreadable_text(alloc: Global, name: &str, cause: &str) -> Result<String, AllocError>
+    ensures { IfOk result (λ text. string_bytes text ≡ spec.unreadable_text name.now cause.now) }
+{
+    let mut text = String::from_str(alloc, "cannot read `")?;
+    push_visible(&mut text, name)?;
+    text.push_str("`: ")?;
+    text.push_str(cause)?;
+    Ok(text)
 }

@@ -13,7 +13,7 @@ use Rattle.toml_span_serde.specs.Ahead.{laid}
 use Rattle.toml_span_serde.specs.Pieces.{Content, Piece, value, nothing, array_begins, array_ends, table_begins}
 use Rattle.toml_span_serde.specs.Pieces.{table_ends, key}
 use Rattle.toml_span_serde.specs.Names.{all_forms, forms_of}
-use Rattle.toml_span_serde.specs.Reads.{IsText}
+use Rattle.toml_span_serde.specs.Reads.{IsText, IsWritten}
 use Rattle.toml_span_serde.specs.Tried.{Tries, taken, tries}
 use Rattle.toml_span_serde.specs.Twice.{earlier, key_place}
 use Rattle.toml_span_serde.specs.Walk.{elements_in}
@@ -102,6 +102,17 @@ IsAnyText c = (s : List ℕ) × IsText s c
 
 abbrev pub IsAnyInteger : Content → Type 0
 IsAnyInteger c = (z : ℤ) × (c ≡ value (tree.integer z))
+
+abbrev pub IsAnyBoolean : Content → Type 0
+IsAnyBoolean c = (b : Bool) × (c ≡ value (tree.boolean b))
+
+-- a string, a key or a date
+abbrev pub IsAnyWritten : Content → Type 0
+IsAnyWritten c = (s : List ℕ) × IsWritten s c
+
+-- a key, or the end of a table
+abbrev pub IsKeyOrEnd : Content → Type 0
+IsKeyOrEnd c = ((s : List ℕ) × (c ≡ key s)) ⊎ (c ≡ table_ends)
 
 -- why a type does not take what stands there
 abbrev pub refusal : Content → Reason

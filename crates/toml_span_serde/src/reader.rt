@@ -1,19 +1,20 @@
 //! A tree as a `Format` of serde's.
 ghost use Rattle.std.specs.Option.{option_and_then};
 ghost use Rattle.std.specs.Prelude.{◌≡◌, ◌+◌, ◌-◌, ◌<◌, ◌≤◌, ◌^◌, ◌∷◌, ◌++◌, ◌↔◌, ◌||◌, [], false, true, not, IfErr};
-ghost use Rattle.std.specs.Prelude.{IfOk, IsOk, IsTrue, List, MatchOption, Ok, OnOk, drop, length, map, nat_lt};
+ghost use Rattle.std.specs.Prelude.{IfOk, IsOk, IsTrue, List, MatchBool, MatchOption, None, Ok, OnOk, drop, length, map, nat_lt};
 ghost use Rattle.std.specs.Prelude.{slice_get, string_bytes, take};
 ghost use Rattle.serde.specs.Event as event;
 ghost use Rattle.toml_span_lex.specs.declared.stop.Stop.TheVariants as stop;
 ghost use Rattle.toml_span_tree.specs.Node.{Node, integer};
 ghost use Rattle.toml_span_serde.specs.Ahead.{ahead, laid};
 ghost use Rattle.toml_span_serde.specs.Asks.{AsksEnd, AsksStart};
-ghost use Rattle.toml_span_serde.specs.Misreads.{IsAnyInteger, IsAnyText, IsMisread, IsOpening, IsOther, IsOtherIn};
+ghost use Rattle.toml_span_serde.specs.Misreads.{IsAnyBoolean, IsAnyInteger, IsAnyText, IsAnyWritten, IsKeyOrEnd};
+ghost use Rattle.toml_span_serde.specs.Misreads.{IsMisread, IsOpening, IsOther, IsOtherIn};
 ghost use Rattle.toml_span_serde.specs.Misreads.{Lists, Misses, Says, UnlessMemory, fields, found_of, held, held_by};
 ghost use Rattle.toml_span_serde.specs.Misreads.{is_unknown, kept, kind_ahead, length_reason, refusal_in};
 ghost use Rattle.toml_span_serde.specs.Misreads.{told_text_in, tries_back_at, twice, twin, twin_behind, variant_names};
 ghost use Rattle.toml_span_serde.specs.Misreads.{variant_place, variants};
-ghost use Rattle.toml_span_serde.specs.Pieces.{Piece as Laid, pieces, value};
+ghost use Rattle.toml_span_serde.specs.Pieces.{Piece as Laid, array_begins, pieces, table_begins, value};
 ghost use Rattle.toml_span_serde.specs.Reads.{IsText, Picks, Reads, Sees, TakesPiece};
 ghost use Rattle.toml_span_serde.specs.Tasks.{piece_content, piece_of};
 ghost use Rattle.toml_span_serde.specs.Tried.{kinds_at, missed, tries};
@@ -308,14 +309,20 @@ impl Format for Reader<'_, '_> {
 
     ghost stays = { λ old new. ahead new ≡ ahead old };
 
-    fn bool(&mut self, _input: &[u8]) -> Result<bool, Stop<Misread>> {
+    fn bool(&mut self, _input: &[u8]) -> Result<bool, Stop<Misread>>
+        ensures gives { IfOk result (λ b. Reads (ahead self.old) (event.boolean b) (ahead self.new)) }
+        ensures misses { IfErr result (IsMisread (Misses IsAnyBoolean expected.Boolean (ahead self.old)) self.old.next) }
+    {
         match self.take()?.content {
             Content::Boolean(truth) => Ok(truth),
             found => Err(self.wanted(Expected::Boolean, found)),
         }
     }
 
-    fn i64(&mut self, _input: &[u8]) -> Result<i64, Stop<Misread>> {
+    fn i64(&mut self, _input: &[u8]) -> Result<i64, Stop<Misread>>
+        ensures gives { IfOk result (λ z. Reads (ahead self.old) (event.signed z) (ahead self.new)) }
+        ensures misses { IfErr result (IsMisread (Misses IsAnyInteger expected.Integer (ahead self.old)) self.old.next) }
+    {
         self.integer()
     }
 
@@ -327,7 +334,10 @@ impl Format for Reader<'_, '_> {
         }
     }
 
-    fn i128(&mut self, _input: &[u8]) -> Result<i128, Stop<Misread>> {
+    fn i128(&mut self, _input: &[u8]) -> Result<i128, Stop<Misread>>
+        ensures gives { IfOk result (λ z. Reads (ahead self.old) (event.signed z) (ahead self.new)) }
+        ensures misses { IfErr result (IsMisread (Misses IsAnyInteger expected.Integer (ahead self.old)) self.old.next) }
+    {
         Ok(i128::from(self.integer()?))
     }
 
@@ -385,7 +395,10 @@ impl Format for Reader<'_, '_> {
         self.plain_str(input)
     }
 
-    fn string(&mut self, alloc: Global, _input: &[u8]) -> Result<String, Stop<Misread>> {
+    fn string(&mut self, alloc: Global, _input: &[u8]) -> Result<String, Stop<Misread>>
+        ensures gives { IfOk result (λ s. Reads (ahead self.old) (event.text (string_bytes s)) (ahead self.new)) }
+        ensures misses { IfErr result (IsMisread (Misses IsAnyWritten expected.String (ahead self.old)) self.old.next) }
+    {
         let text = match self.take()?.content {
             Content::Text(text) | Content::Key(text) | Content::Datetime(text) => text,
             found => return Err(self.wanted(Expected::String, found)),
@@ -396,7 +409,10 @@ impl Format for Reader<'_, '_> {
         }
     }
 
-    fn byte_buf(&mut self, alloc: Global, input: &[u8]) -> Result<Vec<u8>, Stop<Misread>> {
+    fn byte_buf(&mut self, alloc: Global, input: &[u8]) -> Result<Vec<u8>, Stop<Misread>>
+        ensures gives { IfOk result (λ bytes. Reads (ahead self.old) (event.octets bytes.items) (ahead self.new)) }
+        ensures misses { IfErr result (IsMisread (Misses IsAnyWritten expected.String (ahead self.old)) self.old.next) }
+    {
         Ok(self.string(alloc, input)?.into_bytes())
     }
 
@@ -409,24 +425,39 @@ impl Format for Reader<'_, '_> {
     }
 
     /// TOML has no unit.
-    fn take_unit(&mut self, _input: &[u8]) -> Result<bool, Stop<Misread>> {
+    fn take_unit(&mut self, _input: &[u8]) -> Result<bool, Stop<Misread>>
+        ensures gives { IfOk result (λ b. MatchBool b (Reads (ahead self.old) event.nothing (ahead self.new))
+            (ahead self.new ≡ ahead self.old)) }
+        ensures none { IfErr result (λ e. (ahead self.old ≡ []) × IsMisread (λ why. why ≡ is.Invalid) self.old.next e) }
+    {
         self.look()?;
         Ok(false)
     }
 
     /// A `None` is a key that is left out.
-    fn take_none(&mut self, input: &[u8]) -> Result<bool, Stop<Misread>> {
+    fn take_none(&mut self, input: &[u8]) -> Result<bool, Stop<Misread>>
+        ensures gives { IfOk result (λ b. MatchBool b (Reads (ahead self.old) event.nothing (ahead self.new))
+            (ahead self.new ≡ ahead self.old)) }
+        ensures none { IfErr result (λ e. (ahead self.old ≡ []) × IsMisread (λ why. why ≡ is.Invalid) self.old.next e) }
+    {
         self.take_unit(input)
     }
 
-    fn begin_seq(&mut self, _input: &[u8]) -> Result<(), Stop<Misread>> {
+    fn begin_seq(&mut self, _input: &[u8]) -> Result<(), Stop<Misread>>
+        ensures gives { OnOk result (Reads (ahead self.old) (event.seq_begins None) (ahead self.new)) }
+        ensures misses { IfErr result (IsMisread (Misses (λ c. c ≡ array_begins) expected.Array (ahead self.old)) self.old.next) }
+    {
         match self.take()?.content {
             Content::ArrayBegins => Ok(()),
             found => Err(self.wanted(Expected::Array, found)),
         }
     }
 
-    fn next_item(&mut self, _input: &[u8]) -> Result<bool, Stop<Misread>> {
+    fn next_item(&mut self, _input: &[u8]) -> Result<bool, Stop<Misread>>
+        ensures gives { IfOk result (λ b. MatchBool b (ahead self.new ≡ ahead self.old)
+            (Reads (ahead self.old) event.seq_ends (ahead self.new))) }
+        ensures none { IfErr result (λ e. (ahead self.old ≡ []) × IsMisread (λ why. why ≡ is.Invalid) self.old.next e) }
+    {
         if let Content::ArrayEnds = self.look()?.content {
             self.next += 1;
             return Ok(false);
@@ -434,7 +465,10 @@ impl Format for Reader<'_, '_> {
         Ok(true)
     }
 
-    fn begin_map(&mut self, _input: &[u8]) -> Result<(), Stop<Misread>> {
+    fn begin_map(&mut self, _input: &[u8]) -> Result<(), Stop<Misread>>
+        ensures gives { OnOk result (Reads (ahead self.old) (event.map_begins None) (ahead self.new)) }
+        ensures misses { IfErr result (IsMisread (Misses (λ c. c ≡ table_begins) expected.Table (ahead self.old)) self.old.next) }
+    {
         match self.take()?.content {
             Content::TableBegins => Ok(()),
             found => Err(self.wanted(Expected::Table, found)),
@@ -467,7 +501,11 @@ impl Format for Reader<'_, '_> {
         }
     }
 
-    fn next_entry(&mut self, _input: &[u8]) -> Result<bool, Stop<Misread>> {
+    fn next_entry(&mut self, _input: &[u8]) -> Result<bool, Stop<Misread>>
+        ensures gives { IfOk result (λ b. MatchBool b (Reads (ahead self.old) event.key_begins (ahead self.new))
+            (Reads (ahead self.old) event.map_ends (ahead self.new))) }
+        ensures misses { IfErr result (IsMisread (Misses IsKeyOrEnd expected.Key (ahead self.old)) self.old.next) }
+    {
         match self.look()?.content {
             Content::Key(_) => Ok(true),
             Content::TableEnds => {

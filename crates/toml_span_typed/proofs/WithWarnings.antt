@@ -1,11 +1,12 @@
 -- One more value at the end of those that were read, with its warnings.
-use Rattle.toml_span_lex.proofs.Common.{List, [], ◌∷◌, ◌++◌, Result, refl, ap, sym, subst, ◌∙◌}
+use Rattle.std.proofs.Math.Seq.{drop-append_seam}
+use Rattle.toml_span_lex.proofs.Common.{◌≡◌, List, [], ◌∷◌, ◌++◌, Result, refl, ap, sym, subst, ◌∙◌, append_assoc, drop, length}
 use Rattle.toml_span_tree.specs.Node.{Node}
 use Rattle.toml_span_tree.specs.Error.{ErrorContent}
 use Rattle.toml_span_typed.specs.code.WithWarnings.{AddsWithWarnings, AreReadWithWarnings}
 use Rattle.toml_span_typed.specs.Errors.{Errors}
 use Rattle.toml_span_typed.specs.Reads.{elements, errors}
-use Rattle.toml_span_typed.specs.WithWarnings.{EachWithWarnings}
+use Rattle.toml_span_typed.specs.WithWarnings.{EachWithWarnings, Extends}
 use Rattle.toml_span_typed.proofs.Arrays.{elements_push, errors_push}
 
 module _ {T : Type 0} (reads : Node → Result T Errors → List ErrorContent → List ErrorContent → Type 0) where
@@ -23,3 +24,11 @@ read_more reads vs v xs ys fs gs w x y h more = (
   elements_push h.0 more.0 ∙ ap (λ zs. zs ++ elements (more.0 ∷ [])) h.2 ∙ sym more.2,
   errors_push h.0 more.0 ∙ ap (λ zs. zs ++ errors (more.0 ∷ [])) h.3 ∙ sym more.3,
 )
+
+-- warnings are put after warnings
+pub extends_more : (w x y : List ErrorContent) → Extends w x → Extends x y → Extends w y
+extends_more w x y h k =
+    let a = drop (length w) x in
+    let b = drop (length x) y in
+    let is : y ≡ w ++ (a ++ b) = k ∙ ap (λ z. z ++ b) h ∙ append_assoc w a b in
+    is ∙ ap (λ z. w ++ z) (sym (ap (drop (length w)) is ∙ drop-append_seam w (a ++ b)))

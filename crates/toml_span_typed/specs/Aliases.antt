@@ -1,11 +1,14 @@
--- What a helper answers of a field that has an old name besides.
-use Rattle.std.specs.Prelude.{◌≡◌, ℕ, List, [], ◌∷◌, Option, Some, None, option_map, MatchOption, if◌then◌else◌, nat_lt}
-use Rattle.std.specs.Prelude.{Result, Ok, Err}
+-- What a helper returns for a field that has an old name too.
+use Rattle.std.specs.Prelude.{◌≡◌, ◌⊎◌, ℕ, List, [], ◌∷◌, ◌++◌, Option, Some, None, option_map, MatchOption, nat_lt}
+use Rattle.std.specs.Prelude.{if◌then◌else◌, Result, Ok, Err}
+use Rattle.std.specs.declared.alloc.AllocError.{AllocError}
 use Rattle.toml_span_lex.specs.declared.span.Span.{Span}
 use Rattle.toml_span_tree.specs.Error.{ErrorContent, deprecated, duplicate_key}
+use Rattle.toml_span_tree.specs.declared.value.Value.{Value}
 use Rattle.toml_span_tree.specs.Node.{Node, entry_at}
+use Rattle.toml_span_tree.specs.Value.{view}
 use Rattle.toml_span_typed.specs.Errors.{Errors, all}
-use Rattle.toml_span_typed.specs.TableHelper.{State, keeping, missing, noted, without}
+use Rattle.toml_span_typed.specs.TableHelper.{Starved, State, keeping, missing, noted, without}
 
 -- the error of a key that stands a second time
 abbrev pub again : List ℕ → Span → Span → ErrorContent
@@ -18,6 +21,9 @@ twice name span old other = if nat_lt span.start other.start then again old othe
 -- an entry: its key's span, and its value
 abbrev pub Entry : Type 0
 Entry = Option Span × Node
+
+abbrev pub entry_of : Span × Value → Entry
+entry_of moved = (Some moved.0, view moved.1)
 
 abbrev pub twice_at : List ℕ → Option Span → List ℕ → Option Span → State → State
 twice_at name (Some span) old (Some other) s = keeping (twice name span old other ∷ []) s
@@ -43,9 +49,18 @@ first_value None other = option_map (λ e. e.1) other
 abbrev pub either : List ℕ → List ℕ → State → Option Node
 either name old s = first_value (newer name s) (older name old s)
 
--- both names are recorded and their entries gone, and a field that stands twice is told
+-- the entry of the name is gone, and the name is not recorded
+abbrev pub passed : List ℕ → State → State
+passed name s =
+    record { members = without name s.members; asked = s.asked; errors = s.errors; span = s.span }
+
+-- both names are recorded and their entries gone; a field under both is an error
 abbrev pub asked_both : List ℕ → List ℕ → State → State
 asked_both name old s = keeping_twice name (newer name s) old (older name old s) (noted old (noted name s))
+
+-- the same, but the old name is not recorded, so that no error lists it as expected
+abbrev pub asked_deprecated : List ℕ → List ℕ → State → State
+asked_deprecated name old s = keeping_twice name (newer name s) old (older name old s) (passed old (noted name s))
 
 -- the warning that a key stands under a deprecated name
 abbrev pub outdated_at : List ℕ → List ℕ → Option (Option Span) → List ErrorContent
@@ -70,14 +85,45 @@ ReadsMoved reads none moved before None after = MatchOption moved
     (after ≡ none before)
     (λ value. (faults : Errors) × (left : Node) × reads value (Err faults) left × (after ≡ keeping (all faults) before))
 
--- `read_either`: what stands there, with the error that neither does
-abbrev pub AsksEither : {T : Type 0} → (Node → Result T Errors → Node → Type 0) → List ℕ → List ℕ → State
-    → Option T → State → Type 0
-AsksEither reads name old before field after =
-    ReadsMoved reads (lacks name) (either name old before) (asked_both name old before) field after
+-- out of memory: nothing has changed, or the names are recorded and their entries gone, and the only new error is that
+-- of a field under both names
+abbrev pub StarvedEither : List ℕ → List ℕ → State → State → Type 0
+StarvedEither name old before after =
+    Starved name before after ⊎ (after ≡ noted old (noted name before)) ⊎ (after ≡ asked_both name old before)
 
--- `read_optional_either`: what stands there, if anything does
+abbrev pub StarvedDeprecated : List ℕ → List ℕ → State → State → Type 0
+StarvedDeprecated name old before after =
+    (after ≡ before) ⊎ (after ≡ passed old (noted name before)) ⊎ (after ≡ asked_deprecated name old before)
+
+-- `read_either`: the element, or the error that neither name is there
+abbrev pub AsksEither : {T : Type 0} → (Node → Result T Errors → Node → Type 0) → List ℕ → List ℕ → State
+    → Result (Option T) AllocError → State → Type 0
+AsksEither reads name old before (Ok field) after =
+    ReadsMoved reads (lacks name) (either name old before) (asked_both name old before) field after
+AsksEither reads name old before (Err error) after = StarvedEither name old before after
+
+-- `read_optional_either`: the element, if one of the names is there
 abbrev pub TriesEither : {T : Type 0} → (Node → Result T Errors → Node → Type 0) → List ℕ → List ℕ → State
-    → Option T → State → Type 0
-TriesEither reads name old before field after =
+    → Result (Option T) AllocError → State → Type 0
+TriesEither reads name old before (Ok field) after =
     ReadsMoved reads (λ s. s) (either name old before) (asked_both name old before) field after
+TriesEither reads name old before (Err error) after = StarvedEither name old before after
+
+-- `read_deprecated` and `read_optional_deprecated`: the same, and the old name is not recorded
+abbrev pub AsksDeprecated : {T : Type 0} → (Node → Result T Errors → Node → Type 0) → List ℕ → List ℕ → State
+    → Result (Option T) AllocError → State → Type 0
+AsksDeprecated reads name old before (Ok field) after =
+    ReadsMoved reads (lacks name) (either name old before) (asked_deprecated name old before) field after
+AsksDeprecated reads name old before (Err error) after = StarvedDeprecated name old before after
+
+abbrev pub TriesDeprecated : {T : Type 0} → (Node → Result T Errors → Node → Type 0) → List ℕ → List ℕ → State
+    → Result (Option T) AllocError → State → Type 0
+TriesDeprecated reads name old before (Ok field) after =
+    ReadsMoved reads (λ s. s) (either name old before) (asked_deprecated name old before) field after
+TriesDeprecated reads name old before (Err error) after = StarvedDeprecated name old before after
+
+-- the warning of the old name is put after the earlier ones; out of memory, it may be absent
+abbrev pub Warns : {T : Type 0} → List ErrorContent → List ErrorContent → Result T AllocError → List ErrorContent
+    → Type 0
+Warns warnings warning (Ok x) more = more ≡ warnings ++ warning
+Warns warnings warning (Err error) more = (more ≡ warnings) ⊎ (more ≡ warnings ++ warning)

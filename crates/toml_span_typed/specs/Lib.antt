@@ -12,3 +12,4 @@ pub mod Tags
 pub mod Rests
 pub mod WithWarnings
 pub mod Names
+pub mod Ranges

@@ -1,10 +1,14 @@
--- What a helper answers of the tag of an enum, and what it gives where none was read.
-use Rattle.std.specs.Prelude.{ℕ, List, [], ◌∷◌, Option, Some, None, cond, Result, Ok, Err, codes}
+-- What is read as one of some names, and what a helper returns for the tag of an enum.
+use Rattle.std.specs.Prelude.{◌≡◌, ℕ, List, [], ◌∷◌, Option, Some, None, cond, Result, Ok, Err, codes}
+use Rattle.std.specs.Borrow.{Bor}
 use Rattle.std.specs.Str.{bytes_eq}
 use Rattle.toml_span_lex.specs.declared.span.Span.{Span}
+use Rattle.toml_span_lex.specs.declared.stop.Stop.{Stop}
+use Rattle.toml_span_lex.specs.declared.stop.Stop.TheVariants as stop
 use Rattle.toml_span_tree.specs.Error.{ErrorContent, unexpected_value}
 use Rattle.toml_span_tree.specs.Node.{Node, node, scalar, text}
-use Rattle.toml_span_tree.specs.Value.{wrong_kind}
+use Rattle.toml_span_tree.specs.Value.{inner_of, wrong_kind}
+use Rattle.toml_span_typed.specs.Errors.{Errors, one}
 use Rattle.toml_span_typed.specs.TableHelper.{State, found, keeping, missing, noted}
 
 -- the first of these tags that is this text
@@ -21,7 +25,18 @@ abbrev pub read_tag : List (List ℕ) → Node → Result (List ℕ) ErrorConten
 read_tag tags (node (scalar (text s)) span) = or_unexpected tags s span (among s tags)
 read_tag tags value = Err (wrong_kind (codes "a string") value)
 
--- of what stands under a name, or the error that nothing does
+-- the value is a string that is none of these
+abbrev pub IsUnexpected : List (List ℕ) → Node → Type 0
+IsUnexpected tags value = (s : List ℕ) × (inner_of value ≡ scalar (text s)) × (among s tags ≡ None)
+
+-- `name_of`: the name that the string is, or the one error; memory runs out only for a string that is none of them
+abbrev pub IsNameOf : List (List ℕ) → Node → Result (Bor (List ℕ)) (Stop Errors) → Type 0
+IsNameOf names value (Ok name) = read_tag names value ≡ Ok name.now
+IsNameOf names value (Err (stop.Fault faults)) =
+    (fault : ErrorContent) × (read_tag names value ≡ Err fault) × (faults ≡ one fault)
+IsNameOf names value (Err (stop.Memory error)) = IsUnexpected names value
+
+-- the tag that is under a name, or this error if nothing is
 abbrev pub read_tag_at : List (List ℕ) → ErrorContent → Option Node → Result (List ℕ) ErrorContent
 read_tag_at tags fault (Some value) = read_tag tags value
 read_tag_at tags fault None = Err fault

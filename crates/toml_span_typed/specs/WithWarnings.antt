@@ -1,5 +1,7 @@
--- What a read that warns answers, and which warnings it leaves. The lists of warnings are those before and after.
-use Rattle.std.specs.Prelude.{◌≡◌, ⊤, ℕ, List, [], ◌∷◌, Option, Some, None, MatchOption, Result, Ok, Err, codes}
+-- What a read that warns returns, and which warnings it leaves. The lists of warnings are those before and after.
+use Rattle.std.specs.Prelude.{◌≡◌, ⊤, ℕ, List, [], ◌∷◌, ◌++◌, Option, Some, None, MatchOption, Result, Ok, Err, codes}
+use Rattle.std.specs.Prelude.{drop, length}
+use Rattle.std.specs.declared.alloc.AllocError.{AllocError}
 use Rattle.toml_span_lex.specs.declared.stop.Stop.{Stop}
 use Rattle.toml_span_lex.specs.declared.stop.Stop.TheVariants as stop
 use Rattle.toml_span_tree.specs.Error.{ErrorContent}
@@ -7,9 +9,13 @@ use Rattle.toml_span_tree.specs.Node.{Node, node, array}
 use Rattle.toml_span_typed.specs.Aliases.{lacks}
 use Rattle.toml_span_typed.specs.Errors.{Errors, all}
 use Rattle.toml_span_typed.specs.Reads.{Joins, nodes_of, refused}
-use Rattle.toml_span_typed.specs.TableHelper.{State, found, keeping, noted}
+use Rattle.toml_span_typed.specs.TableHelper.{Starved, State, found, keeping, noted}
 
--- the type's reading allows the answer and the warnings; of want of memory nothing is said
+-- the list begins with the earlier warnings
+abbrev pub Extends : List ErrorContent → List ErrorContent → Type 0
+Extends warnings more = more ≡ warnings ++ drop (length warnings) more
+
+-- the type's reading allows the answer and the warnings; nothing is said if memory runs out
 abbrev pub AnswersWithWarnings : {T : Type 0}
     → (Node → Result T Errors → List ErrorContent → List ErrorContent → Type 0) → Node → Result T (Stop Errors)
     → List ErrorContent → List ErrorContent → Type 0
@@ -28,21 +34,23 @@ ReadsMoved reads none moved before None after warnings more = MatchOption moved
     ((after ≡ none before) × (more ≡ warnings))
     (λ value. (faults : Errors) × reads value (Err faults) warnings more × (after ≡ keeping (all faults) before))
 
--- `read_with_warnings`: what stands there, with the error that nothing does
+-- `read_with_warnings`: the element, or the error that the name is not there
 abbrev pub AsksWithWarnings : {T : Type 0}
     → (Node → Result T Errors → List ErrorContent → List ErrorContent → Type 0) → List ℕ → State
-    → Option T → State → List ErrorContent → List ErrorContent → Type 0
-AsksWithWarnings reads name before field after warnings more =
+    → Result (Option T) AllocError → State → List ErrorContent → List ErrorContent → Type 0
+AsksWithWarnings reads name before (Ok field) after warnings more =
     ReadsMoved reads (lacks name) (found name before) (noted name before) field after warnings more
+AsksWithWarnings reads name before (Err error) after warnings more = Starved name before after
 
--- `read_optional_with_warnings`: what stands there, if anything does
+-- `read_optional_with_warnings`: the element, if the name is there
 abbrev pub TriesWithWarnings : {T : Type 0}
     → (Node → Result T Errors → List ErrorContent → List ErrorContent → Type 0) → List ℕ → State
-    → Option T → State → List ErrorContent → List ErrorContent → Type 0
-TriesWithWarnings reads name before field after warnings more =
+    → Result (Option T) AllocError → State → List ErrorContent → List ErrorContent → Type 0
+TriesWithWarnings reads name before (Ok field) after warnings more =
     ReadsMoved reads (λ s. s) (found name before) (noted name before) field after warnings more
+TriesWithWarnings reads name before (Err error) after warnings more = Starved name before after
 
--- an answer for each value that the reading allows, the warnings of each behind those of the ones before it
+-- an answer for each value that the reading allows, the warnings of each after those of the ones before it
 abbrev pub EachWithWarnings : {T : Type 0}
     → (Node → Result T Errors → List ErrorContent → List ErrorContent → Type 0) → List Node → List (Result T Errors)
     → List ErrorContent → List ErrorContent → Type 0

@@ -17,12 +17,12 @@ use std::borrow::CowStr;
 use std::fmt::Display;
 use std::str::FromStr;
 pub use strings::{parse_with, parsed};
-pub use table_helper::{TableHelper, Unfinished};
+pub use table_helper::{TableHelper, Unfinished, name_of};
 use toml_span_lex::span::Span;
 use toml_span_lex::stop::Stop;
 use toml_span_tree::{Error, ErrorKind, Value, ValueInner};
 
-/// The error that something else was expected where this value stands. Takes no memory.
+/// Returns the error `Wanted`: something else was expected in place of this value. Takes no memory.
 pub fn expected<'s>(expected: &'s str, found: ValueInner, span: Span) -> Error<'s>
     ensures { content_of result ≡ wrong_kind expected.now (node (inner_view found.entry) span) }
 {
@@ -35,19 +35,18 @@ pub fn expected<'s>(expected: &'s str, found: ValueInner, span: Span) -> Error<'
     ))
 }
 
-/// Why a read ends where another kind of value stands: the error of `expected`, and no other.
+/// Returns why a read ends at a value of another kind: the error of `expected`, as the only one.
 pub(crate) fn refused<'s>(wanted: &'s str, found: ValueInner, span: Span) -> Stop<DeserError<'s>>
     ensures { result ≡ Fault (one (wrong_kind wanted.now (node (inner_view found.entry) span))) }
 {
     Stop::Fault(expected(wanted, found, span).into())
 }
 
-/// What `FromStr` makes of a value's string. The value, which must not be taken before (`is_taken`), is
-/// taken in every case.
+/// Returns what `FromStr` makes of a value's string. The value must not be taken before (`is_taken`), and is taken in
+/// every case.
 ///
-/// Of another kind, the error is `Wanted` "a string". Where `FromStr` refuses the string, it is
-/// `Custom`: `failed to parse string: ` and the text of the refusal. Both stand at the value's span.
-/// Memory is taken for that text alone.
+/// For a value of another kind the error is `Wanted` "a string". If `FromStr` refuses the string, it is `Custom`:
+/// `failed to parse string: ` and the text of its error. Both are at the value's span. Only that text needs memory.
 pub fn parse<'de, T: FromStr<Err = E>, E: Display + Drop>(
     alloc: Global,
     value: &mut Value<'de>,
@@ -71,7 +70,7 @@ pub fn parse<'de, T: FromStr<Err = E>, E: Display + Drop>(
     }
 }
 
-/// The error of a string that could not be read.
+/// Returns the error of a string that could not be read.
 fn unparsed<'s, E: Display + Drop>(
     alloc: Global,
     refusal: E,

@@ -12,7 +12,7 @@ use std::{fmt, mem};
 use toml_span_lex::stop::Stop;
 use toml_span_tree::Error;
 
-/// The errors of a read, in the order in which they were met. There is at least one.
+/// The errors of a read, in the order in which they were found. There is at least one.
 #[derive(Debug, Drop)]
 pub struct DeserError<'s> {
     earlier: Option<Vec<Error<'s>>>,
@@ -69,7 +69,7 @@ impl Display for DeserError<'_> {
 
 impl std::error::Error for DeserError<'_> {}
 
-/// A merge that found no memory: it hands the other errors back.
+/// A merge for which memory ran out, with the other errors.
 #[derive(Debug, Drop)]
 pub struct Unmerged<'s> {
     pub other: DeserError<'s>,
@@ -77,7 +77,7 @@ pub struct Unmerged<'s> {
 }
 
 impl<'s> DeserError<'s> {
-    /// How many errors there are, at least one.
+    /// Returns how many errors there are, at least one.
     pub fn len(&self) -> usize
         ensures { result ≡ length (all self.now) }
     {
@@ -87,7 +87,7 @@ impl<'s> DeserError<'s> {
         }
     }
 
-    /// The error at this position, counted from 0, if there are so many.
+    /// Returns the error at this position, from 0, if there is one.
     pub fn get(&self, index: usize) -> Option<&Error<'s>>
         ensures { option_map (λ e. content_of e.now) result ≡ slice_get (all self.now) index }
     {
@@ -101,14 +101,14 @@ impl<'s> DeserError<'s> {
         }
     }
 
-    /// The last error.
+    /// Returns the last error.
     pub fn last(&self) -> &Error<'s>
         ensures { content_of result.now ≡ self.now.last }
     {
         &self.last
     }
 
-    /// The errors in order.
+    /// Returns the errors in order.
     pub fn iter(&self) -> ErrorIter<'_, 's>
         ensures { result ≡ all self.now }
     {
@@ -118,7 +118,7 @@ impl<'s> DeserError<'s> {
         }
     }
 
-    /// The errors before the last one.
+    /// Returns the errors before the last one.
     fn earlier(&self) -> &[Error<'s>]
         ensures { map content_of result.now ≡ self.now.earlier }
     {
@@ -128,8 +128,7 @@ impl<'s> DeserError<'s> {
         }
     }
 
-    /// Puts the errors of the other behind these. On want of memory these are as before, and the
-    /// other comes back.
+    /// Appends the errors of the other. If memory runs out these are as before, and the other ones are returned.
     pub fn merge(&mut self, alloc: Global, other: DeserError<'s>) -> Result<(), Unmerged<'s>>
         ensures ok { OnOk result (all self.new ≡ all self.old ++ all other.entry) }
         ensures err { IfErr result (λ u. (self.new ≡ self.old) × (u.other ≡ other.entry)) }
@@ -149,7 +148,7 @@ impl<'s> DeserError<'s> {
         Ok(())
     }
 
-    /// The errors in order, as a list.
+    /// Returns the errors in order, as a list.
     pub fn into_errors(self, alloc: Global) -> Result<Vec<Error<'s>>, AllocError>
         ensures { IfOk result (λ list. map content_of list.items ≡ all self.entry) }
     {
@@ -158,7 +157,7 @@ impl<'s> DeserError<'s> {
         Ok(list)
     }
 
-    /// Puts the errors behind those of a list. On want of memory the list is as before, and these are dropped.
+    /// Appends the errors to a list. If memory runs out the list is as before, and these are dropped.
     pub fn append_to(self, list: &mut Vec<Error<'s>>) -> Result<(), AllocError>
         ensures ok { OnOk result (map content_of list.new.items ≡ map content_of list.old.items ++ all self.entry) }
         ensures err { OnErr result (list.new.items ≡ list.old.items) }
@@ -175,7 +174,7 @@ impl<'s> DeserError<'s> {
         Ok(())
     }
 
-    /// The errors of a list in their order, or None of an empty one. Takes no memory.
+    /// Returns the errors of a list in their order, or None for an empty one. Takes no memory.
     pub fn from_list(mut list: Vec<Error<'s>>) -> Option<DeserError<'s>>
         ensures { all_of_option result ≡ map content_of list.entry.items }
     {
@@ -187,7 +186,7 @@ impl<'s> DeserError<'s> {
     }
 }
 
-/// The errors of a read, one after the other.
+/// Goes through the errors of a read.
 #[derive(Drop)]
 pub struct ErrorIter<'a, 's> {
     earlier: &'a [Error<'s>],

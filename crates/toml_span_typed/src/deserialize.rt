@@ -13,36 +13,37 @@ mod floats;
 mod holders;
 mod integers;
 mod maps;
+mod ranges;
 mod scalars;
 mod spanned;
 mod tuples;
 
 use crate::deser_error::DeserError;
 pub use holders::Parsed;
+pub use ranges::InRange;
 use std::alloc::{AllocError, Global};
 use toml_span_lex::stop::Stop;
 use toml_span_tree::{Error, Value};
 
-/// A type that can be read of a value.
+/// A type that can be read from a value.
 ///
-/// An implementation states what its read may answer and leave: `reads` relates the value before, the
-/// answer, which is an element or the errors, and the value left, and `starved` says what want of
-/// memory leaves. An implementation that leaves them out says nothing of either.
+/// An implementation states what its read may return and leave: `reads` relates the value before, the result, which is
+/// an element or the errors, and the value left, and `starved` says what is left if memory runs out. Without them the
+/// contract says nothing about either.
 pub trait Deserialize<'de>: Sized + Drop {
     ghost reads: { Node → Result Self Errors → Node → Type 0 } = { λ _ _ _. Unit {0} };
 
     ghost starved: { Node → Node → Type 0 } = { λ _ _. Unit {0} };
 
-    /// Reads the value, of which nothing may be taken, neither here nor below (`is_whole`). The fault has all
-    /// errors, in the order in which they were met. What is left of the value the implementation says:
-    /// `reads`, and `starved` where memory ran out.
+    /// Reads the value, of which nothing may be taken, here or below (`is_whole`). The fault has all errors, in the order
+    /// in which they were found. The implementation says what is left of the value: `reads`, or `starved` if memory ran
+    /// out.
     fn deserialize(alloc: Global, value: &mut Value<'de>) -> Result<Self, Stop<DeserError<'de>>>
         requires { IsTrue (is_whole (view value.old)) }
         ensures { Answers reads starved (view value.old) result (view value.new) };
 }
 
-/// Reads a value. Where that fails, its errors are kept behind those of a list, and there is no answer; without
-/// memory none is kept.
+/// Reads a value. If that fails, appends its errors to a list and returns None. If memory runs out the list is as before.
 pub(crate) fn read_or_keep<'de, T: Deserialize<'de>>(
     alloc: Global,
     mut value: Value<'de>,

@@ -1,34 +1,32 @@
 //! Reads of a struct from a table.
 
-/// The body of a `deserialize` that reads a struct from a table, in a function that answers
+/// The body of a `deserialize` that reads a struct from a table, in a function that returns
 /// `Result<_, Stop<DeserError>>`: `read_table!(alloc, value, Server { host: String; port: u16; })`.
 ///
-/// Each field is read as its type, of the key that has the field's name, and ends in a semicolon. What
-/// may stand before it:
+/// Each field is read as its type, from the key of its name, and ends with a semicolon. Before it may be
 ///
-/// - `port: u16 = "listen-port";` reads another key;
-/// - `tags: Option<Vec<String>>;` is None where the key is not there; so is `tags: Vec<String>, optional;`,
-///   for a type that is written in another way;
-/// - `port: u16, or(80);` is the value in parentheses where the key is not there, which is evaluated only
-///   then;
-/// - `port: u16 = "listen-port", or(80);` is both;
-/// - `level: Level, parsed;` is what `FromStr` makes of a string; the type may be an `Option`, a `Spanned` or an
-///   `Option` of a `Spanned`, and `or(..)` may stand behind it;
-/// - `max_body: u64 = "max-body", alias("max_body");` may stand under an old name (`TableHelper::read_either`);
-///   `alias` comes first, and the others may stand behind it;
-/// - `servers: Vec<Server>, unique(name);` is an error for each server whose field `name`, a `Spanned<String>`, an
-///   earlier one has too (`TableHelper::keep_repeated`);
-/// - `limits: Limits, flatten;`, the last field, is read of the keys that are left (`TableHelper::read_rest`).
+/// - `port: u16 = "listen-port";`: another key;
+/// - `tags: Option<Vec<String>>;`: None if the key is absent; `tags: Vec<String>, optional;` is the same, for a field
+///   whose type is an alias of an `Option`;
+/// - `port: u16, or(80);`: the value in parentheses if the key is absent, which is evaluated only then;
+/// - `port: u16, range(1..=65535);`: another integer is an error that names the range (`InRange`), also in an `Option`,
+///   a `Spanned` or an `Option` of a `Spanned`; `or(..)` may follow;
+/// - `level: Level, parsed;`: a string that `FromStr` converts, with the same types and `or(..)`;
+/// - `max_body: u64 = "max-body", alias("max_body");`: an old name too (`TableHelper::read_either`). Other words may
+///   follow;
+/// - `servers: Vec<Server>, unique(name);`: an error for each server whose field `name`, a `Spanned<String>`, repeats
+///   that of an earlier one (`TableHelper::keep_repeated`);
+/// - `limits: Limits, flatten;`, the last field: a type that reads the remaining keys (`TableHelper::read_rest`).
 ///
-/// Other keys are an error; with `..` behind the last field they are put back into the value. All errors
-/// are told, in the order of the fields.
+/// Other keys are an error; with `..` after the last field they are put back into the value. All errors are reported, in
+/// the order of the fields.
 ///
 /// With a list of warnings, `read_table!(alloc, value, warnings, Server { .. })`, it is the body of a
-/// `deserialize_with_warnings`, and a field may be
+/// `deserialize_with_warnings`. Unless memory runs out the warnings are appended to the list, and a field may be
 ///
-/// - `max_body: u64 = "max-body", deprecated("max_body");`, as `alias`, and its old name warns
-///   (`TableHelper::read_deprecated`);
-/// - `origin: Server, with_warnings;`, of a type that warns itself, or an `Option` of one.
+/// - `max_body: u64 = "max-body", deprecated("max_body");`: as `alias`, and the old name warns and is not listed as
+///   expected (`TableHelper::read_deprecated`);
+/// - `origin: Server, with_warnings;`: of a type that warns itself, or an `Option` of one.
 #[macro_export]
 macro_rules! read_table {
     ($alloc:expr, $value:expr, $table:ident { $($fields:tt)* }) => {{
@@ -37,137 +35,139 @@ macro_rules! read_table {
     }};
     ($alloc:expr, $value:expr, $warnings:ident, $table:ident { $($fields:tt)* }) => {{
         let mut helper = $crate::de_helpers::TableHelper::new($alloc, $value)?;
-        $crate::read_table!(@fields [helper, $value, [$warnings], [$table]] [] $($fields)*)
+        let mut told = helper.no_warnings();
+        $crate::read_table!(@fields [helper, $value, [told $warnings], [$table]] [] $($fields)*)
     }};
 
-    // a string with its bytes
+    // each field: its name, the form of its type, what is in the form, its key, and its words
     (@fields $read:tt [$($done:tt)*]
-        $field:ident: Option<Spanned<$ty:ty>> $(= $key:literal)?, parsed; $($rest:tt)*
+        $field:ident: Option<Spanned<$ty:ty>> $(= $key:literal)? $(, $how:ident $(($($word:tt)*))?)*; $($rest:tt)*
     ) => {
-        $crate::read_table!(@fields $read [$($done)* $field: $ty $(= $key)?, placed, optional;] $($rest)*)
-    };
-    (@fields $read:tt [$($done:tt)*] $field:ident: Spanned<$ty:ty> $(= $key:literal)?, parsed; $($rest:tt)*) => {
-        $crate::read_table!(@fields $read [$($done)* $field: $ty $(= $key)?, placed;] $($rest)*)
-    };
-
-    // a field with an old name, which becomes a second key
-    (@fields $read:tt [$($done:tt)*]
-        $field:ident: Option<$ty:ty> = $key:literal, alias($old:literal); $($rest:tt)*
-    ) => {
-        $crate::read_table!(@fields $read [$($done)* $field: $ty = $key $old, optional;] $($rest)*)
+        $crate::read_table!(@fields $read [
+            $($done)* $field [option spanned] [$ty] [$($key)?] [$($how $(($($word)*))?,)*];
+        ] $($rest)*)
     };
     (@fields $read:tt [$($done:tt)*]
-        $field:ident: $ty:ty = $key:literal, alias($old:literal) $(, $how:ident $(($default:expr))?)*; $($rest:tt)*
+        $field:ident: Option<$ty:ty> $(= $key:literal)? $(, $how:ident $(($($word:tt)*))?)*; $($rest:tt)*
     ) => {
-        $crate::read_table!(
-            @fields $read [$($done)* $field: $ty = $key $old $(, $how $(($default))?)*;] $($rest)*
-        )
+        $crate::read_table!(@fields $read [
+            $($done)* $field [option] [$ty] [$($key)?] [$($how $(($($word)*))?,)*];
+        ] $($rest)*)
     };
     (@fields $read:tt [$($done:tt)*]
-        $field:ident: Option<$ty:ty> = $key:literal, deprecated($old:literal); $($rest:tt)*
+        $field:ident: Spanned<$ty:ty> $(= $key:literal)? $(, $how:ident $(($($word:tt)*))?)*; $($rest:tt)*
     ) => {
-        $crate::read_table!(@fields $read [$($done)* $field: $ty = $key $old deprecated, optional;] $($rest)*)
-    };
-    (@fields $read:tt [$($done:tt)*]
-        $field:ident: $ty:ty = $key:literal, deprecated($old:literal) $(, $how:ident $(($default:expr))?)*;
-        $($rest:tt)*
-    ) => {
-        $crate::read_table!(
-            @fields $read [$($done)* $field: $ty = $key $old deprecated $(, $how $(($default))?)*;] $($rest)*
-        )
-    };
-
-    // each field in turn, where one of the type `Option` becomes optional
-    (@fields $read:tt [$($done:tt)*] $field:ident: Option<$ty:ty> $(= $key:literal)?; $($rest:tt)*) => {
-        $crate::read_table!(@fields $read [$($done)* $field: $ty $(= $key)?, optional;] $($rest)*)
-    };
-    (@fields $read:tt [$($done:tt)*]
-        $field:ident: Option<$ty:ty> $(= $key:literal)?, with_warnings; $($rest:tt)*
-    ) => {
-        $crate::read_table!(@fields $read [$($done)* $field: $ty $(= $key)?, with_warnings, optional;] $($rest)*)
-    };
-    (@fields $read:tt [$($done:tt)*] $field:ident: Option<$ty:ty> $(= $key:literal)?, parsed; $($rest:tt)*) => {
-        $crate::read_table!(@fields $read [$($done)* $field: $ty $(= $key)?, parsed, optional;] $($rest)*)
-    };
-    (@fields $read:tt [$($done:tt)*] $field:ident: $ty:ty $(= $key:literal)?, unique($name:ident); $($rest:tt)*) => {
-        $crate::read_table!(@fields $read [$($done)* $field: $ty $(= $key)?, unique($name);] $($rest)*)
+        $crate::read_table!(@fields $read [
+            $($done)* $field [spanned] [$ty] [$($key)?] [$($how $(($($word)*))?,)*];
+        ] $($rest)*)
     };
     (@fields $read:tt [$($done:tt)*] $field:ident: $ty:ty, flatten; $next:ident $($rest:tt)*) => {
-        compile_error!("`read_table!`: the field with `flatten` is the last one")
+        compile_error!(concat!("`read_table!`: `", stringify!($field), "` has `flatten`, so it must be the last field"))
     };
     (@fields $read:tt [$($done:tt)*]
-        $field:ident: $ty:ty $(= $key:literal)? $(, $how:ident $(($default:expr))?)*; $($rest:tt)*
+        $field:ident: $ty:ty $(= $key:literal)? $(, $how:ident $(($($word:tt)*))?)*; $($rest:tt)*
     ) => {
-        $crate::read_table!(
-            @fields $read [$($done)* $field: $ty $(= $key)? $(, $how $(($default))?)*;] $($rest)*
-        )
+        $crate::read_table!(@fields $read [
+            $($done)* $field [] [$ty] [$($key)?] [$($how $(($($word)*))?,)*];
+        ] $($rest)*)
     };
-    (@fields $read:tt [$($done:tt)*] $field:ident: $ty:ty $(= $key:literal)?, $($rest:tt)*) => {
-        compile_error!("`read_table!`: fields end with `;`")
-    };
-    (@fields $read:tt [$($done:tt)*] $field:ident: $ty:ty $(= $key:literal)?) => {
-        compile_error!("`read_table!`: fields end with `;`")
+    (@fields $read:tt [$($done:tt)*] $field:ident: $ty:ty $(= $key:literal)? $(, $($rest:tt)*)?) => {
+        compile_error!(concat!("`read_table!`: `", stringify!($field), "` must end with `;`, as each field"))
     };
     (@fields $read:tt $fields:tt) => { $crate::read_table!(@table $read finish() $fields) };
     (@fields [$helper:ident, $value:expr, $warnings:tt, $table:tt] $fields:tt ..) => {
         $crate::read_table!(@table [$helper, $value, $warnings, $table] finish_into($value) $fields)
     };
+    (@fields $read:tt $fields:tt $field:ident $($rest:tt)*) => {
+        compile_error!(concat!("`read_table!`: `", stringify!($field), "` must be a field: `name: Type;`"))
+    };
 
     (@table [$helper:ident, $value:expr, $warnings:tt, [$($table:tt)+]] $finish:ident($($rest:expr)?) [
-        $($field:ident: $ty:ty $(= $key:literal $($old:literal $($deprecated:ident)?)?)?
-            $(, $how:ident $(($($word:tt)*))?)*;)*
+        $($field:ident $form:tt [$ty:ty] [$($key:literal)?] [$($words:tt)*];)*
     ]) => {{
-        $(let $field = $crate::read_table!(
-            @read [$helper, $warnings], $ty,
-            [$crate::read_table!(@key $field $($key)?) $($(, $old $(, $deprecated)?)?)?] $(, $how $(($($word)*))?)*
-        );)*
+        $(let $field = $crate::read_table!(@words [$helper, $warnings, $field] $form [$ty]
+            [$crate::read_table!(@key $field $($key)?)] $($words)*);)*
+        $crate::read_table!(@append $warnings);
         $helper.$finish($($rest)?)?;
         Ok($($table)+ {
-            $($field: $crate::read_table!(@field $field $($how)*),)*
+            $($field: $crate::read_table!(@field $form $field $($words)*),)*
         })
     }};
 
     (@key $field:ident) => { stringify!($field) };
     (@key $field:ident $key:literal) => { $key };
 
-    (@one [$helper:ident, $warnings:tt], $ty:ty, [$key:expr]) => { $helper.read::<$ty>($key)? };
-    (@one [$helper:ident, $warnings:tt], $ty:ty, [$key:expr, $old:expr]) => {
+    (@append []) => { () };
+    (@append [$told:ident $warnings:ident]) => { $warnings.append(&mut $told)? };
+
+    // a field that must be there, and one that may be absent
+    (@one [$helper:ident, $warnings:tt, $field:ident], $ty:ty, [$key:expr]) => { $helper.read::<$ty>($key)? };
+    (@one [$helper:ident, $warnings:tt, $field:ident], $ty:ty, [$key:expr, $old:expr]) => {
         $helper.read_either::<$ty>($key, $old)?
     };
-    (@one [$helper:ident, [$warnings:ident]], $ty:ty, [$key:expr, $old:expr, deprecated]) => {
-        $helper.read_deprecated::<$ty>($key, $old, $warnings)?
+    (@one [$helper:ident, [$told:ident $warnings:ident], $field:ident], $ty:ty, [$key:expr, $old:expr, deprecated]) => {
+        $helper.read_deprecated::<$ty>($key, $old, &mut $told)?
     };
-    (@some [$helper:ident, $warnings:tt], $ty:ty, [$key:expr]) => { $helper.read_optional::<$ty>($key)? };
-    (@some [$helper:ident, $warnings:tt], $ty:ty, [$key:expr, $old:expr]) => {
+    (@some [$helper:ident, $warnings:tt, $field:ident], $ty:ty, [$key:expr]) => { $helper.read_optional::<$ty>($key)? };
+    (@some [$helper:ident, $warnings:tt, $field:ident], $ty:ty, [$key:expr, $old:expr]) => {
         $helper.read_optional_either::<$ty>($key, $old)?
     };
-    (@some [$helper:ident, [$warnings:ident]], $ty:ty, [$key:expr, $old:expr, deprecated]) => {
-        $helper.read_optional_deprecated::<$ty>($key, $old, $warnings)?
+    (@some [$helper:ident, [$told:ident $warnings:ident], $field:ident], $ty:ty, [$key:expr, $old:expr, deprecated]) => {
+        $helper.read_optional_deprecated::<$ty>($key, $old, &mut $told)?
     };
-    (@one $helper:tt, $ty:ty, [$key:expr, $old:expr, deprecated]) => {
-        compile_error!("`read_table!`: `deprecated` warns: `read_table!(alloc, value, warnings, ..)`")
+    (@one [$helper:ident, [], $field:ident], $ty:ty, [$key:expr, $old:expr, deprecated]) => {
+        $crate::read_table!(@silent $field deprecated)
     };
-    (@some $helper:tt, $ty:ty, [$key:expr, $old:expr, deprecated]) => {
-        compile_error!("`read_table!`: `deprecated` warns: `read_table!(alloc, value, warnings, ..)`")
+    (@some [$helper:ident, [], $field:ident], $ty:ty, [$key:expr, $old:expr, deprecated]) => {
+        $crate::read_table!(@silent $field deprecated)
+    };
+    (@silent $field:ident $how:ident) => {
+        compile_error!(concat!("`read_table!`: `", stringify!($field), "` has `", stringify!($how),
+            "`, so the call needs a list of warnings: `read_table!(alloc, value, warnings, ..)`"))
     };
 
-    (@read $helper:tt, $ty:ty, $keys:tt) => { $crate::read_table!(@one $helper, $ty, $keys) };
-    (@read $helper:tt, $ty:ty, $keys:tt, optional) => { $crate::read_table!(@some $helper, $ty, $keys) };
-    (@read $helper:tt, $ty:ty, $keys:tt, or($default:expr)) => {
-        match $crate::read_table!(@some $helper, $ty, $keys) {
+    // words for any form
+    (@words $read:tt $form:tt [$ty:ty] [$($keys:tt)*] alias($old:literal), $($words:tt)*) => {
+        $crate::read_table!(@words $read $form [$ty] [$($keys)*, $old] $($words)*)
+    };
+    (@words $read:tt $form:tt [$ty:ty] [$($keys:tt)*] deprecated($old:literal), $($words:tt)*) => {
+        $crate::read_table!(@words $read $form [$ty] [$($keys)*, $old, deprecated] $($words)*)
+    };
+    (@words $read:tt $form:tt [$ty:ty] $keys:tt parsed, $($words:tt)*) => {
+        $crate::read_table!(@held $read $form $crate::Parsed<$ty>, $keys $($words)*)
+    };
+    (@words $read:tt $form:tt [$ty:ty] $keys:tt range($low:literal..=$high:literal), $($words:tt)*) => {
+        $crate::read_table!(@held $read $form $crate::InRange<$ty, $low, $high>, $keys $($words)*)
+    };
+
+    // the forms become types
+    (@words $read:tt [option spanned] [$ty:ty] $keys:tt $($words:tt)*) => {
+        $crate::read_table!(@words $read [option] [Spanned<$ty>] $keys $($words)*)
+    };
+    (@words $read:tt [spanned] [$ty:ty] $keys:tt $($words:tt)*) => {
+        $crate::read_table!(@words $read [] [Spanned<$ty>] $keys $($words)*)
+    };
+    (@words $read:tt [option] [$ty:ty] $keys:tt) => { $crate::read_table!(@some $read, $ty, $keys) };
+    (@words [$helper:ident, [$told:ident $warnings:ident], $field:ident] [option] [$ty:ty] [$key:expr] with_warnings,) => {
+        $helper.read_optional_with_warnings::<$ty>($key, &mut $told)?
+    };
+    (@words $read:tt [option] [$ty:ty] $keys:tt $($words:tt)*) => {
+        $crate::read_table!(@words $read [] [Option<$ty>] $keys $($words)*)
+    };
+
+    (@words $read:tt [] [$ty:ty] $keys:tt) => { $crate::read_table!(@one $read, $ty, $keys) };
+    (@words $read:tt [] [$ty:ty] $keys:tt optional,) => { $crate::read_table!(@some $read, $ty, $keys) };
+    (@words $read:tt [] [$ty:ty] $keys:tt or($default:expr),) => {
+        match $crate::read_table!(@some $read, $ty, $keys) {
             Some(field) => field,
             None => $default,
         }
     };
-
-    (@read [$helper:ident, [$warnings:ident]], $ty:ty, [$key:expr], with_warnings) => {
-        $helper.read_with_warnings::<$ty>($key, $warnings)?
+    (@words [$helper:ident, [$told:ident $warnings:ident], $field:ident] [] [$ty:ty] [$key:expr] with_warnings,) => {
+        $helper.read_with_warnings::<$ty>($key, &mut $told)?
     };
-    (@read [$helper:ident, [$warnings:ident]], $ty:ty, [$key:expr], with_warnings, optional) => {
-        $helper.read_optional_with_warnings::<$ty>($key, $warnings)?
-    };
-    (@read [$helper:ident, $warnings:tt], $ty:ty, $keys:tt, unique($name:ident)) => {{
-        let list = $crate::read_table!(@one [$helper, $warnings], $ty, $keys);
+    (@words [$helper:ident, $warnings:tt, $field:ident] [] [$ty:ty] $keys:tt unique($name:ident),) => {{
+        let list = $crate::read_table!(@one [$helper, $warnings, $field], $ty, $keys);
         if let Some(list) = &list {
             let mut names = $helper.no_names();
             for entry in list.iter() {
@@ -177,13 +177,19 @@ macro_rules! read_table {
         }
         list
     }};
-    (@read [$helper:ident, $warnings:tt], $ty:ty, $keys:tt, flatten) => { $helper.read_rest::<$ty>()? };
+    (@words [$helper:ident, $warnings:tt, $field:ident] [] [$ty:ty] $keys:tt flatten,) => { $helper.read_rest::<$ty>()? };
 
-    (@read $helper:tt, $ty:ty, $keys:tt, parsed) => {
-        $crate::read_table!(@one $helper, $crate::Parsed<$ty>, $keys)
+    // a type that holds the value of the field
+    (@held $read:tt [] $ty:ty, $keys:tt) => { $crate::read_table!(@one $read, $ty, $keys) };
+    (@held $read:tt [] $ty:ty, $keys:tt optional,) => { $crate::read_table!(@held $read [option] $ty, $keys) };
+    (@held $read:tt [] $ty:ty, $keys:tt or($default:expr),) => {
+        match $crate::read_table!(@some $read, $ty, $keys) {
+            Some(field) => field.value,
+            None => $default,
+        }
     };
-    (@read $helper:tt, $ty:ty, $keys:tt, parsed, optional) => {
-        match $crate::read_table!(@some $helper, $crate::Parsed<$ty>, $keys) {
+    (@held $read:tt [option] $ty:ty, $keys:tt) => {
+        match $crate::read_table!(@some $read, $ty, $keys) {
             Some(field) => {
                 let value = field.value;
                 Some(value)
@@ -191,18 +197,11 @@ macro_rules! read_table {
             None => None,
         }
     };
-    (@read $helper:tt, $ty:ty, $keys:tt, parsed, or($default:expr)) => {
-        match $crate::read_table!(@some $helper, $crate::Parsed<$ty>, $keys) {
-            Some(field) => field.value,
-            None => $default,
-        }
+    (@held $read:tt [spanned] $ty:ty, $keys:tt) => {
+        $crate::read_table!(@one $read, $crate::Spanned<$ty>, $keys)
     };
-
-    (@read $helper:tt, $ty:ty, $keys:tt, placed) => {
-        $crate::read_table!(@one $helper, $crate::Spanned<$crate::Parsed<$ty>>, $keys)
-    };
-    (@read $helper:tt, $ty:ty, $keys:tt, placed, optional) => {
-        match $crate::read_table!(@some $helper, $crate::Spanned<$crate::Parsed<$ty>>, $keys) {
+    (@held $read:tt [option spanned] $ty:ty, $keys:tt) => {
+        match $crate::read_table!(@some $read, $crate::Spanned<$ty>, $keys) {
             Some(field) => {
                 let span = field.span;
                 let value = field.value.value;
@@ -211,20 +210,76 @@ macro_rules! read_table {
             None => None,
         }
     };
+    (@held [$helper:ident, $warnings:tt, $field:ident] $form:tt $ty:ty, $keys:tt $($words:tt)+) => {
+        compile_error!(concat!("`read_table!`: `", stringify!($field), "`: after `parsed` and `range(..)` may only be ",
+            "`or(value)`, and neither after a `Spanned` nor an `Option`"))
+    };
 
-    (@field $field:ident) => { $field.unwrap() };
-    (@field $field:ident with_warnings) => { $field.unwrap() };
-    (@field $field:ident unique) => { $field.unwrap() };
-    (@field $field:ident flatten) => { $field.unwrap() };
-    (@field $field:ident parsed) => {{
+    // words that are not written so
+    (@words [$helper:ident, [], $field:ident] $form:tt [$ty:ty] $keys:tt with_warnings, $($words:tt)*) => {
+        $crate::read_table!(@silent $field with_warnings)
+    };
+    (@words $read:tt $form:tt [$ty:ty] $keys:tt alias $($words:tt)*) => {
+        $crate::read_table!(@badly $read "alias(\"old-name\")")
+    };
+    (@words $read:tt $form:tt [$ty:ty] $keys:tt deprecated $($words:tt)*) => {
+        $crate::read_table!(@badly $read "deprecated(\"old-name\")")
+    };
+    (@words $read:tt $form:tt [$ty:ty] $keys:tt range $($words:tt)*) => {
+        $crate::read_table!(@badly $read "range(1..=9)`, with two literals, before `or(..)")
+    };
+    (@words $read:tt $form:tt [$ty:ty] $keys:tt or $($words:tt)*) => {
+        $crate::read_table!(@badly $read "or(value)`, as the last word, of a type that is no `Spanned")
+    };
+    (@words $read:tt $form:tt [$ty:ty] $keys:tt unique $($words:tt)*) => {
+        $crate::read_table!(@badly $read "unique(field)`, as the last word")
+    };
+    (@words $read:tt $form:tt [$ty:ty] $keys:tt optional $($words:tt)*) => {
+        $crate::read_table!(@badly $read "optional`, as the last word")
+    };
+    (@words $read:tt $form:tt [$ty:ty] $keys:tt flatten $($words:tt)*) => {
+        $crate::read_table!(@badly $read "flatten`, as the only word")
+    };
+    (@words $read:tt $form:tt [$ty:ty] $keys:tt parsed $($words:tt)*) => {
+        $crate::read_table!(@badly $read "parsed`, once, before `or(..)")
+    };
+    (@words $read:tt $form:tt [$ty:ty] $keys:tt with_warnings $($words:tt)*) => {
+        $crate::read_table!(@badly $read "with_warnings`, as the only word")
+    };
+    (@badly [$helper:ident, $warnings:tt, $field:ident] $form:literal) => {
+        compile_error!(concat!("`read_table!`: `", stringify!($field), "`: write `", $form, "`"))
+    };
+    // the compiler reports an unknown word where it is written, with the name of this module
+    (@words $read:tt $form:tt [$ty:ty] $keys:tt $how:ident $($words:tt)*) => {
+        $crate::words_are_alias_deprecated_flatten_optional_or_parsed_range_unique_with_warnings::$how
+    };
+
+    // the field of the struct, once all errors are known
+    (@field $form:tt $field:ident alias $old:tt, $($words:tt)*) => {
+        $crate::read_table!(@field $form $field $($words)*)
+    };
+    (@field $form:tt $field:ident deprecated $old:tt, $($words:tt)*) => {
+        $crate::read_table!(@field $form $field $($words)*)
+    };
+    (@field [$($form:ident)*] $field:ident parsed, $($words:tt)*) => {
+        $crate::read_table!(@field [$($form)* held] $field $($words)*)
+    };
+    (@field [$($form:ident)*] $field:ident range $range:tt, $($words:tt)*) => {
+        $crate::read_table!(@field [$($form)* held] $field $($words)*)
+    };
+    (@field $form:tt $field:ident or $default:tt,) => { $field };
+    (@field $form:tt $field:ident optional,) => { $field };
+    (@field [option $($form:ident)*] $field:ident) => { $field };
+    (@field [option $($form:ident)*] $field:ident with_warnings,) => { $field };
+    (@field [held] $field:ident) => {{
         let value = $field.unwrap().value;
         value
     }};
-    (@field $field:ident placed) => {{
+    (@field [spanned held] $field:ident) => {{
         let field = $field.unwrap();
         let span = field.span;
         let value = field.value.value;
         $crate::Spanned::with_span(value, span)
     }};
-    (@field $field:ident $($how:ident)+) => { $field };
+    (@field $form:tt $field:ident $($words:tt)*) => { $field.unwrap() };
 }

@@ -1,6 +1,6 @@
 //! Reads of an enum whose variants have data.
 
-/// The body of a `deserialize` that reads an enum from a table, one of whose keys tells the variant:
+/// The body of a `deserialize` that reads an enum from a table, one of whose keys selects the variant:
 ///
 /// ```text
 /// read_tagged!(alloc, value, "kind", {
@@ -10,10 +10,10 @@
 /// })
 /// ```
 ///
-/// The fields of a variant are written as those of `read_table!`, and told in the same way. A variant that holds one
-/// value of another type, as `Target::Server(Server)`, reads it of the keys beside the tag; one that holds nothing
-/// allows no other keys. A tag that no variant has is the error `UnexpectedValue` at the tag, with the tags that are
-/// expected, and one that is absent `MissingField`; then nothing else is told of the table. With a list of warnings,
+/// The fields of a variant are written as those of `read_table!`, and their errors are the same. A variant that holds one
+/// value of another type, such as `Target::Server(Server)`, reads it from the other keys; one that holds nothing allows
+/// no other keys. A tag that no variant has is the error `UnexpectedValue` at the tag, with the tags that are expected,
+/// and an absent one is `MissingField`; then no other error of the table is reported. With a list of warnings,
 /// `read_tagged!(alloc, value, warnings, "kind", { .. })`, it is the body of a `deserialize_with_warnings`.
 #[macro_export]
 macro_rules! read_tagged {
@@ -23,7 +23,8 @@ macro_rules! read_tagged {
     }};
     ($alloc:expr, $value:expr, $warnings:ident, $name:literal, { $($arms:tt)* }) => {{
         let mut helper = $crate::de_helpers::TableHelper::new($alloc, $value)?;
-        $crate::read_tagged!(@arms [helper, $value, [$warnings], $name] $($arms)*)
+        let mut told = helper.no_warnings();
+        $crate::read_tagged!(@arms [helper, $value, [told $warnings], $name] $($arms)*)
     }};
 
     (@arms [$helper:ident, $value:expr, $warnings:tt, $name:literal]

@@ -1,11 +1,11 @@
-//! Reads that also warn, as of fields under deprecated names.
+//! Reads that also warn, such as those of fields under deprecated names.
 ghost use Rattle.std.specs.Prelude.{◌≡◌, ◌+◌, ◌≤◌, IfOk, IsTrue, List, OnErr, Result, length, map};
 ghost use Rattle.toml_span_tree.specs.Error.{ErrorContent, content_of};
 ghost use Rattle.toml_span_tree.specs.Node.{Node};
 ghost use Rattle.toml_span_tree.specs.Value.{is_whole, view};
 ghost use Rattle.toml_span_typed.specs.Errors.{Errors};
 ghost use Rattle.toml_span_typed.specs.Fields.{lacking};
-ghost use Rattle.toml_span_typed.specs.WithWarnings.{AnswersWithWarnings};
+ghost use Rattle.toml_span_typed.specs.WithWarnings.{AnswersWithWarnings, Extends};
 ghost use Rattle.toml_span_typed.specs.code.WithWarnings.{ReadsOrKeeps};
 
 mod lists;
@@ -15,28 +15,29 @@ use std::alloc::{AllocError, Global};
 use toml_span_lex::stop::Stop;
 use toml_span_tree::{Error, Value};
 
-/// A type whose read has warnings besides its errors. `Deserialize` has no place for them, so such a type is read by
-/// calls that have one, and no other read of a table can lose them.
+/// A type whose read also warns. It does not implement `Deserialize`, which has no list for the warnings, so that no read
+/// can lose them.
 ///
-/// An implementation may state what its read answers: `reads` relates the value before, the answer, which is an
-/// element or the errors, the warnings before and those after. One that leaves it out says nothing of them.
+/// An implementation may state what its read returns: `reads` relates the value before, the result, which is an
+/// element or the errors, the warnings before and those after. Without it the contract says nothing about them.
 pub trait DeserializeWithWarnings<'de>: Sized + Drop {
     ghost reads: { Node → Result Self Errors → List ErrorContent → List ErrorContent → Type 0 } = { λ _ _ _ _. Unit {0} };
 
-    /// Reads the value, of which nothing may be taken, neither here nor below (`is_whole`). Warnings are put behind
-    /// those of the list, also where the read fails.
+    /// Reads the value, of which nothing may be taken, here or below (`is_whole`). Appends the warnings to the list, even
+    /// if the read fails. The earlier ones stay, also if memory runs out.
     fn deserialize_with_warnings(
         alloc: Global,
         value: &mut Value<'de>,
         warnings: &mut Vec<Error<'de>>,
     ) -> Result<Self, Stop<DeserError<'de>>>
         requires { IsTrue (is_whole (view value.old)) }
-        ensures { AnswersWithWarnings reads (view value.old) result (map content_of warnings.old.items)
-            (map content_of warnings.new.items) };
+        ensures answer { AnswersWithWarnings reads (view value.old) result (map content_of warnings.old.items)
+            (map content_of warnings.new.items) }
+        ensures kept { Extends (map content_of warnings.old.items) (map content_of warnings.new.items) };
 }
 
-/// Reads a value. Where that fails, its errors are kept behind those of a list, and there is no answer; without
-/// memory none is kept.
+/// Reads a value. If that fails, appends its errors to a list and returns None. If memory runs out the errors are as
+/// before.
 pub(crate) fn read_or_keep<'de, T: DeserializeWithWarnings<'de>>(
     alloc: Global,
     mut value: Value<'de>,
@@ -50,6 +51,7 @@ pub(crate) fn read_or_keep<'de, T: DeserializeWithWarnings<'de>>(
     ensures told { IfOk result (λ element. length (map content_of faults.old.items) + lacking element
         ≤ length (map content_of faults.new.items)) }
     ensures err { OnErr result (faults.new.items ≡ faults.old.items) }
+    ensures kept { Extends (map content_of warnings.old.items) (map content_of warnings.new.items) }
 {
     let read = T::deserialize_with_warnings(alloc, &mut value, warnings);
     drop(value);

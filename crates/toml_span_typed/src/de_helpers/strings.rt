@@ -1,4 +1,4 @@
-//! Strings that are read by `FromStr` or a function, in the body of a `deserialize`.
+//! Strings that `FromStr` or a function reads, in the body of a `deserialize`.
 ghost use Rattle.std.specs.Fn.{FnOnceReturnsAt};
 ghost use Rattle.std.specs.Prelude.{◌≡◌, false};
 ghost use Rattle.toml_span_tree.specs.Value.{is_taken, view};
@@ -13,8 +13,8 @@ use std::str::FromStr;
 use toml_span_lex::stop::Stop;
 use toml_span_tree::Value;
 
-/// What `FromStr` makes of a value's string, as `parse` gives it, with its error in a list: the body of
-/// a `deserialize`, as of an enum's whose variants are named by strings.
+/// Returns what `FromStr` makes of a value's string, as `parse` does, with its error in a list: the body of a
+/// `deserialize`.
 pub fn parsed<'de, T: FromStr<Err = E>, E: Display + Drop>(
     alloc: Global,
     value: &mut Value<'de>,
@@ -30,11 +30,11 @@ pub fn parsed<'de, T: FromStr<Err = E>, E: Display + Drop>(
     }
 }
 
-/// What a function makes of a value's string: the body of a `deserialize` of a type that owns text, which `FromStr` has
-/// no allocator to copy.
+/// Returns what a function makes of a value's string: the body of a `deserialize` of a type that owns text, since
+/// `FromStr` has no allocator to copy it.
 ///
-/// The value, which must not be taken before (`is_taken`), is taken in every case. A fault that the function tells is
-/// told as `parsed` does, and its want of memory is answered. Of another kind of value it is not called.
+/// The value must not be taken before (`is_taken`), and is taken in every case. An error of the function becomes that of
+/// `parsed`, unless memory ran out. For another kind of value it is not called.
 pub fn parse_with<'de, T: Drop, E: Display + Drop, F: FnOnce(&str) -> Result<T, Stop<E>> + Drop>(
     alloc: Global,
     value: &mut Value<'de>,

@@ -17,16 +17,17 @@ use crate::de_helpers::expected;
 use crate::deser_error::DeserError;
 use crate::deserialize::{Deserialize, read_or_keep};
 use std::alloc::{AllocError, Global};
+pub use tags::name_of;
 use toml_span_lex::key::Key;
 use toml_span_lex::span::Span;
 use toml_span_lex::spanned::Spanned;
 use toml_span_lex::stop::Stop;
 use toml_span_tree::{Error, ErrorKind, Table, Value, ValueInner};
 
-/// Reads the entries of a table one after the other, and keeps the errors and the names asked for.
+/// Reads the entries of a table one after the other, and keeps the errors and the names that were asked for.
 #[derive(Drop)]
 pub struct TableHelper<'de> {
-    /// The entries that were not asked for yet.
+    /// The entries that were not asked for.
     pub table: Table<'de>,
     /// The errors of the reads, in order.
     pub errors: Vec<Error<'de>>,
@@ -35,12 +36,12 @@ pub struct TableHelper<'de> {
     alloc: Global,
 }
 
-/// Why the reads of a table did not end well.
+/// Why the reads of a table failed.
 #[derive(Drop)]
 pub enum Unfinished<'de> {
     /// The errors that were kept.
     Faults(DeserError<'de>),
-    /// Memory ran out: the helper comes back as it was.
+    /// Memory ran out. The helper is as it was.
     Memory(TableHelper<'de>),
 }
 
@@ -68,8 +69,8 @@ impl<'de> TableHelper<'de> {
     ghost use Rattle.toml_span_typed.specs.TableHelper.{state_of, unasked, unexpected_entries};
     ghost use Rattle.toml_span_typed.specs.code.TableHelper.{ReadsValue};
 
-    /// A helper over the table that a value is, which must not be taken (`is_taken`). The value is taken.
-    /// Of another kind, the error is `Wanted` "a table". Takes no memory.
+    /// Returns a helper over the table that a value is. It must not be taken (`is_taken`), and is taken then. For a value
+    /// of another kind the error is `Wanted` "a table". Takes no memory.
     pub fn new(alloc: Global, value: &mut Value<'de>) -> Result<TableHelper<'de>, DeserError<'de>>
         requires { is_taken (view value.old) ≡ false }
         ensures answer { OpensTable (view value.old) (result_map state_of result) }
@@ -82,7 +83,7 @@ impl<'de> TableHelper<'de> {
         }
     }
 
-    /// A helper over a table that stands at a span. Takes no memory.
+    /// Returns a helper over a table, whose span is given. Takes no memory.
     pub fn from_table(alloc: Global, table: Table<'de>, span: Span) -> TableHelper<'de>
         ensures { state_of result ≡ fresh (members_view table.entry.entries) span }
     {
@@ -95,15 +96,14 @@ impl<'de> TableHelper<'de> {
         }
     }
 
-    /// Whether the table holds the name now. Records nothing.
+    /// Returns whether the table has an entry of this name now. Records nothing.
     pub fn contains(&self, name: &'de str) -> bool
         ensures { result ≡ is_some (found name.now (state_of self.now)) }
     {
         self.table.contains_key(&Key::named(name))
     }
 
-    /// Records the name, and moves its entry out, if there is one. Without memory for the name
-    /// nothing has changed.
+    /// Records the name, and moves its entry out, if there is one. If memory runs out nothing has changed.
     #[tactic(auto, using(crate::proofs::Whole::without_whole))]
     pub fn take(&mut self, name: &'de str) -> Result<Option<(Key<'de>, Value<'de>)>, AllocError>
         ensures answer { Takes name.now (state_of self.old) result (state_of self.new) }
@@ -117,9 +117,9 @@ impl<'de> TableHelper<'de> {
 
     /// Records the name, moves its entry out and reads it.
     ///
-    /// Where no entry stands, `MissingField` at the table's span is kept and answered. Where the read
-    /// fails, all its errors are kept, and the last one is answered. On want of memory nothing has
-    /// changed, or the name is recorded, its entry gone, and the errors are as before.
+    /// Without an entry, keeps `MissingField` at the table's span, and returns it. If the read fails, keeps all its
+    /// errors, and returns the last one. If memory runs out nothing has changed, or the name is recorded, its entry gone,
+    /// and the errors are as before.
     pub fn required<T: Deserialize<'de>>(&mut self, name: &'de str) -> Result<T, Stop<Error<'de>>>
         requires { IfSome (found name.now (state_of self.old)) (λ value. IsTrue (is_whole value)) }
         ensures answer { Requires T.reads name.now (state_of self.old) result (state_of self.new) }
@@ -138,7 +138,7 @@ impl<'de> TableHelper<'de> {
         }
     }
 
-    /// As `required`, with the span of the value.
+    /// Reads an entry as `required` does, with the span of the value.
     pub fn required_s<T: Deserialize<'de>>(
         &mut self,
         name: &'de str,
@@ -153,9 +153,8 @@ impl<'de> TableHelper<'de> {
 
     /// Records the name, moves its entry out, if there is one, and reads it.
     ///
-    /// The answer is None both where no entry stands and where the read fails, whose errors are kept.
-    /// On want of memory nothing has changed, or the name is recorded, its entry gone, and the errors
-    /// are as before.
+    /// Returns None without an entry, and if the read fails, whose errors are kept. If memory runs out nothing has
+    /// changed, or the name is recorded, its entry gone, and the errors are as before.
     pub fn optional<T: Deserialize<'de>>(&mut self, name: &'de str) -> Result<Option<T>, AllocError>
         requires { IfSome (found name.now (state_of self.old)) (λ value. IsTrue (is_whole value)) }
         ensures answer { Tries T.reads name.now (state_of self.old) result (state_of self.new) }
@@ -171,7 +170,7 @@ impl<'de> TableHelper<'de> {
         }
     }
 
-    /// As `optional`, with the span of the value.
+    /// Reads an entry as `optional` does, with the span of the value.
     pub fn optional_s<T: Deserialize<'de>>(
         &mut self,
         name: &'de str,
@@ -184,12 +183,11 @@ impl<'de> TableHelper<'de> {
         self.optional(name)
     }
 
-    /// Ends the reads. Ok exactly where there is no error; else the errors in order.
+    /// Ends the reads. Returns Ok exactly if there is no error, or else the errors in order.
     ///
-    /// With an original value, the rest of the table is put back into it, also where errors were kept;
-    /// its span stays, and no memory is taken. Without one, keys that remain add the error
-    /// `UnexpectedKeys` at the table's span, with the keys in the order of their names and all names
-    /// asked for in order; on want of memory the helper comes back as it was.
+    /// With an original value, puts the rest of the table back into it, also after errors; its span stays, and no memory
+    /// is taken. Without one, remaining keys add the error `UnexpectedKeys` at the table's span, with the keys in the
+    /// order of their names and the names that were asked for in order. If memory runs out, returns the helper as it was.
     pub fn finalize(self, original: Option<&mut Value<'de>>) -> Result<(), Unfinished<'de>>
         ensures answer { Finalizes (state_of self.entry) original.entry result }
         ensures rest { Leaves (HoldsRest self.entry.table) original.entry original.exit }
@@ -216,7 +214,7 @@ impl<'de> TableHelper<'de> {
         finish(errors)
     }
 
-    /// Ends the reads, and refuses the keys that remain.
+    /// Ends the reads. Remaining keys are an error.
     fn refuse_rest(mut self) -> Result<(), Unfinished<'de>>
         ensures { Refuses (state_of self.entry) result }
     {
@@ -226,7 +224,7 @@ impl<'de> TableHelper<'de> {
         finish(self.errors)
     }
 
-    /// Keeps the error of the keys that remain, if any do. Without memory nothing has changed.
+    /// Keeps the error of the remaining keys, if there are any. If memory runs out nothing has changed.
     fn keep_unasked(&mut self) -> Result<(), AllocError>
         ensures ok { OnOk result (state_of self.new ≡ keeping (unasked (state_of self.old)) (state_of self.old)) }
         ensures some { OnErr result (is_filled (state_of self.old).members ≡ true) }
@@ -239,7 +237,7 @@ impl<'de> TableHelper<'de> {
         self.keep(error)
     }
 
-    /// The error of the keys that remain.
+    /// Returns the error of the remaining keys.
     fn unexpected_keys(&self) -> Result<Error<'de>, AllocError>
         ensures { IfOk result (λ e. content_of e ≡ unexpected_entries (state_of self.now)) }
     {
@@ -248,8 +246,7 @@ impl<'de> TableHelper<'de> {
         Ok(Error::from((ErrorKind::UnexpectedKeys { keys, expected }, self.span)))
     }
 
-    /// Reads a value. Where that fails, all its errors are kept, and the last one is answered; without memory
-    /// none is kept.
+    /// Reads a value. If that fails, keeps all its errors and returns the last one. If memory runs out, keeps none.
     fn read_value<T: Deserialize<'de>>(
         &mut self,
         mut value: Value<'de>,
@@ -275,7 +272,7 @@ impl<'de> TableHelper<'de> {
         Ok(())
     }
 
-    /// Keeps the errors of a read, and gives a copy of the last one. Without memory it keeps none.
+    /// Keeps the errors of a read, and returns a copy of the last one. If memory runs out, keeps none.
     fn keep_all(&mut self, faults: DeserError<'de>) -> Result<Error<'de>, AllocError>
         ensures ok { IfOk result (λ e. (content_of e ≡ faults.entry.last)
             × (state_of self.new ≡ keeping (all faults.entry) (state_of self.old))) }
@@ -308,14 +305,14 @@ fn remove<'de>(table: &mut Table<'de>, name: &'de str) -> Option<(Key<'de>, Valu
     table.remove_entry(&Key::named(name))
 }
 
-/// The error of a field that is not there, in the table at this span.
+/// Returns the error of a field that is not there, in the table at this span.
 fn missing_field<'s>(name: &'s str, span: Span) -> Error<'s>
     ensures { content_of result ≡ record { kind = missing_field name.now; span = span; line_info = None } }
 {
     Error::from((ErrorKind::MissingField(name), span))
 }
 
-/// The answer where these errors were kept.
+/// Ends the reads with these errors.
 fn finish<'de>(errors: Vec<Error<'de>>) -> Result<(), Unfinished<'de>>
     ensures { EndsWithErrors (map content_of errors.entry.items) result }
 {
@@ -325,7 +322,7 @@ fn finish<'de>(errors: Vec<Error<'de>>) -> Result<(), Unfinished<'de>>
     }
 }
 
-/// The names of a table's keys, in order, with their spans.
+/// Returns the names of a table's keys, in order, with their spans.
 fn key_names(alloc: Global, table: &Table) -> Result<Vec<(String, Span)>, AllocError>
     ensures { IfOk result (λ names. map key_text names.items ≡ remaining_keys (members_view table.now.entries)) }
 {
@@ -337,7 +334,7 @@ fn key_names(alloc: Global, table: &Table) -> Result<Vec<(String, Span)>, AllocE
     Ok(names)
 }
 
-/// A copy of each text.
+/// Returns a copy of each text.
 fn copied_texts(alloc: Global, texts: &[&str]) -> Result<Vec<String>, AllocError>
     ensures { IfOk result (λ copies. map string_bytes copies.items ≡ map (λ text. text.now) texts.now) }
 {

@@ -1,4 +1,4 @@
-//! Reads of values behind a box or in an `Option`, and of what `FromStr` makes of strings.
+//! Reads of values in a box or an `Option`, and of strings that `FromStr` converts.
 ghost use Rattle.std.specs.Prelude.{◌⊎◌};
 ghost use Rattle.toml_span_typed.specs.Fields.{AsParsed, AsRead, AsSome};
 ghost use Rattle.toml_span_typed.specs.Reads.{Taken, result_map};
@@ -29,8 +29,8 @@ impl<'de, T: Deserialize<'de>> Deserialize<'de> for Box<T> {
     }
 }
 
-/// What stands there is read as a T, and is Some. That a field may be absent is for the read of the table:
-/// `read_table!` reads a field of the type `Option<T>` as None where its key is absent.
+/// Reads the value as a T, and returns Some. The read of a table decides about a field that is absent: `read_table!` reads
+/// a field of the type `Option<T>` as None if its key is absent.
 impl<'de, T: Deserialize<'de>> Deserialize<'de> for Option<T> {
     ghost reads = { AsSome T.reads };
 
@@ -55,7 +55,7 @@ impl<'de> Deserialize<'de> for char {
     }
 }
 
-/// What `FromStr` makes of a string: for a type that has it, and no `Deserialize` of its own.
+/// A string that `FromStr` converts: for a type that has no `Deserialize` of its own.
 #[derive(Debug, Drop)]
 pub struct Parsed<T> {
     pub value: T,

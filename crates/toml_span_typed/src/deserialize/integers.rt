@@ -14,14 +14,14 @@ use toml_span_lex::span::Span;
 use toml_span_lex::stop::Stop;
 use toml_span_tree::{Error, ErrorKind, Value, ValueInner};
 
-/// The error of an integer that the type of this name does not hold.
+/// Returns the error of an integer that the type of this name does not hold.
 pub(crate) fn out_of_range<'s>(name: &'s str, span: Span) -> DeserError<'s>
     ensures { result ≡ one (beyond_range name.now span) }
 {
     Error::from((ErrorKind::OutOfRange(name), span)).into()
 }
 
-/// The integer that stands there, as the type of this name.
+/// Returns the integer, as the type of this name.
 fn narrowed<'s, T: TryFrom<i64, Error = TryFromIntError> + Drop>(
     name: &'s str,
     value: &mut Value,

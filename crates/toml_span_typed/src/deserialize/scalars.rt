@@ -1,4 +1,4 @@
-//! Reads of strings, truth values, floats and dates.
+//! Reads of strings, booleans, floats and dates.
 ghost use Rattle.std.specs.Prelude.{string_bytes};
 ghost use Rattle.std.specs.Cow.{cow_str_bytes};
 ghost use Rattle.toml_span_tree.specs.Value.{float_value, date_bytes};

@@ -67,7 +67,7 @@ fn two<'de>(
     }
 }
 
-/// The error of an array with another number of elements, or want of memory for its text.
+/// Returns the error of an array with another number of elements, or that memory ran out for its text.
 fn miscounted<'s>(alloc: Global, wanted: usize, found: usize, span: Span) -> Stop<DeserError<'s>>
     ensures { TellsOne (other_length wanted found span) result }
 {

@@ -1,11 +1,11 @@
-//! Lists of what warns.
+//! Lists of types that warn.
 ghost use Rattle.std.specs.Prelude.{IsTrue, OnOk, map};
 ghost use Rattle.toml_span_tree.specs.Error.{content_of};
 ghost use Rattle.toml_span_tree.specs.Value.{all_whole, is_whole, items_view, view};
 ghost use Rattle.toml_span_typed.specs.code.Arrays.{Answered};
 ghost use Rattle.toml_span_typed.specs.code.WithWarnings.{AddsWithWarnings};
 ghost use Rattle.toml_span_typed.specs.Reads.{nodes_of, result_map};
-ghost use Rattle.toml_span_typed.specs.WithWarnings.{ReadsAllWithWarnings, array_with_warnings};
+ghost use Rattle.toml_span_typed.specs.WithWarnings.{Extends, ReadsAllWithWarnings, array_with_warnings};
 
 use crate::de_helpers::refused;
 use crate::deser_error::DeserError;
@@ -36,8 +36,9 @@ fn read_all<'de, T: DeserializeWithWarnings<'de>>(
     warnings: &mut Vec<Error<'de>>,
 ) -> Result<Vec<T>, Stop<DeserError<'de>>>
     requires { IsTrue (all_whole (items_view items.items)) }
-    ensures { Answered result (λ r. ReadsAllWithWarnings T.reads (nodes_of (items_view items.entry.items))
+    ensures answer { Answered result (λ r. ReadsAllWithWarnings T.reads (nodes_of (items_view items.entry.items))
         (result_map (λ v. v.items) r) (map content_of warnings.old.items) (map content_of warnings.new.items)) }
+    ensures kept { Extends (map content_of warnings.old.items) (map content_of warnings.new.items) }
 {
     let mut read = Vec::new(alloc);
     let mut faults = Vec::new(alloc);
@@ -61,9 +62,10 @@ fn read_next<'de, T: DeserializeWithWarnings<'de>>(
     warnings: &mut Vec<Error<'de>>,
 ) -> Result<(), AllocError>
     requires { IsTrue (is_whole (view item)) }
-    ensures { OnOk result (AddsWithWarnings T.reads (view item.entry) read.old.items (map content_of faults.old.items)
-        read.new.items (map content_of faults.new.items) (map content_of warnings.old.items)
-        (map content_of warnings.new.items)) }
+    ensures ok { OnOk result (AddsWithWarnings T.reads (view item.entry) read.old.items
+        (map content_of faults.old.items) read.new.items (map content_of faults.new.items)
+        (map content_of warnings.old.items) (map content_of warnings.new.items)) }
+    ensures kept { Extends (map content_of warnings.old.items) (map content_of warnings.new.items) }
 {
     match read_or_keep(alloc, item, faults, warnings)? {
         Some(element) => match read.push(element) {

@@ -1,56 +1,60 @@
-//! Reads of fields that have an old name besides, which may be deprecated.
-ghost use Rattle.std.specs.Prelude.{◌≡◌, ◌+◌, ◌≤◌, [], ◌∷◌, ◌++◌, IfOk, IfSome, IsTrue, OnOk, Some, map, option_map};
+//! Reads of fields that have an old name too, which may be deprecated.
+ghost use Rattle.std.specs.Prelude.{◌≡◌, ◌⊎◌, ◌+◌, ◌≤◌, ◌++◌, IfOk, IfSome, IsTrue, OnErr, OnOk, Some, map, option_map};
 ghost use Rattle.toml_span_tree.specs.Error.{content_of};
 ghost use Rattle.toml_span_tree.specs.Value.{is_whole, view};
-ghost use Rattle.toml_span_typed.specs.Aliases.{AsksEither, ReadsMoved, TriesEither, again, asked_both, either};
-ghost use Rattle.toml_span_typed.specs.Aliases.{lacks, newer, older, outdated, outdated_at, twice};
+ghost use Rattle.toml_span_typed.specs.Aliases.{AsksDeprecated, AsksEither, ReadsMoved, StarvedDeprecated};
+ghost use Rattle.toml_span_typed.specs.Aliases.{TriesDeprecated, TriesEither, Warns, again, asked_both};
+ghost use Rattle.toml_span_typed.specs.Aliases.{asked_deprecated, either, entry_of, first_value, keeping_twice, lacks};
+ghost use Rattle.toml_span_typed.specs.Aliases.{newer, outdated, outdated_at, passed, twice};
 ghost use Rattle.toml_span_typed.specs.Fields.{kept, lacking};
-ghost use Rattle.toml_span_typed.specs.TableHelper.{AllWhole, noted, state_of};
+ghost use Rattle.toml_span_typed.specs.TableHelper.{AllWhole, Starved, noted, state_of};
 
-use crate::de_helpers::table_helper::{TableHelper, missing_field};
+use crate::de_helpers::table_helper::{TableHelper, missing_field, remove};
 use crate::deserialize::{Deserialize, read_or_keep};
 use std::alloc::{AllocError, Global};
 use toml_span_lex::span::Span;
 use toml_span_tree::{Error, ErrorKind, Value};
 
 impl<'de> TableHelper<'de> {
-    /// As `read`, of a field that may stand under an old name.
+    /// Reads a field as `read` does, under its name or else under an old one.
     ///
-    /// Where both names stand, the one of the name is read, and the error `DuplicateKey` is kept at the later of
-    /// the two keys. Both names are recorded, the old one behind the other.
+    /// If both names are there, reads the value of `name`, and keeps the error `DuplicateKey` at the later of the two
+    /// keys. Records both names, `old` after `name`. If memory runs out, nothing has changed, or names are recorded and
+    /// their entries gone, and at most the error `DuplicateKey` is new.
     pub fn read_either<T: Deserialize<'de>>(
         &mut self,
         name: &'de str,
         old: &'de str,
     ) -> Result<Option<T>, AllocError>
         requires { AllWhole (state_of self.old) }
-        ensures answer { IfOk result (λ field. AsksEither T.reads name.now old.now (state_of self.old) field
-            (state_of self.new)) }
+        ensures answer { AsksEither T.reads name.now old.now (state_of self.old) result (state_of self.new) }
         ensures told { IfOk result (λ field. kept (state_of self.old) + lacking field ≤ kept (state_of self.new)) }
         ensures whole { AllWhole (state_of self.new) }
     {
-        let (value, _) = self.take_either(name, old)?;
+        let value = self.take_either(name, old)?;
         self.read_or_miss(name, value)
     }
 
-    /// As `read_optional`, of a field that may stand under an old name, as in `read_either`.
+    /// Reads a field as `read_optional` does, under its name or else under an old one, as in `read_either`.
     pub fn read_optional_either<T: Deserialize<'de>>(
         &mut self,
         name: &'de str,
         old: &'de str,
     ) -> Result<Option<T>, AllocError>
         requires { AllWhole (state_of self.old) }
-        ensures answer { IfOk result (λ field. TriesEither T.reads name.now old.now (state_of self.old) field
-            (state_of self.new)) }
+        ensures answer { TriesEither T.reads name.now old.now (state_of self.old) result (state_of self.new) }
         ensures told { OnOk result (kept (state_of self.old) ≤ kept (state_of self.new)) }
         ensures whole { AllWhole (state_of self.new) }
     {
-        let (value, _) = self.take_either(name, old)?;
+        let value = self.take_either(name, old)?;
         self.read_if_there(value)
     }
 
-    /// As `read_either`, of a field whose old name is deprecated: where that stands, the warning `Deprecated` at its
-    /// key is put behind those of a list, whether or not the read succeeds.
+    /// Reads a field as `read_either` does, whose old name is deprecated: it is not recorded, so the error of unknown
+    /// keys doesn't list it as expected. If it is there, appends the warning `Deprecated`, at its key, to a list, even
+    /// if the read fails.
+    ///
+    /// If memory runs out, the errors are as in `read_either`, and at most this warning is new.
     pub fn read_deprecated<T: Deserialize<'de>>(
         &mut self,
         name: &'de str,
@@ -58,19 +62,17 @@ impl<'de> TableHelper<'de> {
         warnings: &mut Vec<Error<'de>>,
     ) -> Result<Option<T>, AllocError>
         requires { AllWhole (state_of self.old) }
-        ensures answer { IfOk result (λ field. AsksEither T.reads name.now old.now (state_of self.old) field
-            (state_of self.new)) }
-        ensures warned { OnOk result (map content_of warnings.new.items
-            ≡ map content_of warnings.old.items ++ outdated name.now old.now (state_of self.old)) }
+        ensures answer { AsksDeprecated T.reads name.now old.now (state_of self.old) result (state_of self.new) }
+        ensures warned { Warns (map content_of warnings.old.items) (outdated name.now old.now (state_of self.old)) result
+            (map content_of warnings.new.items) }
         ensures told { IfOk result (λ field. kept (state_of self.old) + lacking field ≤ kept (state_of self.new)) }
         ensures whole { AllWhole (state_of self.new) }
     {
-        let (value, place) = self.take_either(name, old)?;
-        warn(warnings, name, old, place)?;
+        let value = self.take_deprecated(name, old, warnings)?;
         self.read_or_miss(name, value)
     }
 
-    /// As `read_optional_either`, with the warning of `read_deprecated`.
+    /// Reads a field as `read_optional_either` does, with the warning of `read_deprecated`.
     pub fn read_optional_deprecated<T: Deserialize<'de>>(
         &mut self,
         name: &'de str,
@@ -78,19 +80,17 @@ impl<'de> TableHelper<'de> {
         warnings: &mut Vec<Error<'de>>,
     ) -> Result<Option<T>, AllocError>
         requires { AllWhole (state_of self.old) }
-        ensures answer { IfOk result (λ field. TriesEither T.reads name.now old.now (state_of self.old) field
-            (state_of self.new)) }
-        ensures warned { OnOk result (map content_of warnings.new.items
-            ≡ map content_of warnings.old.items ++ outdated name.now old.now (state_of self.old)) }
+        ensures answer { TriesDeprecated T.reads name.now old.now (state_of self.old) result (state_of self.new) }
+        ensures warned { Warns (map content_of warnings.old.items) (outdated name.now old.now (state_of self.old)) result
+            (map content_of warnings.new.items) }
         ensures told { OnOk result (kept (state_of self.old) ≤ kept (state_of self.new)) }
         ensures whole { AllWhole (state_of self.new) }
     {
-        let (value, place) = self.take_either(name, old)?;
-        warn(warnings, name, old, place)?;
+        let value = self.take_deprecated(name, old, warnings)?;
         self.read_if_there(value)
     }
 
-    /// Reads a value that was moved out. Where none was there, the error of the missing field is kept.
+    /// Reads a value that was moved out. Without one, keeps the error of the missing field.
     fn read_or_miss<T: Deserialize<'de>>(
         &mut self,
         name: &'de str,
@@ -100,6 +100,7 @@ impl<'de> TableHelper<'de> {
         requires good { IfSome value (λ v. IsTrue (is_whole (view v))) }
         ensures answer { IfOk result (λ field. ReadsMoved T.reads (lacks name.now) (option_map view value.entry)
             (state_of self.old) field (state_of self.new)) }
+        ensures err { OnErr result (state_of self.new ≡ state_of self.old) }
         ensures told { IfOk result (λ field. kept (state_of self.old) + lacking field ≤ kept (state_of self.new)) }
         ensures whole { AllWhole (state_of self.new) }
     {
@@ -112,7 +113,7 @@ impl<'de> TableHelper<'de> {
         }
     }
 
-    /// Reads a value that was moved out, if one was there.
+    /// Reads a value that was moved out, if there is one.
     fn read_if_there<T: Deserialize<'de>>(
         &mut self,
         value: Option<Value<'de>>,
@@ -121,6 +122,7 @@ impl<'de> TableHelper<'de> {
         requires good { IfSome value (λ v. IsTrue (is_whole (view v))) }
         ensures answer { IfOk result (λ field. ReadsMoved T.reads (λ s. s) (option_map view value.entry)
             (state_of self.old) field (state_of self.new)) }
+        ensures err { OnErr result (state_of self.new ≡ state_of self.old) }
         ensures told { OnOk result (kept (state_of self.old) ≤ kept (state_of self.new)) }
         ensures whole { AllWhole (state_of self.new) }
     {
@@ -130,35 +132,82 @@ impl<'de> TableHelper<'de> {
         }
     }
 
-    /// Moves the entries of both names out, and keeps the error where both stand. Gives the value of the name, or
-    /// else of the old one, and the span of the old key, if it stands there.
+    /// Records both names and moves their entries out. Returns the value of the name, or else of the old one.
     fn take_either(
         &mut self,
         name: &'de str,
         old: &'de str,
-    ) -> Result<(Option<Value<'de>>, Option<Span>), AllocError>
+    ) -> Result<Option<Value<'de>>, AllocError>
         requires { AllWhole (state_of self.old) }
-        ensures value { IfOk result (λ taken. option_map view taken.0 ≡ either name.now old.now (state_of self.old)) }
-        ensures place { IfOk result (λ taken. option_map (λ span. Some span) taken.1
-            ≡ option_map (λ entry. entry.0) (older name.now old.now (state_of self.old))) }
+        ensures value { IfOk result (λ value. option_map view value ≡ either name.now old.now (state_of self.old)) }
         ensures state { OnOk result (state_of self.new ≡ asked_both name.now old.now (state_of self.old)) }
+        ensures err { OnErr result (Starved name.now (state_of self.old) (state_of self.new)
+            ⊎ (state_of self.new ≡ noted old.now (noted name.now (state_of self.old)))) }
         ensures told { OnOk result (kept (state_of self.old) ≤ kept (state_of self.new)) }
-        ensures good { IfOk result (λ taken. IfSome taken.0 (λ v. IsTrue (is_whole (view v)))) }
+        ensures good { IfOk result (λ value. IfSome value (λ v. IsTrue (is_whole (view v)))) }
         ensures whole { AllWhole (state_of self.new) }
     {
-        let Some((span, value)) = self.take_placed(name)? else {
-            return match self.take_placed(old)? {
-                Some((other, value)) => Ok((Some(value), Some(other))),
-                None => Ok((None, None)),
-            };
-        };
-        let Some((other, earlier)) = self.take_placed(old)? else {
-            return Ok((Some(value), None));
-        };
-        drop(earlier);
-        let error = told_twice(self.alloc, name, span, old, other)?;
-        self.keep(error)?;
-        Ok((Some(value), Some(other)))
+        let newer = self.take_placed(name)?;
+        let older = self.take_placed(old)?;
+        self.choose(name, newer, old, older)
+    }
+
+    /// Records the name and moves the entries of both names out. Returns the value of the name, or else of the old one,
+    /// with the warning that this one is deprecated.
+    fn take_deprecated(
+        &mut self,
+        name: &'de str,
+        old: &'de str,
+        warnings: &mut Vec<Error<'de>>,
+    ) -> Result<Option<Value<'de>>, AllocError>
+        requires { AllWhole (state_of self.old) }
+        ensures value { IfOk result (λ value. option_map view value ≡ either name.now old.now (state_of self.old)) }
+        ensures state { OnOk result (state_of self.new ≡ asked_deprecated name.now old.now (state_of self.old)) }
+        ensures warned { OnOk result (map content_of warnings.new.items
+            ≡ map content_of warnings.old.items ++ outdated name.now old.now (state_of self.old)) }
+        ensures err { OnErr result (StarvedDeprecated name.now old.now (state_of self.old) (state_of self.new)) }
+        ensures unwarned { OnErr result (map content_of warnings.new.items ≡ map content_of warnings.old.items) }
+        ensures told { OnOk result (kept (state_of self.old) ≤ kept (state_of self.new)) }
+        ensures good { IfOk result (λ value. IfSome value (λ v. IsTrue (is_whole (view v)))) }
+        ensures whole { AllWhole (state_of self.new) }
+    {
+        let newer = self.take_placed(name)?;
+        let older = self.pass(old);
+        let place = place_of(&older);
+        let value = self.choose(name, newer, old, older)?;
+        warn(warnings, name, old, place)?;
+        Ok(value)
+    }
+
+    /// Returns the value of the name, or else of the old one, from what was moved out. If both are there, keeps the
+    /// error `DuplicateKey` at the later key.
+    fn choose(
+        &mut self,
+        name: &str,
+        newer: Option<(Span, Value<'de>)>,
+        old: &str,
+        older: Option<(Span, Value<'de>)>,
+    ) -> Result<Option<Value<'de>>, AllocError>
+        requires newer { IfSome newer (λ e. IsTrue (is_whole (view e.1))) }
+        requires older { IfSome older (λ e. IsTrue (is_whole (view e.1))) }
+        ensures value { IfOk result (λ value. option_map view value
+            ≡ first_value (option_map entry_of newer.entry) (option_map entry_of older.entry)) }
+        ensures state { OnOk result (state_of self.new ≡ keeping_twice name.now (option_map entry_of newer.entry)
+            old.now (option_map entry_of older.entry) (state_of self.old)) }
+        ensures err { OnErr result (state_of self.new ≡ state_of self.old) }
+        ensures told { OnOk result (kept (state_of self.old) ≤ kept (state_of self.new)) }
+        ensures good { IfOk result (λ value. IfSome value (λ v. IsTrue (is_whole (view v)))) }
+        ensures whole { AllWhole (state_of self.old) → AllWhole (state_of self.new) }
+    {
+        match (newer, older) {
+            (Some((span, value)), Some((other, earlier))) => {
+                drop(earlier);
+                self.keep(told_twice(self.alloc, name, span, old, other)?)?;
+                Ok(Some(value))
+            }
+            (Some((_, value)), None) | (None, Some((_, value))) => Ok(Some(value)),
+            (None, None) => Ok(None),
+        }
     }
 
     /// Records the name, and moves its entry out: the span of its key, and its value.
@@ -168,9 +217,9 @@ impl<'de> TableHelper<'de> {
         name: &'de str,
     ) -> Result<Option<(Span, Value<'de>)>, AllocError>
         requires { AllWhole (state_of self.old) }
-        ensures entry { IfOk result (λ entry. option_map (λ e. (Some e.0, view e.1)) entry
-            ≡ newer name.now (state_of self.old)) }
+        ensures entry { IfOk result (λ entry. option_map entry_of entry ≡ newer name.now (state_of self.old)) }
         ensures state { OnOk result (state_of self.new ≡ noted name.now (state_of self.old)) }
+        ensures err { OnErr result (state_of self.new ≡ state_of self.old) }
         ensures good { IfOk result (λ entry. IfSome entry (λ e. IsTrue (is_whole (view e.1)))) }
         ensures whole { AllWhole (state_of self.new) }
     {
@@ -183,9 +232,38 @@ impl<'de> TableHelper<'de> {
             None => Ok(None),
         }
     }
+
+    /// Moves the entry of a name out without recording the name: the span of its key, and its value.
+    #[tactic(auto, using(crate::proofs::Whole::placed_whole, crate::proofs::Whole::without_whole))]
+    fn pass(&mut self, name: &'de str) -> Option<(Span, Value<'de>)>
+        requires { AllWhole (state_of self.old) }
+        ensures entry { option_map entry_of result ≡ newer name.now (state_of self.old) }
+        ensures state { state_of self.new ≡ passed name.now (state_of self.old) }
+        ensures good { IfSome result (λ e. IsTrue (is_whole (view e.1))) }
+        ensures whole { AllWhole (state_of self.new) }
+    {
+        match remove(&mut self.table, name) {
+            Some((key, value)) => {
+                let span = key.span;
+                drop(key);
+                Some((span, value))
+            }
+            None => None,
+        }
+    }
 }
 
-/// The error of a field under two names, at the later one.
+/// Returns the span of the key that was moved out, if any.
+fn place_of(entry: &Option<(Span, Value)>) -> Option<Span>
+    ensures { option_map (λ span. Some span) result ≡ option_map (λ e. e.0) (option_map entry_of entry.now) }
+{
+    match entry {
+        Some((span, _)) => Some(*span),
+        None => None,
+    }
+}
+
+/// Returns the error of a field under two names, at the later key.
 fn told_twice<'s>(
     alloc: Global,
     name: &str,
@@ -202,7 +280,7 @@ fn told_twice<'s>(
     }
 }
 
-/// The error of a key that stands a second time.
+/// Returns the error of a key that is there a second time.
 fn told_again<'s>(
     alloc: Global,
     name: &str,
@@ -215,16 +293,18 @@ fn told_again<'s>(
     Ok(Error::from((ErrorKind::DuplicateKey { key, first }, span)))
 }
 
-/// Puts the warning that an old name is deprecated behind those of a list, where its key stands.
+/// Appends the warning that an old name is deprecated, at its key, if it is there. If memory runs out the list is as
+/// before.
 fn warn<'s>(
     warnings: &mut Vec<Error<'s>>,
     name: &'s str,
     old: &'s str,
     place: Option<Span>,
 ) -> Result<(), AllocError>
-    ensures { OnOk result (map content_of warnings.new.items
+    ensures ok { OnOk result (map content_of warnings.new.items
         ≡ map content_of warnings.old.items
         ++ outdated_at name.now old.now (option_map (λ span. Some span) place)) }
+    ensures err { OnErr result (map content_of warnings.new.items ≡ map content_of warnings.old.items) }
 {
     if let Some(span) = place {
         let kind = ErrorKind::Deprecated { old, new: name };

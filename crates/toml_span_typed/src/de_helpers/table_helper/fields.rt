@@ -1,4 +1,4 @@
-//! Reads of fields whose errors stay in the helper.
+//! Reads of fields whose errors the helper keeps.
 ghost use Rattle.std.specs.Prelude.{◌≡◌, ◌+◌, ◌≤◌, IfOk, IfSome, IsTrue, OnErr, OnOk};
 ghost use Rattle.toml_span_tree.specs.Value.{is_whole};
 ghost use Rattle.toml_span_typed.specs.Fields.{Asks, Finishes, FinishesInto, Keeps, RequiresAll, kept, lacking};
@@ -14,9 +14,9 @@ use toml_span_tree::Value;
 impl<'de> TableHelper<'de> {
     /// Records the name, moves its entry out and reads it. The helper keeps all errors.
     ///
-    /// The answer is None where no entry stands, with the error `MissingField` at the table's span, and
-    /// where the read fails. So where `finish` answers Ok, each field was read. On want of memory nothing
-    /// has changed, or the name is recorded, its entry gone, and the errors are as before.
+    /// Returns None without an entry, with the error `MissingField` at the table's span, and if the read fails. So if
+    /// `finish` returns Ok, each field was read. If memory runs out nothing has changed, or the name is recorded, its
+    /// entry gone, and the errors are as before.
     #[tactic(auto, using(crate::proofs::Whole::found_whole))]
     pub fn read<T: Deserialize<'de>>(&mut self, name: &'de str) -> Result<Option<T>, AllocError>
         requires { AllWhole (state_of self.old) }
@@ -27,7 +27,7 @@ impl<'de> TableHelper<'de> {
         self.ask(name)
     }
 
-    /// As `required`, with its error in a list, so that a `?` ends a `deserialize` where there is no such field.
+    /// Reads an entry as `required` does, with its error in a list, so that a `?` ends a `deserialize` that needs it.
     #[tactic(auto, using(crate::proofs::Whole::found_whole))]
     pub fn require<T: Deserialize<'de>>(
         &mut self,
@@ -43,7 +43,7 @@ impl<'de> TableHelper<'de> {
         }
     }
 
-    /// As `optional`, of a helper whose entries are whole.
+    /// Reads an entry as `optional` does, of a helper whose entries are whole.
     #[tactic(auto, using(crate::proofs::Whole::found_whole))]
     pub fn read_optional<T: Deserialize<'de>>(
         &mut self,
@@ -57,8 +57,8 @@ impl<'de> TableHelper<'de> {
         self.optional(name)
     }
 
-    /// What a read gave that the caller made by itself, as of an entry that it took. Where it failed, its errors
-    /// are kept, and the answer is None; on want of memory the errors are as before.
+    /// Returns the result of a read that the caller made by itself, such as that of an entry that it took. If it failed,
+    /// keeps its errors and returns None. If memory runs out the errors are as before.
     pub fn kept<T: Drop>(
         &mut self,
         read: Result<T, Stop<DeserError<'de>>>,
@@ -78,10 +78,8 @@ impl<'de> TableHelper<'de> {
         }
     }
 
-    /// Ends the reads, as `finalize(None)` does: Ok exactly where no error was kept and no key remains.
-    ///
-    /// Else all errors, the last one that of the keys that remain, if any do. Memory is wanted only for
-    /// that one.
+    /// Ends the reads, as `finalize(None)` does. Returns Ok exactly if no error was kept and no key remains, or else all
+    /// errors, with that of the remaining keys last. Only that one needs memory.
     pub fn finish(self) -> Result<(), Stop<DeserError<'de>>>
         ensures answer { Finishes (state_of self.entry) result }
         ensures none { OnOk result (kept (state_of self.entry) ≡ 0) }
@@ -90,9 +88,8 @@ impl<'de> TableHelper<'de> {
         Ok(())
     }
 
-    /// Ends the reads, as `finalize(Some(value))` does: the keys that remain are put back into the value.
-    ///
-    /// Ok exactly where no error was kept, and else all errors. Takes no memory.
+    /// Ends the reads, as `finalize(Some(value))` does: puts the remaining keys back into the value. Returns Ok exactly if
+    /// no error was kept, or else all errors. Takes no memory.
     pub fn finish_into(self, value: &mut Value<'de>) -> Result<(), Stop<DeserError<'de>>>
         ensures answer { FinishesInto (state_of self.entry) result }
         ensures none { OnOk result (kept (state_of self.entry) ≡ 0) }

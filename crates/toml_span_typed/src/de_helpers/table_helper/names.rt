@@ -1,4 +1,4 @@
-//! Names that stand once in a list.
+//! Names that may be in a list only once.
 ghost use Rattle.std.specs.Prelude.{◌≡◌, ◌≤◌, ◌++◌, [], IfOk, OnErr, OnOk, map};
 ghost use Rattle.toml_span_tree.specs.Error.{content_of};
 ghost use Rattle.toml_span_typed.specs.Fields.{kept};
@@ -15,7 +15,7 @@ use toml_span_lex::spanned::Spanned;
 use toml_span_tree::{Error, ErrorKind};
 
 impl<'de> TableHelper<'de> {
-    /// A list of names for `keep_repeated`, which has none yet.
+    /// Returns an empty list of names, for `keep_repeated`.
     #[doc(hidden)]
     pub fn no_names<'a>(&self) -> Vec<&'a Spanned<String>>
         ensures { result.items ≡ [] }
@@ -23,8 +23,8 @@ impl<'de> TableHelper<'de> {
         Vec::new(self.alloc)
     }
 
-    /// Keeps an error for each name that stands before in the list too: `Marked`, of the code `duplicate-name`, at the
-    /// name, with the place of the latest before it. On want of memory the errors are as before.
+    /// Keeps an error for each name that is earlier in the list too: `Marked`, of the code `duplicate-name`, at the name,
+    /// with the place of the latest earlier one. If memory runs out the errors are as before.
     pub fn keep_repeated(&mut self, names: &[&Spanned<String>]) -> Result<(), AllocError>
         ensures ok { OnOk result (state_of self.new
             ≡ keeping (spec.repeated (map (λ name. named name.now) names.now)) (state_of self.old)) }
@@ -37,7 +37,7 @@ impl<'de> TableHelper<'de> {
     }
 }
 
-/// The errors of the names that stand before too, in order.
+/// Returns the errors of the names that are earlier in the list too, in order.
 fn repeated<'s>(alloc: Global, names: &[&Spanned<String>]) -> Result<Vec<Error<'s>>, AllocError>
     ensures { IfOk result (λ errors. map content_of errors.items
         ≡ spec.repeated (map (λ name. named name.now) names.now)) }
@@ -53,7 +53,7 @@ fn repeated<'s>(alloc: Global, names: &[&Spanned<String>]) -> Result<Vec<Error<'
     Ok(errors)
 }
 
-/// Adds the error of a name, if it stands before.
+/// Adds the error of a name, if it has an earlier place.
 fn push_repeated<'s>(
     alloc: Global,
     name: &str,
@@ -70,7 +70,7 @@ fn push_repeated<'s>(
     Ok(())
 }
 
-/// The error of a name that stands before, with the place there.
+/// Returns the error of a name that has an earlier place.
 fn told_again<'s>(
     alloc: Global,
     name: &str,

@@ -1,12 +1,13 @@
-//! Reads of the tag of an enum, and of what else its table has.
-ghost use Rattle.std.specs.Prelude.{◌≡◌, ◌+◌, ◌≤◌, IfOk, IsTrue, OnErr, Result, map, option_map};
+//! Reads of names, such as the tag of an enum, and of the other entries of its table.
+ghost use Rattle.std.specs.Prelude.{◌≡◌, ◌+◌, ◌≤◌, IfOk, OnErr, Result, false, map, option_map};
 ghost use Rattle.toml_span_tree.specs.Error.{content_of};
-ghost use Rattle.toml_span_tree.specs.Value.{is_whole, view};
+ghost use Rattle.toml_span_tree.specs.Value.{is_taken, view};
 ghost use Rattle.toml_span_typed.specs.Errors.{all};
 ghost use Rattle.toml_span_typed.specs.Fields.{kept, lacking};
 ghost use Rattle.toml_span_typed.specs.Rests.{ReadsRest, emptied, remaining};
-ghost use Rattle.toml_span_typed.specs.TableHelper.{AllWhole, missing, state_of};
-ghost use Rattle.toml_span_typed.specs.Tags.{among, asked_tag, keeping_tag, or_else, read_tag};
+ghost use Rattle.toml_span_typed.specs.TableHelper.{AllWhole, Starved, missing, state_of};
+ghost use Rattle.toml_span_typed.specs.Reads.{Taken};
+ghost use Rattle.toml_span_typed.specs.Tags.{IsNameOf, IsUnexpected, among, asked_tag, keeping_tag, or_else, read_tag};
 ghost use Rattle.toml_span_typed.specs.code.Tags.{tag_told};
 
 use crate::de_helpers::table_helper::{TableHelper, missing_field};
@@ -14,13 +15,15 @@ use crate::deser_error::DeserError;
 use crate::deserialize::{Deserialize, read_or_keep};
 use std::alloc::{AllocError, Global};
 use std::mem;
+use toml_span_lex::stop::Stop;
 use toml_span_tree::{Error, ErrorKind, Table, Value, ValueInner};
 
 impl<'de> TableHelper<'de> {
-    /// Records the name, moves its entry out, and gives the one of these tags that the string there is.
+    /// Records the name, moves its entry out, and returns the one of these tags that the string there is.
     ///
-    /// The answer is None where no entry stands, with the error `MissingField` at the table's span; where it is no
-    /// string, with `Wanted`; and where it is none of the tags, with `UnexpectedValue`, both at the value's span.
+    /// Returns None if there is no entry, and keeps the error `MissingField` at the table's span; if it is not a
+    /// string, with `Wanted`; and if it is none of the tags, with `UnexpectedValue`, both at the value's span. If memory
+    /// runs out nothing has changed, or the name is recorded, its entry gone, and the errors are as before.
     pub fn read_tag(
         &mut self,
         name: &'de str,
@@ -29,11 +32,12 @@ impl<'de> TableHelper<'de> {
         requires { AllWhole (state_of self.old) }
         ensures answer { IfOk result (λ tag. (option_map (λ t. t.now) tag, state_of self.new)
             ≡ asked_tag name.now (map (λ t. t.now) tags.now) (state_of self.old)) }
+        ensures starved { OnErr result (Starved name.now (state_of self.old) (state_of self.new)) }
         ensures told { IfOk result (λ tag. kept (state_of self.old) + lacking tag ≤ kept (state_of self.new)) }
         ensures whole { AllWhole (state_of self.new) }
     {
         let tag = match self.take_placed(name)? {
-            Some((_, value)) => tag_of(self.alloc, value, tags)?,
+            Some((_, mut value)) => tag_of(self.alloc, &mut value, tags)?,
             None => Err(missing_field(name, self.span)),
         };
         self.keep_tag(tag)
@@ -46,6 +50,7 @@ impl<'de> TableHelper<'de> {
     ) -> Result<Option<&'de str>, AllocError>
         ensures answer { IfOk result (λ t. (option_map (λ t. t.now) t, state_of self.new)
             ≡ keeping_tag (state_of self.old) (tag_told tag.entry)) }
+        ensures err { OnErr result (state_of self.new ≡ state_of self.old) }
         ensures told { IfOk result (λ t. kept (state_of self.old) + lacking t ≤ kept (state_of self.new)) }
         ensures whole { AllWhole (state_of self.old) → AllWhole (state_of self.new) }
     {
@@ -58,8 +63,8 @@ impl<'de> TableHelper<'de> {
         }
     }
 
-    /// Ends the reads of a table whose tag was not read: the errors that are kept, or, where none is, that this field
-    /// is missing. Keys that remain are not told. Takes no memory.
+    /// Ends the reads of a table whose tag was not read. Returns the errors that were kept or, without any, that this
+    /// field is missing. Does not report the remaining keys. Takes no memory.
     pub fn untagged(self, name: &'de str) -> DeserError<'de>
         ensures { all result ≡ or_else (missing name.now (state_of self.entry)) (state_of self.entry).errors }
     {
@@ -69,8 +74,8 @@ impl<'de> TableHelper<'de> {
         }
     }
 
-    /// Reads the entries that remain as a table of another type, at the same span. The helper keeps all errors, and no
-    /// entry remains. The answer is None where the read fails.
+    /// Reads the remaining entries as a table of another type, at the same span; then none remain. If the read fails,
+    /// keeps its errors and returns None. If memory runs out the errors are as before.
     pub fn read_rest<T: Deserialize<'de>>(&mut self) -> Result<Option<T>, AllocError>
         requires { AllWhole (state_of self.old) }
         ensures answer { IfOk result (λ rest. ReadsRest T.reads (state_of self.old) rest (state_of self.new)) }
@@ -82,7 +87,7 @@ impl<'de> TableHelper<'de> {
         read_or_keep(self.alloc, rest, &mut self.errors)
     }
 
-    /// Moves the entries that remain out, as a table.
+    /// Moves the remaining entries out, as a table.
     fn take_rest(&mut self) -> Value<'de>
         ensures rest { view result ≡ remaining (state_of self.old) }
         ensures state { state_of self.new ≡ emptied (state_of self.old) }
@@ -93,14 +98,35 @@ impl<'de> TableHelper<'de> {
     }
 }
 
-/// The tag that a string is, or the error that it is none of them.
+/// Returns the one of these names that the value's string is: what `read_name!` calls.
+///
+/// If the value is not a string, the error is `Wanted`; if it is none of the names, `UnexpectedValue` with the names that
+/// are expected, both at the value's span. Needs memory only for this one. Takes the value in every case.
+pub fn name_of<'de>(
+    alloc: Global,
+    value: &mut Value<'de>,
+    names: &'de [&'de str],
+) -> Result<&'de str, Stop<DeserError<'de>>>
+    requires { is_taken (view value.old) ≡ false }
+    ensures answer { IsNameOf (map (λ name. name.now) names.now) (view value.old) result }
+    ensures taken { Taken (view value.old) (view value.new) }
+{
+    match tag_of(alloc, value, names)? {
+        Ok(name) => Ok(name),
+        Err(error) => Err(error.into()),
+    }
+}
+
+/// Returns the tag that a string is, or the error that it is none of them. Takes the value in every case.
 fn tag_of<'de>(
     alloc: Global,
-    mut value: Value<'de>,
+    value: &mut Value<'de>,
     tags: &'de [&'de str],
 ) -> Result<Result<&'de str, Error<'de>>, AllocError>
-    requires { IsTrue (is_whole (view value)) }
-    ensures { IfOk result (λ tag. tag_told tag ≡ read_tag (map (λ t. t.now) tags.now) (view value.entry)) }
+    requires { is_taken (view value.old) ≡ false }
+    ensures tag { IfOk result (λ tag. tag_told tag ≡ read_tag (map (λ t. t.now) tags.now) (view value.old)) }
+    ensures err { OnErr result (IsUnexpected (map (λ t. t.now) tags.now) (view value.old)) }
+    ensures taken { Taken (view value.old) (view value.new) }
 {
     let span = value.span;
     let text = match value.take_string(None) {
@@ -117,7 +143,7 @@ fn tag_of<'de>(
     Ok(Err(Error::from((kind, span))))
 }
 
-/// The first of these tags that is this text.
+/// Returns the first of these tags that is this text.
 fn tag_among<'t>(text: &str, tags: &'t [&'t str]) -> Option<&'t str>
     ensures { option_map (λ tag. tag.now) result ≡ among text.now (map (λ t. t.now) tags.now) }
 {

@@ -1,9 +1,9 @@
 //! Reads of fields whose types warn.
-ghost use Rattle.std.specs.Prelude.{◌+◌, ◌≤◌, IfOk, map};
+ghost use Rattle.std.specs.Prelude.{◌≡◌, ◌+◌, ◌≤◌, [], IfOk, map};
 ghost use Rattle.toml_span_tree.specs.Error.{content_of};
 ghost use Rattle.toml_span_typed.specs.Fields.{kept, lacking};
 ghost use Rattle.toml_span_typed.specs.TableHelper.{AllWhole, state_of};
-ghost use Rattle.toml_span_typed.specs.WithWarnings.{AsksWithWarnings, TriesWithWarnings};
+ghost use Rattle.toml_span_typed.specs.WithWarnings.{AsksWithWarnings, Extends, TriesWithWarnings};
 
 use crate::de_helpers::table_helper::{TableHelper, missing_field};
 use crate::with_warnings::{DeserializeWithWarnings, read_or_keep};
@@ -11,15 +11,25 @@ use std::alloc::AllocError;
 use toml_span_tree::Error;
 
 impl<'de> TableHelper<'de> {
-    /// As `read`, of a type that warns.
+    /// Returns an empty list, for the warnings of one table.
+    #[doc(hidden)]
+    pub fn no_warnings(&self) -> Vec<Error<'de>>
+        ensures { result.items ≡ [] }
+    {
+        Vec::new(self.alloc)
+    }
+
+    /// Reads a field as `read` does, of a type that warns. Appends its warnings to a list, even if the read fails or
+    /// memory runs out.
     pub fn read_with_warnings<T: DeserializeWithWarnings<'de>>(
         &mut self,
         name: &'de str,
         warnings: &mut Vec<Error<'de>>,
     ) -> Result<Option<T>, AllocError>
         requires { AllWhole (state_of self.old) }
-        ensures answer { IfOk result (λ field. AsksWithWarnings T.reads name.now (state_of self.old) field
-            (state_of self.new) (map content_of warnings.old.items) (map content_of warnings.new.items)) }
+        ensures answer { AsksWithWarnings T.reads name.now (state_of self.old) result (state_of self.new)
+            (map content_of warnings.old.items) (map content_of warnings.new.items) }
+        ensures kept { Extends (map content_of warnings.old.items) (map content_of warnings.new.items) }
         ensures told { IfOk result (λ field. kept (state_of self.old) + lacking field ≤ kept (state_of self.new)) }
         ensures whole { AllWhole (state_of self.new) }
     {
@@ -32,15 +42,16 @@ impl<'de> TableHelper<'de> {
         }
     }
 
-    /// As `read_optional`, of a type that warns.
+    /// Reads a field as `read_optional` does, of a type that warns, as in `read_with_warnings`.
     pub fn read_optional_with_warnings<T: DeserializeWithWarnings<'de>>(
         &mut self,
         name: &'de str,
         warnings: &mut Vec<Error<'de>>,
     ) -> Result<Option<T>, AllocError>
         requires { AllWhole (state_of self.old) }
-        ensures answer { IfOk result (λ field. TriesWithWarnings T.reads name.now (state_of self.old) field
-            (state_of self.new) (map content_of warnings.old.items) (map content_of warnings.new.items)) }
+        ensures answer { TriesWithWarnings T.reads name.now (state_of self.old) result (state_of self.new)
+            (map content_of warnings.old.items) (map content_of warnings.new.items) }
+        ensures kept { Extends (map content_of warnings.old.items) (map content_of warnings.new.items) }
         ensures told { IfOk result (λ field. kept (state_of self.old) ≤ kept (state_of self.new)) }
         ensures whole { AllWhole (state_of self.new) }
     {

@@ -2,7 +2,7 @@ use Rattle.toml_span_lex.proofs.Common.{◌≡◌, ◌∷◌, ◌++◌, [], ap, 
 use Rattle.toml_span_tree.specs.Value.{all_whole, is_whole, items_view, view}
 use Rattle.toml_span_typed.specs.code.Errors.{all_of_option}
 use Rattle.toml_span_typed.proofs.Arrays.{nodes_push}
-use Rattle.toml_span_typed.proofs.WithWarnings.{read_more}
+use Rattle.toml_span_typed.proofs.WithWarnings.{extends_more, read_more}
 use Rattle.toml_span_typed.proofs.Whole.{right}
 use Rattle.toml_span_typed.proofs.with_warnings.lists.read_all.Goals as goal
 
@@ -17,17 +17,21 @@ loop-item-preserved g c =
       ends = tt;
       rest = append_assoc before (item ∷ []) after ∙ ap (λ vs. before ++ vs) (sym step) ∙ c.loop-item.invariant.rest;
       whole = right (is_whole (view item)) (all_whole (items_view after)) (sym (ap (λ vs. all_whole (items_view vs)) step) ∙ c.loop-item.invariant.whole);
-      done = rw (nodes_push before item) (read_more _ _ _ _ _ _ _ _ _ _ c.loop-item.invariant.done c.in_default.ensures);
+      done = rw (nodes_push before item) (read_more _ _ _ _ _ _ _ _ _ _ c.loop-item.invariant.done c.in_default.ensures.ok);
+      kept = extends_more _ _ _ c.loop-item.invariant.kept c.read_next.ensures.kept;
     }
 
-pub returns-in-None-from_list : goal.returns-in-None-from_list
-returns-in-None-from_list g c =
+pub returns-in-None-from_list-clause-answer : goal.returns-in-None-from_list-clause-answer
+returns-in-None-from_list-clause-answer g c =
     let ends : c.loop-item.yielded ≡ c.args.items.items = grind (arith, common_steps) in
     let done = c.loop-item.invariant.done in
     rw (sym ends) (done.0, done.1, (done.3 ∙ sym c.from_list.ensures ∙ ap all_of_option c.in-None-from_list.is, done.2))
 
-pub returns : goal.returns
-returns g c =
+pub returns-clause-answer : goal.returns-clause-answer
+returns-clause-answer g c =
     let ends : c.loop-item.yielded ≡ c.args.items.items = grind (arith, common_steps) in
     let done = c.loop-item.invariant.done in
     rw (sym ends) (done.0, done.1, done.3 ∙ sym c.from_list.ensures ∙ ap all_of_option c.in-Some-from_list.is)
+
+pub returns-in-Err-clause-kept : goal.returns-in-Err-clause-kept
+returns-in-Err-clause-kept g c = extends_more _ _ _ c.loop-item.invariant.kept c.read_next.ensures.kept

@@ -1,0 +1,13 @@
+-- The SARIF document of a run of another program, such as a lint.
+use Rattle.std.specs.Prelude.{ℕ, ◌==◌, List, [], ◌∷◌, ◌++◌, if◌then◌else◌}
+use Rattle.toml_span_report.specs.Visible.{quoted}
+use Rattle.toml_span_check.specs.declared.lints.TheConstants.{HEAD, RESULTS, TAIL}
+
+-- without a comma at the start
+abbrev pub without_comma : List ℕ → List ℕ
+without_comma [] = []
+without_comma (c ∷ cs) = if c == 44 then cs else c ∷ cs
+
+-- the name of the tool, and the results
+unfoldable pub sarif_document : List ℕ → List ℕ → List ℕ
+sarif_document tool results = HEAD.now ++ quoted tool ++ RESULTS.now ++ without_comma results ++ TAIL.now

@@ -1,0 +1,107 @@
+//! Reads of integers that must be in a range.
+ghost use Rattle.std.specs.Prelude.{◌≡◌, ◌⊎◌, ◌++◌, IfOk, OnOk, option_map, string_bytes};
+ghost use Rattle.std.specs.Fmt.{signed_decimal};
+ghost use Rattle.toml_span_tree.specs.Error.{content_of};
+ghost use Rattle.toml_span_tree.specs.Value.{view};
+ghost use Rattle.toml_span_typed.specs.Ranges as spec;
+ghost use Rattle.toml_span_typed.specs.Ranges.{in_range, range_fault};
+ghost use Rattle.toml_span_typed.specs.Reads.{Unchanged, result_map};
+
+use crate::deser_error::DeserError;
+use crate::deserialize::Deserialize;
+use std::alloc::{AllocError, Global};
+use std::borrow::CowStr;
+use std::fmt::Write;
+use std::num::TryFromIntError;
+use toml_span_lex::span::Span;
+use toml_span_lex::stop::Stop;
+use toml_span_tree::{Error, ErrorKind, Value};
+
+/// An integer from LOW to HIGH, both included: what `read_table!` reads for `range(LOW..=HIGH)`.
+#[derive(Debug, Drop)]
+pub struct InRange<T, const LOW: i64, const HIGH: i64> {
+    pub value: T,
+}
+
+/// Reads the integer as a T does. One that is less than LOW or greater than HIGH is the error `Marked`, of the code
+/// `out-of-range`, at the value, with the range and the integer in its message, even if T can't hold it.
+impl<
+    'de,
+    T: Deserialize<'de> + TryFrom<i64, Error = TryFromIntError>,
+    const LOW: i64,
+    const HIGH: i64,
+> Deserialize<'de> for InRange<T, LOW, HIGH> {
+    ghost reads = { λ v r w. in_range LOW HIGH T.Deserialize.reads v (result_map (λ n. n.value) r) w };
+
+    ghost starved = { λ v w. T.Deserialize.starved v w ⊎ Unchanged v w };
+
+    fn deserialize(
+        alloc: Global,
+        value: &mut Value<'de>,
+    ) -> Result<InRange<T, LOW, HIGH>, Stop<DeserError<'de>>> {
+        if let Some(fault) = range_fault(alloc, LOW, HIGH, value)? {
+            return Err(fault.into());
+        }
+        match T::deserialize(alloc, value) {
+            Ok(value) => Ok(InRange { value }),
+            Err(stop) => Err(stop),
+        }
+    }
+}
+
+/// Returns the error of a value that is an integer outside the range, or None.
+fn range_fault<'s>(
+    alloc: Global,
+    low: i64,
+    high: i64,
+    value: &Value,
+) -> Result<Option<Error<'s>>, AllocError>
+    ensures { IfOk result (λ fault. option_map content_of fault ≡ spec.range_fault low high (view value.now)) }
+{
+    match value.as_integer() {
+        Some(found) if found < low || high < found => {
+            Ok(Some(out_of_range(alloc, low, high, value.span, found)?))
+        }
+        _ => Ok(None),
+    }
+}
+
+/// Returns the error of an integer that is not in the range.
+fn out_of_range<'s>(
+    alloc: Global,
+    low: i64,
+    high: i64,
+    span: Span,
+    found: i64,
+) -> Result<Error<'s>, AllocError>
+    ensures { IfOk result (λ fault. content_of fault ≡ spec.out_of_range low high span found) }
+{
+    let message = range_message(alloc, low, high, found)?;
+    let kind = ErrorKind::Marked {
+        code: "out-of-range",
+        message: CowStr::Owned(message),
+        places: Vec::new(alloc),
+    };
+    Ok(Error::from((kind, span)))
+}
+
+/// Returns the message for an integer that is not in the range.
+#[tactic(auto, unfolding(crate::specs::Ranges::range_message))]
+fn range_message(alloc: Global, low: i64, high: i64, found: i64) -> Result<String, AllocError>
+    ensures { IfOk result (λ message. string_bytes message ≡ spec.range_message low high found) }
+{
+    let mut out = String::from_str(alloc, "expected a value in ")?;
+    push_integer(low, &mut out)?;
+    out.push_str("..=")?;
+    push_integer(high, &mut out)?;
+    out.push_str(", found ")?;
+    push_integer(found, &mut out)?;
+    Ok(out)
+}
+
+/// Adds an integer in decimal digits.
+fn push_integer(number: i64, out: &mut String) -> Result<(), AllocError>
+    ensures { OnOk result (string_bytes out.new ≡ string_bytes out.old ++ signed_decimal number) }
+{
+    write!(out, "{number}")
+}
