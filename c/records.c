@@ -37,14 +37,14 @@ static size_t encode(unsigned long code, char bytes[4]) {
 static size_t unescape(path_step *step, char bytes[4]) {
     static const char letters[] = "btnfre\"\\", meant[] = "\b\t\n\f\r\033\"\\";
     char letter = step->at < step->end ? *step->at++ : 'u';
-    const char *found = memchr(letters, letter, sizeof letters - 1);
+    const char *found = (const char *)memchr(letters, letter, sizeof letters - 1);
     int digits = letter == 'x' ? 2 : letter == 'u' ? 4 : letter == 'U' ? 8 : 0;
     unsigned long code = 0;
     if (found) bytes[0] = meant[found - letters];
     if (found || digits == 0 || step->end - step->at < digits) return found != NULL;
     for (; digits > 0; digits--, step->at++) {
         static const char hexadecimal[] = "0123456789abcdefABCDEF";
-        const char *digit = memchr(hexadecimal, *step->at, sizeof hexadecimal - 1);
+        const char *digit = (const char *)memchr(hexadecimal, *step->at, sizeof hexadecimal - 1);
         if (!digit) return 0;
         code = 16 * code + (unsigned long)(digit - hexadecimal < 16 ? digit - hexadecimal : digit - hexadecimal - 6);
     }

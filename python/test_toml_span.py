@@ -340,7 +340,7 @@ class Nodes(unittest.TestCase):
             root.pointer("a")
 
     def test_paths(self):
-        root = toml_span.parse("a.'x/y~' = [1, {b = 2}]\n'' = 3\n[a.0]\n\u00e9 = 4\n")
+        root = toml_span.parse("a.'x/y~' = [1, {b = 2}]\n'' = 3\n[a.0]\n'\u00e9' = 4\n")
         for path, found in (
             ("", ()), ("a.'x/y~'[1].b", ("a", "x/y~", 1, "b")), ("/a/x~1y~0/1/b", ("a", "x/y~", 1, "b")),
             ("''", ("",)), ("a.0", ("a", "0")), ("a . 0 . '\u00e9'", ("a", "0", "\u00e9")),
