@@ -1,19 +1,25 @@
 -- What a reader reports when a step reads nothing: why, and at which piece of its row.
-use Rattle.std.specs.Prelude.{◌≡◌, ◌⊎◌, ⊤, ℕ, ℤ, pos, negsuc, Bool, false, nat_lt, not, if◌then◌else◌, List, [], ◌∷◌}
-use Rattle.std.specs.Prelude.{◌==◌, String, Vec, string_bytes, Option, None, Some, length, map, reverse, take}
+use Rattle.std.specs.Prelude.{◌≡◌, ◌≢◌, ◌≤◌, ◌⊎◌, ⊤, ℕ, ℤ, pos, negsuc, Bool, false, nat_lt, not, if◌then◌else◌, List}
+use Rattle.std.specs.Prelude.{[], ◌∷◌, ◌==◌, String, Vec, string_bytes, Option, None, Some, length, map, reverse, take}
+use Rattle.std.specs.Prelude.{encode_utf8, slice_range}
+use Rattle.std.specs.Char.{IsScalar}
+use Rattle.std.specs.Float.{Format}
 use Rattle.std.specs.Global.{Global}
+use Rattle.std.specs.declared.alloc.AllocError.{AllocError}
+use Rattle.fast_float.specs.Parse.{parse_float}
 use Rattle.serde.specs.declared.format.Kind.{Kind}
 use Rattle.serde.specs.declared.format.Kind.TheVariants as kind
 use Rattle.serde.specs.declared.name.Name.{Name}
 use Rattle.toml_span_lex.specs.declared.span.Span.{Span}
 use Rattle.toml_span_lex.specs.declared.stop.Stop.{Stop}
 use Rattle.toml_span_lex.specs.declared.stop.Stop.TheVariants as stop
+use Rattle.toml_span_tree.specs.Float.{float_text}
 use Rattle.toml_span_tree.specs.Node as tree
-use Rattle.toml_span_serde.specs.Ahead.{laid}
+use Rattle.toml_span_serde.specs.Ahead.{ahead, laid}
 use Rattle.toml_span_serde.specs.Pieces.{Content, Piece, value, nothing, array_begins, array_ends, table_begins}
 use Rattle.toml_span_serde.specs.Pieces.{table_ends, key}
 use Rattle.toml_span_serde.specs.Names.{all_forms, forms_of}
-use Rattle.toml_span_serde.specs.Reads.{IsText}
+use Rattle.toml_span_serde.specs.Reads.{IsText, IsWritten}
 use Rattle.toml_span_serde.specs.Tried.{Tries, taken, tries}
 use Rattle.toml_span_serde.specs.Twice.{earlier, key_place}
 use Rattle.toml_span_serde.specs.Walk.{elements_in}
@@ -82,6 +88,14 @@ abbrev pub UnlessMemory : Stop Misread → Type 0 → Type 0
 UnlessMemory (stop.Memory e) P = ⊤
 UnlessMemory (stop.Fault m) P = P
 
+-- the row has ended
+abbrev pub RunsOut : Reader → Stop Misread → Type 0
+RunsOut r stopped = (ahead r ≡ []) × IsMisread (λ why. why ≡ is.Invalid) r.next stopped
+
+-- an allocation failed
+abbrev pub IsMemory : Stop Misread → Type 0
+IsMemory stopped = (e : AllocError) × (stopped ≡ stop.Memory e)
+
 -- The reason has this text and these names.
 abbrev pub Lists : (String Global → Vec (String Global) Global → Reason) → List ℕ → List (List ℕ) → Reason → Type 0
 Lists reason text names why =
@@ -97,11 +111,48 @@ abbrev pub Misses : (Content → Type 0) → Expected → List Piece → Reason 
 Misses Fits expected [] why = why ≡ is.Invalid
 Misses Fits expected (p ∷ ps) why = ¬ Fits p.content × (why ≡ is.Wanted expected (found_of p.content))
 
+-- the same, or the next piece has the defect for which this is the reason
+abbrev pub MissesOr : (Content → Type 0) → Expected → (Piece → Type 0) → Reason → List Piece → Reason → Type 0
+MissesOr Fits expected HasDefect reason ps why = Misses Fits expected ps why
+    ⊎ ((why ≡ reason) × ((p : Piece) × (rest : List Piece) × (ps ≡ p ∷ rest) × HasDefect p))
+
 abbrev pub IsAnyText : Content → Type 0
 IsAnyText c = (s : List ℕ) × IsText s c
 
 abbrev pub IsAnyInteger : Content → Type 0
 IsAnyInteger c = (z : ℤ) × (c ≡ value (tree.integer z))
+
+abbrev pub IsAnyBoolean : Content → Type 0
+IsAnyBoolean c = (b : Bool) × (c ≡ value (tree.boolean b))
+
+-- a string, a key or a date
+abbrev pub IsAnyWritten : Content → Type 0
+IsAnyWritten c = (s : List ℕ) × IsWritten s c
+
+-- a key, or the end of a table
+abbrev pub IsKeyOrEnd : Content → Type 0
+IsKeyOrEnd c = ((s : List ℕ) × (c ≡ key s)) ⊎ (c ≡ table_ends)
+
+-- a float or an integer
+abbrev pub IsAnyNumber : Content → Type 0
+IsAnyNumber c = ((d : tree.FloatValue) × (c ≡ value (tree.float d))) ⊎ IsAnyInteger c
+
+abbrev pub IsNegative : Piece → Type 0
+IsNegative p = (n : ℕ) × (p.content ≡ value (tree.integer (negsuc n)))
+
+-- a float whose text is not read as a number of this format
+abbrev pub IsUnreadable : Format → Piece → Type 0
+IsUnreadable format p = (d : tree.FloatValue) × (p.content ≡ value (tree.float d))
+    × (parse_float format (float_text d) ≡ None)
+
+-- a text that is not exactly one character
+abbrev pub IsNotOneCharacter : Piece → Type 0
+IsNotOneCharacter p = (s : List ℕ) × IsText s p.content × ((c : ℕ) → IsScalar c → s ≢ encode_utf8 c)
+
+-- a text that the input does not have at the span
+abbrev pub IsNotAtItsSpan : List ℕ → Piece → Type 0
+IsNotAtItsSpan input p = (s : List ℕ) × IsText s p.content × (p.span.start ≤ p.span.end
+    → p.span.end ≤ length input → slice_range input p.span.start p.span.end ≢ s)
 
 -- why a type does not accept a value
 abbrev pub refusal : Content → Reason

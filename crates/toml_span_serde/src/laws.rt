@@ -9,7 +9,7 @@ use serde::{Deserialize, Deserializer};
 use std::alloc::Global;
 use toml_span_lex::stop::Stop;
 
-/// A `Spanned` that is read of a tree has the bytes of the value that the reader stands before, or of the key.
+/// A `Spanned` that is read from a tree has the span of the next value or key.
 pub fn spanned_has_its_bytes<'de, T: Deserialize<'de>>(
     alloc: Global,
     input: &'de [u8],

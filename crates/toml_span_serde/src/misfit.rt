@@ -1,4 +1,4 @@
-//! Why a value is not read as a type.
+//! Why a value cannot be read as a type.
 ghost use Rattle.std.specs.Fmt.{WritesOnOk};
 ghost use Rattle.std.specs.List.{flat_map};
 ghost use Rattle.std.specs.Prelude.{◌≡◌, ◌++◌, [], IfOk, Some, codes, map, option_map, string_bytes};
@@ -20,7 +20,7 @@ use std::fmt::{Display, Formatter, Write};
 use toml_span_lex::span::Span;
 use toml_span_tree::{Diagnostic, ErrorKind};
 
-/// What a type asks for.
+/// What a type expects.
 #[derive(Clone, Copy, PartialEq, Eq, Debug)]
 pub enum Expected {
     Boolean,
@@ -28,7 +28,7 @@ pub enum Expected {
     Float,
     Character,
     String,
-    /// A string that is borrowed, so that it has to equal the text at its span.
+    /// A string that can be borrowed: it must equal the text at its span.
     PlainString,
     Array,
     Table,
@@ -36,7 +36,7 @@ pub enum Expected {
     Variant,
 }
 
-/// The kind of what stands in a tree.
+/// The kind of a value or key that was found.
 #[derive(Clone, Copy, PartialEq, Eq, Debug)]
 pub enum Found {
     String,
@@ -47,12 +47,12 @@ pub enum Found {
     Array,
     Table,
     Key,
-    /// A value that is taken.
+    /// A value whose content was taken.
     Nothing,
 }
 
 impl Expected {
-    /// The words for it.
+    /// Names it, as in `an integer`.
     pub(crate) fn words(self) -> &'static str
         ensures { result.now ≡ words_of self }
     {
@@ -72,7 +72,7 @@ impl Expected {
 }
 
 impl Found {
-    /// The name of the kind.
+    /// Names the kind, as in `integer`.
     pub(crate) fn name(self) -> &'static str
         ensures { result.now ≡ name_of self }
     {
@@ -98,37 +98,37 @@ pub enum Reason {
         expected: Expected,
         found: Found,
     },
-    /// A value of one of several other kinds was expected: no variant of an `untagged` enum took this one.
+    /// One of several other kinds was expected: no variant of an `untagged` enum accepts this one.
     WantedOneOf {
         expected: Vec<Expected>,
         found: Found,
     },
-    /// No kind that the type reads is this one, or a variant of an `untagged` enum took it and failed further on.
+    /// The type does not accept this kind, or a variant of an `untagged` enum accepted it and failed later.
     Unexpected(Found),
-    /// A table has no key for this field.
+    /// The table has no key for this field.
     MissingField(String),
-    /// Two keys of a table name this field. The misfit stands at the later one; `first` has the bytes of the earlier.
+    /// Two keys of a table name this field. The misfit is at the later one, and `first` is the span of the earlier one.
     DuplicateField {
         name: String,
         first: Option<Span>,
     },
-    /// A table has this key, which names no field. The keys that do are those expected.
+    /// The table has this key, which names no field. `expected` has the keys that do.
     UnknownField {
         name: String,
         expected: Vec<String>,
     },
-    /// This text names no variant. The texts that do are those expected.
+    /// This text names no variant. `expected` has the texts that do.
     UnknownVariant {
         name: String,
         expected: Vec<String>,
     },
-    /// An array ends behind so many elements, and the type has another number.
+    /// The array has this many elements, and the type expects another number.
     Length(usize),
-    /// An array goes on behind so many elements, which are all that the type has.
+    /// The array has more than this many elements, which is the number that the type expects.
     TooLong(usize),
-    /// The type does not hold this number.
+    /// The type cannot hold this number.
     OutOfRange,
-    /// The number is less than 0, and the type holds none that is.
+    /// The number is negative, and the type is unsigned.
     Negative,
     /// The type refuses the value.
     Invalid,
@@ -136,7 +136,7 @@ pub enum Reason {
     Custom(String),
 }
 
-/// Writes further names, each behind a comma.
+/// Writes further names, each after a comma.
 fn write_more<W: Write>(f: &mut Formatter<W>, names: &[String]) -> fmt::Result
     ensures { WritesOnOk W.write_str_gives f.old result
         (flat_map (λ name. codes ", " ++ named name) (map string_bytes names.now)) f.new }
@@ -147,7 +147,7 @@ fn write_more<W: Write>(f: &mut Formatter<W>, names: &[String]) -> fmt::Result
     Ok(())
 }
 
-/// Writes the names that are expected, or what is said where there are none.
+/// Writes the expected names, or another text if the list is empty.
 fn write_expected<W: Write>(f: &mut Formatter<W>, none: &str, names: &[String]) -> fmt::Result
     ensures { WritesOnOk W.write_str_gives f.old result (expected_text none.now (map string_bytes names.now)) f.new }
 {
@@ -161,7 +161,7 @@ fn write_expected<W: Write>(f: &mut Formatter<W>, none: &str, names: &[String]) 
     }
 }
 
-/// Writes kinds, each behind a comma.
+/// Writes kinds, each after a comma.
 fn write_parted<W: Write>(f: &mut Formatter<W>, kinds: &[Expected]) -> fmt::Result
     ensures { WritesOnOk W.write_str_gives f.old result
         (flat_map (λ kind. codes ", " ++ words_of kind) kinds.now) f.new }
@@ -173,7 +173,7 @@ fn write_parted<W: Write>(f: &mut Formatter<W>, kinds: &[Expected]) -> fmt::Resu
     Ok(())
 }
 
-/// Writes further kinds, the last one behind an "or".
+/// Writes further kinds, with "or" before the last one.
 fn write_more_kinds<W: Write>(f: &mut Formatter<W>, kinds: &[Expected]) -> fmt::Result
     ensures { WritesOnOk W.write_str_gives f.old result (more_kinds_text kinds.now) f.new }
 {
@@ -187,7 +187,7 @@ fn write_more_kinds<W: Write>(f: &mut Formatter<W>, kinds: &[Expected]) -> fmt::
     }
 }
 
-/// Writes kinds, the last of several behind an "or".
+/// Writes kinds, with "or" before the last of several.
 fn write_kinds<W: Write>(f: &mut Formatter<W>, kinds: &[Expected]) -> fmt::Result
     ensures { WritesOnOk W.write_str_gives f.old result (kinds_text kinds.now) f.new }
 {
@@ -240,7 +240,7 @@ impl Display for Reason {
 }
 
 impl Reason {
-    /// The kind of error that tells the reason.
+    /// Returns the kind of error for this reason.
     fn kind(&self, alloc: Global) -> Result<ErrorKind<'_>, AllocError>
         ensures { IfOk result (λ kind. kind_of kind ≡ kind_of_reason self.now) }
     {
@@ -258,14 +258,14 @@ impl Reason {
         })
     }
 
-    /// The kind of error that tells the text of the reason.
+    /// Returns a `Custom` error with the text of this reason.
     fn custom<'c>(&self, alloc: Global) -> Result<ErrorKind<'c>, AllocError>
         ensures { IfOk result (λ kind. kind_of kind ≡ custom (reason_text self.now)) }
     {
         Ok(ErrorKind::Custom(CowStr::Owned(self.to_string(alloc)?)))
     }
 
-    /// The kind of error that tells a field which comes twice: its text, where the earlier place is not known.
+    /// Returns the kind of error for a field that occurs twice. If the earlier place is not known, it is `Custom`.
     fn twice<'c>(
         &self,
         alloc: Global,
@@ -283,7 +283,7 @@ impl Reason {
         }
     }
 
-    /// The kind of error that tells the reason under this code.
+    /// Returns a kind of error with this code and the text of this reason.
     fn marked<'c>(&self, alloc: Global, code: &'c str) -> Result<ErrorKind<'c>, AllocError>
         ensures { IfOk result (λ kind. kind_of kind ≡ marked code.now (reason_text self.now) []) }
     {
@@ -294,7 +294,7 @@ impl Reason {
         })
     }
 
-    /// The expected name that is nearest to an unknown one, if it is near enough (`toml_span_report::nearest`).
+    /// Returns the expected name that is nearest to an unknown one, if it is near enough (`toml_span_report::nearest`).
     pub fn meant(&self, alloc: Global) -> Result<Option<&str>, AllocError>
         ensures { IfOk result (λ found. option_map (λ name. name.now) found ≡ meant_by self.now) }
     {
@@ -312,11 +312,11 @@ impl Reason {
     }
 }
 
-/// Why a value is not read as a type, and where.
+/// Why a value cannot be read as a type, and where it is.
 #[derive(Debug, Drop)]
 pub struct Misfit {
     pub reason: Reason,
-    /// The bytes of the value at which the read stopped, or of its key.
+    /// The span of the value at which reading stopped, or of its key.
     pub span: Span,
     /// The line and the column at which the span starts, both counted from 0, if they are known.
     pub line_info: Option<(usize, usize)>,
@@ -325,7 +325,7 @@ pub struct Misfit {
 }
 
 impl Misfit {
-    /// The misfit as an error of a document, at the same span, line and column. It takes memory for its text.
+    /// Converts the misfit to an error with the same span, line and column. Needs memory for the text.
     pub fn to_error(&self, alloc: Global) -> Result<toml_span_tree::Error<'_>, AllocError>
         ensures { IfOk result (λ error. content_of error ≡ content_of_misfit self.now) }
     {
@@ -337,16 +337,16 @@ impl Misfit {
     }
 }
 
-/// Why a text is not read as a type.
+/// Why a text cannot be read as a type.
 #[derive(Debug, Drop)]
 pub enum Error<'s> {
-    /// The text is no document.
+    /// The text is not valid TOML.
     Refused(toml_span_tree::Error<'s>),
-    /// A value of the document is not what the type asks for.
+    /// A value of the document does not fit the type.
     Misfit(Misfit),
 }
 
-/// Writes the steps behind the first, each name behind a dot.
+/// Writes the steps after the first, each name after a dot.
 fn write_further<W: Write>(f: &mut Formatter<W>, steps: &[Step]) -> fmt::Result
     ensures { WritesOnOk W.write_str_gives f.old result (flat_map further_text steps.now) f.new }
 {
@@ -359,7 +359,7 @@ fn write_further<W: Write>(f: &mut Formatter<W>, steps: &[Step]) -> fmt::Result
     Ok(())
 }
 
-/// Writes a path, as `servers[1].port: `, or nothing for the root.
+/// Writes a path and a colon, as in `servers[1].port: `; for the root, writes nothing.
 fn write_place<W: Write>(f: &mut Formatter<W>, path: &[Step]) -> fmt::Result
     ensures { WritesOnOk W.write_str_gives f.old result (place_text path.now) f.new }
 {
@@ -376,7 +376,7 @@ fn write_place<W: Write>(f: &mut Formatter<W>, path: &[Step]) -> fmt::Result
 impl Display for Misfit {
     ghost output = { λ misfit. Some (misfit_text misfit) };
 
-    /// The path, as `servers[1].port`, and the reason.
+    /// Writes the path, as in `servers[1].port`, and the reason.
     fn fmt<W: Write>(&self, f: &mut Formatter<W>) -> fmt::Result {
         write_place(f, self.path.as_slice())?;
         let reason = &self.reason;
@@ -398,21 +398,21 @@ impl Display for Error<'_> {
 impl std::error::Error for Error<'_> {}
 
 impl Error<'_> {
-    /// The bytes that the error is about.
+    /// Returns the span of the error.
     pub fn span(&self) -> Span
         ensures { result ≡ (content_of_error self.now).span }
     {
         self.place().0
     }
 
-    /// The line and the column at which the span starts, both counted from 0, if they are known.
+    /// Returns the line and the column at which the span starts, both counted from 0, if they are known.
     pub fn line_info(&self) -> Option<(usize, usize)>
         ensures { result ≡ (content_of_error self.now).line_info }
     {
         self.place().1
     }
 
-    /// The bytes that the error is about, and the line and the column at which they start.
+    /// Returns the span of the error, and the line and the column at which it starts.
     fn place(&self) -> (Span, Option<(usize, usize)>)
         ensures { (result.0 ≡ (content_of_error self.now).span) × (result.1 ≡ (content_of_error self.now).line_info) }
     {
@@ -422,7 +422,8 @@ impl Error<'_> {
         }
     }
 
-    /// The error with its places, for an editor or a terminal to show. `fid` names the file. It takes memory.
+    /// Converts the error to a diagnostic with all its labels, for an editor or a terminal. `fid` names the file. Needs
+    /// memory.
     pub fn to_diagnostic<F: Copy + PartialEq>(
         &self,
         alloc: Global,

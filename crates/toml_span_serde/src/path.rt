@@ -10,7 +10,7 @@ use std::alloc::{AllocError, Global};
 use std::fmt;
 use std::fmt::{Display, Formatter, Write};
 
-/// A step down: to the entry of that name, or to the element at that position, counted from 0.
+/// A step of a path: to the entry with a name, or to the element at a position, counted from 0.
 #[derive(Debug, Drop)]
 pub enum Step {
     Key(String),
@@ -28,14 +28,14 @@ impl Display for Step {
     }
 }
 
-/// A step down, lent by a tree.
+/// A step of a path, borrowed from a tree.
 #[derive(Clone, Copy, Drop)]
 enum Down<'v> {
     Key(&'v str),
     Position(usize),
 }
 
-/// The path to the value of a piece, or to that of its key, from all pieces before it.
+/// Returns the path to the value of a piece, or to the value of its key. `before` are all pieces before it.
 pub(crate) fn path_to<'v>(
     alloc: Global,
     before: &[Piece<'v>],
@@ -49,7 +49,7 @@ pub(crate) fn path_to<'v>(
     steps_of(alloc, downs.as_slice())
 }
 
-/// How many elements of the array that is open behind all these pieces are among them.
+/// Counts the elements, among these pieces, of the array that is still open after them.
 pub(crate) fn elements_in(alloc: Global, before: &[Piece<'_>]) -> Result<usize, AllocError>
     ensures { IfOk result (λ count. count ≡ elements_in (map piece_of before.now)) }
 {
@@ -60,7 +60,7 @@ pub(crate) fn elements_in(alloc: Global, before: &[Piece<'_>]) -> Result<usize, 
     }
 }
 
-/// The way to what stands behind all these pieces.
+/// Returns the way to what comes after all these pieces.
 fn way_behind<'v>(alloc: Global, before: &[Piece<'v>]) -> Result<Vec<Down<'v>>, AllocError>
     ensures { IfOk result (λ downs. way_of downs.items ≡ walked (map piece_of before.now) []) }
 {
@@ -71,7 +71,7 @@ fn way_behind<'v>(alloc: Global, before: &[Piece<'v>]) -> Result<Vec<Down<'v>>, 
     Ok(downs)
 }
 
-/// The way to what stands behind a piece, from the way that leads there.
+/// Changes the way to a piece to the way to what comes after it.
 fn pass<'v>(downs: &mut Vec<Down<'v>>, content: Content<'v>) -> Result<(), AllocError>
     ensures { OnOk result (way_of downs.new.items ≡ behind (piece_content content.entry) (way_of downs.old.items)) }
 {
@@ -88,7 +88,7 @@ fn pass<'v>(downs: &mut Vec<Down<'v>>, content: Content<'v>) -> Result<(), Alloc
     Ok(())
 }
 
-/// The way to the value of a piece, or to that of its key.
+/// Changes the way to a piece to the way to its value, or to the value of its key.
 fn turn_to<'v>(downs: &mut Vec<Down<'v>>, content: Content<'v>) -> Result<(), AllocError>
     ensures { OnOk result (way_of downs.new.items ≡ way_at (piece_content content.entry) (way_of downs.old.items)) }
 {
@@ -100,14 +100,15 @@ fn turn_to<'v>(downs: &mut Vec<Down<'v>>, content: Content<'v>) -> Result<(), Al
     Ok(())
 }
 
-/// The way without its last step.
+/// Removes the last step of the way.
 fn leave(downs: &mut Vec<Down<'_>>)
     ensures { way_of downs.new.items ≡ outer (way_of downs.old.items) }
 {
     downs.pop();
 }
 
-/// The way to what stands behind a value. A position is less than the number of pieces, so it has a next one.
+/// Changes the way to a value to the way to what comes after it. A position is less than the number of pieces, so there
+/// is a next one.
 fn end_value(downs: &mut Vec<Down<'_>>) -> Result<(), AllocError>
     ensures { OnOk result (way_of downs.new.items ≡ ended (way_of downs.old.items)) }
 {
@@ -120,7 +121,7 @@ fn end_value(downs: &mut Vec<Down<'_>>) -> Result<(), AllocError>
     Ok(())
 }
 
-/// The steps with names of their own.
+/// Returns the steps with owned names.
 fn steps_of(alloc: Global, downs: &[Down<'_>]) -> Result<Vec<Step>, AllocError>
     ensures { IfOk result (λ path. path_of path.items ≡ map down_of downs.now) }
 {

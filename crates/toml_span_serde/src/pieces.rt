@@ -13,7 +13,7 @@ use std::alloc::{AllocError, Global};
 use toml_span_lex::span::Span;
 use toml_span_tree::{Array, FloatText, Table, Value, ValueInner};
 
-/// What stands at one place of a tree.
+/// A scalar, a key, or the beginning or end of an array or table.
 #[derive(Clone, Copy, Drop)]
 pub(crate) enum Content<'v> {
     Text(&'v str),
@@ -29,7 +29,7 @@ pub(crate) enum Content<'v> {
     Key(&'v str),
 }
 
-/// What stands at one place of a tree, and the bytes of the value or of the key.
+/// A part of a tree, with the span of its value or key.
 #[derive(Clone, Copy, Drop)]
 pub(crate) struct Piece<'v> {
     pub content: Content<'v>,
@@ -37,7 +37,7 @@ pub(crate) struct Piece<'v> {
 }
 
 impl<'v> Content<'v> {
-    /// The kind of what stands there.
+    /// Returns the kind of the value or key.
     pub(crate) fn kind(&self) -> Found
         ensures { result ≡ found_of (piece_content self.now) }
     {
@@ -54,7 +54,7 @@ impl<'v> Content<'v> {
         }
     }
 
-    /// What serde takes it for before it is read.
+    /// Returns how serde classifies it before it is read.
     pub(crate) fn serde_kind(&self) -> Kind
         ensures { result ≡ kind_ahead (piece_content self.now) }
     {
@@ -70,7 +70,7 @@ impl<'v> Content<'v> {
         }
     }
 
-    /// How many arrays and tables are open behind it, of so many before it.
+    /// Returns how many arrays and tables are open after this piece, if `depth` are open before it.
     fn depth_behind(&self, depth: usize) -> usize
         requires { depth < 2 ^ 64 - 1 }
         ensures { result ≡ depth_behind (piece_content self.now) depth }
@@ -82,7 +82,7 @@ impl<'v> Content<'v> {
         }
     }
 
-    /// Why a type does not take it, once it is read.
+    /// Returns why a type does not accept the value after reading it.
     pub(crate) fn refusal(&self) -> Reason
         ensures { result ≡ refusal (piece_content self.now) }
     {
@@ -92,7 +92,7 @@ impl<'v> Content<'v> {
         }
     }
 
-    /// The text of a string or of a key, and of nothing else.
+    /// Returns the text of a string or a key, otherwise an empty text.
     pub(crate) fn text(&self) -> &'v str
         ensures { result.now ≡ told_text (piece_content self.now) }
     {
@@ -103,7 +103,7 @@ impl<'v> Content<'v> {
     }
 }
 
-/// How many pieces the value has that begins here, or 1 for a key. It is None where the value has no end.
+/// Counts the pieces of the value that begins here; a key is 1. Returns None if the value has no end.
 pub(crate) fn count_value(ahead: &[Piece<'_>]) -> Option<usize>
     ensures value { (n : Node) (rest : List Laid) → map piece_of ahead.now ≡ pieces n ++ rest
         → result ≡ Some (length (pieces n)) }
@@ -122,14 +122,14 @@ pub(crate) fn count_value(ahead: &[Piece<'_>]) -> Option<usize>
     None
 }
 
-/// What is left to go through, from the last to the first.
+/// A part of the tree that is not converted yet. The parts are converted from the last to the first.
 #[derive(Clone, Copy, Drop)]
 enum Task<'v, 'de> {
     Value(&'v Value<'de>),
     Piece(Piece<'v>),
 }
 
-/// The pieces of a tree.
+/// Converts a tree to its pieces. Fails if an allocation fails.
 pub(crate) fn pieces_of<'v>(
     alloc: Global,
     root: &'v Value<'_>,
@@ -149,7 +149,7 @@ pub(crate) fn pieces_of<'v>(
     Err(AllocError)
 }
 
-/// Does what is to be done next.
+/// Converts one part: adds its last piece to `made`, and its other parts to `tasks`.
 fn carry_out<'v, 'de>(
     task: Task<'v, 'de>,
     tasks: &mut Vec<Task<'v, 'de>>,
@@ -167,7 +167,7 @@ fn carry_out<'v, 'de>(
     }
 }
 
-/// Puts down the last piece of a value, and leaves what else it has to be done.
+/// Adds the last piece of a value to `made`, and its other parts to `tasks`.
 fn take_apart<'v, 'de>(
     value: &'v Value<'de>,
     tasks: &mut Vec<Task<'v, 'de>>,
@@ -203,7 +203,7 @@ fn take_apart<'v, 'de>(
     Ok(())
 }
 
-/// Leaves the beginning of an array and its elements to be done.
+/// Adds the beginning of an array and its elements to `tasks`.
 fn push_elements<'v, 'de>(
     array: &'v Array<'de>,
     span: Span,
@@ -222,7 +222,7 @@ fn push_elements<'v, 'de>(
     Ok(())
 }
 
-/// Leaves the beginning of a table and its entries to be done.
+/// Adds the beginning of a table and its entries to `tasks`.
 fn push_entries<'v, 'de>(
     table: &'v Table<'de>,
     span: Span,

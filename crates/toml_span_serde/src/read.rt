@@ -14,10 +14,10 @@ use toml_span_lex::lines::line_info;
 use toml_span_lex::stop::Stop;
 use toml_span_tree::Value;
 
-/// The document that the text spells, as a type that derives `Deserialize`.
+/// Reads a document as a type that derives `Deserialize`.
 ///
-/// What the type borrows, as a `&str`, it borrows from the text: a string that does not equal the text at
-/// its span is refused there. `Memory` comes where the allocator refused a request.
+/// A type such as `&str` borrows from the text: for it, a string that does not equal the text at its span is an error.
+/// Returns `Memory` if an allocation fails.
 pub fn from_str<'de, T: Deserialize<'de>>(
     alloc: Global,
     text: &'de str,
@@ -39,7 +39,7 @@ pub fn from_str<'de, T: Deserialize<'de>>(
     }
 }
 
-/// The value as a type that derives `Deserialize` and borrows nothing. A misfit has no line.
+/// Reads a value as a type that derives `Deserialize` and borrows nothing. A misfit has no line.
 pub fn from_value<T: DeserializeOwned>(alloc: Global, value: &Value<'_>) -> Result<T, Stop<Misfit>>
     ensures { HasOneEach (view value.now) → IfErr result (IsAt (view value.now)) }
 {
@@ -53,7 +53,7 @@ pub fn from_value<T: DeserializeOwned>(alloc: Global, value: &Value<'_>) -> Resu
     }
 }
 
-/// The tree of the text, as a type that may borrow from the text.
+/// Reads the tree of the text as a type that may borrow from the text.
 fn read_lent<'de, T: Deserialize<'de>>(
     alloc: Global,
     text: &'de str,
@@ -71,8 +71,8 @@ fn read_lent<'de, T: Deserialize<'de>>(
     }
 }
 
-/// What the reader has next, as a type that may borrow from the input. serde's trait says nothing of the errors of
-/// `deserialize`, so nothing is proved of which misread comes: rows show each reason.
+/// Reads what comes next as a type that may borrow from the input. serde's trait promises nothing about the result of
+/// `deserialize`, so no contract says which value or misread is returned: rows test each reason.
 fn read_by<'de, T: Deserialize<'de>>(
     alloc: Global,
     input: &'de [u8],
@@ -81,8 +81,8 @@ fn read_by<'de, T: Deserialize<'de>>(
     T::deserialize(alloc, &mut Deserializer::new(input, reader))
 }
 
-/// What the reader has next, as a type that borrows nothing. serde's trait says nothing of the errors of
-/// `deserialize_owned` either.
+/// Reads what comes next as a type that borrows nothing. serde's trait promises nothing about `deserialize_owned`
+/// either.
 fn read_owned<T: DeserializeOwned>(
     alloc: Global,
     reader: &mut Reader<'_, '_>,
@@ -90,7 +90,7 @@ fn read_owned<T: DeserializeOwned>(
     T::deserialize_owned(alloc, &mut Deserializer::new(&[], reader))
 }
 
-/// The misfit with its line and its column.
+/// Adds the line and the column to the misfit.
 fn lined(text: &str, mut misfit: Misfit) -> Misfit
     ensures place { (result.span ≡ misfit.span) × (result.path ≡ misfit.path) }
     ensures line { HasLine text.now result }

@@ -1,23 +1,27 @@
-//! A tree as a `Format` of serde's.
+//! A `Format` of serde that reads a tree.
+ghost use Rattle.std.specs.Float.{binary32, binary64};
 ghost use Rattle.std.specs.Option.{option_and_then};
 ghost use Rattle.std.specs.Prelude.{◌≡◌, ◌+◌, ◌-◌, ◌<◌, ◌≤◌, ◌^◌, ◌∷◌, ◌++◌, ◌↔◌, ◌||◌, [], false, true, not, IfErr};
-ghost use Rattle.std.specs.Prelude.{IfOk, IsOk, IsTrue, List, MatchOption, Ok, OnOk, drop, length, map, nat_lt};
-ghost use Rattle.std.specs.Prelude.{slice_get, string_bytes, take};
+ghost use Rattle.std.specs.Prelude.{IfOk, IsOk, IsTrue, List, MatchBool, MatchOption, None, Ok, OnOk, drop, length};
+ghost use Rattle.std.specs.Prelude.{map, nat_lt, slice_get, slice_range, string_bytes, take};
 ghost use Rattle.serde.specs.Event as event;
 ghost use Rattle.toml_span_lex.specs.declared.stop.Stop.TheVariants as stop;
 ghost use Rattle.toml_span_tree.specs.Node.{Node, integer};
 ghost use Rattle.toml_span_serde.specs.Ahead.{ahead, laid};
 ghost use Rattle.toml_span_serde.specs.Asks.{AsksEnd, AsksStart};
-ghost use Rattle.toml_span_serde.specs.Misreads.{IsAnyInteger, IsAnyText, IsMisread, IsOpening, IsOther, IsOtherIn};
-ghost use Rattle.toml_span_serde.specs.Misreads.{Lists, Misses, Says, UnlessMemory, fields, found_of, held, held_by};
-ghost use Rattle.toml_span_serde.specs.Misreads.{is_unknown, kept, kind_ahead, length_reason, refusal_in};
-ghost use Rattle.toml_span_serde.specs.Misreads.{told_text_in, tries_back_at, twice, twin, twin_behind, variant_names};
-ghost use Rattle.toml_span_serde.specs.Misreads.{variant_place, variants};
-ghost use Rattle.toml_span_serde.specs.Pieces.{Piece as Laid, pieces, value};
+ghost use Rattle.toml_span_serde.specs.Misreads.{IsAnyBoolean, IsAnyInteger, IsAnyNumber, IsAnyText, IsAnyWritten};
+ghost use Rattle.toml_span_serde.specs.Misreads.{IsKeyOrEnd, IsMemory, IsMisread, IsNegative, IsNotAtItsSpan};
+ghost use Rattle.toml_span_serde.specs.Misreads.{IsNotOneCharacter, IsOpening, IsOther, IsOtherIn, IsUnreadable};
+ghost use Rattle.toml_span_serde.specs.Misreads.{Lists, Misses, MissesOr, RunsOut, Says, UnlessMemory, fields};
+ghost use Rattle.toml_span_serde.specs.Misreads.{found_of, held, held_by, is_unknown, kept, kind_ahead, length_reason};
+ghost use Rattle.toml_span_serde.specs.Misreads.{refusal_in, told_text_in, tries_back_at, twice, twin, twin_behind};
+ghost use Rattle.toml_span_serde.specs.Misreads.{variant_names, variant_place, variants};
+ghost use Rattle.toml_span_serde.specs.Pieces.{Piece as Laid, array_begins, pieces, table_begins, value};
 ghost use Rattle.toml_span_serde.specs.Reads.{IsText, Picks, Reads, Sees, TakesPiece};
 ghost use Rattle.toml_span_serde.specs.Tasks.{piece_content, piece_of};
 ghost use Rattle.toml_span_serde.specs.Tried.{kinds_at, missed, tries};
 ghost use Rattle.toml_span_serde.specs.declared.misfit.Expected.TheVariants as expected;
+ghost use Rattle.toml_span_serde.specs.declared.misfit.Found.TheVariants as found;
 ghost use Rattle.toml_span_serde.specs.declared.misfit.Reason.TheVariants as is;
 
 use crate::misfit::{Expected, Found, Reason};
@@ -33,14 +37,14 @@ use std::num::{nearest_i64_to_f32, nearest_i64_to_f64};
 use toml_span_lex::span::Span;
 use toml_span_lex::stop::Stop;
 
-/// Why a step did not read what it was asked for, and at which piece.
+/// Why a step failed, and at which piece.
 #[derive(Debug, Drop)]
 pub struct Misread {
     pub(crate) reason: Reason,
     pub(crate) at: usize,
 }
 
-/// Goes through a tree step by step.
+/// Reads a tree step by step.
 #[derive(Drop)]
 pub struct Reader<'p, 'v> {
     alloc: Global,
@@ -49,24 +53,24 @@ pub struct Reader<'p, 'v> {
     next: usize,
     /// The piece that was looked at last.
     at: usize,
-    /// The piece whose text was last read as the name of a variant.
+    /// The piece that was last read as the name of a variant.
     variant: usize,
-    /// Whether the last step read a key that stands for none of the names.
+    /// Whether the last step read a key that matches none of the names.
     is_unknown: bool,
-    /// The texts that would have stood for one of the names, where a key last stood for none.
+    /// All forms of the names that the last unknown key was compared with.
     fields: Vec<String>,
-    /// The same for the texts that are read as the name of a variant.
+    /// All forms of the names that the last unknown variant was compared with.
     variants: Vec<String>,
-    /// The last key that stands for a name with aliases.
+    /// The last key that matched a name with aliases.
     key: KeyPlace,
-    /// The texts that stand for that name.
+    /// All forms of that name.
     forms: Vec<String>,
-    /// What failed reads of a piece wanted of it.
+    /// The kinds that failed attempts to read a piece expected.
     tried: Tried,
 }
 
 impl<'p, 'v> Reader<'p, 'v> {
-    /// A reader that stands before these pieces.
+    /// Creates a reader that has read none of these pieces.
     pub(crate) fn new(alloc: Global, pieces: &'p [Piece<'v>]) -> Reader<'p, 'v>
         ensures { ahead result ≡ map piece_of pieces.now }
     {
@@ -88,13 +92,13 @@ impl<'p, 'v> Reader<'p, 'v> {
         }
     }
 
-    /// What comes next, which is not passed.
+    /// Returns the next piece without consuming it.
     fn look(&mut self) -> Result<Piece<'v>, Stop<Misread>>
         ensures next { IfOk result (λ p. ahead self.old
             ≡ piece_of p ∷ map piece_of (drop (self.old.next + 1) self.old.pieces.now)) }
         ensures inside { OnOk result (self.old.next < length self.old.pieces.now) }
         ensures small { OnOk result (self.old.next < 2 ^ 64 - 1) }
-        ensures none { IfErr result (λ e. (ahead self.old ≡ []) × IsMisread (λ why. why ≡ is.Invalid) self.old.next e) }
+        ensures none { IfErr result (RunsOut self.old) }
         ensures stays { (self.new.next ≡ self.old.next) × (self.new.pieces ≡ self.old.pieces) }
         ensures notes { (self.new.at ≡ self.old.next) × (self.new.variant ≡ self.old.variant)
             × (self.new.is_unknown ≡ false) }
@@ -109,10 +113,10 @@ impl<'p, 'v> Reader<'p, 'v> {
         }
     }
 
-    /// What comes next, which is passed.
+    /// Consumes the next piece and returns it.
     fn take(&mut self) -> Result<Piece<'v>, Stop<Misread>>
         ensures next { IfOk result (λ p. ahead self.old ≡ piece_of p ∷ ahead self.new) }
-        ensures none { IfErr result (λ e. (ahead self.old ≡ []) × IsMisread (λ why. why ≡ is.Invalid) self.old.next e) }
+        ensures none { IfErr result (RunsOut self.old) }
         ensures notes { (self.new.at ≡ self.old.next) × (self.new.variant ≡ self.old.variant)
             × (self.new.is_unknown ≡ false) }
         ensures kept { kept self.new ≡ kept self.old }
@@ -123,7 +127,7 @@ impl<'p, 'v> Reader<'p, 'v> {
         Ok(piece)
     }
 
-    /// The misread of the piece that was looked at last.
+    /// Creates a misread at the piece that was looked at last.
     fn misread(&self, reason: Reason) -> Stop<Misread>
         ensures { result ≡ stop.Fault (record { reason = reason; at = self.now.at }) }
     {
@@ -133,7 +137,7 @@ impl<'p, 'v> Reader<'p, 'v> {
         })
     }
 
-    /// The text of this piece, and a second list of the names.
+    /// Copies the text of this piece, and the names.
     fn named(&self, at: usize, names: &[String]) -> Result<(String, Vec<String>), AllocError>
         ensures { IfOk result (λ told. (string_bytes told.0 ≡ told_text_in (slice_get (laid self.now) at))
             × (map string_bytes told.1.items ≡ map string_bytes names.now)) }
@@ -142,7 +146,7 @@ impl<'p, 'v> Reader<'p, 'v> {
         Ok((name, copied(self.alloc, names)?))
     }
 
-    /// The piece that names an unknown variant.
+    /// Returns the index of the piece that names an unknown variant.
     fn variant_place(&self) -> usize
         ensures { result ≡ variant_place self.now }
     {
@@ -153,7 +157,7 @@ impl<'p, 'v> Reader<'p, 'v> {
         }
     }
 
-    /// What an unknown variant was held against.
+    /// Returns the names with which an unknown variant was compared.
     fn variant_names(&self) -> &[String]
         ensures { map string_bytes result.now ≡ variant_names self.now }
     {
@@ -164,15 +168,16 @@ impl<'p, 'v> Reader<'p, 'v> {
         }
     }
 
-    /// The pieces before this one.
+    /// Returns the pieces before this one.
     fn before(&self, at: usize) -> &[Piece<'v>]
         ensures { map piece_of result.now ≡ take at (laid self.now) }
     {
         self.pieces.get(..at).unwrap_or(self.pieces)
     }
 
-    /// Which piece the later of two keys is, in the order of the text, and the bytes of the earlier one, where the last
-    /// key whose name has aliases is a second one of that name. Else the piece that was looked at last, and nothing.
+    /// Finds the two keys of a field that occurs twice: returns the index of the key that is later in the text, and the
+    /// span of the other. If the last key whose name has aliases is the only one for its name, returns the piece that
+    /// was looked at last, and None.
     fn twice(&self) -> (usize, Option<Span>)
         ensures { result ≡ twice self.now }
     {
@@ -184,7 +189,8 @@ impl<'p, 'v> Reader<'p, 'v> {
         }
     }
 
-    /// Notes of a key that is none of the names what they are, and of one whose name has aliases where it stands.
+    /// Records the names if the key matches none of them, and the key's place if its name has aliases. `found` is the
+    /// index of the name, or the number of names or more if there is none.
     fn note_key(
         &mut self,
         span: Span,
@@ -198,6 +204,7 @@ impl<'p, 'v> Reader<'p, 'v> {
         ensures twin { OnOk result (twin self.new
             ≡ twin_behind (slice_get names.now found) (self.old.at, span) (twin self.old)) }
         ensures variants { variants self.new ≡ variants self.old }
+        ensures memory { IfErr result IsMemory }
     {
         match names.get(found) {
             None => {
@@ -213,7 +220,7 @@ impl<'p, 'v> Reader<'p, 'v> {
         Ok(())
     }
 
-    /// Notes of the piece where a read goes back to that it was taken since, if anything was.
+    /// Before a return to the piece `mark`: records that an attempt consumed this piece, if it did.
     fn note_back(&mut self, mark: usize)
         ensures stays { self.new ≡ record self.old { tried = self.new.tried } }
         ensures tried { tries self.new.tried ≡ tries_back_at mark self.old }
@@ -224,7 +231,8 @@ impl<'p, 'v> Reader<'p, 'v> {
         self.tried.take(mark);
     }
 
-    /// The misread of the piece that was looked at last, which is noted, and not passed.
+    /// Creates a misread at the piece that was looked at last, and records the expected kind. The piece becomes the next
+    /// one again.
     fn wanted(&mut self, expected: Expected, found: Content<'_>) -> Stop<Misread>
         ensures told { IsMisread (λ why. why ≡ is.Wanted expected (found_of (piece_content found.entry)))
             self.old.at result }
@@ -245,7 +253,7 @@ impl<'p, 'v> Reader<'p, 'v> {
         }
     }
 
-    /// The misread of a piece that is of none of the kinds which failed reads wanted of it.
+    /// Creates a misread at a piece that has none of the kinds that failed attempts to read it expected.
     fn other(&self, found: Found) -> Stop<Misread>
         ensures { IsMisread (IsOther (kinds_at self.now.at (tries self.now.tried)) found) self.now.at result }
     {
@@ -262,7 +270,7 @@ impl<'p, 'v> Reader<'p, 'v> {
         }
     }
 
-    /// The text of a piece; one that is neither a string nor a key has none.
+    /// Returns the text of a piece if it is a string or a key, otherwise an empty text.
     fn text_at(&self, at: usize) -> &'v str
         ensures { result.now ≡ told_text_in (slice_get (laid self.now) at) }
     {
@@ -272,11 +280,12 @@ impl<'p, 'v> Reader<'p, 'v> {
         }
     }
 
-    /// The text of a string or of a key.
+    /// Consumes a string or a key, and returns its text.
     fn text(&mut self, expected: Expected) -> Result<&'v str, Stop<Misread>>
         ensures text { IfOk result (λ text. TakesPiece (IsText text.now) (ahead self.old) (ahead self.new)) }
         ensures misses { IfErr result (IsMisread (Misses IsAnyText expected (ahead self.old)) self.old.next) }
-        ensures notes { (self.new.variant ≡ self.old.variant) × (self.new.is_unknown ≡ false) }
+        ensures notes { (self.new.at ≡ self.old.next) × (self.new.variant ≡ self.old.variant)
+            × (self.new.is_unknown ≡ false) }
         ensures kept { kept self.new ≡ kept self.old }
     {
         match self.take()?.content {
@@ -285,10 +294,12 @@ impl<'p, 'v> Reader<'p, 'v> {
         }
     }
 
+    /// Consumes an integer.
     fn integer(&mut self) -> Result<i64, Stop<Misread>>
         ensures integer { IfOk result (λ z. TakesPiece (λ c. c ≡ value (integer z)) (ahead self.old) (ahead self.new)) }
         ensures misses { IfErr result (IsMisread (Misses IsAnyInteger expected.Integer (ahead self.old))
             self.old.next) }
+        ensures at { self.new.at ≡ self.old.next }
     {
         match self.take()?.content {
             Content::Integer(number) => Ok(number),
@@ -308,18 +319,30 @@ impl Format for Reader<'_, '_> {
 
     ghost stays = { λ old new. ahead new ≡ ahead old };
 
-    fn bool(&mut self, _input: &[u8]) -> Result<bool, Stop<Misread>> {
+    fn bool(&mut self, _input: &[u8]) -> Result<bool, Stop<Misread>>
+        ensures gives { IfOk result (λ b. Reads (ahead self.old) (event.boolean b) (ahead self.new)) }
+        ensures misses { IfErr result (IsMisread (Misses IsAnyBoolean expected.Boolean (ahead self.old))
+            self.old.next) }
+    {
         match self.take()?.content {
             Content::Boolean(truth) => Ok(truth),
             found => Err(self.wanted(Expected::Boolean, found)),
         }
     }
 
-    fn i64(&mut self, _input: &[u8]) -> Result<i64, Stop<Misread>> {
+    fn i64(&mut self, _input: &[u8]) -> Result<i64, Stop<Misread>>
+        ensures gives { IfOk result (λ z. Reads (ahead self.old) (event.signed z) (ahead self.new)) }
+        ensures misses { IfErr result (IsMisread (Misses IsAnyInteger expected.Integer (ahead self.old))
+            self.old.next) }
+    {
         self.integer()
     }
 
-    fn u64(&mut self, _input: &[u8]) -> Result<u64, Stop<Misread>> {
+    fn u64(&mut self, _input: &[u8]) -> Result<u64, Stop<Misread>>
+        ensures gives { IfOk result (λ n. Reads (ahead self.old) (event.unsigned n) (ahead self.new)) }
+        ensures misses { IfErr result (IsMisread
+            (MissesOr IsAnyInteger expected.Integer IsNegative is.Negative (ahead self.old)) self.old.next) }
+    {
         let number = self.integer()?;
         match u64::try_from(number) {
             Ok(number) => Ok(number),
@@ -327,11 +350,19 @@ impl Format for Reader<'_, '_> {
         }
     }
 
-    fn i128(&mut self, _input: &[u8]) -> Result<i128, Stop<Misread>> {
+    fn i128(&mut self, _input: &[u8]) -> Result<i128, Stop<Misread>>
+        ensures gives { IfOk result (λ z. Reads (ahead self.old) (event.signed z) (ahead self.new)) }
+        ensures misses { IfErr result (IsMisread (Misses IsAnyInteger expected.Integer (ahead self.old))
+            self.old.next) }
+    {
         Ok(i128::from(self.integer()?))
     }
 
-    fn u128(&mut self, _input: &[u8]) -> Result<u128, Stop<Misread>> {
+    fn u128(&mut self, _input: &[u8]) -> Result<u128, Stop<Misread>>
+        ensures gives { IfOk result (λ n. Reads (ahead self.old) (event.unsigned n) (ahead self.new)) }
+        ensures misses { IfErr result (IsMisread
+            (MissesOr IsAnyInteger expected.Integer IsNegative is.Negative (ahead self.old)) self.old.next) }
+    {
         let number = self.integer()?;
         match u128::try_from(number) {
             Ok(number) => Ok(number),
@@ -339,37 +370,54 @@ impl Format for Reader<'_, '_> {
         }
     }
 
-    fn f32(&mut self, _input: &[u8]) -> Result<f32, Stop<Misread>> {
+    fn f32(&mut self, _input: &[u8]) -> Result<f32, Stop<Misread>>
+        ensures gives { IfOk result (λ x. Reads (ahead self.old) (event.single x) (ahead self.new)) }
+        ensures misses { IfErr result (IsMisread
+            (MissesOr IsAnyNumber expected.Float (IsUnreadable binary32) is.Invalid (ahead self.old)) self.old.next) }
+    {
         match self.take()?.content {
             Content::Float(float) => match fast_float::parse::<f32, _>(float.text()) {
                 Ok(number) => Ok(number),
-                Err(_) => Err(self.invalid()),
+                Err(_) => Err(self.misread(Reason::Invalid)),
             },
             Content::Integer(number) => Ok(nearest_i64_to_f32(number)),
             found => Err(self.wanted(Expected::Float, found)),
         }
     }
 
-    fn f64(&mut self, _input: &[u8]) -> Result<f64, Stop<Misread>> {
+    fn f64(&mut self, _input: &[u8]) -> Result<f64, Stop<Misread>>
+        ensures gives { IfOk result (λ x. Reads (ahead self.old) (event.double x) (ahead self.new)) }
+        ensures misses { IfErr result (IsMisread
+            (MissesOr IsAnyNumber expected.Float (IsUnreadable binary64) is.Invalid (ahead self.old)) self.old.next) }
+    {
         match self.take()?.content {
             Content::Float(float) => match fast_float::parse::<f64, _>(float.text()) {
                 Ok(number) => Ok(number),
-                Err(_) => Err(self.invalid()),
+                Err(_) => Err(self.misread(Reason::Invalid)),
             },
             Content::Integer(number) => Ok(nearest_i64_to_f64(number)),
             found => Err(self.wanted(Expected::Float, found)),
         }
     }
 
-    fn char(&mut self, _input: &[u8]) -> Result<char, Stop<Misread>> {
+    fn char(&mut self, _input: &[u8]) -> Result<char, Stop<Misread>>
+        ensures gives { IfOk result (λ c. Reads (ahead self.old) (event.character c) (ahead self.new)) }
+        ensures misses { IfErr result (IsMisread
+            (MissesOr IsAnyText expected.Character IsNotOneCharacter is.Invalid (ahead self.old)) self.old.next) }
+    {
         match self.text(Expected::Character)?.parse::<char>() {
             Ok(c) => Ok(c),
-            Err(_) => Err(self.invalid()),
+            Err(_) => Err(self.misread(Reason::Invalid)),
         }
     }
 
-    /// A string is borrowed where it equals the text at its span.
-    fn plain_str(&mut self, input: &[u8]) -> Result<(usize, usize), Stop<Misread>> {
+    /// Fails for a string that does not equal the text at its span, since it cannot be borrowed.
+    fn plain_str(&mut self, input: &[u8]) -> Result<(usize, usize), Stop<Misread>>
+        ensures gives { IfOk result (λ r. Reads (ahead self.old) (event.text (slice_range input.now r.0 r.1))
+            (ahead self.new)) }
+        ensures misses { IfErr result (IsMisread (MissesOr IsAnyText expected.String (IsNotAtItsSpan input.now)
+            (is.Wanted expected.PlainString found.String) (ahead self.old)) self.old.next) }
+    {
         let Span { start, end } = self.look()?.span;
         let text = self.text(Expected::String)?;
         if text.is_empty() {
@@ -381,11 +429,19 @@ impl Format for Reader<'_, '_> {
         Err(self.wanted(Expected::PlainString, Content::Text(text)))
     }
 
-    fn plain_bytes(&mut self, input: &[u8]) -> Result<(usize, usize), Stop<Misread>> {
+    fn plain_bytes(&mut self, input: &[u8]) -> Result<(usize, usize), Stop<Misread>>
+        ensures gives { IfOk result (λ r. Reads (ahead self.old) (event.octets (slice_range input.now r.0 r.1))
+            (ahead self.new)) }
+        ensures misses { IfErr result (IsMisread (MissesOr IsAnyText expected.String (IsNotAtItsSpan input.now)
+            (is.Wanted expected.PlainString found.String) (ahead self.old)) self.old.next) }
+    {
         self.plain_str(input)
     }
 
-    fn string(&mut self, alloc: Global, _input: &[u8]) -> Result<String, Stop<Misread>> {
+    fn string(&mut self, alloc: Global, _input: &[u8]) -> Result<String, Stop<Misread>>
+        ensures gives { IfOk result (λ s. Reads (ahead self.old) (event.text (string_bytes s)) (ahead self.new)) }
+        ensures misses { IfErr result (IsMisread (Misses IsAnyWritten expected.String (ahead self.old)) self.old.next) }
+    {
         let text = match self.take()?.content {
             Content::Text(text) | Content::Key(text) | Content::Datetime(text) => text,
             found => return Err(self.wanted(Expected::String, found)),
@@ -396,37 +452,56 @@ impl Format for Reader<'_, '_> {
         }
     }
 
-    fn byte_buf(&mut self, alloc: Global, input: &[u8]) -> Result<Vec<u8>, Stop<Misread>> {
+    fn byte_buf(&mut self, alloc: Global, input: &[u8]) -> Result<Vec<u8>, Stop<Misread>>
+        ensures gives { IfOk result (λ bytes. Reads (ahead self.old) (event.octets bytes.items) (ahead self.new)) }
+        ensures misses { IfErr result (IsMisread (Misses IsAnyWritten expected.String (ahead self.old)) self.old.next) }
+    {
         Ok(self.string(alloc, input)?.into_bytes())
     }
 
     fn peek(&mut self, _input: &[u8]) -> Result<Kind, Stop<Misread>>
         ensures stays { OnOk result (ahead self.new ≡ ahead self.old) }
         ensures kind { IfOk result (λ kind. Sees (λ p. kind ≡ kind_ahead p.content) (ahead self.old) (ahead self.new)) }
-        ensures none { IfErr result (λ e. (ahead self.old ≡ []) × IsMisread (λ why. why ≡ is.Invalid) self.old.next e) }
+        ensures none { IfErr result (RunsOut self.old) }
     {
         Ok(self.look()?.content.serde_kind())
     }
 
-    /// TOML has no unit.
-    fn take_unit(&mut self, _input: &[u8]) -> Result<bool, Stop<Misread>> {
+    /// Returns false, since TOML has no unit value.
+    fn take_unit(&mut self, _input: &[u8]) -> Result<bool, Stop<Misread>>
+        ensures gives { IfOk result (λ b. MatchBool b (Reads (ahead self.old) event.nothing (ahead self.new))
+            (ahead self.new ≡ ahead self.old)) }
+        ensures none { IfErr result (RunsOut self.old) }
+    {
         self.look()?;
         Ok(false)
     }
 
-    /// A `None` is a key that is left out.
-    fn take_none(&mut self, input: &[u8]) -> Result<bool, Stop<Misread>> {
+    /// Returns false, since TOML has no null: a field is `None` if its key is absent.
+    fn take_none(&mut self, input: &[u8]) -> Result<bool, Stop<Misread>>
+        ensures gives { IfOk result (λ b. MatchBool b (Reads (ahead self.old) event.nothing (ahead self.new))
+            (ahead self.new ≡ ahead self.old)) }
+        ensures none { IfErr result (RunsOut self.old) }
+    {
         self.take_unit(input)
     }
 
-    fn begin_seq(&mut self, _input: &[u8]) -> Result<(), Stop<Misread>> {
+    fn begin_seq(&mut self, _input: &[u8]) -> Result<(), Stop<Misread>>
+        ensures gives { OnOk result (Reads (ahead self.old) (event.seq_begins None) (ahead self.new)) }
+        ensures misses { IfErr result (IsMisread (Misses (λ c. c ≡ array_begins) expected.Array (ahead self.old))
+            self.old.next) }
+    {
         match self.take()?.content {
             Content::ArrayBegins => Ok(()),
             found => Err(self.wanted(Expected::Array, found)),
         }
     }
 
-    fn next_item(&mut self, _input: &[u8]) -> Result<bool, Stop<Misread>> {
+    fn next_item(&mut self, _input: &[u8]) -> Result<bool, Stop<Misread>>
+        ensures gives { IfOk result (λ b. MatchBool b (ahead self.new ≡ ahead self.old)
+            (Reads (ahead self.old) event.seq_ends (ahead self.new))) }
+        ensures none { IfErr result (RunsOut self.old) }
+    {
         if let Content::ArrayEnds = self.look()?.content {
             self.next += 1;
             return Ok(false);
@@ -434,7 +509,11 @@ impl Format for Reader<'_, '_> {
         Ok(true)
     }
 
-    fn begin_map(&mut self, _input: &[u8]) -> Result<(), Stop<Misread>> {
+    fn begin_map(&mut self, _input: &[u8]) -> Result<(), Stop<Misread>>
+        ensures gives { OnOk result (Reads (ahead self.old) (event.map_begins None) (ahead self.new)) }
+        ensures misses { IfErr result (IsMisread (Misses (λ c. c ≡ table_begins) expected.Table (ahead self.old))
+            self.old.next) }
+    {
         match self.take()?.content {
             Content::TableBegins => Ok(()),
             found => Err(self.wanted(Expected::Table, found)),
@@ -454,6 +533,7 @@ impl Format for Reader<'_, '_> {
         ensures twin { IfOk result (λ o. (p : Laid) (rest : List Laid) → ahead self.old ≡ p ∷ rest → twin self.new
             ≡ twin_behind (option_and_then (slice_get names.now) o) (self.old.next, p.span) (twin self.old)) }
         ensures variants { variants self.new ≡ variants self.old }
+        ensures misses { IfErr result (IsMisread (Misses IsKeyOrEnd expected.Key (ahead self.old)) self.old.next) }
     {
         let Piece { content, span } = self.take()?;
         match content {
@@ -467,7 +547,11 @@ impl Format for Reader<'_, '_> {
         }
     }
 
-    fn next_entry(&mut self, _input: &[u8]) -> Result<bool, Stop<Misread>> {
+    fn next_entry(&mut self, _input: &[u8]) -> Result<bool, Stop<Misread>>
+        ensures gives { IfOk result (λ b. MatchBool b (Reads (ahead self.old) event.key_begins (ahead self.new))
+            (Reads (ahead self.old) event.map_ends (ahead self.new))) }
+        ensures misses { IfErr result (IsMisread (Misses IsKeyOrEnd expected.Key (ahead self.old)) self.old.next) }
+    {
         match self.look()?.content {
             Content::Key(_) => Ok(true),
             Content::TableEnds => {
@@ -483,6 +567,7 @@ impl Format for Reader<'_, '_> {
         ensures notes { OnOk result ((self.new.variant ≡ self.old.next) × (self.new.is_unknown ≡ false)) }
         ensures variants { IfOk result (λ at. ¬ AsksStart names.now → ¬ AsksEnd names.now
             → variants self.new ≡ held names.now at (variants self.old)) }
+        ensures misses { IfErr result (IsMisread (Misses IsAnyText expected.Variant (ahead self.old)) self.old.next) }
     {
         self.variant = self.next;
         if let [name] = names {
@@ -501,13 +586,14 @@ impl Format for Reader<'_, '_> {
         Ok(found)
     }
 
-    /// Passes a whole value, or a key.
+    /// Consumes a whole value, or a key.
     fn skip(&mut self, _input: &[u8]) -> Result<(), Stop<Misread>>
         ensures value { (n : Node) (rest : List Laid) → ahead self.old ≡ pieces n ++ rest
             → IsOk result × (ahead self.new ≡ rest) }
         ensures single { (p : Laid) (rest : List Laid) → ahead self.old ≡ p ∷ rest → ¬ IsOpening p.content
             → IsOk result × (ahead self.new ≡ rest) }
         ensures notes { (self.new.variant ≡ self.old.variant) × (variants self.new ≡ variants self.old) }
+        ensures misses { IfErr result (IsMisread (λ why. why ≡ is.Invalid) self.old.next) }
     {
         self.look()?;
         match count_value(&self.pieces[self.next..]) {
@@ -558,7 +644,7 @@ impl Format for Reader<'_, '_> {
         }
     }
 
-    /// Two keys of a table name a field only where one of them is an alias.
+    /// Two keys of a table can name the same field only if at least one of them is an alias.
     fn duplicate(&self, name: &str) -> Stop<Misread>
         ensures { IsMisread (Says (λ s. is.DuplicateField s (twice self.now).1) name.now) (twice self.now).0 result }
     {
@@ -585,7 +671,8 @@ impl Format for Reader<'_, '_> {
         }
     }
 
-    /// A tag is held against the names before its table is read again, so its place is kept, and so are they.
+    /// The tag of an enum is compared with the variants' names before its table is read again from the start. So the
+    /// reader has kept the tag's place and these names.
     fn unknown_variant(&self) -> Stop<Misread>
         ensures { IsMisread (Lists is.UnknownVariant
             (told_text_in (slice_get (laid self.now) (variant_place self.now))) (variant_names self.now))
@@ -601,7 +688,7 @@ impl Format for Reader<'_, '_> {
         }
     }
 
-    /// Where the array has ended, it was read whole, and else it has more elements than the type.
+    /// If the array has ended, all its elements were read. Otherwise it has more elements than the type.
     fn wrong_len(&self) -> Stop<Misread>
         ensures { IsMisread (λ why. why ≡ length_reason self.now) self.now.at result }
     {
@@ -612,8 +699,8 @@ impl Format for Reader<'_, '_> {
         }
     }
 
-    /// An integer that was read is out of the type's range. What was only looked at is of no kind that it reads: told
-    /// are the kinds that failed reads of it wanted.
+    /// An integer that was read is out of the type's range. A piece that was only looked at has a kind that the type
+    /// does not accept: the misread lists the kinds that failed attempts to read it expected.
     fn invalid(&self) -> Stop<Misread>
         ensures read { self.now.at < self.now.next → IsMisread (λ why. why
             ≡ refusal_in (slice_get (laid self.now) self.now.at)) self.now.at result }
@@ -646,9 +733,10 @@ impl Format for Reader<'_, '_> {
     }
 }
 
-/// Names, or want of memory as a reader tells it.
+/// Converts a failed allocation to the reader's error.
 fn owned(names: Result<Vec<String>, AllocError>) -> Result<Vec<String>, Stop<Misread>>
-    ensures { IfOk result (λ all. names ≡ Ok all) }
+    ensures ok { IfOk result (λ all. names ≡ Ok all) }
+    ensures memory { IfErr result IsMemory }
 {
     match names {
         Ok(names) => Ok(names),

@@ -1,4 +1,4 @@
-//! A tree that is to be read.
+//! A tree, prepared for reading.
 ghost use Rattle.std.specs.Prelude.{◌≡◌, ◌<◌, [], IfOk, Some, length, slice_get};
 ghost use Rattle.toml_span.specs.Ordered.{HasOneEach};
 ghost use Rattle.toml_span_tree.specs.Node.{Node};
@@ -16,14 +16,14 @@ use std::alloc::{AllocError, Global};
 use toml_span_lex::stop::Stop;
 use toml_span_tree::Value;
 
-/// A tree as the row of its pieces, which a `Reader` goes through.
+/// The pieces of a tree, which a `Reader` reads.
 #[derive(Drop)]
 pub struct Row<'v> {
     pieces: Vec<Piece<'v>>,
 }
 
 impl<'v> Row<'v> {
-    /// The pieces of a tree, in the order of its parts: each value before those in it. The error is want of memory.
+    /// Lists the pieces of a tree, each array and table before its parts. Fails if an allocation fails.
     pub fn new(alloc: Global, root: &'v Value<'_>) -> Result<Row<'v>, AllocError>
         ensures { IfOk result (λ row. pieces_in row ≡ pieces (view root.now)) }
     {
@@ -32,15 +32,16 @@ impl<'v> Row<'v> {
         })
     }
 
-    /// A reader that stands before the first piece.
+    /// Creates a reader that has read no piece yet.
     pub fn reader(&self, alloc: Global) -> Reader<'_, 'v>
         ensures { ahead result ≡ pieces_in self.now }
     {
         Reader::new(alloc, self.pieces.as_slice())
     }
 
-    /// Where in the tree a read stopped, and why: the bytes of the piece at which it did, and the steps to its value.
-    /// A read that goes on behind the end of the tree is told at the root; want of memory stays what it is.
+    /// Converts an error of a reader to a misfit, with the span of the piece at which reading stopped, and the path to
+    /// its value. If reading continued after the last piece, the misfit is at the root. A failed allocation is passed
+    /// on.
     pub fn stopped(&self, alloc: Global, stop: Stop<Misread>) -> Stop<Misfit>
         ensures place { (n : Node) → pieces_in self.now ≡ pieces n → HasOneEach n → IsAt n result }
         ensures told { (n : Node) → pieces_in self.now ≡ pieces n → IsTold n stop result }
@@ -54,7 +55,7 @@ impl<'v> Row<'v> {
         }
     }
 
-    /// A misread with the place of its piece, or of the first. A row has one at least.
+    /// Adds the place of its piece to a misread, or the place of the first piece. A row has at least one.
     fn placed(&self, alloc: Global, misread: Misread) -> Result<Misfit, AllocError>
         ensures place { IfOk result (λ m. (n : Node) → pieces_in self.now ≡ pieces n → HasOneEach n
             → Names (path_of m.path.items) m.span n) }
@@ -69,7 +70,7 @@ impl<'v> Row<'v> {
         self.misfit_at(alloc, misread.reason, 0)
     }
 
-    /// A misfit at this piece.
+    /// Creates a misfit at this piece.
     fn misfit_at(&self, alloc: Global, reason: Reason, at: usize) -> Result<Misfit, AllocError>
         requires { at < length self.now.pieces.items }
         ensures place { IfOk result (λ m. (n : Node) → pieces_in self.now ≡ pieces n → HasOneEach n

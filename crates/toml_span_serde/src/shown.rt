@@ -1,4 +1,4 @@
-//! Errors as people read them.
+//! Reports of errors.
 ghost use Rattle.std.specs.Prelude.{◌≡◌, IfOk, option_map, string_bytes};
 ghost use Rattle.toml_span_report.specs.Report.{report_content};
 ghost use Rattle.toml_span_serde.specs.Shown.{IsErrorText, IsMisfitText, with_meant};
@@ -8,9 +8,8 @@ use std::alloc::{AllocError, Global};
 use toml_span_lex::stop::Stop;
 use toml_span_report::{Report, Style, render, render_error};
 
-/// The text that shows why `from_str` read nothing: a message, the line at which the read stopped, and marks
-/// under it, and of a name that is not known the one that may be meant. `style` is that of the report, `name` that of
-/// the file. Want of memory has no such text, and comes back.
+/// Renders an error of `from_str` as a report: a message, the line of the error with marks under it, and for an unknown
+/// name the name that may be meant. `name` is the name of the file. A failed allocation is passed on.
 pub fn render_stop(
     alloc: Global,
     style: Style,
@@ -27,7 +26,7 @@ pub fn render_stop(
     }
 }
 
-/// The text of a misfit.
+/// Renders the report of a misfit.
 fn render_misfit(
     alloc: Global,
     style: Style,
@@ -43,7 +42,7 @@ fn render_misfit(
     render(alloc, style, &report, name, text)
 }
 
-/// The report with help that tells the name which may be meant.
+/// Adds help that suggests this name, if there is one.
 fn helped(alloc: Global, meant: Option<&str>, report: Report) -> Result<Report, AllocError>
     ensures { IfOk result (λ made. report_content made
         ≡ with_meant (option_map (λ name. name.now) meant.entry) (report_content report)) }

@@ -1,4 +1,4 @@
-//! Values that are read by derive with the bytes at which they stand.
+//! Values that are read by derive together with their spans.
 ghost use Rattle.std.specs.Prelude.{◌≡◌, IfOk};
 ghost use Rattle.toml_span_serde.specs.Asks.{HasSpan};
 
@@ -7,15 +7,15 @@ use std::alloc::Global;
 use toml_span_lex::span::Span;
 use toml_span_lex::spanned;
 
-/// The name of the variant by which a reader is asked where the next value starts.
+/// The name of a variant that asks a reader where the next value starts.
 pub(crate) const START: &str = "$toml_span::start";
 
-/// The name of the variant by which a reader is asked where the next value ends.
+/// The name of a variant that asks a reader where the next value ends.
 pub(crate) const END: &str = "$toml_span::end";
 
-/// A value, or the key of a map, with its bytes in the text. Two of them compare by their values alone.
+/// A value, or the key of a map, with its span. Comparison ignores the span.
 ///
-/// Only a `Reader` knows where a value stands: other formats refuse it.
+/// Only a `Reader` knows the span of a value: other formats fail.
 #[derive(Debug, Drop)]
 #[derive_where(PartialEq, Eq, PartialOrd, Ord; T)]
 pub struct Spanned<T> {
@@ -59,7 +59,7 @@ impl<T: DeserializeOwned> DeserializeOwned for Spanned<T> {
     }
 }
 
-/// The bytes of what comes next, which is not passed.
+/// Returns the span of what comes next, without consuming it.
 fn span_ahead<F: Format>(from: &mut Deserializer<'_, '_, F>) -> Result<Span, F::Error>
     ensures { IfOk result (λ span. HasSpan F.picks from.old span) }
 {

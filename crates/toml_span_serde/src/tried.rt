@@ -1,4 +1,4 @@
-//! What failed reads of a piece wanted of it.
+//! The kinds that failed attempts to read a piece expected.
 ghost use Rattle.std.specs.List.{list_any};
 ghost use Rattle.std.specs.Prelude.{◌≡◌, [], false, OnErr, OnOk};
 ghost use Rattle.std.specs.Str.{bytes_eq};
@@ -8,19 +8,19 @@ ghost use Rattle.toml_span_serde.specs.Tried.{is_among, kinds_at, missed, taken,
 use crate::misfit::Expected;
 use std::alloc::{AllocError, Global};
 
-/// The reads of one piece that failed.
+/// The failed attempts to read one piece.
 #[derive(Drop)]
 pub(crate) struct Tried {
     /// The piece.
     at: usize,
-    /// Whether one of them took the piece, and failed further on.
+    /// Whether one of them consumed the piece, and failed later.
     is_taken: bool,
-    /// What the others wanted in its place, each kind once.
+    /// The kinds that the others expected, each once.
     kinds: Vec<Expected>,
 }
 
 impl Tried {
-    /// No read has failed.
+    /// Creates a record without failed attempts.
     pub(crate) fn new(alloc: Global) -> Tried
         ensures { tries result ≡ record { at = 0; is_taken = false; kinds = [] } }
     {
@@ -31,7 +31,7 @@ impl Tried {
         }
     }
 
-    /// Notes a read that wanted this kind of this piece.
+    /// Records an attempt that expected this kind at this piece.
     pub(crate) fn miss(&mut self, at: usize, expected: Expected) -> Result<(), AllocError>
         ensures { OnOk result (tries self.new ≡ missed at expected (tries self.old)) }
     {
@@ -45,7 +45,7 @@ impl Tried {
         Ok(())
     }
 
-    /// Adds a kind, if it is not there.
+    /// Adds a kind, unless it is listed already.
     fn add(&mut self, expected: Expected) -> Result<(), AllocError>
         ensures kinds { OnOk result (self.new.kinds.items ≡ with_kind expected self.old.kinds.items) }
         ensures stays { (self.new.at ≡ self.old.at) × (self.new.is_taken ≡ self.old.is_taken) }
@@ -57,7 +57,7 @@ impl Tried {
         Ok(())
     }
 
-    /// Notes a read that took this piece, and failed further on.
+    /// Records an attempt that consumed this piece, and failed later.
     pub(crate) fn take(&mut self, at: usize)
         ensures { tries self.new ≡ taken at }
     {
@@ -66,7 +66,7 @@ impl Tried {
         self.kinds.clear();
     }
 
-    /// The kinds that were wanted of a piece, where no read took it.
+    /// Returns the kinds that were expected at a piece, or none if an attempt consumed it.
     pub(crate) fn kinds_at(&self, at: usize) -> &[Expected]
         ensures { result.now ≡ kinds_at at (tries self.now) }
     {
@@ -78,7 +78,7 @@ impl Tried {
     }
 }
 
-/// Whether the kind is one of these.
+/// Returns whether the kind is one of these.
 fn is_among(kinds: &[Expected], expected: Expected) -> bool
     ensures { result ≡ is_among expected kinds.now }
 {

@@ -107,6 +107,7 @@ impl<'de> Value<'de> {
     pub fn take(&mut self) -> ValueInner<'de>
         requires { is_taken_node (view self.old) ≡ false }
         ensures given { view self.old ≡ node (inner_view result) self.old.span }
+        ensures kept { self.old.value ≡ Some result }
         ensures taken { view self.new ≡ node taken self.old.span }
     {
         match self.value.take() {

@@ -4,7 +4,7 @@ use Rattle.std.specs.Int.{FitsUnsignedBits, Width}
 use Rattle.toml_span_typed.specs.code.Integers.{Converts}
 use Rattle.toml_span_typed.specs.Reads.{signed, unsigned}
 
--- a conversion to an unsigned type of so many bits
+-- a conversion to an unsigned type with this many bits
 pub unsigned_converts : (bits : ℕ) {E : Type 0}
     → Converts {E = E} (λ z r. OkIff r (FitsUnsignedBits bits z) (unsigned_abs z)) (unsigned (2 ^ bits))
 unsigned_converts bits z r h = grind (arith, nat_tests)

@@ -1,4 +1,4 @@
--- What is no array of two elements, and that both are there where no error is.
+-- Values that are not an array of two elements; and without errors, both elements were read.
 use Rattle.toml_span_lex.proofs.Common.{common_steps, arith, ◌≡◌, ◌≢◌, ℕ, suc, List, [], ◌∷◌, ◌++◌, length, Option, Some, None, Result, Ok, Err, refl, ap, sym, subst, ◌∙◌, append-nil}
 use Rattle.toml_span_lex.specs.declared.span.Span.{Span}
 use Rattle.toml_span_lex.specs.declared.stop.Stop.{Stop}
@@ -16,7 +16,7 @@ count-of : (es : List Value) → length (nodes_of (items_view es)) ≡ length es
 count-of [] = refl
 count-of (e ∷ es) = ap suc (count-of es)
 
--- an array of another length is told as one
+-- the error for an array of another length
 pub told_count : (n : ℕ) (es : List Value) (found : ℕ) (v : Node) (span : Span) (s : Stop Errors)
     → v ≡ node (array (items_view es)) span → found ≡ length es → found ≢ n → TellsOne (other_length n found span) s
     → RefusesLength n v s
@@ -37,7 +37,7 @@ two_refused reads-a reads-b (node (array (item a no_items)) span) w (stop.Fault 
 two_refused reads-a reads-b (node (array (item a (item b no_items))) span) w (stop.Fault faults) refused gone = elim (refused.0 refl) [ ]
 two_refused reads-a reads-b (node (array (item a (item b (item c rest)))) span) w (stop.Fault faults) refused gone = (refused, gone)
 
--- the answer behind it, and what it tells
+-- the answer for one more element, and its errors
 kept_answer : {T : Type 0} (reads : Node → Result T Errors → Node → Type 0) (v : Node) (x : Option T) (fs more : List ErrorContent)
     → ReadsOrKeeps reads v fs x more → (r : Result T Errors) × IsReadAs reads v r × (more ≡ fs ++ errors (r ∷ []))
 kept_answer reads v (Some x) fs more into = (Ok x, into.0, into.1 ∙ sym (append-nil fs))

@@ -11,7 +11,7 @@ left a b h = grind (arith, common_steps)
 pub right : (a b : Bool) → IsTrue (a && b) → IsTrue b
 right a b h = grind (arith, common_steps)
 
--- what stands under a name in a table of whole values is whole
+-- each entry of a table of whole values is whole
 pub found_whole : (name : List ℕ) (ms : Members) → IsTrue (all_members_whole ms) → IfSome (option_map (λ e. e.1) (entry_at name ms)) (λ v. IsTrue (is_whole v))
 found_whole name no_members h = tt
 found_whole name (member other span value rest) h =

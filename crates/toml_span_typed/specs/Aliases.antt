@@ -10,7 +10,7 @@ use Rattle.toml_span_tree.specs.Value.{view}
 use Rattle.toml_span_typed.specs.Errors.{Errors, all}
 use Rattle.toml_span_typed.specs.TableHelper.{Starved, State, keeping, missing, noted, without}
 
--- the error of a key that stands a second time
+-- the error for a key that occurs a second time
 abbrev pub again : List ℕ → Span → Span → ErrorContent
 again name span first = record { kind = duplicate_key name first; span = span; line_info = None }
 
@@ -62,7 +62,7 @@ asked_both name old s = keeping_twice name (newer name s) old (older name old s)
 abbrev pub asked_deprecated : List ℕ → List ℕ → State → State
 asked_deprecated name old s = keeping_twice name (newer name s) old (older name old s) (passed old (noted name s))
 
--- the warning that a key stands under a deprecated name
+-- the warning for a key with a deprecated name
 abbrev pub outdated_at : List ℕ → List ℕ → Option (Option Span) → List ErrorContent
 outdated_at name old (Some (Some span)) = record { kind = deprecated old name; span = span; line_info = None } ∷ []
 outdated_at name old _ = []

@@ -1,4 +1,4 @@
--- What a helper answers of a field, where it keeps the errors itself.
+-- What a helper returns for a field if it keeps the errors itself.
 use Rattle.std.specs.Prelude.{◌≡◌, ◌⊎◌, ℕ, List, [], ◌∷◌, length, Option, Some, None, MatchOption, true, Result, Ok, Err}
 use Rattle.std.specs.declared.alloc.AllocError.{AllocError}
 use Rattle.toml_span_lex.specs.declared.stop.Stop.{Stop}
@@ -13,13 +13,12 @@ use Rattle.toml_span_typed.specs.TableHelper.{Requires, Starved, State, found, k
 use Rattle.toml_span_typed.specs.declared.de_helpers.table_helper.Unfinished.{Unfinished}
 use Rattle.toml_span_typed.specs.declared.de_helpers.table_helper.Unfinished.TheVariants as unfinished
 
--- all errors, or want of memory
+-- all errors, or out of memory
 abbrev pub stop_of : Unfinished → Stop Errors
 stop_of (unfinished.Faults faults) = stop.Fault faults
 stop_of (unfinished.Memory helper) = stop.Memory (record {})
 
--- `read`: the element; or None, and the error that nothing stands under the name, or all errors of the
--- read, are kept
+-- `read`: the element; or None, and the error for the missing name, or all errors of the read, are kept
 abbrev pub Asks : {T : Type 0} → (Node → Result T Errors → Node → Type 0) → List ℕ → State
     → Result (Option T) AllocError → State → Type 0
 Asks reads name before (Ok (Some x)) after =
@@ -49,12 +48,12 @@ RequiresAll reads name before (Err (stop.Memory e)) after = Requires reads name 
 abbrev pub kept : State → ℕ
 kept s = length s.errors
 
--- how many fields are not there
+-- how many fields are missing
 abbrev pub lacking : {T : Type 0} → Option T → ℕ
 lacking None = 1
 lacking (Some x) = 0
 
--- `finish`: the kept errors and that of the keys that remain; want of memory comes only where keys remain
+-- `finish`: the kept errors and the one for the keys that remain; memory can run out only if keys remain
 abbrev pub Finishes : State → Result (Unit {0}) (Stop Errors) → Type 0
 Finishes s (Ok done) = with_unasked s ≡ []
 Finishes s (Err (stop.Fault faults)) = with_unasked s ≡ all faults
@@ -79,8 +78,7 @@ abbrev pub with_fault : {T E : Type 0} → Result T E → Result T (Stop E)
 with_fault (Ok x) = Ok x
 with_fault (Err refusal) = Err (stop.Fault refusal)
 
--- `parse_with`: what `makes` gives of the string; a fault that it tells is told as that of `parsed`, and its want of
--- memory is answered
+-- `parse_with`: what `makes` returns for the string; its error is reported as by `parsed`, and it may run out of memory
 abbrev pub ParsesWith : {T E : Type 0} → (List ℕ → Result T (Stop E) → Type 0) → (E → Option (List ℕ)) → Node
     → Result T (Stop Errors) → Type 0
 ParsesWith makes output value (Ok x) = ParsesAll (λ text r. makes text (with_fault r)) output value (Ok x)
@@ -90,17 +88,17 @@ ParsesWith makes output value (Err (stop.Memory e)) =
     ParsesAll (λ text r. makes text (with_fault r)) output value (Err (stop.Memory e))
     ⊎ ((text : List ℕ) × (text_in (inner_of value) ≡ Some text) × makes text (Err (stop.Memory e)))
 
--- the answer, if memory was there, as `parsed` gives it
+-- the answer of `parsed`, if memory did not run out
 abbrev pub AsParsed : {T E : Type 0} → (List ℕ → Result T E → Type 0) → (E → Option (List ℕ)) → Node
     → Result T Errors → Type 0
 AsParsed gives output value (Ok x) = ParsesAll gives output value (Ok x)
 AsParsed gives output value (Err faults) = ParsesAll gives output value (Err (stop.Fault faults))
 
--- an element was read, and let go
+-- an element was read, and dropped
 abbrev pub AsRead : {T : Type 0} → (Node → Result T Errors → Node → Type 0) → Node → Node → Type 0
 AsRead reads before after = (x : _) × reads before (Ok x) after
 
--- the answer, if it is an element, is Some of one that is read
+-- the read's answer, with an element in a Some
 abbrev pub AsSome : {T : Type 0} → (Node → Result T Errors → Node → Type 0) → Node → Result (Option T) Errors → Node
     → Type 0
 AsSome reads before (Ok (Some x)) after = reads before (Ok x) after

@@ -1,4 +1,4 @@
--- What a typed read may answer, and what it may leave in the value.
+-- What a typed read may return, and what it may leave in the value.
 use Rattle.std.specs.Prelude.{◌≡◌, ⊤, ℕ, ℤ, pos, negsuc, nat_lt, Bool, List, [], ◌∷◌, ◌++◌, Option, Some, None, Result}
 use Rattle.std.specs.Prelude.{Ok, Err, IfOk, codes, if◌then◌else◌}
 use Rattle.toml_span_lex.specs.declared.span.Span.{Span}
@@ -14,8 +14,8 @@ abbrev pub result_map : {T U E : Type 0} → (T → U) → Result T E → Result
 result_map f (Ok x) = Ok (f x)
 result_map f (Err e) = Err e
 
--- The call gives an answer that the type's reading allows of the value before, the answer and the
--- value left; want of memory leaves what the type states for it.
+-- The type's reading allows this answer for the value before the call, and the value left after it. If memory runs out,
+-- what is left is as the type states for that case.
 abbrev pub Answers : {T : Type 0} → (Node → Result T Errors → Node → Type 0) → (Node → Node → Type 0) → Node
     → Result T (Stop Errors) → Node → Type 0
 Answers reads starved before (Ok x) after = reads before (Ok x) after
@@ -30,11 +30,11 @@ Taken before after = after ≡ node taken (span_of before)
 abbrev pub Unchanged : Node → Node → Type 0
 Unchanged before after = after ≡ before
 
--- this does not happen: the call takes no memory
+-- this does not happen: the call needs no memory
 abbrev pub Never : Node → Node → Type 0
 Never before after = ⊥
 
--- the answer is the one that the value gives, and the value is taken
+-- the answer is a function of the value, and the value is taken
 abbrev pub Gives : {T : Type 0} → (Node → Result T Errors) → Node → Result T Errors → Node → Type 0
 Gives read before answer after = (answer ≡ read before) × Taken before after
 
@@ -42,7 +42,7 @@ Gives read before answer after = (answer ≡ read before) × Taken before after
 abbrev pub refused : {T : Type 0} → List ℕ → Node → Result T Errors
 refused expected value = Err (one (wrong_kind expected value))
 
--- the error that the type of this name does not hold the integer
+-- the error for an integer that the type of this name cannot hold
 abbrev pub beyond_range : List ℕ → Span → ErrorContent
 beyond_range name span = record { kind = out_of_range name; span = span; line_info = None }
 
@@ -78,12 +78,12 @@ abbrev pub or_out_of : {T : Type 0} → List ℕ → Span → Option T → Resul
 or_out_of name span (Some n) = Ok n
 or_out_of name span None = Err (one (beyond_range name span))
 
--- the integer, where the type of that name holds it
+-- the integer, if the type of that name can hold it
 abbrev pub read_integer : {T : Type 0} → List ℕ → (ℤ → Option T) → Node → Result T Errors
 read_integer name held (node (scalar (integer z)) span) = or_out_of name span (held z)
 read_integer name held value = refused name value
 
--- T's reading, with the span of the value as it was beside the element
+-- T's reading, where the element also has the span of the value
 abbrev pub spanned : {T S : Type 0} → (Node → Result T Errors → Node → Type 0) → (S → T) → (S → Span) → Node
     → Result S Errors → Node → Type 0
 spanned reads value_in span_in before answer after =
@@ -94,7 +94,7 @@ abbrev pub nodes_of : Items → List Node
 nodes_of no_items = []
 nodes_of (item value values) = value ∷ nodes_of values
 
--- an answer for each value, that the reading allows
+-- an answer for each value, as the reading allows
 abbrev pub EachReads : {T : Type 0} → (Node → Result T Errors → Node → Type 0) → List Node → List (Result T Errors)
     → Type 0
 EachReads reads [] [] = ⊤
@@ -114,7 +114,7 @@ errors [] = []
 errors (Ok x ∷ answers) = errors answers
 errors (Err faults ∷ answers) = all faults ++ errors answers
 
--- all the elements where no answer is an error, and else all the errors
+-- all the elements if no answer is an error, otherwise all the errors
 abbrev pub Joins : {T : Type 0} → List (Result T Errors) → Result (List T) Errors → Type 0
 Joins answers (Ok xs) = (errors answers ≡ []) × (elements answers ≡ xs)
 Joins answers (Err faults) = errors answers ≡ all faults

@@ -57,7 +57,7 @@ abbrev pub noted : List ℕ → State → State
 noted name s =
     record { members = without name s.members; asked = s.asked ++ name ∷ []; errors = s.errors; span = s.span }
 
--- errors are kept, behind those that were
+-- errors are kept, after those that were kept before
 abbrev pub keeping : List ErrorContent → State → State
 keeping faults s = record { members = s.members; asked = s.asked; errors = s.errors ++ faults; span = s.span }
 
@@ -85,8 +85,8 @@ Takes name before (Ok None) after = (found name before ≡ None) × (after ≡ n
 Takes name before (Ok (Some entry)) after = IsEntry name before entry × (after ≡ noted name before)
 Takes name before (Err error) after = after ≡ before
 
--- want of memory in a read: the name could not be recorded and nothing has changed, or it is
--- recorded, its entry is gone, and the errors are as before
+-- a read that runs out of memory: the name could not be recorded and nothing has changed, or it is recorded, its entry
+-- is gone, and the errors are as before
 abbrev pub Starved : List ℕ → State → State → Type 0
 Starved name before after = (after ≡ before) ⊎ (after ≡ noted name before)
 
@@ -102,8 +102,7 @@ Requires reads name before (Err (stop.Fault error)) after = MatchOption (found n
     × (content_of error ≡ faults.last) × (after ≡ keeping (all faults) (noted name before)))
 Requires reads name before (Err (stop.Memory error)) after = Starved name before after
 
--- `optional`: the element; None where nothing stands under the name, and where the read failed: its
--- errors are kept
+-- `optional`: the element; None if the name is absent, or if the read failed, whose errors are kept
 abbrev pub Tries : {T : Type 0} → (Node → Result T Errors → Node → Type 0) → List ℕ → State
     → Result (Option T) AllocError → State → Type 0
 Tries reads name before (Ok (Some x)) after =
@@ -137,14 +136,14 @@ unasked s = where_filled s.members (unexpected_entries s ∷ [])
 abbrev pub with_unasked : State → List ErrorContent
 with_unasked s = s.errors ++ unasked s
 
--- Ok exactly where there is no error; no memory is taken
+-- Ok exactly without errors; needs no memory
 abbrev pub EndsWithErrors : List ErrorContent → Result (Unit {0}) Unfinished → Type 0
 EndsWithErrors errors (Ok done) = errors ≡ []
 EndsWithErrors errors (Err (unfinished.Faults faults)) = errors ≡ all faults
 EndsWithErrors errors (Err (unfinished.Memory helper)) = ⊥
 
--- without a value for the rest: the keys that remain are an error; want of memory comes only where keys
--- remain, and hands the helper back as it was
+-- without a value for the rest: the keys that remain are an error; memory can run out only if keys remain, and then the
+-- helper comes back unchanged
 abbrev pub Refuses : State → Result (Unit {0}) Unfinished → Type 0
 Refuses s (Err (unfinished.Memory helper)) = (is_filled s.members ≡ true) × (state_of helper ≡ s)
 Refuses s (Err (unfinished.Faults faults)) = with_unasked s ≡ all faults
@@ -159,7 +158,7 @@ Finalizes s None answer = Refuses s answer
 abbrev pub HoldsRest : BTreeMap Key Value → Value → Value → Type 0
 HoldsRest rest before after = view after ≡ node (table (members_view rest.entries)) (span_of (view before))
 
--- what P says of the value behind a reference, if there is one, as it was and as it is left
+-- P holds for the value before and after the call, if there is a reference to one
 abbrev pub Leaves : {V : Type 0} → (V → V → Type 0) → Option (MutBor V) → Unit {0} ⊎ ((MutBor V × Unit {0}) ⊎ ⊥)
     → Type 0
 Leaves P None exit = Unit {0}

@@ -20,16 +20,16 @@ abbrev pub or_unexpected : List (List ℕ) → List ℕ → Span → Option (Lis
 or_unexpected tags s span (Some tag) = Ok tag
 or_unexpected tags s span None = Err (record { kind = unexpected_value tags (Some s); span = span; line_info = None })
 
--- the tag that a string is, or the error that it is none of them
+-- the tag that the string equals, or the error for a string that equals none of them
 abbrev pub read_tag : List (List ℕ) → Node → Result (List ℕ) ErrorContent
 read_tag tags (node (scalar (text s)) span) = or_unexpected tags s span (among s tags)
 read_tag tags value = Err (wrong_kind (codes "a string") value)
 
--- the value is a string that is none of these
+-- the value is a string that equals none of these
 abbrev pub IsUnexpected : List (List ℕ) → Node → Type 0
 IsUnexpected tags value = (s : List ℕ) × (inner_of value ≡ scalar (text s)) × (among s tags ≡ None)
 
--- `name_of`: the name that the string is, or the one error; memory runs out only for a string that is none of them
+-- `name_of`: the name that the string equals, or the one error; memory runs out only if it equals none of them
 abbrev pub IsNameOf : List (List ℕ) → Node → Result (Bor (List ℕ)) (Stop Errors) → Type 0
 IsNameOf names value (Ok name) = read_tag names value ≡ Ok name.now
 IsNameOf names value (Err (stop.Fault faults)) =
@@ -50,7 +50,7 @@ keeping_tag s (Err fault) = (None, keeping (fault ∷ []) s)
 abbrev pub asked_tag : List ℕ → List (List ℕ) → State → Option (List ℕ) × State
 asked_tag name tags s = keeping_tag (noted name s) (read_tag_at tags (missing name s) (found name s))
 
--- these errors, or this one where there are none
+-- these errors, or this one if the list is empty
 abbrev pub or_else : ErrorContent → List ErrorContent → List ErrorContent
 or_else fault [] = fault ∷ []
 or_else fault (first ∷ rest) = first ∷ rest

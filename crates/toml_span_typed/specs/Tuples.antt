@@ -28,12 +28,12 @@ Miscounts n (node (array values) span) faults =
     (length (nodes_of values) ≢ n) × (faults ≡ one (other_length n (length (nodes_of values)) span))
 Miscounts n value faults = faults ≡ one (wrong_kind (codes "an array") value)
 
--- those, or want of memory
+-- those, or out of memory
 abbrev pub RefusesLength : ℕ → Node → Stop Errors → Type 0
 RefusesLength n value (stop.Fault faults) = Miscounts n value faults
 RefusesLength n value (stop.Memory error) = ⊤
 
--- the one error, or want of memory
+-- the one error, or out of memory
 abbrev pub TellsOne : ErrorContent → Stop Errors → Type 0
 TellsOne fault (stop.Fault faults) = faults ≡ one fault
 TellsOne fault (stop.Memory error) = ⊤

@@ -1,4 +1,4 @@
--- How the code's functions share the work: nothing that stands beside this folder cites it.
+-- Contracts of private functions. Nothing outside this folder cites them.
 pub mod Errors
 pub mod Arrays
 pub mod Integers

@@ -1,14 +1,14 @@
 //! Reads of an enum whose variants have no data.
 
-/// The body of a `deserialize` that reads an enum by the names of its variants, in a function that returns
+/// The body of a `deserialize` that reads an enum by its variants' names, in a function that returns
 /// `Result<_, Stop<DeserError>>`:
 ///
 /// ```text
 /// read_name!(alloc, value, { "low" => Level::Low, "high" => Level::High })
 /// ```
 ///
-/// A string that is none of the names is the error `UnexpectedValue`, with the names that are expected, so a report lists
-/// them and suggests the nearest. Another kind of value is the error `Wanted`. No two names may be equal.
+/// For a string that is not one of the names, the error is `UnexpectedValue`. It has all names, so a report lists them
+/// and suggests the nearest. For another kind of value it is `Wanted`. No two names may be equal.
 #[macro_export]
 macro_rules! read_name {
     ($alloc:expr, $value:expr, { $first:literal => $variant:expr $(, $name:literal => $other:expr)* $(,)? }) => {

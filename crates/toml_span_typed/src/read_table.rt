@@ -229,7 +229,7 @@ macro_rules! read_table {
         $crate::read_table!(@badly $read "range(1..=9)`, with two literals, before `or(..)")
     };
     (@words $read:tt $form:tt [$ty:ty] $keys:tt or $($words:tt)*) => {
-        $crate::read_table!(@badly $read "or(value)`, as the last word, of a type that is no `Spanned")
+        $crate::read_table!(@badly $read "or(value)`, as the last word; the field's type cannot be `Spanned")
     };
     (@words $read:tt $form:tt [$ty:ty] $keys:tt unique $($words:tt)*) => {
         $crate::read_table!(@badly $read "unique(field)`, as the last word")

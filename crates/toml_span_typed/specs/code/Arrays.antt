@@ -21,7 +21,7 @@ AreRead reads values xs faults =
     (answers : List (Result _ Errors)) × EachReads reads values answers × (elements answers ≡ xs)
     × (errors answers ≡ faults)
 
--- one more value is read: its element comes behind the elements, or its errors behind the errors
+-- one more value is read: its element is added to the elements, or its errors are added to the errors
 abbrev pub AddsRead : {T : Type 0} → (Node → Result T Errors → Node → Type 0) → Node → List T → List ErrorContent
     → List T
     → List ErrorContent → Type 0
@@ -29,7 +29,7 @@ AddsRead reads value xs faults ys more =
     (answer : Result _ Errors) × ((after : Node) × reads value answer after)
     × (ys ≡ xs ++ elements (answer ∷ [])) × (more ≡ faults ++ errors (answer ∷ []))
 
--- a value is read: its element, or its errors are kept behind others
+-- a value is read: its element is returned, or its errors are added to the others
 abbrev pub ReadsOrKeeps : {T : Type 0} → (Node → Result T Errors → Node → Type 0) → Node → List ErrorContent → Option T
     → List ErrorContent → Type 0
 ReadsOrKeeps reads value faults (Some x) more = IsReadAs reads value (Ok x) × (more ≡ faults)

@@ -1,4 +1,4 @@
--- What a conversion of integers gives.
+-- The results of conversions between integer types.
 use Rattle.std.specs.Prelude.{◌≡◌, ℤ, Option, None, Some, Result, MatchResult}
 
 -- the conversion gives what is held of each integer, and an error where nothing is

@@ -6,7 +6,7 @@ use Rattle.toml_span_typed.specs.Errors.{Errors, all}
 use Rattle.toml_span_typed.specs.Reads.{elements, errors}
 use Rattle.toml_span_typed.specs.WithWarnings.{EachWithWarnings}
 
--- its element, or its errors are kept behind others
+-- its element is returned, or its errors are added to the others
 abbrev pub ReadsOrKeeps : {T : Type 0}
     → (Node → Result T Errors → List ErrorContent → List ErrorContent → Type 0) → Node → List ErrorContent
     → Option T → List ErrorContent → List ErrorContent → List ErrorContent → Type 0
@@ -22,7 +22,7 @@ AreReadWithWarnings reads values xs faults warnings more =
     (answers : List (Result _ Errors)) × EachWithWarnings reads values answers warnings more
     × (elements answers ≡ xs) × (errors answers ≡ faults)
 
--- one more value is read: its element comes behind the elements, or its errors behind the errors
+-- one more value is read: its element is added to the elements, or its errors are added to the errors
 abbrev pub AddsWithWarnings : {T : Type 0}
     → (Node → Result T Errors → List ErrorContent → List ErrorContent → Type 0) → Node → List T → List ErrorContent
     → List T → List ErrorContent → List ErrorContent → List ErrorContent → Type 0

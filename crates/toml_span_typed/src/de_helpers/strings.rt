@@ -30,8 +30,8 @@ pub fn parsed<'de, T: FromStr<Err = E>, E: Display + Drop>(
     }
 }
 
-/// Returns what a function makes of a value's string: the body of a `deserialize` of a type that owns text, since
-/// `FromStr` has no allocator to copy it.
+/// Applies a function to a value's string and returns its result. This is the body of a `deserialize` of a type that
+/// owns text, since `FromStr` has no allocator to copy it.
 ///
 /// The value must not be taken before (`is_taken`), and is taken in every case. An error of the function becomes that of
 /// `parsed`, unless memory ran out. For another kind of value it is not called.

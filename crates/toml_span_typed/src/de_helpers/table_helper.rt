@@ -153,8 +153,8 @@ impl<'de> TableHelper<'de> {
 
     /// Records the name, moves its entry out, if there is one, and reads it.
     ///
-    /// Returns None without an entry, and if the read fails, whose errors are kept. If memory runs out nothing has
-    /// changed, or the name is recorded, its entry gone, and the errors are as before.
+    /// Returns None if the name is absent, and also if the read fails: its errors are kept. If memory runs out, nothing
+    /// has changed, or the name is recorded, its entry gone, and the errors are as before.
     pub fn optional<T: Deserialize<'de>>(&mut self, name: &'de str) -> Result<Option<T>, AllocError>
         requires { IfSome (found name.now (state_of self.old)) (λ value. IsTrue (is_whole value)) }
         ensures answer { Tries T.reads name.now (state_of self.old) result (state_of self.new) }
@@ -183,7 +183,7 @@ impl<'de> TableHelper<'de> {
         self.optional(name)
     }
 
-    /// Ends the reads. Returns Ok exactly if there is no error, or else the errors in order.
+    /// Ends the reads. Returns Ok exactly if no error is kept, otherwise all errors in order.
     ///
     /// With an original value, puts the rest of the table back into it, also after errors; its span stays, and no memory
     /// is taken. Without one, remaining keys add the error `UnexpectedKeys` at the table's span, with the keys in the

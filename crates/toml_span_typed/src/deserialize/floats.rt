@@ -25,7 +25,7 @@ fn double_of(text: &str) -> Option<f64>
     }
 }
 
-/// Returns the same in single precision.
+/// Returns the `f32` nearest to a float's text, or None if that is not finite.
 fn single_of(text: &str) -> Option<f32>
     ensures { result ≡ finite_float binary32 text.now }
 {

@@ -1,8 +1,9 @@
 //! Reads of strings, booleans, floats and dates.
-ghost use Rattle.std.specs.Prelude.{string_bytes};
+ghost use Rattle.std.specs.Prelude.{◌≡◌, IfOk, IsTrue, Some, string_bytes};
 ghost use Rattle.std.specs.Cow.{cow_str_bytes};
-ghost use Rattle.toml_span_tree.specs.Value.{float_value, date_bytes};
-ghost use Rattle.toml_span_typed.specs.Reads.{Gives, Never, Unchanged, result_map, read_string, read_boolean};
+ghost use Rattle.toml_span_tree.specs.Value.{float_value, date_bytes, is_whole, view};
+ghost use Rattle.toml_span_tree.specs.declared.value.ValueInner.TheVariants as inner;
+ghost use Rattle.toml_span_typed.specs.Reads.{Answers, Gives, Never, Unchanged, result_map, read_string, read_boolean};
 ghost use Rattle.toml_span_typed.specs.Reads.{read_float, read_datetime};
 
 use crate::de_helpers::refused;
@@ -58,6 +59,7 @@ impl<'de> Deserialize<'de> for DateText<'de> {
     }
 }
 
+/// Returns the string as it is in the value: it is borrowed exactly if it was borrowed there.
 impl<'de> Deserialize<'de> for CowStr<'de> {
     ghost reads = { λ v r w. Gives read_string v (result_map cow_str_bytes r) w };
 
@@ -66,7 +68,12 @@ impl<'de> Deserialize<'de> for CowStr<'de> {
     fn deserialize(
         _alloc: Global,
         value: &mut Value<'de>,
-    ) -> Result<CowStr<'de>, Stop<DeserError<'de>>> {
+    ) -> Result<CowStr<'de>, Stop<DeserError<'de>>>
+        requires { IsTrue (is_whole (view value.old)) }
+        ensures answer { Answers (λ v r w. Gives read_string v (result_map cow_str_bytes r) w) Never (view value.old)
+            result (view value.new) }
+        ensures kept { IfOk result (λ text. value.old.value ≡ Some (inner.String text)) }
+    {
         match value.take() {
             ValueInner::String(s) => Ok(s),
             other => Err(refused("a string", other, value.span)),

@@ -19,11 +19,12 @@ use toml_span_lex::stop::Stop;
 use toml_span_tree::{Error, ErrorKind, Table, Value, ValueInner};
 
 impl<'de> TableHelper<'de> {
-    /// Records the name, moves its entry out, and returns the one of these tags that the string there is.
+    /// Records the name, moves its entry out, and returns the tag that its string equals.
     ///
-    /// Returns None if there is no entry, and keeps the error `MissingField` at the table's span; if it is not a
-    /// string, with `Wanted`; and if it is none of the tags, with `UnexpectedValue`, both at the value's span. If memory
-    /// runs out nothing has changed, or the name is recorded, its entry gone, and the errors are as before.
+    /// Returns None and keeps an error in three cases: `MissingField` at the table's span if the entry is absent;
+    /// `Wanted` at the value's span if it is not a string; and `UnexpectedValue` there if the string is not one of the
+    /// tags. If memory runs out, nothing has changed, or the name is recorded, its entry gone, and the errors are as
+    /// before.
     pub fn read_tag(
         &mut self,
         name: &'de str,
@@ -98,10 +99,11 @@ impl<'de> TableHelper<'de> {
     }
 }
 
-/// Returns the one of these names that the value's string is: what `read_name!` calls.
+/// Returns the name that the value's string equals. `read_name!` calls this.
 ///
-/// If the value is not a string, the error is `Wanted`; if it is none of the names, `UnexpectedValue` with the names that
-/// are expected, both at the value's span. Needs memory only for this one. Takes the value in every case.
+/// If the value is not a string, the error is `Wanted`. If the string is not one of the names, it is
+/// `UnexpectedValue`, which lists the names and is the only case that needs memory. Both are at the value's span. Takes
+/// the value in every case.
 pub fn name_of<'de>(
     alloc: Global,
     value: &mut Value<'de>,
@@ -117,7 +119,7 @@ pub fn name_of<'de>(
     }
 }
 
-/// Returns the tag that a string is, or the error that it is none of them. Takes the value in every case.
+/// Returns the tag that the string equals, or the error for a string that equals none. Takes the value in every case.
 fn tag_of<'de>(
     alloc: Global,
     value: &mut Value<'de>,

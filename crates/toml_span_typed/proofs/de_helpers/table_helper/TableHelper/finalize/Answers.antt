@@ -1,5 +1,5 @@
--- The last value behind the reference that was given. The goal's own terms unfold to a value's whole
--- layout, so the rewriting tactics stop at their limit: the family is written out.
+-- The last value of the reference. The goal's own terms unfold to a value's whole layout, so the rewriting tactics stop at
+-- their limit: the family is written out.
 use Rattle.toml_span_lex.proofs.Common.{Option, MutBor, sym, subst}
 use borrow.Fn.Enter as enter
 use borrow.Fn.Kinds as kinds
