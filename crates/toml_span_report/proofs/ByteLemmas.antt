@@ -1,8 +1,15 @@
--- What is open before an offset.
+-- What is open before an offset, and the value of digits, with one more byte.
 use Rattle.toml_span_lex.proofs.Common.{◌≡◌, ℕ, ◌+◌, List, refl, add-one}
+use Rattle.std.specs.Prelude.{slice_index}
+use Rattle.toml_span_report.specs.found.Numbers.{next_value, value_of}
 use Rattle.toml_span_report.specs.Scan.{scanned, step}
 
 -- what is open after one more byte
 pub scanned-step : (text : List ℕ) (i : ℕ) → step text (scanned text i) i ≡ scanned text (i + 1)
 unfolding scanned
 scanned-step text i = rw (add-one i) refl
+
+pub value-step : (digits : List ℕ) (base i : ℕ)
+    → next_value (value_of digits base i) base (slice_index digits i) ≡ value_of digits base (i + 1)
+unfolding value_of
+value-step digits base i = rw (add-one i) refl

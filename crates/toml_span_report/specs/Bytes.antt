@@ -39,6 +39,7 @@ is_in class.Dotted b = is_name b || b == 46
 is_in class.Spaced b = is_name b || is_blank b
 is_in class.Header b = is_line b && not (b == 46 || b == 91 || b == 93 || b == 34 || b == 39)
 is_in class.Digit b = is_digit b
+is_in class.Clock b = is_digit b || b == 58 || b == 46
 is_in class.Grouped b = is_digit b || b == 95
 is_in class.Decimal b = is_digit b || b == 95 || b == 46
 is_in class.Number b = is_digit b || b == 95 || b == 46 || b == 43 || b == 45 || b == 101 || b == 69

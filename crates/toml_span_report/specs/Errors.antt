@@ -20,7 +20,6 @@ use Rattle.toml_span_report.specs.Report.{Place, ReportContent}
 use Rattle.toml_span_report.specs.Tokens.{IsMarked}
 use Rattle.toml_span_report.specs.UnknownKeys.{key_label, one_of, unknown_keys, what_is_expected, suggestions}
 use Rattle.toml_span_report.specs.UnknownKeys.{deprecated as renamed}
-use Rattle.toml_span_report.specs.Words.{words_for}
 use Rattle.toml_span_report.specs.declared.colours.Style.{Style}
 use Rattle.toml_span_report.specs.declared.report.Severity.{Severity}
 use Rattle.toml_span_report.specs.declared.report.Severity.TheVariants as severities
@@ -74,7 +73,7 @@ TellsKind severity text error report =
 
 -- the report of an error that comes from a mistake, in the words for it
 abbrev pub headline : Kind → FindingContent → List ℕ
-headline kind f = if length (words_for f.mistake).headline == 0 then message kind else (words_for f.mistake).headline
+headline kind f = if length f.words.headline == 0 then message kind else f.words.headline
 
 abbrev pub mistaken : Severity → Kind → FindingContent → ReportContent
 mistaken severity kind f = record {

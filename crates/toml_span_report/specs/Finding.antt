@@ -6,15 +6,17 @@ use Rattle.toml_span_report.specs.declared.bytes.Class.TheVariants as class
 use Rattle.toml_span_report.specs.declared.finding.Code.{Code}
 use Rattle.toml_span_report.specs.declared.finding.Finding.{Finding}
 use Rattle.toml_span_report.specs.declared.finding.Meant.{Meant}
-use Rattle.toml_span_report.specs.declared.finding.Mistake.{Mistake}
+use Rattle.toml_span_report.specs.Words.{WordsContent, words_content, texts}
 
--- code in pieces
+-- code in pieces, with a number after them
 pub record CodeContent : Type 0 where
   pub first : List ℕ
   pub second : List ℕ
   pub third : List ℕ
   pub fourth : List ℕ
   pub fifth : List ℕ
+  pub sixth : List ℕ
+  pub number : Option ℕ
 
 abbrev pub code_content : Code → CodeContent
 code_content c = record {
@@ -23,75 +25,86 @@ code_content c = record {
   third = c.third.now;
   fourth = c.fourth.now;
   fifth = c.fifth.now;
+  sixth = c.sixth.now;
+  number = c.number;
 }
 
 -- a finding by content
 pub record FindingContent : Type 0 where
-  pub mistake : Mistake
+  pub words : WordsContent
   pub mark : Span
   pub also : Span
-  pub name : List ℕ
+  pub label : CodeContent
   pub edit : Option Span
   pub code : CodeContent
+  pub other : CodeContent
 
 abbrev pub finding_content : Finding → FindingContent
 finding_content f = record {
-  mistake = f.mistake;
+  words = words_content f.words;
   mark = f.mark;
   also = f.also;
-  name = f.name.now;
+  label = code_content f.label;
   edit = f.edit;
   code = code_content f.code;
+  other = code_content f.other;
 }
 
 -- what a word or a character probably stands for
 pub record MeantContent : Type 0 where
-  pub mistake : Mistake
+  pub mistake : WordsContent
   pub name : List ℕ
   pub code : List ℕ
 
 abbrev pub meant_content : Meant → MeantContent
-meant_content m = record { mistake = m.mistake; name = m.name.now; code = m.code.now }
+meant_content m = record { mistake = texts m.mistake; name = m.name.now; code = m.code.now }
 
-abbrev pub as_meant : Mistake → List ℕ → List ℕ → MeantContent
+abbrev pub as_meant : WordsContent → List ℕ → List ℕ → MeantContent
 as_meant mistake name code = record { mistake = mistake; name = name; code = code }
 
--- code of three pieces, and of five
-abbrev pub pieces : List ℕ → List ℕ → List ℕ → CodeContent
-pieces first second third = record { first = first; second = second; third = third; fourth = []; fifth = [] }
+-- code of six pieces, and of three
+abbrev pub six : List ℕ → List ℕ → List ℕ → List ℕ → List ℕ → List ℕ → CodeContent
+six a b c d e f =
+    record { first = a; second = b; third = c; fourth = d; fifth = e; sixth = f; number = None }
 
-abbrev pub five : List ℕ → List ℕ → List ℕ → List ℕ → List ℕ → CodeContent
-five a b c d e = record { first = a; second = b; third = c; fourth = d; fifth = e }
+abbrev pub pieces : List ℕ → List ℕ → List ℕ → CodeContent
+pieces first second third = six first second third [] [] []
 
 abbrev pub span_of : ℕ → ℕ → Span
 span_of start end = record { start = start; end = end }
 
--- a mistake without code
-abbrev pub marked : Mistake → ℕ → ℕ → FindingContent
-marked mistake from to = record {
-  mistake = mistake;
-  mark = span_of from to;
-  also = span_of from to;
-  name = [];
+-- a mistake with the code to write, and without a replacement, and one without code
+abbrev pub shown : WordsContent → Span → Span → CodeContent → FindingContent
+shown words mark also code = record {
+  words = words;
+  mark = mark;
+  also = also;
+  label = pieces [] [] [];
   edit = None;
-  code = pieces [] [] [];
+  code = code;
+  other = pieces [] [] [];
 }
 
--- one that code can replace, and one that code at another place repairs
-abbrev pub mended : Mistake → Span → Span → CodeContent → FindingContent
-mended mistake mark edit code =
-    record { mistake = mistake; mark = mark; also = mark; name = []; edit = Some edit; code = code }
+abbrev pub marked : WordsContent → ℕ → ℕ → FindingContent
+marked words from to = shown words (span_of from to) (span_of from to) (pieces [] [] [])
 
-abbrev pub replaced : Mistake → ℕ → ℕ → CodeContent → FindingContent
-replaced mistake from to code = mended mistake (span_of from to) (span_of from to) code
+-- one that code can replace, also at another place, and one whose mark can be removed
+abbrev pub mended : WordsContent → Span → Span → CodeContent → FindingContent
+mended words mark edit code = record (shown words mark mark code) { edit = Some edit }
+
+abbrev pub replaced : WordsContent → ℕ → ℕ → CodeContent → FindingContent
+replaced words from to code = mended words (span_of from to) (span_of from to) code
+
+abbrev pub removed : WordsContent → ℕ → ℕ → FindingContent
+removed words from to = replaced words from to (pieces [] [] [])
 
 -- A text with backslashes goes between single quotes, where it keeps its meaning.
 abbrev pub quote_for : List ℕ → ℕ → ℕ → List ℕ
 quote_for text from to = if nat_lt (end_of class.Unescaped text from) to then codes "'" else codes "\""
 
-abbrev pub quoted : Mistake → List ℕ → ℕ → ℕ → FindingContent
-quoted mistake text from to =
-    replaced mistake from to (pieces (quote_for text from to) (part text from to) (quote_for text from to))
+abbrev pub quoted : WordsContent → List ℕ → ℕ → ℕ → FindingContent
+quoted words text from to =
+    replaced words from to (pieces (quote_for text from to) (part text from to) (quote_for text from to))
 
 -- the first of two that was found
 abbrev pub first_found : Option FindingContent → Option FindingContent → Option FindingContent

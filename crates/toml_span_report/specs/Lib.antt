@@ -17,6 +17,7 @@ pub mod Report
 pub mod Reported
 pub mod Scan
 pub mod Strips
+pub mod Tables
 pub mod Tokens
 pub mod UnknownKeys
 pub mod Visible

@@ -7,8 +7,6 @@ use Rattle.toml_span_tree.specs.Error.{invalid_number, invalid_datetime, wanted,
 use Rattle.toml_span_tree.specs.Error.{redefine_as_array, multiline_string_key, dotted_key_invalid_type}
 use Rattle.toml_span_tree.specs.Error.{unquoted_string}
 use Rattle.toml_span_report.specs.Finding.{FindingContent, marked}
-use Rattle.toml_span_report.specs.declared.finding.ClashMistake.TheVariants as of_clash
-use Rattle.toml_span_report.specs.declared.finding.Mistake.TheVariants as mistakes
 use Rattle.toml_span_report.specs.found.Clashes as clashes
 use Rattle.toml_span_report.specs.found.Dates as dates
 use Rattle.toml_span_report.specs.found.Lists as lists
@@ -16,6 +14,8 @@ use Rattle.toml_span_report.specs.found.Numbers as numbers
 use Rattle.toml_span_report.specs.found.Strings as strings
 use Rattle.toml_span_report.specs.found.Symbols as symbols
 use Rattle.toml_span_report.specs.found.Wanted as tokens
+use Rattle.toml_span_report.specs.Words.{said}
+use Rattle.toml_span_report.specs.declared.words.TheConstants.{ARRAY_AFTER_TABLE}
 
 abbrev pub mistake_of : Kind → List ℕ → Span → Option FindingContent
 mistake_of unquoted_string text span = Some (lists.word text span.start)
@@ -33,5 +33,5 @@ mistake_of multiline_string_key text span = Some (strings.long_key text span.sta
 mistake_of (duplicate_table name first) text span = Some (clashes.table_twice text span first)
 mistake_of (duplicate_key key first) text span = clashes.key_twice text span first
 mistake_of (dotted_key_invalid_type first) text span = clashes.through_value text span first
-mistake_of redefine_as_array text span = Some (marked (mistakes.Clash of_clash.ArrayAfterTable) span.start span.end)
+mistake_of redefine_as_array text span = Some (marked (said ARRAY_AFTER_TABLE) span.start span.end)
 mistake_of kind text span = None

@@ -36,6 +36,8 @@ pub(crate) enum Class {
     Header,
     /// A digit.
     Digit,
+    /// A byte of a time: a digit, `:` or `.`.
+    Clock,
     /// A digit or `_`.
     Grouped,
     /// A digit, `_` or `.`.
@@ -119,6 +121,7 @@ pub(crate) fn is_in(class: Class, byte: u8) -> bool
         Class::Spaced => is_name(byte) || is_blank(byte),
         Class::Header => is_line(byte) && !matches!(byte, b'.' | b'[' | b']' | b'"' | b'\''),
         Class::Digit => is_digit(byte),
+        Class::Clock => is_digit(byte) || matches!(byte, b':' | b'.'),
         Class::Grouped => is_digit(byte) || byte == b'_',
         Class::Decimal => is_digit(byte) || matches!(byte, b'_' | b'.'),
         Class::Number => {

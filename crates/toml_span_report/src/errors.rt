@@ -24,7 +24,6 @@ use crate::unknown_keys::{
     deprecated, key_labels, key_names, lent_names, one_of, suggestions, unknown_keys,
     what_is_expected,
 };
-use crate::words::words_for;
 use std::alloc::{AllocError, Global};
 use toml_span_lex::span::Span;
 use toml_span_lex::stop::Stop;
@@ -132,11 +131,10 @@ fn headline(alloc: Global, error: &Error<'_>, finding: Finding<'_>) -> Result<St
     ensures { IfOk result (λ text. string_bytes text
         ≡ spec.headline (kind_of error.now.kind) (finding_content finding.entry)) }
 {
-    let words = words_for(finding.mistake);
-    if words.headline.is_empty() {
+    if finding.words.headline.is_empty() {
         message(alloc, error)
     } else {
-        String::from_str(alloc, words.headline)
+        String::from_str(alloc, finding.words.headline)
     }
 }
 

@@ -2,9 +2,11 @@
 ghost use Rattle.std.specs.Prelude.{◌≡◌, map, option_map};
 ghost use Rattle.toml_span_report.specs.Explanations as spec;
 
+use crate::tables::text_in;
+
 /// The codes that `explain` knows, in the order of the documentation: first those of `parse`, then those of typed
-/// reads.
-pub const CODES: [&str; 24] = [
+/// reads, then that of a check as TOML 1.0.
+pub const CODES: [&str; 25] = [
     "unexpected",
     "unterminated-string",
     "invalid-char-in-string",
@@ -29,10 +31,11 @@ pub const CODES: [&str; 24] = [
     "deprecated",
     "unexpected-value",
     "duplicate-name",
+    "newer-toml",
 ];
 
 /// The codes, each with its page.
-const PAGES: [(&str, &str); 24] = [
+const PAGES: [(&str, &str); 25] = [
     (
         "unexpected",
         "a character that is not part of TOML here\n\nA character begins no token of TOML where it stands outside of strings and\ncomments. Keys of other characters than A-Z, a-z, 0-9, `_` and `-` need quotes,\nand so does each value that is not a number, a boolean, a date or a time.\n\n    größe = 1         # write \"größe\" = 1\n    home = ~/data     # write home = \"~/data\"\n    // a comment      # write # a comment",
@@ -129,21 +132,11 @@ const PAGES: [(&str, &str); 24] = [
         "duplicate-name",
         "a name that two elements of an array have\n\nThe program tells the elements apart by this name. Change one of the two.",
     ),
+    (
+        "newer-toml",
+        "something that TOML 1.0 lacks\n\nThe file is checked as TOML 1.0, as files named `pyproject.toml` are: pip and\nolder versions of other programs read that. TOML 1.1 added line ends, comments\nand trailing commas in inline tables, the escapes `\\e` and `\\xHH`, and times\nwithout seconds.\n\n    a = {b = 1,}      # write {b = 1}\n    c = \"\\e\\x41\"      # write \"\\u001B\\u0041\"\n    d = 07:32         # write 07:32:00\n\nWrite it as in TOML 1.0, or check with `--toml 1.1` if all programs that read\nthe file know TOML 1.1.",
+    ),
 ];
-
-/// Returns the page of a code in a table.
-#[tactic(auto, unfolding(crate::specs::Explanations::page_in))]
-fn page_in<'p>(pages: &[(&'p str, &'p str)], code: &str) -> Option<&'p str>
-    ensures { option_map (λ page. page.now) result
-        ≡ spec.page_in (map (λ entry. (entry.0.now, entry.1.now)) pages.now) code.now }
-{
-    for (name, page) in pages {
-        if *name == code {
-            return Some(*page);
-        }
-    }
-    None
-}
 
 /// Returns the explanation of an error code: a title, an empty line, and a few lines with an example and how to repair
 /// it. Lines have at most 80 columns, and the last one has no line feed. Returns `None` for other codes, such as those
@@ -151,7 +144,7 @@ fn page_in<'p>(pages: &[(&'p str, &'p str)], code: &str) -> Option<&'p str>
 pub fn explain(code: &str) -> Option<&'static str>
     ensures { option_map (λ page. page.now) result ≡ spec.explained code.now }
 {
-    page_in(&PAGES, code)
+    text_in(&PAGES, code)
 }
 
 /// The codes of the pages are those of `CODES`, in their order.

@@ -2,179 +2,13 @@
 ghost use Rattle.std.specs.Prelude.{◌≡◌, Some, option_map};
 ghost use Rattle.toml_span_report.specs.Finding as spec;
 ghost use Rattle.toml_span_report.specs.Finding.{code_content, finding_content, meant_content};
+ghost use Rattle.toml_span_report.specs.Words.{texts};
 
 use crate::bytes::{Class, end_of, part};
+use crate::words::{Mistake, Words, words_of};
 use toml_span_lex::span::Span;
 
-/// Mistakes in values.
-#[derive(Clone, Copy)]
-pub(crate) enum ValueMistake {
-    Unquoted,
-    UnquotedText,
-    UpperBoolean,
-    OtherBoolean,
-    Null,
-    OtherFloat,
-    Prefixed,
-    RawString,
-    ValueBelow,
-    HashValue,
-    NoValueBehind,
-    FloatDue,
-    StringDue,
-}
-
-/// Signs, quotes and comments of other languages.
-#[derive(Clone, Copy)]
-pub(crate) enum SymbolMistake {
-    Backticks,
-    CurlyQuotes,
-    OtherSpace,
-    Invisible,
-    OtherSign,
-    Parentheses,
-    Conflict,
-    Markup,
-    Comment,
-    BlockComment,
-    Semicolon,
-    LoneReturn,
-}
-
-/// Mistakes in keys.
-#[derive(Clone, Copy)]
-pub(crate) enum KeyMistake {
-    BareKey,
-    Equals,
-    Colon,
-    NoEquals,
-    NoValue,
-    Keyword,
-    ExtraDot,
-    NoKey,
-    NoName,
-    LongKey,
-    OpenKey,
-}
-
-/// Other formats.
-#[derive(Clone, Copy)]
-pub(crate) enum FormatMistake {
-    YamlTable,
-    YamlList,
-    YamlItem,
-    DocumentMarker,
-    Json,
-    JsonDocument,
-    BraceHeader,
-    Template,
-    TemplateLine,
-}
-
-/// Mistakes in arrays, inline tables and headers.
-#[derive(Clone, Copy)]
-pub(crate) enum ListMistake {
-    ExtraComma,
-    NoComma,
-    NoCommaInTable,
-    OpenArray,
-    OpenTable,
-    ClosedByBrace,
-    ClosedByBracket,
-    ExtraClosing,
-    ArrayAlone,
-    OpenHeader,
-    HeaderBracket,
-}
-
-/// Mistakes in lines.
-#[derive(Clone, Copy)]
-pub(crate) enum LineMistake {
-    LastComma,
-    SecondKey,
-    CommaBehindValue,
-    KeyAfterHeader,
-    ValueOfHeader,
-    QuoteInString,
-    Joined,
-    HalfDay,
-    ZoneName,
-    AfterValue,
-}
-
-/// Mistakes in numbers.
-#[derive(Clone, Copy)]
-pub(crate) enum NumberMistake {
-    LeadingPoint,
-    TrailingPoint,
-    Thousands,
-    LeadingZero,
-    Octal,
-    UpperPrefix,
-    OtherDigit,
-    Signs,
-    Underscore,
-    SignedPrefix,
-    TooLarge,
-}
-
-/// Mistakes in dates and times.
-#[derive(Clone, Copy)]
-pub(crate) enum DateMistake {
-    SlashDate,
-    ShortDate,
-    NoMonth,
-    NoDay,
-    NoTime,
-    Offset,
-    Datetime,
-}
-
-/// Mistakes in strings.
-#[derive(Clone, Copy)]
-pub(crate) enum TextMistake {
-    OpenString,
-    OpenLiteral,
-    OpenLong,
-    OpenLongLiteral,
-    Control,
-    ControlInLiteral,
-    Backslash,
-    ShortEscape,
-    Surrogate,
-    NoCharacter,
-}
-
-/// Mistakes in definitions that clash.
-#[derive(Clone, Copy)]
-pub(crate) enum ClashMistake {
-    TableTwice,
-    ArrayOfTable,
-    TableOfArray,
-    ArrayAfterTable,
-    ClosedTable,
-    ClosedTableHeader,
-    ClosedArray,
-    ThroughValue,
-    DottedTable,
-}
-
-/// A typical mistake. The messages are in `words`.
-#[derive(Clone, Copy)]
-pub(crate) enum Mistake {
-    Value(ValueMistake),
-    Symbol(SymbolMistake),
-    Key(KeyMistake),
-    Format(FormatMistake),
-    List(ListMistake),
-    Line(LineMistake),
-    Number(NumberMistake),
-    Date(DateMistake),
-    Text(TextMistake),
-    Clash(ClashMistake),
-}
-
-/// The code to write, in pieces of the source and of our own.
+/// Code or another text, in pieces of the source and of our own.
 #[derive(Clone, Copy)]
 pub(crate) struct Code<'a> {
     pub(crate) first: &'a str,
@@ -182,22 +16,27 @@ pub(crate) struct Code<'a> {
     pub(crate) third: &'a str,
     pub(crate) fourth: &'a str,
     pub(crate) fifth: &'a str,
+    pub(crate) sixth: &'a str,
+    /// A number after the pieces.
+    pub(crate) number: Option<u64>,
 }
 
 /// A mistake found in a text.
 #[derive(Clone, Copy)]
 pub(crate) struct Finding<'a> {
-    pub(crate) mistake: Mistake,
+    pub(crate) words: Words,
     /// What the primary label marks.
     pub(crate) mark: Span,
     /// Another place, if the messages of the mistake have a label for one.
     pub(crate) also: Span,
     /// The primary label, if it differs from that of the messages.
-    pub(crate) name: &'static str,
+    pub(crate) label: Code<'a>,
     /// The span that `code` replaces.
     pub(crate) edit: Option<Span>,
     /// The code to write, which may be empty.
     pub(crate) code: Code<'a>,
+    /// Other code that may be meant, which may be empty.
+    pub(crate) other: Code<'a>,
 }
 
 /// What a word or a character probably stands for.
@@ -211,7 +50,7 @@ pub(crate) struct Meant {
 
 /// Returns what a word probably stands for.
 pub(crate) fn as_meant(mistake: Mistake, name: &'static str, code: &'static str) -> Option<Meant>
-    ensures { option_map meant_content result ≡ Some (spec.as_meant mistake name.now code.now) }
+    ensures { option_map meant_content result ≡ Some (spec.as_meant (texts mistake.entry) name.now code.now) }
 {
     Some(Meant {
         mistake,
@@ -220,17 +59,33 @@ pub(crate) fn as_meant(mistake: Mistake, name: &'static str, code: &'static str)
     })
 }
 
-/// Makes code of three pieces.
-pub(crate) fn pieces<'a>(first: &'a str, second: &'a str, third: &'a str) -> Code<'a>
-    ensures { code_content result ≡ spec.pieces first.now second.now third.now }
+/// Makes code of six pieces.
+pub(crate) fn six<'a>(
+    first: &'a str,
+    second: &'a str,
+    third: &'a str,
+    fourth: &'a str,
+    fifth: &'a str,
+    sixth: &'a str,
+) -> Code<'a>
+    ensures { code_content result ≡ spec.six first.now second.now third.now fourth.now fifth.now sixth.now }
 {
     Code {
         first,
         second,
         third,
-        fourth: "",
-        fifth: "",
+        fourth,
+        fifth,
+        sixth,
+        number: None,
     }
+}
+
+/// Makes code of three pieces.
+pub(crate) fn pieces<'a>(first: &'a str, second: &'a str, third: &'a str) -> Code<'a>
+    ensures { code_content result ≡ spec.pieces first.now second.now third.now }
+{
+    six(first, second, third, "", "", "")
 }
 
 /// Makes a span.
@@ -240,57 +95,72 @@ pub(crate) fn span_of(start: usize, end: usize) -> Span
     Span { start, end }
 }
 
-/// Makes a mistake at a place, without code.
-pub(crate) fn marked<'a>(mistake: Mistake, from: usize, to: usize) -> Finding<'a>
-    ensures { finding_content result ≡ spec.marked mistake from to }
+/// Makes a mistake at a place, with the code to write, and without a replacement.
+pub(crate) fn shown<'a>(mistake: Mistake, mark: Span, also: Span, code: Code<'a>) -> Finding<'a>
+    ensures { finding_content result ≡ spec.shown (texts mistake.entry) mark also (code_content code.entry) }
 {
     Finding {
-        mistake,
-        mark: span_of(from, to),
-        also: span_of(from, to),
-        name: "",
+        words: words_of(mistake),
+        mark,
+        also,
+        label: pieces("", "", ""),
         edit: None,
-        code: pieces("", "", ""),
+        code,
+        other: pieces("", "", ""),
     }
 }
 
-/// Makes a mistake at a place that code can replace.
-pub(crate) fn replaced<'a>(mistake: Mistake, from: usize, to: usize, code: Code<'a>) -> Finding<'a>
-    ensures { finding_content result ≡ spec.replaced mistake from to (code_content code.entry) }
+/// Makes a mistake at a place, without code.
+pub(crate) fn marked<'a>(mistake: Mistake, from: usize, to: usize) -> Finding<'a>
+    ensures { finding_content result ≡ spec.marked (texts mistake.entry) from to }
 {
-    Finding {
-        mistake,
-        mark: span_of(from, to),
-        also: span_of(from, to),
-        name: "",
-        edit: Some(span_of(from, to)),
-        code,
-    }
+    let mark = span_of(from, to);
+    shown(mistake, mark, mark, pieces("", "", ""))
 }
 
 /// Makes a mistake at a place, repaired by code at another.
 pub(crate) fn mended<'a>(mistake: Mistake, mark: Span, edit: Span, code: Code<'a>) -> Finding<'a>
-    ensures { finding_content result ≡ spec.mended mistake mark edit (code_content code.entry) }
+    ensures { finding_content result ≡ spec.mended (texts mistake.entry) mark edit (code_content code.entry) }
 {
-    Finding {
-        mistake,
-        mark,
-        also: mark,
-        name: "",
-        edit: Some(edit),
-        code,
+    let mut found = shown(mistake, mark, mark, code);
+    found.edit = Some(edit);
+    found
+}
+
+/// Makes a mistake at a place that code can replace.
+pub(crate) fn replaced<'a>(mistake: Mistake, from: usize, to: usize, code: Code<'a>) -> Finding<'a>
+    ensures { finding_content result ≡ spec.replaced (texts mistake.entry) from to (code_content code.entry) }
+{
+    mended(mistake, span_of(from, to), span_of(from, to), code)
+}
+
+/// Makes a mistake of a part that code can remove.
+pub(crate) fn removed<'a>(mistake: Mistake, from: usize, to: usize) -> Finding<'a>
+    ensures { finding_content result ≡ spec.removed (texts mistake.entry) from to }
+{
+    replaced(mistake, from, to, pieces("", "", ""))
+}
+
+/// Returns the quotes for a part: single ones if it contains backslashes, so that they keep their meaning.
+pub(crate) fn quote_for<'a>(text: &'a str, from: usize, to: usize) -> &'a str
+    ensures { result.now ≡ spec.quote_for text.now from to }
+{
+    if end_of(Class::Unescaped, text, from) < to {
+        "'"
+    } else {
+        "\""
     }
 }
 
-/// Makes a mistake of a part that needs quotes: single ones if it contains backslashes, so that they keep their
-/// meaning.
+/// Makes a mistake of a part that needs quotes.
 pub(crate) fn quoted<'a>(mistake: Mistake, text: &'a str, from: usize, to: usize) -> Finding<'a>
-    ensures { finding_content result ≡ spec.quoted mistake text.now from to }
+    ensures { finding_content result ≡ spec.quoted (texts mistake.entry) text.now from to }
 {
-    let word = part(text, from, to);
-    if end_of(Class::Unescaped, text, from) < to {
-        replaced(mistake, from, to, pieces("'", word, "'"))
-    } else {
-        replaced(mistake, from, to, pieces("\"", word, "\""))
-    }
+    let quote = quote_for(text, from, to);
+    replaced(
+        mistake,
+        from,
+        to,
+        pieces(quote, part(text, from, to), quote),
+    )
 }

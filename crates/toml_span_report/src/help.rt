@@ -2,7 +2,7 @@
 ghost use Rattle.std.specs.Prelude.{◌≡◌, option_map};
 ghost use Rattle.toml_span_report.specs.Help as spec;
 
-/// Returns the range of the float type with this name.
+/// Returns the help line with the range of the float type of this name, or None for another name.
 #[tactic(auto, unfolding(crate::specs::Help::float_help))]
 fn float_help(name: &str) -> Option<&'static str>
     ensures { option_map (λ help. help.now) result ≡ spec.float_help name.now }

@@ -21,6 +21,7 @@ mod report;
 mod reported;
 mod scan;
 mod strips;
+mod tables;
 mod tokens;
 mod unknown_keys;
 pub mod visible;

@@ -14,7 +14,8 @@ mod symbols;
 mod values;
 mod wanted;
 
-use crate::finding::{ClashMistake, Finding, Mistake, marked};
+use crate::finding::{Finding, marked};
+use crate::words::ARRAY_AFTER_TABLE;
 use toml_span_lex::span::Span;
 use toml_span_tree::ErrorKind;
 
@@ -40,11 +41,7 @@ pub(crate) fn mistake_of<'a>(kind: &ErrorKind<'_>, text: &'a str, span: Span) ->
         ErrorKind::DuplicateTable { first, .. } => Some(clashes::table_twice(text, span, *first)),
         ErrorKind::DuplicateKey { first, .. } => clashes::key_twice(text, span, *first),
         ErrorKind::DottedKeyInvalidType { first } => clashes::through_value(text, span, *first),
-        ErrorKind::RedefineAsArray => Some(marked(
-            Mistake::Clash(ClashMistake::ArrayAfterTable),
-            span.start,
-            span.end,
-        )),
+        ErrorKind::RedefineAsArray => Some(marked(ARRAY_AFTER_TABLE, span.start, span.end)),
         _ => None,
     }
 }

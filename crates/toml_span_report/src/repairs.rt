@@ -8,7 +8,6 @@ ghost use Rattle.toml_span_report.specs.Report.{repair_of};
 use crate::finding::{Code, Finding};
 use crate::report::Replacement;
 use crate::visible::push_visible;
-use crate::words::words_for;
 use std::alloc::{AllocError, Global};
 use toml_span_lex::span::Span;
 use toml_span_tree::Label;
@@ -23,10 +22,14 @@ fn code_text(alloc: Global, code: Code<'_>) -> Result<String, AllocError>
     text.push_str(code.third)?;
     text.push_str(code.fourth)?;
     text.push_str(code.fifth)?;
+    text.push_str(code.sixth)?;
+    if let Some(number) = code.number {
+        write!(text, "{number}")?;
+    }
     Ok(text)
 }
 
-/// Appends the code to write after a joint, if there are both.
+/// Appends code after a joint, if there are both.
 fn push_code(out: &mut String, joint: &str, code: &str) -> Result<(), AllocError>
     ensures { OnOk result (string_bytes out.new ≡ string_bytes out.old ++ spec.code_shown joint.now code.now) }
 {
@@ -39,26 +42,23 @@ fn push_code(out: &mut String, joint: &str, code: &str) -> Result<(), AllocError
     out.push_str("`")
 }
 
-/// Returns a line of help, with the code to write if there is a joint.
-fn help_line(alloc: Global, help: &str, joint: &str, code: &str) -> Result<String, AllocError>
-    ensures { IfOk result (λ line. string_bytes line ≡ spec.help_line help.now joint.now code.now) }
-{
-    let mut line = String::from_str(alloc, help)?;
-    push_code(&mut line, joint, code)?;
-    Ok(line)
-}
-
 /// Returns the help for a mistake.
 pub(crate) fn finding_help(alloc: Global, finding: Finding<'_>) -> Result<Vec<String>, AllocError>
     ensures { IfOk result (λ help. map string_bytes help.items ≡ spec.help (finding_content finding.entry)) }
 {
-    let words = words_for(finding.mistake);
+    let words = finding.words;
     let mut help = Vec::new(alloc);
     if words.help.is_empty() {
         return Ok(help);
     }
-    let code = code_text(alloc, finding.code)?;
-    help.push(help_line(alloc, words.help, words.joint, code.as_str())?)?;
+    let mut line = String::from_str(alloc, words.help)?;
+    push_code(
+        &mut line,
+        words.joint,
+        code_text(alloc, finding.code)?.as_str(),
+    )?;
+    push_code(&mut line, " or ", code_text(alloc, finding.other)?.as_str())?;
+    help.push(line)?;
     Ok(help)
 }
 
@@ -89,15 +89,16 @@ pub(crate) fn finding_labels(
 ) -> Result<Vec<Label<()>>, AllocError>
     ensures { IfOk result (λ labels. map label_content labels.items ≡ spec.labels (finding_content finding.entry)) }
 {
-    let words = words_for(finding.mistake);
+    let words = finding.words;
     let mut labels = Vec::new(alloc);
     if !words.also.is_empty() {
         push_label(alloc, &mut labels, false, finding.also, words.also)?;
     }
-    let text = if finding.name.is_empty() {
+    let own = code_text(alloc, finding.label)?;
+    let text = if own.is_empty() {
         words.label
     } else {
-        finding.name
+        own.as_str()
     };
     push_label(alloc, &mut labels, true, finding.mark, text)?;
     Ok(labels)
@@ -117,7 +118,7 @@ pub(crate) fn finding_repairs(
     repairs.push(Replacement {
         span,
         text: code_text(alloc, finding.code)?,
-        is_safe: words_for(finding.mistake).is_safe,
+        is_safe: finding.words.is_safe,
     })?;
     Ok(repairs)
 }

@@ -79,7 +79,7 @@ fn push_line_char(out: &mut String, c: char) -> Result<(), AllocError>
     }
 }
 
-/// Appends lines that end with a line feed.
+/// Returns a text with its characters escaped as by `visible`, except for line feeds. Fails if an allocation fails.
 pub fn visible_lines(alloc: Global, text: &str) -> Result<String, AllocError>
     ensures { IfOk result (λ out. string_bytes out ≡ spec.visible_lines text.now) }
 {

@@ -1,11 +1,16 @@
-//! The messages for mistakes.
+//! The table of messages: a constant for each typical mistake.
 ghost use Rattle.std.specs.Prelude.{◌≡◌};
 ghost use Rattle.toml_span_report.specs.Words as spec;
 
-use crate::finding::{
-    ClashMistake, DateMistake, FormatMistake, KeyMistake, LineMistake, ListMistake, Mistake,
-    NumberMistake, SymbolMistake, TextMistake, ValueMistake,
-};
+/// A typical mistake, as the table has it: the texts of `Words`, in their order.
+pub(crate) type Mistake = (
+    &'static str,
+    &'static str,
+    &'static str,
+    &'static str,
+    &'static str,
+    bool,
+);
 
 /// The messages for a mistake. A text may be empty.
 #[derive(Clone, Copy)]
@@ -24,924 +29,466 @@ pub(crate) struct Words {
     pub(crate) is_safe: bool,
 }
 
-/// Returns the messages for mistakes in values.
-fn value_words(mistake: ValueMistake) -> Words
-    ensures { spec.words_content result ≡ spec.value_words mistake }
-{
-    match mistake {
-        ValueMistake::Unquoted => Words {
-            headline: "this value needs quotes",
-            label: "",
-            also: "",
-            help: "put it in quotes",
-            joint: ": ",
-            is_safe: true,
-        },
-        ValueMistake::UnquotedText => Words {
-            headline: "this value needs quotes",
-            label: "",
-            also: "",
-            help: "put all of it in quotes",
-            joint: "",
-            is_safe: false,
-        },
-        ValueMistake::UpperBoolean => Words {
-            headline: "booleans are lower case",
-            label: "",
-            also: "",
-            help: "write",
-            joint: " ",
-            is_safe: true,
-        },
-        ValueMistake::OtherBoolean => Words {
-            headline: "this is not a boolean",
-            label: "booleans are `true` and `false`",
-            also: "",
-            help: "write",
-            joint: " ",
-            is_safe: false,
-        },
-        ValueMistake::Null => Words {
-            headline: "TOML has no null",
-            label: "",
-            also: "",
-            help: "leave the key out",
-            joint: "",
-            is_safe: false,
-        },
-        ValueMistake::OtherFloat => Words {
-            headline: "this is not a float",
-            label: "special floats are `inf` and `nan`",
-            also: "",
-            help: "write",
-            joint: " ",
-            is_safe: true,
-        },
-        ValueMistake::Prefixed => Words {
-            headline: "strings have no prefix",
-            label: "",
-            also: "",
-            help: "remove the prefix",
-            joint: ": ",
-            is_safe: false,
-        },
-        ValueMistake::RawString => Words {
-            headline: "strings have no prefix",
-            label: "",
-            also: "",
-            help: "use single quotes for a raw string",
-            joint: ": ",
-            is_safe: false,
-        },
-        ValueMistake::ValueBelow => Words {
-            headline: "a value must be on the same line as `=`",
-            label: "expected a value here",
-            also: "",
-            help: "write",
-            joint: " ",
-            is_safe: false,
-        },
-        ValueMistake::HashValue => Words {
-            headline: "`#` begins a comment",
-            label: "",
-            also: "",
-            help: "put the value in quotes",
-            joint: ": ",
-            is_safe: false,
-        },
-        ValueMistake::NoValueBehind => Words {
-            headline: "this key has no value",
-            label: "expected a value on this line",
-            also: "",
-            help: "write a value, or remove the line",
-            joint: "",
-            is_safe: false,
-        },
-        ValueMistake::FloatDue => Words {
-            headline: "",
-            label: "",
-            also: "",
-            help: "write",
-            joint: " ",
-            is_safe: true,
-        },
-        ValueMistake::StringDue => Words {
-            headline: "",
-            label: "",
-            also: "",
-            help: "put it in quotes",
-            joint: ": ",
-            is_safe: false,
-        },
-    }
-}
-
-/// Returns the messages for signs, quotes and comments of other languages.
-fn symbol_words(mistake: SymbolMistake) -> Words
-    ensures { spec.words_content result ≡ spec.symbol_words mistake }
-{
-    match mistake {
-        SymbolMistake::Backticks => Words {
-            headline: "backticks do not quote strings",
-            label: "",
-            also: "",
-            help: "use double quotes",
-            joint: ": ",
-            is_safe: true,
-        },
-        SymbolMistake::CurlyQuotes => Words {
-            headline: "strings need straight quotes",
-            label: "",
-            also: "",
-            help: "use double quotes",
-            joint: ": ",
-            is_safe: true,
-        },
-        SymbolMistake::OtherSpace => Words {
-            headline: "this is not an ordinary space",
-            label: "",
-            also: "",
-            help: "use an ordinary space",
-            joint: "",
-            is_safe: true,
-        },
-        SymbolMistake::Invisible => Words {
-            headline: "this character is invisible",
-            label: "",
-            also: "",
-            help: "remove it",
-            joint: "",
-            is_safe: true,
-        },
-        SymbolMistake::OtherSign => Words {
-            headline: "this only looks like an ASCII character",
-            label: "",
-            also: "",
-            help: "write",
-            joint: " ",
-            is_safe: false,
-        },
-        SymbolMistake::Parentheses => Words {
-            headline: "arrays have brackets, not parentheses",
-            label: "",
-            also: "",
-            help: "write an array",
-            joint: ": ",
-            is_safe: false,
-        },
-        SymbolMistake::Conflict => Words {
-            headline: "this is a merge conflict marker",
-            label: "",
-            also: "",
-            help: "choose one side and delete the markers",
-            joint: "",
-            is_safe: false,
-        },
-        SymbolMistake::Markup => Words {
-            headline: "this looks like XML or HTML, not TOML",
-            label: "",
-            also: "",
-            help: "",
-            joint: "",
-            is_safe: false,
-        },
-        SymbolMistake::Comment => Words {
-            headline: "comments begin with `#`",
-            label: "",
-            also: "",
-            help: "write `#` instead",
-            joint: "",
-            is_safe: true,
-        },
-        SymbolMistake::BlockComment => Words {
-            headline: "TOML has no block comments",
-            label: "",
-            also: "",
-            help: "begin each line of the comment with `#`",
-            joint: "",
-            is_safe: false,
-        },
-        SymbolMistake::Semicolon => Words {
-            headline: "lines do not end with a semicolon",
-            label: "",
-            also: "",
-            help: "remove it",
-            joint: "",
-            is_safe: true,
-        },
-        SymbolMistake::LoneReturn => Words {
-            headline: "a carriage return alone does not end a line",
-            label: "",
-            also: "",
-            help: "end lines with a line feed",
-            joint: "",
-            is_safe: false,
-        },
-    }
-}
-
-/// Returns the messages for mistakes in keys.
-fn key_words(mistake: KeyMistake) -> Words
-    ensures { spec.words_content result ≡ spec.key_words mistake }
-{
-    match mistake {
-        KeyMistake::BareKey => Words {
-            headline: "this key needs quotes",
-            label: "bare keys contain only A-Z, a-z, 0-9, `_` and `-`",
-            also: "",
-            help: "put it in quotes",
-            joint: ": ",
-            is_safe: true,
-        },
-        KeyMistake::Equals => Words {
-            headline: "a key and its value are separated by one `=`",
-            label: "",
-            also: "",
-            help: "write",
-            joint: " ",
-            is_safe: true,
-        },
-        KeyMistake::Colon => Words {
-            headline: "TOML writes `key = value`, not `key: value`",
-            label: "",
-            also: "",
-            help: "write",
-            joint: " ",
-            is_safe: true,
-        },
-        KeyMistake::NoEquals => Words {
-            headline: "`=` is missing between this key and its value",
-            label: "",
-            also: "",
-            help: "write",
-            joint: " ",
-            is_safe: true,
-        },
-        KeyMistake::NoValue => Words {
-            headline: "this key has no value",
-            label: "",
-            also: "",
-            help: "write `=` and a value after it",
-            joint: "",
-            is_safe: false,
-        },
-        KeyMistake::Keyword => Words {
-            headline: "TOML has no keywords such as `export` or `let`",
-            label: "",
-            also: "",
-            help: "remove this word",
-            joint: "",
-            is_safe: false,
-        },
-        KeyMistake::ExtraDot => Words {
-            headline: "this key has an empty part",
-            label: "",
-            also: "",
-            help: "remove this dot, or write an empty part as `\"\"`",
-            joint: "",
-            is_safe: false,
-        },
-        KeyMistake::NoKey => Words {
-            headline: "this value has no key",
-            label: "expected a key before `=`",
-            also: "",
-            help: "write an empty key as `\"\"`",
-            joint: "",
-            is_safe: false,
-        },
-        KeyMistake::NoName => Words {
-            headline: "this header has no name",
-            label: "",
-            also: "",
-            help: "write the name of the table: `[name]`",
-            joint: "",
-            is_safe: false,
-        },
-        KeyMistake::LongKey => Words {
-            headline: "keys have no multiline strings",
-            label: "",
-            also: "",
-            help: "use one quote on each side of the key",
-            joint: "",
-            is_safe: false,
-        },
-        KeyMistake::OpenKey => Words {
-            headline: "this key is not closed",
-            label: "",
-            also: "",
-            help: "close it after the key",
-            joint: "",
-            is_safe: false,
-        },
-    }
-}
-
-/// Returns the messages for other formats.
-fn format_words(mistake: FormatMistake) -> Words
-    ensures { spec.words_content result ≡ spec.format_words mistake }
-{
-    match mistake {
-        FormatMistake::YamlTable => Words {
-            headline: "this looks like YAML, not TOML",
-            label: "",
-            also: "",
-            help: "begin a table with a header",
-            joint: ": ",
-            is_safe: false,
-        },
-        FormatMistake::YamlList => Words {
-            headline: "this looks like YAML, not TOML",
-            label: "",
-            also: "",
-            help: "write an array: `key = [\"a\", \"b\"]`",
-            joint: "",
-            is_safe: false,
-        },
-        FormatMistake::YamlItem => Words {
-            headline: "this looks like YAML, not TOML",
-            label: "",
-            also: "",
-            help: "begin each table in an array with `[[name]]`",
-            joint: "",
-            is_safe: false,
-        },
-        FormatMistake::DocumentMarker => Words {
-            headline: "this looks like YAML, not TOML",
-            label: "",
-            also: "",
-            help: "remove this line",
-            joint: "",
-            is_safe: false,
-        },
-        FormatMistake::Json => Words {
-            headline: "this looks like JSON, not TOML",
-            label: "",
-            also: "",
-            help: "write",
-            joint: " ",
-            is_safe: false,
-        },
-        FormatMistake::JsonDocument => Words {
-            headline: "this looks like JSON, not TOML",
-            label: "",
-            also: "",
-            help: "remove the braces and commas, and write `key = value` on each line",
-            joint: "",
-            is_safe: false,
-        },
-        FormatMistake::BraceHeader => Words {
-            headline: "table headers have brackets, not braces",
-            label: "",
-            also: "",
-            help: "write",
-            joint: " ",
-            is_safe: false,
-        },
-        FormatMistake::Template => Words {
-            headline: "this is a template placeholder",
-            label: "",
-            also: "",
-            help: "fill it in, or put it in quotes",
-            joint: ": ",
-            is_safe: false,
-        },
-        FormatMistake::TemplateLine => Words {
-            headline: "this looks like a template, not TOML",
-            label: "",
-            also: "",
-            help: "render the template before reading it as TOML",
-            joint: "",
-            is_safe: false,
-        },
-    }
-}
-
-/// Returns the messages for mistakes in arrays, inline tables and headers.
-fn list_words(mistake: ListMistake) -> Words
-    ensures { spec.words_content result ≡ spec.list_words mistake }
-{
-    match mistake {
-        ListMistake::ExtraComma => Words {
-            headline: "there is no value before this comma",
-            label: "",
-            also: "",
-            help: "remove the comma",
-            joint: "",
-            is_safe: true,
-        },
-        ListMistake::NoComma => Words {
-            headline: "a comma is missing between two elements",
-            label: "",
-            also: "",
-            help: "separate the elements with `,`",
-            joint: "",
-            is_safe: true,
-        },
-        ListMistake::NoCommaInTable => Words {
-            headline: "a comma is missing between two pairs",
-            label: "",
-            also: "",
-            help: "separate the pairs with `,`",
-            joint: "",
-            is_safe: true,
-        },
-        ListMistake::OpenArray => Words {
-            headline: "this array is not closed",
-            label: "expected `,` or `]`",
-            also: "the array begins here",
-            help: "add `]` after the last element",
-            joint: "",
-            is_safe: false,
-        },
-        ListMistake::OpenTable => Words {
-            headline: "this inline table is not closed",
-            label: "expected `,` or `}`",
-            also: "the table begins here",
-            help: "add `}` after the last pair",
-            joint: "",
-            is_safe: false,
-        },
-        ListMistake::ClosedByBrace => Words {
-            headline: "this array is closed with a brace",
-            label: "",
-            also: "the array begins here",
-            help: "write",
-            joint: " ",
-            is_safe: false,
-        },
-        ListMistake::ClosedByBracket => Words {
-            headline: "this inline table is closed with a bracket",
-            label: "",
-            also: "the table begins here",
-            help: "write",
-            joint: " ",
-            is_safe: false,
-        },
-        ListMistake::ExtraClosing => Words {
-            headline: "there is nothing for this bracket to close",
-            label: "",
-            also: "",
-            help: "remove it",
-            joint: "",
-            is_safe: false,
-        },
-        ListMistake::ArrayAlone => Words {
-            headline: "a header names one table",
-            label: "",
-            also: "",
-            help: "give an array a key: `key = [\"a\", \"b\"]`",
-            joint: "",
-            is_safe: false,
-        },
-        ListMistake::OpenHeader => Words {
-            headline: "this header is not closed",
-            label: "",
-            also: "",
-            help: "close it with `]` on the same line",
-            joint: ": ",
-            is_safe: true,
-        },
-        ListMistake::HeaderBracket => Words {
-            headline: "this header has an extra bracket",
-            label: "",
-            also: "",
-            help: "remove it, or begin the header with `[[`",
-            joint: "",
-            is_safe: false,
-        },
-    }
-}
-
-/// Returns the messages for mistakes in lines.
-fn line_words(mistake: LineMistake) -> Words
-    ensures { spec.words_content result ≡ spec.line_words mistake }
-{
-    match mistake {
-        LineMistake::LastComma => Words {
-            headline: "lines do not end with a comma",
-            label: "",
-            also: "",
-            help: "remove it",
-            joint: "",
-            is_safe: true,
-        },
-        LineMistake::SecondKey => Words {
-            headline: "this line has two keys",
-            label: "",
-            also: "",
-            help: "begin a new line before the second key",
-            joint: "",
-            is_safe: true,
-        },
-        LineMistake::CommaBehindValue => Words {
-            headline: "this line has two keys",
-            label: "",
-            also: "",
-            help: "replace the comma with a new line",
-            joint: "",
-            is_safe: true,
-        },
-        LineMistake::KeyAfterHeader => Words {
-            headline: "this line has a header and a key",
-            label: "",
-            also: "",
-            help: "begin a new line before the key",
-            joint: "",
-            is_safe: true,
-        },
-        LineMistake::ValueOfHeader => Words {
-            headline: "a header can't have a value",
-            label: "",
-            also: "",
-            help: "write a key without brackets",
-            joint: ": ",
-            is_safe: false,
-        },
-        LineMistake::QuoteInString => Words {
-            headline: "the string ends at an inner quote",
-            label: "",
-            also: "",
-            help: "use the other quotes around it",
-            joint: ": ",
-            is_safe: false,
-        },
-        LineMistake::Joined => Words {
-            headline: "strings can't be joined",
-            label: "",
-            also: "",
-            help: "write one string",
-            joint: "",
-            is_safe: false,
-        },
-        LineMistake::HalfDay => Words {
-            headline: "times have no AM and PM",
-            label: "",
-            also: "",
-            help: "use a 24-hour time, as `18:30:00`",
-            joint: "",
-            is_safe: false,
-        },
-        LineMistake::ZoneName => Words {
-            headline: "offsets are written as `Z` or `+01:00`",
-            label: "",
-            also: "",
-            help: "write",
-            joint: " ",
-            is_safe: false,
-        },
-        LineMistake::AfterValue => Words {
-            headline: "expected the end of the line",
-            label: "only a comment can follow here",
-            also: "",
-            help: "",
-            joint: "",
-            is_safe: false,
-        },
-    }
-}
-
-/// Returns the messages for mistakes in numbers.
-fn number_words(mistake: NumberMistake) -> Words
-    ensures { spec.words_content result ≡ spec.number_words mistake }
-{
-    match mistake {
-        NumberMistake::LeadingPoint => Words {
-            headline: "a float needs a digit before the point",
-            label: "",
-            also: "",
-            help: "write",
-            joint: " ",
-            is_safe: true,
-        },
-        NumberMistake::TrailingPoint => Words {
-            headline: "a float needs a digit after the point",
-            label: "",
-            also: "",
-            help: "write",
-            joint: " ",
-            is_safe: true,
-        },
-        NumberMistake::Thousands => Words {
-            headline: "digits are not grouped by commas",
-            label: "",
-            also: "",
-            help: "use `_`, or nothing",
-            joint: ": ",
-            is_safe: false,
-        },
-        NumberMistake::LeadingZero => Words {
-            headline: "numbers have no leading zeros",
-            label: "",
-            also: "",
-            help: "write",
-            joint: " ",
-            is_safe: false,
-        },
-        NumberMistake::Octal => Words {
-            headline: "octal numbers begin with `0o`",
-            label: "",
-            also: "",
-            help: "write",
-            joint: " ",
-            is_safe: false,
-        },
-        NumberMistake::UpperPrefix => Words {
-            headline: "the prefix of a number is lower case",
-            label: "",
-            also: "",
-            help: "write",
-            joint: " ",
-            is_safe: true,
-        },
-        NumberMistake::OtherDigit => Words {
-            headline: "this number has an invalid digit",
-            label: "",
-            also: "",
-            help: "",
-            joint: "",
-            is_safe: false,
-        },
-        NumberMistake::Signs => Words {
-            headline: "a number can have only one sign",
-            label: "",
-            also: "",
-            help: "write",
-            joint: " ",
-            is_safe: false,
-        },
-        NumberMistake::Underscore => Words {
-            headline: "each `_` in a number needs a digit on both sides",
-            label: "",
-            also: "",
-            help: "write",
-            joint: " ",
-            is_safe: true,
-        },
-        NumberMistake::SignedPrefix => Words {
-            headline: "only decimal numbers can have a sign",
-            label: "",
-            also: "",
-            help: "",
-            joint: "",
-            is_safe: false,
-        },
-        NumberMistake::TooLarge => Words {
-            headline: "this integer does not fit into 64 bits",
-            label: "",
-            also: "",
-            help: "an integer is from -9223372036854775808 to 9223372036854775807",
-            joint: "",
-            is_safe: false,
-        },
-    }
-}
-
-/// Returns the messages for mistakes in dates and times.
-fn date_words(mistake: DateMistake) -> Words
-    ensures { spec.words_content result ≡ spec.date_words mistake }
-{
-    match mistake {
-        DateMistake::SlashDate => Words {
-            headline: "dates are written as year-month-day",
-            label: "",
-            also: "",
-            help: "if the month comes first, write",
-            joint: " ",
-            is_safe: false,
-        },
-        DateMistake::ShortDate => Words {
-            headline: "months and days have two digits",
-            label: "",
-            also: "",
-            help: "write",
-            joint: " ",
-            is_safe: true,
-        },
-        DateMistake::NoMonth => Words {
-            headline: "this month does not exist",
-            label: "months are 01 to 12, days at most 31",
-            also: "",
-            help: "",
-            joint: "",
-            is_safe: false,
-        },
-        DateMistake::NoDay => Words {
-            headline: "this month does not have this day",
-            label: "",
-            also: "",
-            help: "",
-            joint: "",
-            is_safe: false,
-        },
-        DateMistake::NoTime => Words {
-            headline: "this time does not exist",
-            label: "hours are 00 to 23",
-            also: "",
-            help: "",
-            joint: "",
-            is_safe: false,
-        },
-        DateMistake::Offset => Words {
-            headline: "an offset needs a colon",
-            label: "",
-            also: "",
-            help: "write",
-            joint: " ",
-            is_safe: true,
-        },
-        DateMistake::Datetime => Words {
-            headline: "",
-            label: "",
-            also: "",
-            help: "a date is like `2026-01-31`, a time like `07:32:00`",
-            joint: "",
-            is_safe: false,
-        },
-    }
-}
-
-/// Returns the messages for mistakes in strings.
-fn text_words(mistake: TextMistake) -> Words
-    ensures { spec.words_content result ≡ spec.text_words mistake }
-{
-    match mistake {
-        TextMistake::OpenString => Words {
-            headline: "this string is not closed",
-            label: "",
-            also: "",
-            help: "close it with `\"`, or use `\"\"\"` for several lines",
-            joint: "",
-            is_safe: false,
-        },
-        TextMistake::OpenLiteral => Words {
-            headline: "this string is not closed",
-            label: "",
-            also: "",
-            help: "close it with `'`, or use `'''` for several lines",
-            joint: "",
-            is_safe: false,
-        },
-        TextMistake::OpenLong => Words {
-            headline: "this string is not closed",
-            label: "",
-            also: "",
-            help: "close it with `\"\"\"`",
-            joint: "",
-            is_safe: false,
-        },
-        TextMistake::OpenLongLiteral => Words {
-            headline: "this string is not closed",
-            label: "",
-            also: "",
-            help: "close it with `'''`",
-            joint: "",
-            is_safe: false,
-        },
-        TextMistake::Control => Words {
-            headline: "control characters must be escaped",
-            label: "",
-            also: "",
-            help: "write",
-            joint: " ",
-            is_safe: true,
-        },
-        TextMistake::ControlInLiteral => Words {
-            headline: "control characters must be escaped",
-            label: "",
-            also: "",
-            help: "use a string in double quotes, and an escape as `\\u0001`",
-            joint: "",
-            is_safe: false,
-        },
-        TextMistake::Backslash => Words {
-            headline: "this is not an escape sequence",
-            label: "",
-            also: "",
-            help: "double every backslash, or use single quotes",
-            joint: ": ",
-            is_safe: false,
-        },
-        TextMistake::ShortEscape => Words {
-            headline: "this escape has too few digits",
-            label: "",
-            also: "",
-            help: "write",
-            joint: " ",
-            is_safe: false,
-        },
-        TextMistake::Surrogate => Words {
-            headline: "this escape is a surrogate, not a character",
-            label: "",
-            also: "",
-            help: "write a surrogate pair as one escape, such as `\\U0001F600`",
-            joint: "",
-            is_safe: false,
-        },
-        TextMistake::NoCharacter => Words {
-            headline: "this escape is past the last character",
-            label: "the last character is `\\U0010FFFF`",
-            also: "",
-            help: "",
-            joint: "",
-            is_safe: false,
-        },
-    }
-}
-
-/// Returns the messages for definitions that clash.
-fn clash_words(mistake: ClashMistake) -> Words
-    ensures { spec.words_content result ≡ spec.clash_words mistake }
-{
-    match mistake {
-        ClashMistake::TableTwice => Words {
-            headline: "",
-            label: "duplicate table",
-            also: "first table instance",
-            help: "merge the two tables, or write both headers as `[[..]]`",
-            joint: "",
-            is_safe: false,
-        },
-        ClashMistake::ArrayOfTable => Words {
-            headline: "this is already a table, not an array of tables",
-            label: "",
-            also: "table defined here",
-            help: "write the first header as `[[..]]`",
-            joint: "",
-            is_safe: false,
-        },
-        ClashMistake::TableOfArray => Words {
-            headline: "this is already an array of tables, not a table",
-            label: "",
-            also: "array of tables begins here",
-            help: "write `[[..]]` to add a table to it",
-            joint: "",
-            is_safe: false,
-        },
-        ClashMistake::ArrayAfterTable => Words {
-            headline: "",
-            label: "",
-            also: "",
-            help: "put it before the headers of its subtables",
-            joint: "",
-            is_safe: false,
-        },
-        ClashMistake::ClosedTable => Words {
-            headline: "an inline table can't be extended",
-            label: "this extends the table",
-            also: "inline table defined here",
-            help: "write the key inside its braces",
-            joint: "",
-            is_safe: false,
-        },
-        ClashMistake::ClosedTableHeader => Words {
-            headline: "an inline table can't be extended",
-            label: "this extends the table",
-            also: "inline table defined here",
-            help: "write it inside the braces, as `key = {..}`",
-            joint: "",
-            is_safe: false,
-        },
-        ClashMistake::ClosedArray => Words {
-            headline: "a static array can't be extended",
-            label: "this extends the array",
-            also: "array defined here",
-            help: "write the element inside its brackets",
-            joint: "",
-            is_safe: false,
-        },
-        ClashMistake::ThroughValue => Words {
-            headline: "",
-            label: "used as a table here",
-            also: "this is a value, not a table",
-            help: "",
-            joint: "",
-            is_safe: false,
-        },
-        ClashMistake::DottedTable => Words {
-            headline: "this table is already defined by a dotted key",
-            label: "",
-            also: "defined here",
-            help: "use only dotted keys, or only a header, for this table",
-            joint: "",
-            is_safe: false,
-        },
-    }
-}
-
 /// Returns the messages for a mistake.
-pub(crate) fn words_for(mistake: Mistake) -> Words
-    ensures { spec.words_content result ≡ spec.words_for mistake }
+pub(crate) fn words_of(mistake: Mistake) -> Words
+    ensures { spec.words_content result ≡ spec.texts mistake.entry }
 {
-    match mistake {
-        Mistake::Value(mistake) => value_words(mistake),
-        Mistake::Symbol(mistake) => symbol_words(mistake),
-        Mistake::Key(mistake) => key_words(mistake),
-        Mistake::Format(mistake) => format_words(mistake),
-        Mistake::List(mistake) => list_words(mistake),
-        Mistake::Line(mistake) => line_words(mistake),
-        Mistake::Number(mistake) => number_words(mistake),
-        Mistake::Date(mistake) => date_words(mistake),
-        Mistake::Text(mistake) => text_words(mistake),
-        Mistake::Clash(mistake) => clash_words(mistake),
+    Words {
+        headline: mistake.0,
+        label: mistake.1,
+        also: mistake.2,
+        help: mistake.3,
+        joint: mistake.4,
+        is_safe: mistake.5,
     }
 }
+
+/// A text that may be left out.
+macro_rules! text {
+    () => { "" };
+    ($text:literal) => { $text };
+}
+
+/// A boolean that may be left out.
+macro_rules! flag {
+    () => { false };
+    ($flag:literal) => { $flag };
+}
+
+/// A mistake: its headline, which is empty where the error's own message is kept, and then the other texts that it has,
+/// in this order. After `code:` comes the text between the help and the code to write.
+macro_rules! words {
+    ($headline:literal $(, label: $label:literal)? $(, also: $also:literal)? $(, help: $help:literal)?
+        $(, code: $joint:literal)? $(, is_safe: $safe:literal)?) => {
+        ($headline, text!($($label)?), text!($($also)?), text!($($help)?), text!($($joint)?), flag!($($safe)?))
+    };
+}
+
+// ---- values
+
+pub(crate) const UNQUOTED: Mistake = words!(
+    "this value needs quotes", help: "put it in quotes", code: ": ", is_safe: true
+);
+
+pub(crate) const UNQUOTED_TEXT: Mistake =
+    words!("this value needs quotes", help: "put all of it in quotes");
+
+pub(crate) const UPPER_BOOLEAN: Mistake =
+    words!("booleans are lowercase", help: "write", code: " ", is_safe: true);
+
+pub(crate) const OTHER_BOOLEAN: Mistake = words!(
+    "this is not a boolean", label: "booleans are `true` and `false`", help: "write", code: " "
+);
+
+pub(crate) const NULL: Mistake = words!("TOML has no null", help: "leave the key out");
+
+pub(crate) const OTHER_FLOAT: Mistake = words!(
+    "this is not a float", label: "special floats are `inf` and `nan`", help: "write", code: " ", is_safe: true
+);
+
+pub(crate) const PREFIXED: Mistake =
+    words!("strings have no prefix", help: "remove the prefix", code: ": ");
+
+pub(crate) const RAW_STRING: Mistake = words!(
+    "strings have no prefix", help: "use single quotes for a raw string", code: ": "
+);
+
+pub(crate) const VALUE_BELOW: Mistake = words!(
+    "a value must be on the same line as `=`", label: "expected a value here", help: "write", code: " "
+);
+
+pub(crate) const HASH_VALUE: Mistake = words!(
+    "`#` begins a comment", help: "put the value in quotes", code: ": "
+);
+
+pub(crate) const NO_VALUE_BEHIND: Mistake = words!(
+    "this key has no value", label: "expected a value on this line",
+    help: "write a value, or remove the line"
+);
+
+pub(crate) const FLOAT_DUE: Mistake = words!("", help: "write", code: " ", is_safe: true);
+
+pub(crate) const STRING_DUE: Mistake = words!("", help: "put it in quotes", code: ": ");
+
+// ---- signs, quotes and comments of other languages
+
+pub(crate) const BACKTICKS: Mistake = words!(
+    "backticks do not quote strings", help: "use double quotes", code: ": ", is_safe: true
+);
+
+pub(crate) const CURLY_QUOTES: Mistake = words!(
+    "strings need straight quotes", help: "use double quotes", code: ": ", is_safe: true
+);
+
+pub(crate) const OTHER_SPACE: Mistake = words!(
+    "this is not an ordinary space", help: "use an ordinary space", is_safe: true
+);
+
+pub(crate) const INVISIBLE: Mistake =
+    words!("this character is invisible", help: "remove it", is_safe: true);
+
+pub(crate) const OTHER_SIGN: Mistake = words!(
+    "this only looks like an ASCII character", help: "write", code: " "
+);
+
+pub(crate) const PARENTHESES: Mistake = words!(
+    "arrays have brackets, not parentheses", help: "write an array", code: ": "
+);
+
+pub(crate) const CONFLICT: Mistake = words!(
+    "this is a merge conflict marker", help: "choose one side and delete the markers"
+);
+
+pub(crate) const MARKUP: Mistake = words!("this looks like XML or HTML, not TOML");
+
+pub(crate) const SLASHES: Mistake =
+    words!("comments begin with `#`", help: "replace `//` with `#`", is_safe: true);
+
+pub(crate) const SEMICOLONS: Mistake =
+    words!("comments begin with `#`", help: "replace `;` with `#`", is_safe: true);
+
+pub(crate) const DASHES: Mistake =
+    words!("comments begin with `#`", help: "replace `--` with `#`", is_safe: true);
+
+pub(crate) const BLOCK_COMMENT: Mistake = words!(
+    "TOML has no block comments", help: "begin each line of the comment with `#`"
+);
+
+pub(crate) const COMMENT_LINE: Mistake =
+    words!("TOML has no block comments", help: "write", code: " ", is_safe: true);
+
+pub(crate) const SEMICOLON: Mistake =
+    words!("lines do not end with a semicolon", help: "remove it", is_safe: true);
+
+pub(crate) const LONE_RETURN: Mistake = words!(
+    "a carriage return alone does not end a line", help: "end lines with a line feed"
+);
+
+// ---- keys
+
+pub(crate) const BARE_KEY: Mistake = words!(
+    "this key needs quotes", label: "bare keys contain only A-Z, a-z, 0-9, `_` and `-`",
+    help: "put it in quotes", code: ": ", is_safe: true
+);
+
+pub(crate) const EQUALS: Mistake = words!(
+    "a key and its value are separated by one `=`", help: "write", code: " ", is_safe: true
+);
+
+pub(crate) const COLON_EQUALS: Mistake = words!(
+    "TOML writes `key = value`, not `key := value`", help: "write", code: " ", is_safe: true
+);
+
+pub(crate) const ARROW: Mistake = words!(
+    "TOML writes `key = value`, not `key => value`", help: "write", code: " ", is_safe: true
+);
+
+pub(crate) const COLON: Mistake = words!(
+    "TOML writes `key = value`, not `key: value`", help: "write", code: " ", is_safe: true
+);
+
+pub(crate) const NO_EQUALS: Mistake = words!(
+    "`=` is missing between this key and its value", help: "write", code: " ", is_safe: true
+);
+
+pub(crate) const NO_VALUE: Mistake =
+    words!("this key has no value", help: "write `=` and a value after it");
+
+pub(crate) const KEYWORD: Mistake = words!(
+    "TOML has no keywords such as `export` or `let`", help: "remove this word"
+);
+
+pub(crate) const EXTRA_DOT: Mistake = words!(
+    "this key has an empty part", help: "remove this dot, or write an empty part as `\"\"`"
+);
+
+pub(crate) const NO_KEY: Mistake =
+    words!("this value has no key", label: "expected a key", help: "write a key before `=`");
+
+pub(crate) const NO_NAME: Mistake = words!(
+    "this header has no name", help: "write the name of the table: `[name]`"
+);
+
+pub(crate) const LONG_KEY: Mistake = words!(
+    "keys have no multiline strings", help: "use one quote on each side of the key"
+);
+
+pub(crate) const OPEN_KEY: Mistake =
+    words!("this key is not closed", help: "close it after the key", code: ": ");
+
+// ---- other formats
+
+pub(crate) const YAML_TABLE: Mistake = words!(
+    "this looks like YAML, not TOML", help: "begin a table with a header", code: ": "
+);
+
+pub(crate) const YAML_LIST: Mistake =
+    words!("this looks like YAML, not TOML", help: "write an array", code: ": ");
+
+pub(crate) const YAML_ITEM: Mistake = words!(
+    "this looks like YAML, not TOML",
+    help: "begin each table in an array with `[[name]]`, and below it write", code: " "
+);
+
+pub(crate) const YAML_ITEMS: Mistake = words!(
+    "this looks like YAML, not TOML", help: "begin each table in an array with", code: " "
+);
+
+pub(crate) const DOCUMENT_MARKER: Mistake =
+    words!("this looks like YAML, not TOML", help: "remove this line");
+
+pub(crate) const JSON: Mistake = words!("this looks like JSON, not TOML", help: "write", code: " ");
+
+pub(crate) const JSON_DOCUMENT: Mistake = words!(
+    "this looks like JSON, not TOML",
+    help: "remove the braces and commas, and write `key = value` on each line"
+);
+
+pub(crate) const BRACE_HEADER: Mistake = words!(
+    "table headers have brackets, not braces", help: "write", code: " "
+);
+
+pub(crate) const TEMPLATE: Mistake = words!(
+    "this is a template placeholder", help: "fill it in, or put it in quotes", code: ": "
+);
+
+pub(crate) const TEMPLATE_LINE: Mistake = words!(
+    "this looks like a template, not TOML", help: "render the template before reading it as TOML"
+);
+
+// ---- arrays, inline tables and headers
+
+pub(crate) const EXTRA_COMMA: Mistake = words!(
+    "there is no value before this comma", help: "remove the comma", is_safe: true
+);
+
+pub(crate) const NO_COMMA: Mistake = words!(
+    "a comma is missing between two elements", help: "separate the elements with `,`", is_safe: true
+);
+
+pub(crate) const NO_COMMA_IN_TABLE: Mistake = words!(
+    "a comma is missing between two pairs", help: "separate the pairs with `,`", is_safe: true
+);
+
+pub(crate) const OPEN_ARRAY: Mistake = words!(
+    "this array is not closed", label: "expected `,` or `]`", also: "the array begins here",
+    help: "add `]` after the last element"
+);
+
+pub(crate) const OPEN_TABLE: Mistake = words!(
+    "this inline table is not closed", label: "expected `,` or `}`", also: "the table begins here",
+    help: "add `}` after the last pair"
+);
+
+pub(crate) const CLOSED_BY_BRACE: Mistake = words!(
+    "this array is closed with a brace", also: "the array begins here", help: "write", code: " "
+);
+
+pub(crate) const CLOSED_BY_BRACKET: Mistake = words!(
+    "this inline table is closed with a bracket", also: "the table begins here", help: "write", code: " "
+);
+
+pub(crate) const EXTRA_CLOSING: Mistake =
+    words!("there is nothing for this bracket to close", help: "remove it");
+
+pub(crate) const ARRAY_ALONE: Mistake = words!(
+    "a header names one table", help: "give an array a key: `key = [\"a\", \"b\"]`"
+);
+
+pub(crate) const OPEN_HEADER: Mistake = words!(
+    "this header is not closed", help: "close it with `]` on the same line", code: ": ", is_safe: true
+);
+
+pub(crate) const HEADER_BRACKET: Mistake = words!(
+    "this header has an extra bracket", help: "remove it, or begin the header with `[[`"
+);
+
+// ---- lines
+
+pub(crate) const LAST_COMMA: Mistake =
+    words!("lines do not end with a comma", help: "remove it", is_safe: true);
+
+pub(crate) const SECOND_KEY: Mistake = words!(
+    "this line has two keys", help: "begin a new line before the second key", is_safe: true
+);
+
+pub(crate) const COMMA_BEHIND_VALUE: Mistake = words!(
+    "this line has two keys", help: "replace the comma with a new line", is_safe: true
+);
+
+pub(crate) const KEY_AFTER_HEADER: Mistake = words!(
+    "this line has a header and a key", help: "begin a new line before the key", is_safe: true
+);
+
+pub(crate) const VALUE_OF_HEADER: Mistake = words!(
+    "a header can't have a value", help: "write a key without brackets", code: ": "
+);
+
+pub(crate) const QUOTE_IN_STRING: Mistake = words!(
+    "the string ends at an inner quote", help: "use the other quotes around it", code: ": "
+);
+
+pub(crate) const JOINED: Mistake = words!("strings can't be joined", help: "write one string");
+
+pub(crate) const HALF_DAY: Mistake =
+    words!("times have no AM and PM", help: "use a 24-hour time", code: ": ");
+
+pub(crate) const ZONE_NAME: Mistake =
+    words!("offsets are written as `Z` or `+01:00`", help: "write", code: " ");
+
+pub(crate) const AFTER_VALUE: Mistake = words!(
+    "expected the end of the line", label: "only a comment can follow here"
+);
+
+// ---- numbers
+
+pub(crate) const LEADING_POINT: Mistake = words!(
+    "a float needs a digit before the point", help: "write", code: " ", is_safe: true
+);
+
+pub(crate) const TRAILING_POINT: Mistake = words!(
+    "a float needs a digit after the point", help: "write", code: " ", is_safe: true
+);
+
+pub(crate) const THOUSANDS: Mistake =
+    words!("digits are not grouped by commas", help: "write", code: " ");
+
+pub(crate) const LEADING_ZERO: Mistake =
+    words!("numbers have no leading zeros", help: "write", code: " ");
+
+pub(crate) const OCTAL: Mistake = words!("octal numbers begin with `0o`", help: "write", code: " ");
+
+pub(crate) const UPPER_PREFIX: Mistake = words!(
+    "the prefix of a number is lowercase", help: "write", code: " ", is_safe: true
+);
+
+pub(crate) const OTHER_DIGIT: Mistake = words!("this number has an invalid digit");
+
+pub(crate) const SIGNS: Mistake =
+    words!("a number can have only one sign", help: "write", code: " ");
+
+pub(crate) const UNDERSCORE: Mistake = words!(
+    "each `_` in a number needs a digit on both sides", help: "write", code: " ", is_safe: true
+);
+
+pub(crate) const SIGNED_PREFIX: Mistake = words!("only decimal numbers can have a sign");
+
+pub(crate) const SIGNED_DECIMAL: Mistake = words!(
+    "only decimal numbers can have a sign", help: "write", code: " "
+);
+
+pub(crate) const TOO_LARGE: Mistake = words!(
+    "this number does not fit into a 64-bit signed integer",
+    label: "its range is -9223372036854775808 to 9223372036854775807"
+);
+
+// ---- dates and times
+
+pub(crate) const SLASH_DATE: Mistake = words!(
+    "dates are written as year-month-day", help: "if the month comes first, write", code: " "
+);
+
+pub(crate) const SHORT_DATE: Mistake =
+    words!("months and days have two digits", help: "write", code: " ", is_safe: true);
+
+pub(crate) const NO_MONTH: Mistake = words!(
+    "this month does not exist", label: "months are 01 to 12, days at most 31"
+);
+
+pub(crate) const NO_DAY: Mistake = words!("this month does not have this day");
+
+pub(crate) const NO_TIME: Mistake = words!("this time does not exist", label: "hours are 00 to 23");
+
+pub(crate) const OFFSET: Mistake =
+    words!("an offset needs a colon", help: "write", code: " ", is_safe: true);
+
+pub(crate) const DATETIME: Mistake =
+    words!("", help: "a date is like `2026-01-31`, a time like `07:32:00`");
+
+// ---- strings
+
+pub(crate) const OPEN_STRING: Mistake = words!(
+    "this string is not closed", help: "close it with `\"`, or use `\"\"\"` for several lines"
+);
+
+pub(crate) const OPEN_LITERAL: Mistake = words!(
+    "this string is not closed", help: "close it with `'`, or use `'''` for several lines"
+);
+
+pub(crate) const OPEN_LONG: Mistake =
+    words!("this string is not closed", help: "close it with `\"\"\"`");
+
+pub(crate) const OPEN_LONG_LITERAL: Mistake =
+    words!("this string is not closed", help: "close it with `'''`");
+
+pub(crate) const CONTROL: Mistake =
+    words!("control characters must be escaped", help: "write", code: " ", is_safe: true);
+
+pub(crate) const CONTROL_IN_LITERAL: Mistake = words!(
+    "control characters must be escaped", help: "use a string in double quotes, and an escape as `\\u0001`"
+);
+
+pub(crate) const BACKSLASH: Mistake = words!(
+    "invalid escape sequence", help: "double every backslash, or use single quotes", code: ": "
+);
+
+pub(crate) const BACKSLASH_IN_LONG: Mistake = words!(
+    "invalid escape sequence", help: "double every backslash, or use `'''`"
+);
+
+pub(crate) const SHORT_ESCAPE: Mistake =
+    words!("this escape has too few digits", help: "write", code: " ");
+
+pub(crate) const SURROGATE: Mistake = words!(
+    "this escape is a surrogate, not a character",
+    help: "write a surrogate pair as one escape, such as `\\U0001F600`"
+);
+
+pub(crate) const NO_CHARACTER: Mistake = words!(
+    "this escape is past the last character", label: "the last character is `\\U0010FFFF`"
+);
+
+// ---- definitions that clash
+
+pub(crate) const TABLE_TWICE: Mistake = words!(
+    "", label: "duplicate table", also: "first table instance",
+    help: "merge the two tables, or write both headers as", code: " "
+);
+
+pub(crate) const ARRAY_OF_TABLE: Mistake = words!(
+    "this is already a table, not an array of tables", also: "table defined here",
+    help: "write the first header as", code: " "
+);
+
+pub(crate) const TABLE_OF_ARRAY: Mistake = words!(
+    "this is already an array of tables, not a table", also: "array of tables begins here",
+    help: "to add a table to it, write", code: " "
+);
+
+pub(crate) const ARRAY_AFTER_TABLE: Mistake =
+    words!("", help: "put it before the headers of its subtables");
+
+pub(crate) const CLOSED_TABLE: Mistake = words!(
+    "an inline table can't be extended", label: "this extends the table", also: "inline table defined here",
+    help: "write the key inside its braces", code: ": "
+);
+
+pub(crate) const CLOSED_TABLE_HEADER: Mistake = words!(
+    "an inline table can't be extended", label: "this extends the table", also: "inline table defined here",
+    help: "write it inside the braces", code: ": "
+);
+
+pub(crate) const CLOSED_ARRAY: Mistake = words!(
+    "a static array can't be extended", label: "this extends the array", also: "array defined here",
+    help: "write the element inside its brackets"
+);
+
+pub(crate) const THROUGH_VALUE: Mistake = words!(
+    "only tables can be extended", label: "used as a table here", also: "this is not a table",
+    help: "rename or remove one of the two"
+);
+
+pub(crate) const DOTTED_TABLE: Mistake = words!(
+    "this table is already defined by a dotted key", also: "defined here",
+    help: "use only dotted keys, or only a header, for this table"
+);

@@ -1,43 +1,111 @@
 -- Definitions that clash.
-use Rattle.std.specs.Prelude.{ℕ, ◌==◌, ◌&&◌, ◌||◌, not, List, codes, slice_index, Option, Some, None, if◌then◌else◌}
+use Rattle.std.specs.Prelude.{ℕ, ◌-◌, ◌==◌, ◌&&◌, ◌||◌, not, List, [], codes, length}
+use Rattle.std.specs.Prelude.{slice_index, Option, Some, None, if◌then◌else◌}
 use Rattle.toml_span_lex.specs.declared.span.Span.{Span}
-use Rattle.toml_span_report.specs.Bytes.{ahead, begins, byte_behind, end_of, first_of_line}
-use Rattle.toml_span_report.specs.Finding.{FindingContent, marked}
+use Rattle.toml_span_report.specs.Bytes.{ahead, begins, byte_behind, end_of, first_of_line, last_of_line, part}
+use Rattle.toml_span_report.specs.Bytes.{start_of}
+use Rattle.toml_span_report.specs.Finding.{CodeContent, FindingContent, pieces, shown, six, span_of}
+use Rattle.toml_span_report.specs.found.Numbers.{behind_sign}
 use Rattle.toml_span_report.specs.declared.bytes.Class.TheVariants as class
-use Rattle.toml_span_report.specs.declared.finding.Mistake.{Mistake}
-use Rattle.toml_span_report.specs.declared.finding.Mistake.TheVariants as mistakes
-use Rattle.toml_span_report.specs.declared.finding.ClashMistake.TheVariants as of_clash
+use Rattle.toml_span_report.specs.Words.{said}
+use Rattle.toml_span_report.specs.declared.words.TheConstants.{ARRAY_OF_TABLE, CLOSED_ARRAY, CLOSED_TABLE}
+use Rattle.toml_span_report.specs.declared.words.TheConstants.{CLOSED_TABLE_HEADER, DOTTED_TABLE, TABLE_OF_ARRAY}
+use Rattle.toml_span_report.specs.declared.words.TheConstants.{TABLE_TWICE, THROUGH_VALUE}
 
-abbrev pub with_other : Mistake → Span → Span → FindingContent
-with_other mistake span other = record (marked mistake span.start span.end) { also = other }
+-- where a header ends, without a comment after it
+abbrev pub header_end : List ℕ → ℕ → ℕ
+header_end text at = start_of class.Blank text (end_of class.Left text at)
 
 -- Either header may be that of an array of tables.
 unfoldable pub table_twice : List ℕ → Span → Span → FindingContent
 table_twice text span first =
     let was_array = begins text first.start (codes "[[") in
     let is_array = begins text span.start (codes "[[") in
-    if is_array && not was_array then with_other (mistakes.Clash of_clash.ArrayOfTable) span first
-    else if was_array && not is_array then with_other (mistakes.Clash of_clash.TableOfArray) span first
-    else with_other (mistakes.Clash of_clash.TableTwice) span first
+    let end = header_end text span.start in
+    let header = part text span.start end in
+    let as_element = pieces (codes "[") header (codes "]") in
+    if is_array && not was_array
+    then record (shown (said ARRAY_OF_TABLE) span first (pieces header [] [])) {
+      edit = Some (span_of first.start (header_end text first.start));
+    }
+    else if was_array && not is_array
+    then record (shown (said TABLE_OF_ARRAY) span first as_element) { edit = Some (span_of span.start end) }
+    else shown (said TABLE_TWICE) span first as_element
 
--- the first byte of the value of a key, or of whatever else follows the key
-unfoldable pub value_of : List ℕ → ℕ → ℕ
-value_of text end =
+-- where the value of a key begins, or whatever else follows the key
+unfoldable pub value_at : List ℕ → ℕ → ℕ
+value_at text end =
     let equals = end_of class.Blank text end in
-    if slice_index text equals == 61 then byte_behind text (ahead text equals 1) else slice_index text equals
+    if slice_index text equals == 61 then end_of class.Blank text (ahead text equals 1) else equals
+
+-- the label of a value that is not a table
+unfoldable pub no_table : List ℕ → ℕ → List ℕ
+no_table text at =
+    let first = slice_index text at in
+    let next = slice_index text (end_of class.Grouped text (behind_sign text at)) in
+    if first == 34 || first == 39 then codes "this is a string, not a table"
+    else if first == 91 then codes "this is an array, not a table"
+    else if first == 116 || first == 102 then codes "this is a boolean, not a table"
+    else if next == 46 || next == 101 || next == 69 || next == 105 || next == 110
+    then codes "this is a float, not a table"
+    else if next == 45 || next == 58 then codes "this is a date or time, not a table"
+    else codes "this is an integer, not a table"
+
+-- an inline table with the assignment of a dotted key in it, if the key begins with that of the table
+unfoldable pub extended : List ℕ → ℕ → ℕ → ℕ → CodeContent
+extended text key_end table at =
+    let start = first_of_line text key_end in
+    let key = part text start key_end in
+    let dot = ahead text at (length key) in
+    let last = last_of_line text table in
+    let close = last - 1 in
+    let end = start_of class.Blank text close in
+    if not (slice_index text close == 125) || not (begins text at key) || not (slice_index text dot == 46)
+    then pieces [] [] []
+    else six (part text start end) (if slice_index text (end - 1) == 123 then [] else codes ", ")
+    (part text (ahead text dot 1) (last_of_line text at)) (part text end last) [] []
+
+-- the body of a section in an inline table: its only assignment, nothing if it is empty, or two dots
+unfoldable pub body : List ℕ → ℕ → List ℕ
+body text end =
+    let start = end_of class.Gap text end in
+    let last = last_of_line text start in
+    let value = ahead text (end_of class.Left text start) 1 in
+    let next = slice_index text (end_of class.Gap text last) in
+    if slice_index text start == 0 || slice_index text start == 91 then []
+    else if end_of class.Left text value == end_of class.Line text start && (next == 0 || next == 91)
+    then part text start last
+    else codes ".."
+
+-- what to write in an inline table for a header through it
+unfoldable pub subtable : List ℕ → ℕ → CodeContent
+subtable text end =
+    let dot = end_of class.Blank text end in
+    let last = last_of_line text end in
+    let close = last - 1 in
+    if not (slice_index text dot == 46) || not (slice_index text close == 93) then pieces [] [] []
+    else six (part text (end_of class.Blank text (ahead text dot 1)) close) (codes " = {") (body text last) (codes "}")
+    [] []
+
+abbrev pub through_other : List ℕ → Span → Span → FindingContent
+through_other text span first =
+    record (shown (said THROUGH_VALUE) span first (pieces [] [] [])) {
+      words = record (said THROUGH_VALUE) { also = no_table text (value_at text first.end) };
+    }
 
 unfoldable pub through_value : List ℕ → Span → Span → Option FindingContent
 through_value text span first =
-    let byte = value_of text first.end in
+    let value = value_at text first.end in
+    let byte = slice_index text value in
     let line = first_of_line text span.start in
     if byte == 123 && slice_index text line == 91
-    then Some (with_other (mistakes.Clash of_clash.ClosedTableHeader) span first)
-    else if byte == 123 then Some (with_other (mistakes.Clash of_clash.ClosedTable) span first)
+    then Some (shown (said CLOSED_TABLE_HEADER) span first (subtable text span.end))
+    else if byte == 123 then Some (shown (said CLOSED_TABLE) span first (extended text first.end value line))
     else if byte == 91 && begins text line (codes "[[")
-    then Some (with_other (mistakes.Clash of_clash.ClosedArray) span first)
-    else if byte == 46 then Some (with_other (mistakes.Clash of_clash.DottedTable) span first)
+    then Some (shown (said CLOSED_ARRAY) span first (pieces [] [] []))
+    else if byte == 46 then Some (shown (said DOTTED_TABLE) span first (pieces [] [] []))
     else if byte == 0 || byte == 93 then None
-    else Some (with_other (mistakes.Clash of_clash.ThroughValue) span first)
+    else Some (through_other text span first)
 
 unfoldable pub key_twice : List ℕ → Span → Span → Option FindingContent
 key_twice text span first =

@@ -1,22 +1,27 @@
 -- Keys and headers.
-use Rattle.std.specs.Prelude.{ℕ, ◌-◌, ◌==◌, ◌&&◌, ◌||◌, Bool, not, nat_lt, List, [], codes, length, slice_index}
-use Rattle.std.specs.Prelude.{Option, Some, None, if◌then◌else◌}
+use Rattle.std.specs.Prelude.{ℕ, ◌-◌, ◌==◌, ◌&&◌, ◌||◌, Bool, true, false, not, nat_lt, List, [], codes}
+use Rattle.std.specs.Prelude.{length, slice_index, Option, Some, None, if◌then◌else◌}
 use Rattle.std.specs.Str.{bytes_eq}
 use Rattle.toml_span_report.specs.Bytes.{ahead, begins, byte_before, byte_behind, end_of, first_of_line, is_last}
 use Rattle.toml_span_report.specs.Bytes.{last_of_line, part, start_of}
-use Rattle.toml_span_report.specs.Finding.{FindingContent, marked, mended, pieces, quoted, replaced, span_of}
+use Rattle.toml_span_lex.specs.declared.span.Span.{Span}
+use Rattle.toml_span_report.specs.Finding.{CodeContent, FindingContent, MeantContent, marked, mended, pieces, quote_for}
+use Rattle.toml_span_report.specs.Finding.{quoted, removed, replaced, shown, six, span_of}
+use Rattle.toml_span_report.specs.found.Dates.{is_date}
+use Rattle.toml_span_report.specs.found.Numbers.{behind_sign}
+use Rattle.toml_span_report.specs.found.Values.{known_word, phrase_end}
 use Rattle.toml_span_report.specs.declared.bytes.Class.TheVariants as class
-use Rattle.toml_span_report.specs.declared.finding.Mistake.{Mistake}
-use Rattle.toml_span_report.specs.declared.finding.Mistake.TheVariants as mistakes
-use Rattle.toml_span_report.specs.declared.finding.FormatMistake.TheVariants as of_format
-use Rattle.toml_span_report.specs.declared.finding.KeyMistake.TheVariants as of_key
-use Rattle.toml_span_report.specs.declared.finding.ListMistake.TheVariants as of_list
-use Rattle.toml_span_report.specs.declared.finding.SymbolMistake.TheVariants as of_symbol
+use Rattle.toml_span_report.specs.Words.{WordsContent, said}
+use Rattle.toml_span_report.specs.declared.words.TheConstants.{BARE_KEY, BRACE_HEADER, COLON, COLON_EQUALS, CONFLICT}
+use Rattle.toml_span_report.specs.declared.words.TheConstants.{DASHES, DOCUMENT_MARKER, EXTRA_COMMA, EXTRA_DOT, JSON}
+use Rattle.toml_span_report.specs.declared.words.TheConstants.{JSON_DOCUMENT, KEYWORD, NO_EQUALS, NO_KEY, NO_NAME}
+use Rattle.toml_span_report.specs.declared.words.TheConstants.{NO_VALUE, TEMPLATE, TEMPLATE_LINE, YAML_ITEM}
+use Rattle.toml_span_report.specs.declared.words.TheConstants.{YAML_ITEMS, YAML_LIST, YAML_TABLE}
 
 -- a comment of another language, whose sign has this length
-unfoldable pub comment : List ℕ → ℕ → ℕ → FindingContent
-comment text at length = mended (mistakes.Symbol of_symbol.Comment) (span_of at (last_of_line text at)) (span_of at (ahead text at length))
-    (pieces (codes "#") [] [])
+unfoldable pub comment : WordsContent → List ℕ → ℕ → ℕ → FindingContent
+comment mistake text at length =
+    mended mistake (span_of at (last_of_line text at)) (span_of at (ahead text at length)) (pieces (codes "#") [] [])
 
 -- the part of a header, and the key, at an offset, if it needs quotes
 unfoldable pub header_key : List ℕ → ℕ → Option FindingContent
@@ -25,7 +30,7 @@ header_key text at =
     let end = end_of class.Header text at in
     let to = start_of class.Blank text end in
     if nat_lt from to && (slice_index text end == 46 || slice_index text end == 93)
-    then Some (quoted (mistakes.Key of_key.BareKey) text from to)
+    then Some (quoted (said BARE_KEY) text from to)
     else None
 
 unfoldable pub other_key : List ℕ → ℕ → Option FindingContent
@@ -33,7 +38,7 @@ other_key text at =
     let from = start_of class.Name text at in
     let to = end_of class.Name text at in
     if nat_lt from to && (byte_behind text to == 61 || byte_behind text to == 46)
-    then Some (quoted (mistakes.Key of_key.BareKey) text from to)
+    then Some (quoted (said BARE_KEY) text from to)
     else None
 
 -- where a key begins, and where a value ends, as far as it is on the line
@@ -50,31 +55,105 @@ value_end text at =
     else if slice_index text at == 91 || slice_index text at == 123 then last_of_line text at
     else end_of class.Word text at
 
+-- A word is a value as it is: a boolean, a float or integer, a date, or what begins with a quote or a bracket.
+abbrev pub is_named : List ℕ → Bool
+is_named word =
+    bytes_eq word (codes "true") || bytes_eq word (codes "false") || bytes_eq word (codes "inf")
+    || bytes_eq word (codes "nan")
+
+unfoldable pub is_number : List ℕ → ℕ → ℕ → Bool
+is_number text at end =
+    let digits = behind_sign text at in
+    let point = end_of class.Grouped text digits in
+    let other = ahead text point 1 in
+    if digits == point || (slice_index text digits == 48 && not (point == ahead text digits 1)) then false
+    else point == end || (slice_index text point == 46 && (nat_lt other end && end_of class.Digit text other == end))
+
+unfoldable pub is_value : List ℕ → ℕ → ℕ → Bool
+is_value text at end =
+    let first = slice_index text at in
+    if first == 34 || first == 39 || first == 91 || first == 123 then true
+    else if is_number text at end then true
+    else if is_date text at end then true
+    else is_named (part text at end)
+
+-- a key and a word that is no value, with another sign than `=` between them
+abbrev pub doubtful : WordsContent → Span → Span → CodeContent → FindingContent
+doubtful words mark edit code = mended (record words { is_safe = false }) mark edit code
+
+abbrev pub known_pair : WordsContent → List ℕ → Span → Span → ℕ → MeantContent → FindingContent
+known_pair mistake key mark edit at known =
+    if length known.code == 0 then marked known.mistake at edit.end
+    else doubtful mistake mark edit (pieces key (codes " = ") known.code)
+
+abbrev pub with_word : WordsContent → List ℕ → List ℕ → Span → Span → ℕ → Option MeantContent → FindingContent
+with_word mistake text key mark edit at (Some known) = known_pair mistake key mark edit at known
+with_word mistake text key mark edit at None =
+    let end = phrase_end text at edit.end in
+    let quote = quote_for text at end in
+    doubtful mistake mark (span_of edit.start end) (six key (codes " = ") quote (part text at end) quote [])
+
+unfoldable pub other_word : WordsContent → List ℕ → List ℕ → Span → Span → ℕ → FindingContent
+other_word mistake text key mark edit at =
+    with_word mistake text key mark edit at (known_word (part text at edit.end))
+
 -- a key and its value with another sign than `=` between them
-unfoldable pub other_sign : Mistake → List ℕ → ℕ → ℕ → FindingContent
+unfoldable pub other_sign : WordsContent → List ℕ → ℕ → ℕ → FindingContent
 other_sign mistake text from to =
     let end = start_of class.Blank text from in
     let start = key_start text end in
     let value = end_of class.Blank text to in
     let stop = value_end text value in
-    mended mistake (span_of from to) (span_of start stop)
-    (pieces (part text start end) (codes " = ") (part text value stop))
+    let key = part text start end in
+    if is_value text value stop
+    then mended mistake (span_of from to) (span_of start stop) (pieces key (codes " = ") (part text value stop))
+    else other_word mistake text key (span_of from to) (span_of start stop) value
+
+-- a key and a list below it: one or two elements, and two dots if there are more
+abbrev pub closing_of : Bool → Bool → List ℕ
+closing_of are_values has_more =
+    if are_values then (if has_more then codes ", ..]" else codes "]")
+    else if has_more then codes "\", ..]" else codes "\"]"
+
+unfoldable pub yaml_list : List ℕ → ℕ → ℕ → ℕ → FindingContent
+yaml_list text start colon dash =
+    let mark = span_of start (ahead text colon 1) in
+    let key = part text start colon in
+    let first = end_of class.Blank text (ahead text dash 1) in
+    let first_end = last_of_line text first in
+    let next = end_of class.Gap text first_end in
+    let second = end_of class.Blank text (ahead text next 1) in
+    let second_end = last_of_line text second in
+    let has_more = begins text (end_of class.Gap text second_end) (codes "- ") in
+    let are_values = is_value text first first_end in
+    let opening = if are_values then codes " = [" else codes " = [\"" in
+    let one = part text first first_end in
+    let two = six key opening one (if are_values then codes ", " else codes "\", \"") (part text second second_end)
+    (closing_of are_values has_more) in
+    if slice_index text (end_of class.Dotted text first) == 58
+    then shown (said YAML_ITEMS) mark mark (pieces (codes "[[") key (codes "]]"))
+    else if not (begins text next (codes "- "))
+    then mended (said YAML_LIST) mark (span_of start first_end)
+    (six key opening one (closing_of are_values false) [] [])
+    else if has_more then shown (said YAML_LIST) mark mark two
+    else mended (said YAML_LIST) mark (span_of start second_end) two
 
 -- a key and a colon with nothing after it on the line
 unfoldable pub yaml : List ℕ → ℕ → FindingContent
 yaml text at =
     let end = ahead text at 1 in
     let start = key_start text at in
-    if begins text (end_of class.Gap text end) (codes "- ") then marked (mistakes.Format of_format.YamlList) start end
-    else replaced (mistakes.Format of_format.YamlTable) start end (pieces (codes "[") (part text start at) (codes "]"))
+    if begins text (end_of class.Gap text end) (codes "- ")
+    then yaml_list text start at (end_of class.Gap text end)
+    else replaced (said YAML_TABLE) start end (pieces (codes "[") (part text start at) (codes "]"))
 
 unfoldable pub colon : List ℕ → ℕ → FindingContent
 colon text at =
     let next = ahead text at 1 in
-    if begins text at (codes ":=") then other_sign (mistakes.Key of_key.Equals) text at (ahead text at 2)
+    if begins text at (codes ":=") then other_sign (said COLON_EQUALS) text at (ahead text at 2)
     else if is_last text next || byte_behind text next == 35 then yaml text at
-    else if byte_before text at == 34 then other_sign (mistakes.Format of_format.Json) text at next
-    else other_sign (mistakes.Key of_key.Colon) text at next
+    else if byte_before text at == 34 then other_sign (said JSON) text at next
+    else other_sign (said COLON) text at next
 
 abbrev pub is_keyword : List ℕ → Bool
 is_keyword word =
@@ -85,28 +164,37 @@ is_keyword word =
 unfoldable pub lone_key : List ℕ → ℕ → FindingContent
 lone_key text end =
     let start = key_start text end in
-    if bytes_eq (part text start end) (codes "---") then marked (mistakes.Format of_format.DocumentMarker) start end
-    else marked (mistakes.Key of_key.NoValue) start end
+    if bytes_eq (part text start end) (codes "---") then marked (said DOCUMENT_MARKER) start end
+    else marked (said NO_VALUE) start end
 
 -- a key followed by another word
 unfoldable pub spaced_key : List ℕ → ℕ → ℕ → ℕ → FindingContent
 spaced_key text end at stop =
     let start = start_of class.Name text end in
-    if is_keyword (part text start end) then replaced (mistakes.Key of_key.Keyword) start at (pieces [] [] [])
-    else quoted (mistakes.Key of_key.BareKey) text (end_of class.Blank text (start_of class.Spaced text at))
+    if is_keyword (part text start end) then removed (said KEYWORD) start at
+    else quoted (said BARE_KEY) text (end_of class.Blank text (start_of class.Spaced text at))
     (start_of class.Blank text stop)
+
+-- an item of a list
+unfoldable pub yaml_item : List ℕ → ℕ → ℕ → FindingContent
+yaml_item text dash at =
+    let end = last_of_line text at in
+    let mark = span_of dash (ahead text dash 1) in
+    if slice_index text (end_of class.Left text at) == 61
+    then mended (said YAML_ITEM) mark (span_of dash end) (pieces (part text at end) [] [])
+    else shown (said YAML_ITEMS) mark mark (pieces (codes "[[name]]") [] [])
 
 unfoldable pub second_word : List ℕ → ℕ → ℕ → Option FindingContent
 second_word text end at =
     let first = first_of_line text at in
     let stop = end_of class.Spaced text at in
     if begins text first (codes "- ") && first_of_line text end == start_of class.Dotted text end
-    then Some (marked (mistakes.Format of_format.YamlItem) first (ahead text first 1))
-    else if begins text first (codes "-- ") then Some (comment text first 2)
+    then Some (yaml_item text first at)
+    else if begins text first (codes "-- ") then Some (comment (said DASHES) text first 2)
     else if end == at then other_key text at
     else if slice_index text stop == 61 then Some (spaced_key text end at stop)
     else if slice_index text (end_of class.Left text at) == 61 then None
-    else Some (other_sign (mistakes.Key of_key.NoEquals) text at at)
+    else Some (other_sign (said NO_EQUALS) text at at)
 
 -- where `=` is expected
 unfoldable pub no_equals : List ℕ → List ℕ → ℕ → Option FindingContent
@@ -123,7 +211,7 @@ brace_header text at =
     let name = ahead text at 1 in
     let end = end_of class.Dotted text name in
     if nat_lt name end && (slice_index text end == 125 && is_last text (ahead text end 1))
-    then Some (replaced (mistakes.Format of_format.BraceHeader) at (ahead text end 1)
+    then Some (replaced (said BRACE_HEADER) at (ahead text end 1)
     (pieces (codes "[") (part text name end) (codes "]")))
     else None
 
@@ -132,34 +220,34 @@ unfoldable pub placeholder : List ℕ → ℕ → FindingContent
 placeholder text at =
     let close = end_of class.Enclosed text at in
     if nat_lt (end_of class.Unquoted text at) close || not (begins text close (codes "}}"))
-    then marked (mistakes.Format of_format.Template) at (ahead text at 2)
-    else quoted (mistakes.Format of_format.Template) text at (ahead text close 2)
+    then marked (said TEMPLATE) at (ahead text at 2)
+    else quoted (said TEMPLATE) text at (ahead text close 2)
 
 unfoldable pub brace : List ℕ → ℕ → Option FindingContent
 brace text at =
     let next = ahead text at 1 in
     if begins text (at - 1) (codes "{{") && not (at == at - 1) then Some (placeholder text (at - 1))
     else if begins text at (codes "{{") || begins text at (codes "{%") || begins text at (codes "{#")
-    then Some (marked (mistakes.Format of_format.TemplateLine) at (last_of_line text at))
-    else if slice_index text (end_of class.Gap text next) == 34 then Some (marked (mistakes.Format of_format.JsonDocument) at next)
+    then Some (marked (said TEMPLATE_LINE) at (last_of_line text at))
+    else if slice_index text (end_of class.Gap text next) == 34 then Some (marked (said JSON_DOCUMENT) at next)
     else brace_header text at
 
 -- an extra dot or comma
-unfoldable pub extra : Mistake → List ℕ → ℕ → FindingContent
-extra mistake text at = replaced mistake at (ahead text at 1) (pieces [] [] [])
+unfoldable pub extra : WordsContent → List ℕ → ℕ → FindingContent
+extra mistake text at = removed mistake at (ahead text at 1)
 
-unfoldable pub missing_key : Mistake → List ℕ → ℕ → FindingContent
+unfoldable pub missing_key : WordsContent → List ℕ → ℕ → FindingContent
 missing_key mistake text at =
-    if byte_before text at == 46 then extra (mistakes.Key of_key.ExtraDot) text (start_of class.Blank text at - 1)
-    else if begins text at (codes "=======") then marked (mistakes.Symbol of_symbol.Conflict) at (last_of_line text at)
+    if byte_before text at == 46 then extra (said EXTRA_DOT) text (start_of class.Blank text at - 1)
+    else if begins text at (codes "=======") then marked (said CONFLICT) at (last_of_line text at)
     else marked mistake at (ahead text at 1)
 
 -- where a key is expected
 unfoldable pub no_key : List ℕ → List ℕ → ℕ → Option FindingContent
 no_key found text at =
-    if bytes_eq found (codes "a period") then Some (extra (mistakes.Key of_key.ExtraDot) text at)
-    else if bytes_eq found (codes "a comma") then Some (extra (mistakes.List of_list.ExtraComma) text at)
-    else if bytes_eq found (codes "an equals") then Some (missing_key (mistakes.Key of_key.NoKey) text at)
-    else if bytes_eq found (codes "a right bracket") then Some (missing_key (mistakes.Key of_key.NoName) text at)
+    if bytes_eq found (codes "a period") then Some (extra (said EXTRA_DOT) text at)
+    else if bytes_eq found (codes "a comma") then Some (extra (said EXTRA_COMMA) text at)
+    else if bytes_eq found (codes "an equals") then Some (missing_key (said NO_KEY) text at)
+    else if bytes_eq found (codes "a right bracket") then Some (missing_key (said NO_NAME) text at)
     else if bytes_eq found (codes "a left brace") then brace text at
     else None

@@ -1,13 +1,14 @@
 -- Numbers that are not valid in TOML.
-use Rattle.std.specs.Prelude.{ℕ, ◌-◌, ◌==◌, ◌&&◌, ◌||◌, not, nat_lt, nat_le, List, [], codes, length, slice_index}
-use Rattle.std.specs.Prelude.{Option, Some, None, if◌then◌else◌}
+use Rattle.std.specs.Prelude.{ℕ, zero, suc, ◌+◌, ◌-◌, ◌*◌, min, ◌==◌, ◌&&◌, ◌||◌, not, nat_lt, nat_le, List, []}
+use Rattle.std.specs.Prelude.{codes, length, slice_index, Option, Some, None, if◌then◌else◌}
 use Rattle.toml_span_report.specs.Bytes.{ahead, begins, end_of, is_digit, part, start_of}
-use Rattle.toml_span_report.specs.Finding.{FindingContent, first_found, five, marked, pieces, quoted, replaced}
+use Rattle.toml_span_report.specs.Finding.{FindingContent, first_found, marked, pieces, quoted, replaced, six}
 use Rattle.toml_span_report.specs.found.Dates.{slash_date}
 use Rattle.toml_span_report.specs.declared.bytes.Class.TheVariants as class
-use Rattle.toml_span_report.specs.declared.finding.Mistake.TheVariants as mistakes
-use Rattle.toml_span_report.specs.declared.finding.NumberMistake.TheVariants as of_number
-use Rattle.toml_span_report.specs.declared.finding.ValueMistake.TheVariants as of_value
+use Rattle.toml_span_report.specs.Words.{said}
+use Rattle.toml_span_report.specs.declared.words.TheConstants.{LEADING_ZERO, OCTAL, OTHER_DIGIT, SIGNED_DECIMAL}
+use Rattle.toml_span_report.specs.declared.words.TheConstants.{SIGNED_PREFIX, SIGNS, THOUSANDS, TOO_LARGE}
+use Rattle.toml_span_report.specs.declared.words.TheConstants.{TRAILING_POINT, UNDERSCORE, UNQUOTED, UPPER_PREFIX}
 
 abbrev pub behind_sign : List ℕ → ℕ → ℕ
 behind_sign text at = if slice_index text at == 43 || slice_index text at == 45 then ahead text at 1 else at
@@ -23,17 +24,57 @@ abbrev pub lower_prefix : ℕ → List ℕ
 lower_prefix letter =
     if letter == 88 then codes "0x" else if letter == 79 then codes "0o" else if letter == 66 then codes "0b" else []
 
+-- the value of a digit, or 16
+abbrev pub digit_of : ℕ → ℕ
+digit_of b =
+    if is_digit b then b - 48
+    else if nat_le 97 b && nat_le b 102 then b - 87
+    else if nat_le 65 b && nat_le b 70 then b - 55
+    else 16
+
+abbrev pub base_of : ℕ → ℕ
+base_of letter =
+    if letter == 120 || letter == 88 then 16 else if letter == 111 || letter == 79 then 8 else 2
+
+-- the value of digits and `_`, or 2 ^ 64 - 1 if it is greater
+abbrev pub next_value : Option ℕ → ℕ → ℕ → Option ℕ
+next_value None base b = None
+next_value (Some value) base b =
+    if b == 95 then Some value
+    else if nat_lt (digit_of b) base
+    then Some (min (min (value * base) 18446744073709551615 + digit_of b) 18446744073709551615)
+    else None
+
+unfoldable pub value_of : List ℕ → ℕ → ℕ → Option ℕ
+value_of digits base zero = Some 0
+value_of digits base (suc i) = next_value (value_of digits base i) base (slice_index digits i)
+
+-- a signed number with a prefix
+abbrev pub signed_value : List ℕ → ℕ → ℕ → Option ℕ → FindingContent
+signed_value text start end None = marked (said SIGNED_PREFIX) start end
+signed_value text start end (Some value) =
+    if nat_le value 9223372036854775808
+    then replaced (said SIGNED_DECIMAL) start end
+    (record (pieces (if slice_index text start == 45 then codes "-" else []) [] []) { number = Some value })
+    else marked (said SIGNED_PREFIX) start end
+
+unfoldable pub signed_prefix : List ℕ → ℕ → ℕ → ℕ → FindingContent
+signed_prefix text start zero_at end =
+    let digits = part text (ahead text zero_at 2) end in
+    signed_value text start end
+    (value_of digits (base_of (slice_index text (ahead text zero_at 1))) (length digits))
+
 -- a number with a prefix
 unfoldable pub prefixed : List ℕ → ℕ → ℕ → ℕ → Option FindingContent
 prefixed text start zero_at end =
     let letter = slice_index text (ahead text zero_at 1) in
     if not (slice_index text zero_at == 48) || (length (digits_of letter) == 0 && length (lower_prefix letter) == 0)
     then None
-    else if not (start == zero_at) then Some (marked (mistakes.Number of_number.SignedPrefix) start end)
+    else if not (start == zero_at) then Some (signed_prefix text start zero_at end)
     else if length (digits_of letter) == 0
-    then Some (replaced (mistakes.Number of_number.UpperPrefix) start end
+    then Some (replaced (said UPPER_PREFIX) start end
     (pieces (lower_prefix letter) (part text (ahead text zero_at 2) end) []))
-    else Some (record (marked (mistakes.Number of_number.OtherDigit) start end) { name = digits_of letter })
+    else Some (record (marked (said OTHER_DIGIT) start end) { label = pieces (digits_of letter) [] [] })
 
 -- a number with leading zeros
 unfoldable pub zeros : List ℕ → ℕ → ℕ → ℕ → FindingContent
@@ -44,8 +85,8 @@ zeros text start digits end =
     let kept = if is_digit (slice_index text other) then other else other - 1 in
     if (ahead text digits 4 == end && not (first == 48 || first == 56 || first == 57))
     && (start == digits && end_of class.Digit text digits == end)
-    then replaced (mistakes.Number of_number.Octal) start end (pieces (codes "0o") (part text more end) [])
-    else replaced (mistakes.Number of_number.LeadingZero) start end (pieces (part text start digits) (part text kept end) [])
+    then replaced (said OCTAL) start end (pieces (codes "0o") (part text more end) [])
+    else replaced (said LEADING_ZERO) start end (pieces (part text start digits) (part text kept end) [])
 
 -- a decimal point without a digit after it
 unfoldable pub trailing_point : List ℕ → ℕ → ℕ → ℕ → Option FindingContent
@@ -53,7 +94,8 @@ trailing_point text start point end =
     let next = ahead text point 1 in
     if slice_index text point == 46
     && (next == end || slice_index text next == 101 || slice_index text next == 69)
-    then Some (replaced (mistakes.Number of_number.TrailingPoint) start end (pieces (part text start next) (codes "0") (part text next end)))
+    then Some (replaced (said TRAILING_POINT) start end
+    (pieces (part text start next) (codes "0") (part text next end)))
     else None
 
 -- an integer of digits and `_`
@@ -62,10 +104,10 @@ integer text start digits end =
     let first = end_of class.Digit text digits in
     let second = ahead text first 1 in
     if slice_index text (end - 1) == 95 && second == end
-    then replaced (mistakes.Number of_number.Underscore) start end (pieces (part text start first) [] [])
+    then replaced (said UNDERSCORE) start end (pieces (part text start first) [] [])
     else if begins text first (codes "__")
-    then replaced (mistakes.Number of_number.Underscore) start end (pieces (part text start second) (part text (ahead text second 1) end) [])
-    else marked (mistakes.Number of_number.TooLarge) start end
+    then replaced (said UNDERSCORE) start end (pieces (part text start second) (part text (ahead text second 1) end) [])
+    else marked (said TOO_LARGE) start end
 
 unfoldable pub plain : List ℕ → ℕ → ℕ → ℕ → Option FindingContent
 plain text start digits end =
@@ -74,12 +116,12 @@ plain text start digits end =
     if has_zero && nat_le end (end_of class.Decimal text digits) then Some (zeros text start digits end)
     else if nat_lt digits point && point == end then Some (integer text start digits end)
     else if nat_le end (end_of class.Number text start) then trailing_point text start point end
-    else Some (quoted (mistakes.Value of_value.Unquoted) text start end)
+    else Some (quoted (said UNQUOTED) text start end)
 
 abbrev pub signed : List ℕ → ℕ → ℕ → ℕ → Option FindingContent
 signed text start digits end =
     if slice_index text digits == 43 || slice_index text digits == 45
-    then Some (replaced (mistakes.Number of_number.Signs) start end (pieces (part text digits end) [] []))
+    then Some (replaced (said SIGNS) start end (pieces (part text digits end) [] []))
     else plain text start digits end
 
 unfoldable pub number : List ℕ → ℕ → Option FindingContent
@@ -100,7 +142,11 @@ thousands text at =
     let last = end_of class.Digit text other in
     if start == at || not (end_of class.Digit text start == at) || not (group == ahead text next 3) then None
     else if slice_index text group == 44 && last == ahead text other 3
-    then Some (replaced (mistakes.Number of_number.Thousands) start last
-    (five (part text start at) (codes "_") (part text next group) (codes "_") (part text other last)))
-    else Some (replaced (mistakes.Number of_number.Thousands) start group
-    (pieces (part text start at) (codes "_") (part text next group)))
+    then Some (record (replaced (said THOUSANDS) start last
+    (six (part text start at) (codes "_") (part text next group) (codes "_") (part text other last) [])) {
+      other = pieces (part text start at) (part text next group) (part text other last);
+    })
+    else Some (record (replaced (said THOUSANDS) start group
+    (pieces (part text start at) (codes "_") (part text next group))) {
+      other = pieces (part text start at) (part text next group) [];
+    })

@@ -5,17 +5,27 @@ use Rattle.toml_span_report.specs.Bytes.{ahead, begins, end_of, first_of_line, l
 use Rattle.toml_span_report.specs.Finding.{FindingContent, marked, mended, pieces, replaced, span_of}
 use Rattle.toml_span_report.specs.Scan.{is_long, open_before}
 use Rattle.toml_span_report.specs.declared.bytes.Class.TheVariants as class
-use Rattle.toml_span_report.specs.declared.finding.Mistake.TheVariants as mistakes
-use Rattle.toml_span_report.specs.declared.finding.KeyMistake.TheVariants as of_key
-use Rattle.toml_span_report.specs.declared.finding.LineMistake.TheVariants as of_line
-use Rattle.toml_span_report.specs.declared.finding.TextMistake.TheVariants as of_text
+use Rattle.toml_span_report.specs.Words.{said}
+use Rattle.toml_span_report.specs.declared.words.TheConstants.{BACKSLASH, BACKSLASH_IN_LONG, CONTROL}
+use Rattle.toml_span_report.specs.declared.words.TheConstants.{CONTROL_IN_LITERAL, LONG_KEY, NO_CHARACTER, OPEN_KEY}
+use Rattle.toml_span_report.specs.declared.words.TheConstants.{OPEN_LITERAL, OPEN_LONG, OPEN_LONG_LITERAL}
+use Rattle.toml_span_report.specs.declared.words.TheConstants.{OPEN_STRING, QUOTE_IN_STRING, SHORT_ESCAPE, SURROGATE}
+
+-- a key that is not closed
+unfoldable pub open_key : List ℕ → ℕ → ℕ → FindingContent
+open_key text quote end =
+    let equals = end_of class.Left text quote in
+    let key_end = start_of class.Blank text equals in
+    if not (slice_index text equals == 61) then marked (said OPEN_KEY) quote end
+    else replaced (said OPEN_KEY) quote end
+    (pieces (part text quote key_end) (part text quote (ahead text quote 1)) (part text key_end end))
 
 -- a string on one line that is not closed
 unfoldable pub open_string : List ℕ → ℕ → ℕ → FindingContent
 open_string text quote end =
-    if first_of_line text quote == quote && (open_before text quote).depth == 0 then marked (mistakes.Key of_key.OpenKey) quote end
-    else if slice_index text quote == 34 then marked (mistakes.Text of_text.OpenString) quote end
-    else marked (mistakes.Text of_text.OpenLiteral) quote end
+    if first_of_line text quote == quote && (open_before text quote).depth == 0 then open_key text quote end
+    else if slice_index text quote == 34 then marked (said OPEN_STRING) quote end
+    else marked (said OPEN_LITERAL) quote end
 
 -- two hexadecimal digits for a byte below 32, or for 127
 unfoldable pub hex_of : ℕ → List ℕ
@@ -26,9 +36,9 @@ hex_of byte =
 unfoldable pub control : List ℕ → ℕ → ℕ → FindingContent
 control text at quote =
     if slice_index text quote == 34
-    then replaced (mistakes.Text of_text.Control) at (ahead text at 1)
+    then replaced (said CONTROL) at (ahead text at 1)
     (pieces (92 ∷ codes "u00") (hex_of (slice_index text at)) [])
-    else marked (mistakes.Text of_text.ControlInLiteral) at (ahead text at 1)
+    else marked (said CONTROL_IN_LITERAL) at (ahead text at 1)
 
 unfoldable pub character : List ℕ → ℕ → ℕ → FindingContent
 character text at c =
@@ -43,8 +53,9 @@ backslash text at end =
     let quote = (open_before text at).string in
     let content = ahead text quote 1 in
     let close = end_of class.Unquoted text content in
-    if is_long text quote || not (slice_index text close == 34) then marked (mistakes.Text of_text.Backslash) at end
-    else mended (mistakes.Text of_text.Backslash) (span_of at end) (span_of quote (ahead text close 1))
+    if is_long text quote then marked (said BACKSLASH_IN_LONG) at end
+    else if not (slice_index text close == 34) then marked (said BACKSLASH) at end
+    else mended (said BACKSLASH) (span_of at end) (span_of quote (ahead text close 1))
     (pieces (codes "'") (part text content close) (codes "'"))
 
 abbrev pub escape : List ℕ → ℕ → FindingContent
@@ -68,29 +79,31 @@ hex_escape text at =
     let start = digits - 2 in
     let letter = slice_index text (digits - 1) in
     if digits == at || not (slice_index text start == 92)
-    then record (backslash text start (ahead text at 1)) { name = digits_after letter }
-    else replaced (mistakes.Text of_text.ShortEscape) start at
-    (pieces (part text start digits) (zeros_of letter (at - digits)) (part text digits at))
+    then record (backslash text start (ahead text at 1)) { label = pieces (digits_after letter) [] [] }
+    else record (replaced (said SHORT_ESCAPE) start at
+    (pieces (part text start digits) (zeros_of letter (at - digits)) (part text digits at))) {
+      label = pieces (digits_after letter) [] [];
+    }
 
 unfoldable pub escape_value : List ℕ → ℕ → ℕ → FindingContent
 escape_value text at value =
-    marked (if nat_lt value 0xE000 then (mistakes.Text of_text.Surrogate) else (mistakes.Text of_text.NoCharacter)) (at - 1)
+    marked (if nat_lt value 0xE000 then (said SURROGATE) else (said NO_CHARACTER)) (at - 1)
     (ahead text at (if slice_index text at == 85 then 9 else 5))
 
 unfoldable pub unterminated : List ℕ → ℕ → FindingContent
 unterminated text at =
-    if begins text at (34 ∷ 34 ∷ 34 ∷ []) then marked (mistakes.Text of_text.OpenLong) at (ahead text at 3)
-    else if begins text at (39 ∷ 39 ∷ 39 ∷ []) then marked (mistakes.Text of_text.OpenLongLiteral) at (ahead text at 3)
+    if begins text at (34 ∷ 34 ∷ 34 ∷ []) then marked (said OPEN_LONG) at (ahead text at 3)
+    else if begins text at (39 ∷ 39 ∷ 39 ∷ []) then marked (said OPEN_LONG_LITERAL) at (ahead text at 3)
     else open_string text at (end_of class.Line text at)
 
 unfoldable pub long_key : List ℕ → ℕ → FindingContent
-long_key text at = marked (mistakes.Key of_key.LongKey) at (ahead text at 3)
+long_key text at = marked (said LONG_KEY) at (ahead text at 3)
 
 abbrev pub has : List ℕ → ℕ → ℕ → ℕ → Bool
 has text from to quote = nat_lt (end_of (if quote == 34 then class.WithoutDouble else class.WithoutSingle) text from) to
 
 abbrev pub requoted : List ℕ → ℕ → ℕ → ℕ → ℕ → List ℕ → Option FindingContent
-requoted text open_at content close end quote = Some (mended (mistakes.Line of_line.QuoteInString) (span_of open_at end)
+requoted text open_at content close end quote = Some (mended (said QUOTE_IN_STRING) (span_of open_at end)
     (span_of open_at end) (pieces quote (part text content close) quote))
 
 -- a string that contains its own quote

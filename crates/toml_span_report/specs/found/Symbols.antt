@@ -4,29 +4,31 @@ use Rattle.std.specs.Prelude.{slice_index, Option, Some, None, if◌then◌else�
 use Rattle.toml_span_report.specs.Bytes.{ahead, begins, byte_before, end_of, first_of_line, is_last, last_of_line}
 use Rattle.toml_span_report.specs.Bytes.{part, start_of}
 use Rattle.toml_span_report.specs.Finding.{FindingContent, MeantContent, as_meant, first_found, marked, pieces}
-use Rattle.toml_span_report.specs.Finding.{replaced, span_of}
+use Rattle.toml_span_report.specs.Finding.{removed, replaced, span_of}
 use Rattle.toml_span_report.specs.Scan.{is_in_header, open_before}
 use Rattle.toml_span_report.specs.found.Keys.{comment, header_key, other_key, other_sign}
 use Rattle.toml_span_report.specs.found.Values.{unquoted_value}
 use Rattle.toml_span_report.specs.declared.bytes.Class.TheVariants as class
-use Rattle.toml_span_report.specs.declared.finding.Mistake.TheVariants as mistakes
-use Rattle.toml_span_report.specs.declared.finding.KeyMistake.TheVariants as of_key
-use Rattle.toml_span_report.specs.declared.finding.SymbolMistake.TheVariants as of_symbol
+use Rattle.toml_span_report.specs.Words.{said}
+use Rattle.toml_span_report.specs.declared.words.TheConstants.{ARROW, BACKTICKS, BLOCK_COMMENT, COMMENT_LINE}
+use Rattle.toml_span_report.specs.declared.words.TheConstants.{CONFLICT, CURLY_QUOTES, INVISIBLE, LONE_RETURN, MARKUP}
+use Rattle.toml_span_report.specs.declared.words.TheConstants.{OTHER_SIGN, OTHER_SPACE, PARENTHESES, SEMICOLON}
+use Rattle.toml_span_report.specs.declared.words.TheConstants.{SEMICOLONS, SLASHES}
 
 -- a character that looks like another one: its Unicode name, and the other one
 unfoldable pub look_alike : ℕ → Option MeantContent
 look_alike c =
-    if c == 0xA0 then Some (as_meant (mistakes.Symbol of_symbol.OtherSpace) (codes "NO-BREAK SPACE (U+00A0)") (codes " "))
-    else if c == 0x2009 then Some (as_meant (mistakes.Symbol of_symbol.OtherSpace) (codes "THIN SPACE (U+2009)") (codes " "))
-    else if c == 0x202F then Some (as_meant (mistakes.Symbol of_symbol.OtherSpace) (codes "NARROW NO-BREAK SPACE (U+202F)") (codes " "))
-    else if c == 0x3000 then Some (as_meant (mistakes.Symbol of_symbol.OtherSpace) (codes "IDEOGRAPHIC SPACE (U+3000)") (codes " "))
-    else if c == 0x200B then Some (as_meant (mistakes.Symbol of_symbol.Invisible) (codes "ZERO WIDTH SPACE (U+200B)") [])
-    else if c == 0xFEFF then Some (as_meant (mistakes.Symbol of_symbol.Invisible) (codes "BYTE ORDER MARK (U+FEFF)") [])
-    else if c == 0x2013 then Some (as_meant (mistakes.Symbol of_symbol.OtherSign) (codes "EN DASH (U+2013)") (codes "-"))
-    else if c == 0x2014 then Some (as_meant (mistakes.Symbol of_symbol.OtherSign) (codes "EM DASH (U+2014)") (codes "-"))
-    else if c == 0x2212 then Some (as_meant (mistakes.Symbol of_symbol.OtherSign) (codes "MINUS SIGN (U+2212)") (codes "-"))
-    else if c == 0xFF1D then Some (as_meant (mistakes.Symbol of_symbol.OtherSign) (codes "FULLWIDTH EQUALS SIGN (U+FF1D)") (codes "="))
-    else if c == 0xFF0C then Some (as_meant (mistakes.Symbol of_symbol.OtherSign) (codes "FULLWIDTH COMMA (U+FF0C)") (codes ","))
+    if c == 0xA0 then Some (as_meant (said OTHER_SPACE) (codes "NO-BREAK SPACE (U+00A0)") (codes " "))
+    else if c == 0x2009 then Some (as_meant (said OTHER_SPACE) (codes "THIN SPACE (U+2009)") (codes " "))
+    else if c == 0x202F then Some (as_meant (said OTHER_SPACE) (codes "NARROW NO-BREAK SPACE (U+202F)") (codes " "))
+    else if c == 0x3000 then Some (as_meant (said OTHER_SPACE) (codes "IDEOGRAPHIC SPACE (U+3000)") (codes " "))
+    else if c == 0x200B then Some (as_meant (said INVISIBLE) (codes "ZERO WIDTH SPACE (U+200B)") [])
+    else if c == 0xFEFF then Some (as_meant (said INVISIBLE) (codes "BYTE ORDER MARK (U+FEFF)") [])
+    else if c == 0x2013 then Some (as_meant (said OTHER_SIGN) (codes "EN DASH (U+2013)") (codes "-"))
+    else if c == 0x2014 then Some (as_meant (said OTHER_SIGN) (codes "EM DASH (U+2014)") (codes "-"))
+    else if c == 0x2212 then Some (as_meant (said OTHER_SIGN) (codes "MINUS SIGN (U+2212)") (codes "-"))
+    else if c == 0xFF1D then Some (as_meant (said OTHER_SIGN) (codes "FULLWIDTH EQUALS SIGN (U+FF1D)") (codes "="))
+    else if c == 0xFF0C then Some (as_meant (said OTHER_SIGN) (codes "FULLWIDTH COMMA (U+FF0C)") (codes ","))
     else None
 
 unfoldable pub curly_name : ℕ → List ℕ
@@ -46,17 +48,17 @@ curly text at name =
     let close = end_of class.Straight text content in
     if begins text close (0xE2 ∷ 0x80 ∷ []) && (nat_le close (end_of class.Unquoted text content)
     && nat_le close (end_of class.Unescaped text content))
-    then record (marked (mistakes.Symbol of_symbol.CurlyQuotes) at (ahead text at 1)) {
-      name = name;
+    then record (marked (said CURLY_QUOTES) at (ahead text at 1)) {
+      label = pieces name [] [];
       edit = Some (span_of at (ahead text close 3));
       code = pieces (codes "\"") (part text content close) (codes "\"");
     }
-    else record (marked (mistakes.Symbol of_symbol.CurlyQuotes) at (ahead text at 1)) { name = name }
+    else record (marked (said CURLY_QUOTES) at (ahead text at 1)) { label = pieces name [] [] }
 
 unfoldable pub other_character : List ℕ → ℕ → MeantContent → FindingContent
 other_character text at m =
     record (replaced m.mistake at (end_of class.Continuation text (ahead text at 1)) (pieces m.code [] [])) {
-      name = m.name;
+      label = pieces m.name [] [];
     }
 
 abbrev pub as_alike : List ℕ → ℕ → Option MeantContent → Option FindingContent
@@ -71,8 +73,8 @@ alike text at c =
 unfoldable pub semicolon : List ℕ → ℕ → FindingContent
 semicolon text at =
     if is_last text (ahead text at 1) && not (first_of_line text at == at)
-    then replaced (mistakes.Symbol of_symbol.Semicolon) at (ahead text at 1) (pieces [] [] [])
-    else comment text at 1
+    then removed (said SEMICOLON) at (ahead text at 1)
+    else comment (said SEMICOLONS) text at 1
 
 -- a string between backticks, and a list in parentheses
 unfoldable pub backticks : List ℕ → ℕ → FindingContent
@@ -80,33 +82,43 @@ backticks text at =
     let content = ahead text at 1 in
     let close = end_of class.Unquoted text content in
     if not (slice_index text close == 96) || nat_lt (end_of class.Unescaped text content) close
-    then marked (mistakes.Symbol of_symbol.Backticks) at content
-    else replaced (mistakes.Symbol of_symbol.Backticks) at (ahead text close 1)
+    then marked (said BACKTICKS) at content
+    else replaced (said BACKTICKS) at (ahead text close 1)
     (pieces (codes "\"") (part text content close) (codes "\""))
 
 unfoldable pub parentheses : List ℕ → ℕ → FindingContent
 parentheses text at =
     let content = ahead text at 1 in
     let close = end_of class.Enclosed text content in
-    if not (slice_index text close == 41) then marked (mistakes.Symbol of_symbol.Parentheses) at content
-    else replaced (mistakes.Symbol of_symbol.Parentheses) at (ahead text close 1)
+    if not (slice_index text close == 41) then marked (said PARENTHESES) at content
+    else replaced (said PARENTHESES) at (ahead text close 1)
     (pieces (codes "[") (part text content close) (codes "]"))
 
 unfoldable pub at_line_start : List ℕ → ℕ → Option FindingContent
 at_line_start text at =
     let end = last_of_line text at in
     if begins text at (codes "<<<<<<<") || begins text at (codes ">>>>>>>") || begins text at (codes "|||||||")
-    then Some (marked (mistakes.Symbol of_symbol.Conflict) at end)
-    else if begins text at (codes "<") && slice_index text (end - 1) == 62 then Some (marked (mistakes.Symbol of_symbol.Markup) at end)
+    then Some (marked (said CONFLICT) at end)
+    else if begins text at (codes "<") && slice_index text (end - 1) == 62 then Some (marked (said MARKUP) at end)
     else None
+
+-- a block comment: one on a single line, after which the line ends, can be replaced
+unfoldable pub block_comment : List ℕ → ℕ → FindingContent
+block_comment text at =
+    let start = ahead text at 2 in
+    let last = last_of_line text at in
+    let close = last - 2 in
+    if nat_lt close start || not (begins text close (codes "*/")) then marked (said BLOCK_COMMENT) at start
+    else replaced (said COMMENT_LINE) at last
+    (pieces (codes "#") (part text start (start_of class.Blank text close)) [])
 
 -- a comment or a line's end as other languages write them
 unfoldable pub foreign : List ℕ → ℕ → Option FindingContent
 foreign text at =
-    if begins text at (codes "//") then Some (comment text at 2)
-    else if begins text at (codes "/*") then Some (marked (mistakes.Symbol of_symbol.BlockComment) at (ahead text at 2))
+    if begins text at (codes "//") then Some (comment (said SLASHES) text at 2)
+    else if begins text at (codes "/*") then Some (block_comment text at)
     else if begins text at (codes ";") then Some (semicolon text at)
-    else if begins text at (13 ∷ []) then Some (marked (mistakes.Symbol of_symbol.LoneReturn) at (ahead text at 1))
+    else if begins text at (13 ∷ []) then Some (marked (said LONE_RETURN) at (ahead text at 1))
     else None
 
 -- a character in a key, or in a value, that needs quotes
@@ -121,8 +133,8 @@ unquoted text at start =
 abbrev pub other_value : List ℕ → ℕ → ℕ → Option FindingContent
 other_value text at start =
     let byte = slice_index text at in
-    if byte == 13 then Some (marked (mistakes.Symbol of_symbol.LoneReturn) at (ahead text at 1))
-    else if byte == 47 && (nat_lt start at && begins text at (codes "//")) then Some (comment text at 2)
+    if byte == 13 then Some (marked (said LONE_RETURN) at (ahead text at 1))
+    else if byte == 47 && (nat_lt start at && begins text at (codes "//")) then Some (comment (said SLASHES) text at 2)
     else if byte == 59 && is_last text (ahead text at 1) then Some (semicolon text at)
     else if byte == 96 then Some (backticks text at)
     else if byte == 40 then Some (parentheses text at)
@@ -131,7 +143,7 @@ other_value text at start =
 unfoldable pub value : List ℕ → ℕ → ℕ → Option FindingContent
 value text at start =
     if slice_index text at == 62 && (start == at && slice_index text (at - 1) == 61)
-    then Some (other_sign (mistakes.Key of_key.Equals) text (at - 1) (ahead text at 1))
+    then Some (other_sign (said ARROW) text (at - 1) (ahead text at 1))
     else if slice_index text at == 124 || slice_index text at == 62 then None
     else other_value text at start
 

@@ -5,30 +5,31 @@ use Rattle.std.specs.Str.{bytes_eq}
 use Rattle.toml_span_report.specs.Bytes.{ahead, byte_behind, end_of, part, start_of}
 use Rattle.toml_span_report.specs.Finding.{FindingContent, MeantContent, as_meant, marked, pieces, quoted, replaced}
 use Rattle.toml_span_report.specs.declared.bytes.Class.TheVariants as class
-use Rattle.toml_span_report.specs.declared.finding.Mistake.TheVariants as mistakes
-use Rattle.toml_span_report.specs.declared.finding.ValueMistake.TheVariants as of_value
+use Rattle.toml_span_report.specs.Words.{said}
+use Rattle.toml_span_report.specs.declared.words.TheConstants.{NULL, OTHER_BOOLEAN, OTHER_FLOAT, PREFIXED, RAW_STRING}
+use Rattle.toml_span_report.specs.declared.words.TheConstants.{UNQUOTED, UNQUOTED_TEXT, UPPER_BOOLEAN}
 
 -- what TOML has for a word of other languages
 unfoldable pub known_word : List ℕ → Option MeantContent
 known_word word =
     if bytes_eq word (codes "True") || bytes_eq word (codes "TRUE")
-    then Some (as_meant (mistakes.Value of_value.UpperBoolean) [] (codes "true"))
+    then Some (as_meant (said UPPER_BOOLEAN) [] (codes "true"))
     else if bytes_eq word (codes "False") || bytes_eq word (codes "FALSE")
-    then Some (as_meant (mistakes.Value of_value.UpperBoolean) [] (codes "false"))
+    then Some (as_meant (said UPPER_BOOLEAN) [] (codes "false"))
     else if bytes_eq word (codes "yes") || bytes_eq word (codes "Yes") || bytes_eq word (codes "YES")
     || bytes_eq word (codes "on") || bytes_eq word (codes "On") || bytes_eq word (codes "ON")
-    then Some (as_meant (mistakes.Value of_value.OtherBoolean) [] (codes "true"))
+    then Some (as_meant (said OTHER_BOOLEAN) [] (codes "true"))
     else if bytes_eq word (codes "no") || bytes_eq word (codes "No") || bytes_eq word (codes "NO")
     || bytes_eq word (codes "off") || bytes_eq word (codes "Off") || bytes_eq word (codes "OFF")
-    then Some (as_meant (mistakes.Value of_value.OtherBoolean) [] (codes "false"))
+    then Some (as_meant (said OTHER_BOOLEAN) [] (codes "false"))
     else if bytes_eq word (codes "null") || bytes_eq word (codes "Null") || bytes_eq word (codes "NULL")
     || bytes_eq word (codes "None") || bytes_eq word (codes "nil") || bytes_eq word (codes "undefined")
-    then Some (as_meant (mistakes.Value of_value.Null) [] [])
+    then Some (as_meant (said NULL) [] [])
     else if bytes_eq word (codes "NaN") || bytes_eq word (codes "NAN") || bytes_eq word (codes "Nan")
-    then Some (as_meant (mistakes.Value of_value.OtherFloat) [] (codes "nan"))
+    then Some (as_meant (said OTHER_FLOAT) [] (codes "nan"))
     else if bytes_eq word (codes "Infinity") || bytes_eq word (codes "infinity") || bytes_eq word (codes "Inf")
     || bytes_eq word (codes "INF")
-    then Some (as_meant (mistakes.Value of_value.OtherFloat) [] (codes "inf"))
+    then Some (as_meant (said OTHER_FLOAT) [] (codes "inf"))
     else None
 
 -- where the words end that may be meant as one string
@@ -46,8 +47,8 @@ is_quote b = b == 34 || b == 39
 unfoldable pub unquoted_value : List ℕ → ℕ → FindingContent
 unquoted_value text at =
     let end = end_of class.Word text at in
-    if is_quote (byte_behind text end) then marked (mistakes.Value of_value.UnquotedText) at end
-    else quoted (mistakes.Value of_value.Unquoted) text at (phrase_end text at end)
+    if is_quote (byte_behind text end) then marked (said UNQUOTED_TEXT) at end
+    else quoted (said UNQUOTED) text at (phrase_end text at end)
 
 -- a string with a prefix, whose quote is at `quote`
 unfoldable pub prefixed : List ℕ → ℕ → ℕ → FindingContent
@@ -55,10 +56,10 @@ prefixed text at quote =
     let close = end_of class.Unquoted text (ahead text quote 1) in
     let content = part text (ahead text quote 1) close in
     if not (slice_index text close == slice_index text quote) || length content == 0
-    then marked (mistakes.Value of_value.UnquotedText) at quote
+    then marked (said UNQUOTED_TEXT) at quote
     else if slice_index text at == 114 || slice_index text at == 82
-    then replaced (mistakes.Value of_value.RawString) at (ahead text close 1) (pieces (codes "'") content (codes "'"))
-    else replaced (mistakes.Value of_value.Prefixed) at (ahead text close 1) (pieces (part text quote (ahead text close 1)) [] [])
+    then replaced (said RAW_STRING) at (ahead text close 1) (pieces (codes "'") content (codes "'"))
+    else replaced (said PREFIXED) at (ahead text close 1) (pieces (part text quote (ahead text close 1)) [] [])
 
 abbrev pub known_value : ℕ → ℕ → MeantContent → FindingContent
 known_value at end known =

@@ -1,19 +1,24 @@
 //! Definitions that clash.
 ghost use Rattle.std.specs.Prelude.{◌≡◌, option_map};
-ghost use Rattle.toml_span_report.specs.Finding.{finding_content};
+ghost use Rattle.toml_span_report.specs.Finding.{code_content, finding_content};
 ghost use Rattle.toml_span_report.specs.found.Clashes as spec;
 
-use crate::bytes::{Class, ahead, begins, byte_at, byte_behind, end_of, first_of_line};
-use crate::finding::{ClashMistake, Finding, Mistake, marked};
+use crate::bytes::{
+    Class, ahead, begins, byte_at, byte_behind, end_of, first_of_line, last_of_line, part, start_of,
+};
+use crate::finding::{Code, Finding, pieces, shown, six, span_of};
+use crate::mistakes::numbers::behind_sign;
+use crate::words::{
+    ARRAY_OF_TABLE, CLOSED_ARRAY, CLOSED_TABLE, CLOSED_TABLE_HEADER, DOTTED_TABLE, TABLE_OF_ARRAY,
+    TABLE_TWICE, THROUGH_VALUE, Words,
+};
 use toml_span_lex::span::Span;
 
-/// Makes a mistake with another place.
-fn with_other<'a>(mistake: Mistake, span: Span, other: Span) -> Finding<'a>
-    ensures { finding_content result ≡ spec.with_other mistake span other }
+/// Returns where the header at an offset ends, without a comment after it.
+fn header_end(text: &str, at: usize) -> usize
+    ensures { result ≡ spec.header_end text.now at }
 {
-    let mut found = marked(mistake, span.start, span.end);
-    found.also = other;
-    found
+    start_of(Class::Blank, text, end_of(Class::Left, text, at))
 }
 
 /// Finds the mistake of a table with two headers, either of which may be that of an array of tables.
@@ -23,27 +28,128 @@ pub(crate) fn table_twice<'a>(text: &'a str, span: Span, first: Span) -> Finding
 {
     let was_array = begins(text, first.start, b"[[");
     let is_array = begins(text, span.start, b"[[");
-    let mistake = if is_array && !was_array {
-        Mistake::Clash(ClashMistake::ArrayOfTable)
+    let end = header_end(text, span.start);
+    let header = part(text, span.start, end);
+    if is_array && !was_array {
+        let mut found = shown(ARRAY_OF_TABLE, span, first, pieces(header, "", ""));
+        found.edit = Some(span_of(first.start, header_end(text, first.start)));
+        found
     } else if was_array && !is_array {
-        Mistake::Clash(ClashMistake::TableOfArray)
+        let mut found = shown(TABLE_OF_ARRAY, span, first, pieces("[", header, "]"));
+        found.edit = Some(span_of(span.start, end));
+        found
     } else {
-        Mistake::Clash(ClashMistake::TableTwice)
-    };
-    with_other(mistake, span, first)
+        shown(TABLE_TWICE, span, first, pieces("[", header, "]"))
+    }
 }
 
-/// Returns the first byte of the value of a key that ends at an offset, or of whatever else follows the key.
-#[tactic(auto, unfolding(crate::specs::found::Clashes::value_of))]
-fn value_of(text: &str, end: usize) -> u8
-    ensures { result ≡ spec.value_of text.now end }
+/// Returns where the value of a key that ends at an offset begins, or whatever else follows the key.
+#[tactic(auto, unfolding(crate::specs::found::Clashes::value_at))]
+fn value_at(text: &str, end: usize) -> usize
+    ensures { result ≡ spec.value_at text.now end }
 {
     let equals = end_of(Class::Blank, text, end);
     if byte_at(text, equals) == b'=' {
-        byte_behind(text, ahead(text, equals, 1))
+        end_of(Class::Blank, text, ahead(text, equals, 1))
     } else {
-        byte_at(text, equals)
+        equals
     }
+}
+
+/// Returns the label of a value that is not a table.
+#[tactic(auto, unfolding(crate::specs::found::Clashes::no_table))]
+fn no_table(text: &str, at: usize) -> &'static str
+    ensures { result.now ≡ spec.no_table text.now at }
+{
+    let digits = behind_sign(text, at);
+    let end = end_of(Class::Grouped, text, digits);
+    match byte_at(text, at) {
+        b'"' | b'\'' => "this is a string, not a table",
+        b'[' => "this is an array, not a table",
+        b't' | b'f' => "this is a boolean, not a table",
+        _ if matches!(byte_at(text, end), b'.' | b'e' | b'E' | b'i' | b'n') => {
+            "this is a float, not a table"
+        }
+        _ if matches!(byte_at(text, end), b'-' | b':') => "this is a date or time, not a table",
+        _ => "this is an integer, not a table",
+    }
+}
+
+/// Returns an inline table at an offset, with the key before it and another assignment in it: the dotted key at `at`
+/// without the table's key. Nothing if the table is not the last on its line, or the dotted key begins otherwise.
+#[tactic(auto, unfolding(crate::specs::found::Clashes::extended))]
+fn extended<'a>(text: &'a str, key_end: usize, table: usize, at: usize) -> Code<'a>
+    ensures { code_content result ≡ spec.extended text.now key_end table at }
+{
+    let start = first_of_line(text, key_end);
+    let key = part(text, start, key_end);
+    let dot = ahead(text, at, key.len());
+    let last = last_of_line(text, table);
+    let close = last.saturating_sub(1);
+    let end = start_of(Class::Blank, text, close);
+    let comma = if byte_at(text, end.saturating_sub(1)) == b'{' {
+        ""
+    } else {
+        ", "
+    };
+    if byte_at(text, close) != b'}'
+        || !begins(text, at, key.as_bytes())
+        || byte_at(text, dot) != b'.'
+    {
+        return pieces("", "", "");
+    }
+    let pair = part(text, ahead(text, dot, 1), last_of_line(text, at));
+    six(
+        part(text, start, end),
+        comma,
+        pair,
+        part(text, end, last),
+        "",
+        "",
+    )
+}
+
+/// Returns the body of the section whose header ends at an offset, as it is written in an inline table: its only
+/// assignment, nothing if it is empty, or two dots.
+#[tactic(auto, unfolding(crate::specs::found::Clashes::body))]
+fn body<'a>(text: &'a str, end: usize) -> &'a str
+    ensures { result.now ≡ spec.body text.now end }
+{
+    let start = end_of(Class::Gap, text, end);
+    let last = last_of_line(text, start);
+    let value = ahead(text, end_of(Class::Left, text, start), 1);
+    let is_pair = end_of(Class::Left, text, value) == end_of(Class::Line, text, start);
+    let next = byte_at(text, end_of(Class::Gap, text, last));
+    if matches!(byte_at(text, start), 0 | b'[') {
+        ""
+    } else if is_pair && matches!(next, 0 | b'[') {
+        part(text, start, last)
+    } else {
+        ".."
+    }
+}
+
+/// Returns what to write in an inline table for a header through it, whose key ends at an offset. Nothing if the header
+/// ends with that key.
+#[tactic(auto, unfolding(crate::specs::found::Clashes::subtable))]
+fn subtable<'a>(text: &'a str, end: usize) -> Code<'a>
+    ensures { code_content result ≡ spec.subtable text.now end }
+{
+    let dot = end_of(Class::Blank, text, end);
+    let name = end_of(Class::Blank, text, ahead(text, dot, 1));
+    let last = last_of_line(text, end);
+    let close = last.saturating_sub(1);
+    if byte_at(text, dot) != b'.' || byte_at(text, close) != b']' {
+        return pieces("", "", "");
+    }
+    six(
+        part(text, name, close),
+        " = {",
+        body(text, last),
+        "}",
+        "",
+        "",
+    )
 }
 
 /// Finds the mistake of a key or a header that goes through an earlier value.
@@ -52,15 +158,32 @@ pub(crate) fn through_value<'a>(text: &'a str, span: Span, first: Span) -> Optio
     ensures { option_map finding_content result ≡ spec.through_value text.now span first }
 {
     let line = first_of_line(text, span.start);
-    let mistake = match value_of(text, first.end) {
-        b'{' if byte_at(text, line) == b'[' => Mistake::Clash(ClashMistake::ClosedTableHeader),
-        b'{' => Mistake::Clash(ClashMistake::ClosedTable),
-        b'[' if begins(text, line, b"[[") => Mistake::Clash(ClashMistake::ClosedArray),
-        b'.' => Mistake::Clash(ClashMistake::DottedTable),
-        0 | b']' => return None,
-        _ => Mistake::Clash(ClashMistake::ThroughValue),
-    };
-    Some(with_other(mistake, span, first))
+    let value = value_at(text, first.end);
+    let none = pieces("", "", "");
+    match byte_at(text, value) {
+        b'{' if byte_at(text, line) == b'[' => {
+            Some(shown(CLOSED_TABLE_HEADER, span, first, subtable(text, span.end)))
+        }
+        b'{' => {
+            Some(shown(
+                CLOSED_TABLE,
+                span,
+                first,
+                extended(text, first.end, value, line),
+            ))
+        }
+        b'[' if begins(text, line, b"[[") => Some(shown(CLOSED_ARRAY, span, first, none)),
+        b'.' => Some(shown(DOTTED_TABLE, span, first, none)),
+        0 | b']' => None,
+        _ => {
+            let mut found = shown(THROUGH_VALUE, span, first, none);
+            found.words = Words {
+                also: no_table(text, value),
+                ..found.words
+            };
+            Some(found)
+        }
+    }
 }
 
 /// Finds the mistake of a key that is defined twice: a header or a dotted key through an earlier value has help.

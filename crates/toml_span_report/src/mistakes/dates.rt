@@ -1,16 +1,32 @@
 //! Dates and times that TOML does not have.
 ghost use Rattle.std.specs.Prelude.{◌≡◌, option_map};
-ghost use Rattle.toml_span_report.specs.Finding.{finding_content};
+ghost use Rattle.toml_span_report.specs.Finding.{code_content, finding_content};
 ghost use Rattle.toml_span_report.specs.found.Dates as spec;
 
-use crate::bytes::{Class, ahead, byte_at, end_of, is_in, part, start_of};
-use crate::finding::{Code, DateMistake, Finding, Mistake, marked, pieces, replaced};
+use crate::bytes::{Class, ahead, begins, byte_at, end_of, is_in, part, start_of};
+use crate::finding::{Code, Finding, marked, pieces, replaced, six};
+use crate::tables::text_in;
+use crate::words::{DATETIME, NO_DAY, NO_MONTH, NO_TIME, OFFSET, SHORT_DATE, SLASH_DATE};
 
 /// Returns whether there are exactly this many digits between two offsets.
 fn are_digits(text: &str, from: usize, count: usize) -> bool
     ensures { result ≡ spec.are_digits text.now from count }
 {
     end_of(Class::Digit, text, from) == ahead(text, from, count)
+}
+
+/// Returns whether there is a date between two offsets, valid or not.
+pub(crate) fn is_date(text: &str, start: usize, end: usize) -> bool
+    ensures { result ≡ spec.is_date text.now start end }
+{
+    let month = ahead(text, start, 5);
+    let day = ahead(text, start, 8);
+    byte_at(text, ahead(text, start, 4)) == b'-'
+        && byte_at(text, ahead(text, start, 7)) == b'-'
+        && are_digits(text, start, 4)
+        && are_digits(text, month, 2)
+        && are_digits(text, day, 2)
+        && ahead(text, start, 10) == end
 }
 
 /// Returns the code for a date with slashes, whose year is first or last.
@@ -27,14 +43,10 @@ pub(crate) fn slash_date<'a>(text: &'a str, start: usize, end: usize) -> Option<
         && are_digits(text, third, 4)
         && ahead(text, start, 10) == end;
     if is_date {
-        let code = Code {
-            first: part(text, third, end),
-            second: "-",
-            third: part(text, start, ahead(text, start, 2)),
-            fourth: "-",
-            fifth: part(text, second, ahead(text, second, 2)),
-        };
-        Some(replaced(Mistake::Date(DateMistake::SlashDate), start, end, code))
+        let month = part(text, start, ahead(text, start, 2));
+        let day = part(text, second, ahead(text, second, 2));
+        let code = six(part(text, third, end), "-", month, "-", day, "");
+        Some(replaced(SLASH_DATE, start, end, code))
     } else {
         None
     }
@@ -59,6 +71,61 @@ fn is_past(text: &str, at: usize, tens: u8, ones: u8) -> bool
     first > tens || first == tens && byte_at(text, ahead(text, at, 1)) > ones
 }
 
+/// The lengths of the months, except for February.
+const MONTHS: [(&str, &str); 11] = [
+    ("01", "January has 31 days"),
+    ("03", "March has 31 days"),
+    ("04", "April has 30 days"),
+    ("05", "May has 31 days"),
+    ("06", "June has 30 days"),
+    ("07", "July has 31 days"),
+    ("08", "August has 31 days"),
+    ("09", "September has 30 days"),
+    ("10", "October has 31 days"),
+    ("11", "November has 30 days"),
+    ("12", "December has 31 days"),
+];
+
+/// Returns whether a number of two digits is divisible by four.
+fn is_fourth(text: &str, at: usize) -> bool
+    ensures { result ≡ spec.is_fourth text.now at }
+{
+    let tens = u32::from(byte_at(text, at));
+    (2 * tens + u32::from(byte_at(text, ahead(text, at, 1)))) % 4 == 0
+}
+
+/// Returns how many days a month other than February has, in words.
+fn days_of(month: &str) -> Option<&'static str>
+    ensures { option_map (λ days. days.now) result ≡ spec.days_of month.now }
+{
+    text_in(&MONTHS, month)
+}
+
+/// Returns how many days a month has, in words.
+#[tactic(auto, unfolding(crate::specs::found::Dates::month_length))]
+fn month_length<'a>(text: &'a str, year: usize, month: usize) -> Code<'a>
+    ensures { code_content result ≡ spec.month_length text.now year month }
+{
+    let years = ahead(text, year, 2);
+    let century = if begins(text, years, b"00") {
+        year
+    } else {
+        years
+    };
+    if begins(text, month, b"02") {
+        let days = if is_fourth(text, century) {
+            " has 29 days"
+        } else {
+            " has 28 days"
+        };
+        return pieces("February ", part(text, year, ahead(text, year, 4)), days);
+    }
+    match days_of(part(text, month, ahead(text, month, 2))) {
+        Some(days) => pieces(days, "", ""),
+        None => pieces("", "", ""),
+    }
+}
+
 /// Finds the mistake of a date and time whose offset has no colon, or of a time that does not exist.
 #[tactic(auto, unfolding(crate::specs::found::Dates::time))]
 fn time<'a>(text: &'a str, start: usize, hour: usize, end: usize) -> Finding<'a>
@@ -70,13 +137,13 @@ fn time<'a>(text: &'a str, start: usize, hour: usize, end: usize) -> Finding<'a>
         && matches!(byte_at(text, offset.saturating_sub(1)), b'+' | b'-')
     {
         let code = pieces(part(text, start, colon), ":", part(text, colon, end));
-        return replaced(Mistake::Date(DateMistake::Offset), start, end, code);
+        return replaced(OFFSET, start, end, code);
     }
     let is_hour = are_digits(text, hour, 2) && byte_at(text, ahead(text, hour, 2)) == b':';
     if is_hour && is_past(text, hour, b'2', b'3') {
-        return marked(Mistake::Date(DateMistake::NoTime), start, end);
+        return marked(NO_TIME, start, end);
     }
-    marked(Mistake::Date(DateMistake::Datetime), start, end)
+    marked(DATETIME, start, end)
 }
 
 /// Finds the mistake of a date with a year of four digits, whose month begins at `month` and whose day at `day`.
@@ -88,22 +155,25 @@ fn date<'a>(text: &'a str, start: usize, month: usize, day: usize, end: usize) -
     let day_end = end_of(Class::Digit, text, day);
     let is_short = dash == ahead(text, month, 1) || day_end == ahead(text, day, 1);
     if is_short && day_end == end {
-        let code = Code {
-            first: part(text, start, month),
-            second: zero_for(month, dash),
-            third: part(text, month, day),
-            fourth: zero_for(day, day_end),
-            fifth: part(text, day, end),
-        };
-        return replaced(Mistake::Date(DateMistake::ShortDate), start, end, code);
+        let code = six(
+            part(text, start, month),
+            zero_for(month, dash),
+            part(text, month, day),
+            zero_for(day, day_end),
+            part(text, day, end),
+            "",
+        );
+        return replaced(SHORT_DATE, start, end, code);
     }
     let is_month = are_digits(text, month, 2);
     let is_day = are_digits(text, day, 2);
-    if is_month && is_past(text, month, b'1', b'2') {
-        return marked(Mistake::Date(DateMistake::NoMonth), start, end);
+    if is_month && (is_past(text, month, b'1', b'2') || begins(text, month, b"00")) {
+        return marked(NO_MONTH, start, end);
     }
     if is_day && is_month && day_end == end {
-        return marked(Mistake::Date(DateMistake::NoDay), start, end);
+        let mut found = marked(NO_DAY, start, end);
+        found.label = month_length(text, start, month);
+        return found;
     }
     time(text, start, ahead(text, day_end, 1), end)
 }

@@ -1,6 +1,7 @@
 //! Keys and headers.
 ghost use Rattle.std.specs.Prelude.{◌≡◌, option_map};
-ghost use Rattle.toml_span_report.specs.Finding.{finding_content};
+ghost use Rattle.toml_span_report.specs.Finding.{code_content, finding_content, meant_content};
+ghost use Rattle.toml_span_report.specs.Words.{texts};
 ghost use Rattle.toml_span_report.specs.found.Keys as spec;
 
 use crate::bytes::{
@@ -8,17 +9,26 @@ use crate::bytes::{
     last_of_line, part, start_of,
 };
 use crate::finding::{
-    Finding, FormatMistake, KeyMistake, ListMistake, Mistake, SymbolMistake, marked, mended,
-    pieces, quoted, replaced, span_of,
+    Code, Finding, Meant, marked, mended, pieces, quote_for, quoted, removed, replaced, shown, six,
+    span_of,
 };
+use crate::mistakes::dates::is_date;
+use crate::mistakes::numbers::behind_sign;
+use crate::mistakes::values::{known_word, phrase_end};
+use crate::words::{
+    BARE_KEY, BRACE_HEADER, COLON, COLON_EQUALS, CONFLICT, DASHES, DOCUMENT_MARKER, EXTRA_COMMA,
+    EXTRA_DOT, JSON, JSON_DOCUMENT, KEYWORD, Mistake, NO_EQUALS, NO_KEY, NO_NAME, NO_VALUE,
+    TEMPLATE, TEMPLATE_LINE, Words, YAML_ITEM, YAML_ITEMS, YAML_LIST, YAML_TABLE,
+};
+use toml_span_lex::span::Span;
 
 /// Makes the mistake of a comment of another language, whose sign has this length.
 #[tactic(auto, unfolding(crate::specs::found::Keys::comment))]
-pub(crate) fn comment<'a>(text: &'a str, at: usize, length: usize) -> Finding<'a>
-    ensures { finding_content result ≡ spec.comment text.now at length }
+pub(crate) fn comment<'a>(mistake: Mistake, text: &'a str, at: usize, length: usize) -> Finding<'a>
+    ensures { finding_content result ≡ spec.comment (texts mistake.entry) text.now at length }
 {
     mended(
-        Mistake::Symbol(SymbolMistake::Comment),
+        mistake,
         span_of(at, last_of_line(text, at)),
         span_of(at, ahead(text, at, length)),
         pieces("#", "", ""),
@@ -34,7 +44,7 @@ pub(crate) fn header_key<'a>(text: &'a str, at: usize) -> Option<Finding<'a>>
     let end = end_of(Class::Header, text, at);
     let to = start_of(Class::Blank, text, end);
     if from < to && matches!(byte_at(text, end), b'.' | b']') {
-        Some(quoted(Mistake::Key(KeyMistake::BareKey), text, from, to))
+        Some(quoted(BARE_KEY, text, from, to))
     } else {
         None
     }
@@ -48,7 +58,7 @@ pub(crate) fn other_key<'a>(text: &'a str, at: usize) -> Option<Finding<'a>>
     let from = start_of(Class::Name, text, at);
     let to = end_of(Class::Name, text, at);
     if from < to && matches!(byte_behind(text, to), b'=' | b'.') {
-        Some(quoted(Mistake::Key(KeyMistake::BareKey), text, from, to))
+        Some(quoted(BARE_KEY, text, from, to))
     } else {
         None
     }
@@ -78,17 +88,161 @@ fn value_end(text: &str, at: usize) -> usize
     }
 }
 
+/// Returns whether a word is a decimal integer or a float.
+#[tactic(auto, unfolding(crate::specs::found::Keys::is_number))]
+fn is_number(text: &str, at: usize, end: usize) -> bool
+    ensures { result ≡ spec.is_number text.now at end }
+{
+    let digits = behind_sign(text, at);
+    let point = end_of(Class::Grouped, text, digits);
+    let other = ahead(text, point, 1);
+    if digits == point || byte_at(text, digits) == b'0' && point != ahead(text, digits, 1) {
+        return false;
+    }
+    point == end
+        || byte_at(text, point) == b'.' && other < end && end_of(Class::Digit, text, other) == end
+}
+
+/// Returns whether a word is a value as it is: it begins with a quote or a bracket, or is a number, a date, a boolean
+/// or a special float.
+#[tactic(auto, unfolding(crate::specs::found::Keys::is_value))]
+fn is_value(text: &str, at: usize, end: usize) -> bool
+    ensures { result ≡ spec.is_value text.now at end }
+{
+    match byte_at(text, at) {
+        b'"' | b'\'' | b'[' | b'{' => true,
+        _ if is_number(text, at, end) => true,
+        _ if is_date(text, at, end) => true,
+        _ => is_named(part(text, at, end)),
+    }
+}
+
+/// Returns whether a word is a boolean or a special float.
+fn is_named(word: &str) -> bool
+    ensures { result ≡ spec.is_named word.now }
+{
+    matches!(word, "true" | "false" | "inf" | "nan")
+}
+
+/// Makes a mistake whose repair may not be what was meant.
+fn doubtful<'a>(mistake: Mistake, mark: Span, edit: Span, code: Code<'a>) -> Finding<'a>
+    ensures { finding_content result ≡ spec.doubtful (texts mistake.entry) mark edit (code_content code.entry) }
+{
+    let found = mended(mistake, mark, edit, code);
+    let words = Words {
+        is_safe: false,
+        ..found.words
+    };
+    Finding { words, ..found }
+}
+
+/// Makes the mistake of a key and a word of another language, at `at`, with another sign than `=` between them.
+fn known_pair<'a>(
+    mistake: Mistake,
+    key: &'a str,
+    mark: Span,
+    edit: Span,
+    at: usize,
+    known: Meant,
+) -> Finding<'a>
+    ensures { finding_content result
+        ≡ spec.known_pair (texts mistake.entry) key.now mark edit at (meant_content known) }
+{
+    if known.code.is_empty() {
+        return marked(known.mistake, at, edit.end);
+    }
+    doubtful(mistake, mark, edit, pieces(key, " = ", known.code))
+}
+
+/// Makes the mistake of a key and a word that is no value, at `at`, with another sign than `=` between them: the word
+/// goes between quotes, or is one of another language.
+#[tactic(auto, unfolding(crate::specs::found::Keys::other_word))]
+fn other_word<'a>(
+    mistake: Mistake,
+    text: &'a str,
+    key: &'a str,
+    mark: Span,
+    edit: Span,
+    at: usize,
+) -> Finding<'a>
+    ensures { finding_content result ≡ spec.other_word (texts mistake.entry) text.now key.now mark edit at }
+{
+    if let Some(known) = known_word(part(text, at, edit.end)) {
+        return known_pair(mistake, key, mark, edit, at, known);
+    }
+    let end = phrase_end(text, at, edit.end);
+    let quote = quote_for(text, at, end);
+    let code = six(key, " = ", quote, part(text, at, end), quote, "");
+    doubtful(mistake, mark, span_of(edit.start, end), code)
+}
+
 /// Makes the mistake of a key and a value with another sign than `=` between them.
 #[tactic(auto, unfolding(crate::specs::found::Keys::other_sign))]
 pub(crate) fn other_sign<'a>(mistake: Mistake, text: &'a str, from: usize, to: usize) -> Finding<'a>
-    ensures { finding_content result ≡ spec.other_sign mistake text.now from to }
+    ensures { finding_content result ≡ spec.other_sign (texts mistake.entry) text.now from to }
 {
     let end = start_of(Class::Blank, text, from);
     let start = key_start(text, end);
     let value = end_of(Class::Blank, text, to);
     let stop = value_end(text, value);
-    let code = pieces(part(text, start, end), " = ", part(text, value, stop));
-    mended(mistake, span_of(from, to), span_of(start, stop), code)
+    let key = part(text, start, end);
+    let (mark, edit) = (span_of(from, to), span_of(start, stop));
+    if is_value(text, value, stop) {
+        mended(
+            mistake,
+            mark,
+            edit,
+            pieces(key, " = ", part(text, value, stop)),
+        )
+    } else {
+        other_word(mistake, text, key, mark, edit, value)
+    }
+}
+
+/// Returns the end of an array, whose elements need quotes if they are not values, and which may have more elements.
+fn closing_of(are_values: bool, has_more: bool) -> &'static str
+    ensures { result.now ≡ spec.closing_of are_values has_more }
+{
+    match (are_values, has_more) {
+        (true, true) => ", ..]",
+        (true, false) => "]",
+        (false, true) => "\", ..]",
+        (false, false) => "\"]",
+    }
+}
+
+/// Makes the mistake of a key, whose colon is at `colon`, and a list below it, whose first dash is at `dash`. The
+/// code to write has one or two elements, and two dots if there are more.
+#[tactic(auto, unfolding(crate::specs::found::Keys::yaml_list))]
+fn yaml_list<'a>(text: &'a str, start: usize, colon: usize, dash: usize) -> Finding<'a>
+    ensures { finding_content result ≡ spec.yaml_list text.now start colon dash }
+{
+    let mark = span_of(start, ahead(text, colon, 1));
+    let key = part(text, start, colon);
+    let first = end_of(Class::Blank, text, ahead(text, dash, 1));
+    let first_end = last_of_line(text, first);
+    if byte_at(text, end_of(Class::Dotted, text, first)) == b':' {
+        return shown(YAML_ITEMS, mark, mark, pieces("[[", key, "]]"));
+    }
+    let next = end_of(Class::Gap, text, first_end);
+    let second = end_of(Class::Blank, text, ahead(text, next, 1));
+    let second_end = last_of_line(text, second);
+    let has_more = begins(text, end_of(Class::Gap, text, second_end), b"- ");
+    let are_values = is_value(text, first, first_end);
+    let opening = if are_values { " = [" } else { " = [\"" };
+    let comma = if are_values { ", " } else { "\", \"" };
+    let closing = closing_of(are_values, has_more);
+    let (one, other) = (part(text, first, first_end), part(text, second, second_end));
+    if !begins(text, next, b"- ") {
+        let code = six(key, opening, one, closing_of(are_values, false), "", "");
+        return mended(YAML_LIST, mark, span_of(start, first_end), code);
+    }
+    let code = six(key, opening, one, comma, other, closing);
+    if has_more {
+        shown(YAML_LIST, mark, mark, code)
+    } else {
+        mended(YAML_LIST, mark, span_of(start, second_end), code)
+    }
 }
 
 /// Makes the mistake of a key and a colon with nothing after it on the line.
@@ -100,10 +254,10 @@ fn yaml<'a>(text: &'a str, at: usize) -> Finding<'a>
     let below = end_of(Class::Gap, text, end);
     let start = key_start(text, at);
     if begins(text, below, b"- ") {
-        return marked(Mistake::Format(FormatMistake::YamlList), start, end);
+        return yaml_list(text, start, at, below);
     }
     replaced(
-        Mistake::Format(FormatMistake::YamlTable),
+        YAML_TABLE,
         start,
         end,
         pieces("[", part(text, start, at), "]"),
@@ -117,18 +271,13 @@ fn colon<'a>(text: &'a str, at: usize) -> Finding<'a>
 {
     let next = ahead(text, at, 1);
     if begins(text, at, b":=") {
-        other_sign(
-            Mistake::Key(KeyMistake::Equals),
-            text,
-            at,
-            ahead(text, at, 2),
-        )
+        other_sign(COLON_EQUALS, text, at, ahead(text, at, 2))
     } else if is_last(text, next) || byte_behind(text, next) == b'#' {
         yaml(text, at)
     } else if byte_before(text, at) == b'"' {
-        other_sign(Mistake::Format(FormatMistake::Json), text, at, next)
+        other_sign(JSON, text, at, next)
     } else {
-        other_sign(Mistake::Key(KeyMistake::Colon), text, at, next)
+        other_sign(COLON, text, at, next)
     }
 }
 
@@ -146,8 +295,8 @@ fn lone_key<'a>(text: &'a str, end: usize) -> Finding<'a>
 {
     let start = key_start(text, end);
     match part(text, start, end) {
-        "---" => marked(Mistake::Format(FormatMistake::DocumentMarker), start, end),
-        _ => marked(Mistake::Key(KeyMistake::NoValue), start, end),
+        "---" => marked(DOCUMENT_MARKER, start, end),
+        _ => marked(NO_VALUE, start, end),
     }
 }
 
@@ -158,16 +307,30 @@ fn spaced_key<'a>(text: &'a str, end: usize, at: usize, stop: usize) -> Finding<
 {
     let start = start_of(Class::Name, text, end);
     if is_keyword(part(text, start, end)) {
-        return replaced(
-            Mistake::Key(KeyMistake::Keyword),
-            start,
-            at,
-            pieces("", "", ""),
-        );
+        return removed(KEYWORD, start, at);
     }
     let from = end_of(Class::Blank, text, start_of(Class::Spaced, text, at));
     let to = start_of(Class::Blank, text, stop);
-    quoted(Mistake::Key(KeyMistake::BareKey), text, from, to)
+    quoted(BARE_KEY, text, from, to)
+}
+
+/// Makes the mistake of an item of a list, whose dash is at `dash`, and whose first word is at `at`.
+#[tactic(auto, unfolding(crate::specs::found::Keys::yaml_item))]
+fn yaml_item<'a>(text: &'a str, dash: usize, at: usize) -> Finding<'a>
+    ensures { finding_content result ≡ spec.yaml_item text.now dash at }
+{
+    let end = last_of_line(text, at);
+    let mark = span_of(dash, ahead(text, dash, 1));
+    if byte_at(text, end_of(Class::Left, text, at)) == b'=' {
+        mended(
+            YAML_ITEM,
+            mark,
+            span_of(dash, end),
+            pieces(part(text, at, end), "", ""),
+        )
+    } else {
+        shown(YAML_ITEMS, mark, mark, pieces("[[name]]", "", ""))
+    }
 }
 
 /// Finds the mistake of another token where `=` is expected, after a key that ends at an offset.
@@ -180,13 +343,9 @@ fn second_word<'a>(text: &'a str, end: usize, at: usize) -> Option<Finding<'a>>
     if begins(text, first, b"- ")
         && first_of_line(text, end) == start_of(Class::Dotted, text, end)
     {
-        Some(marked(
-            Mistake::Format(FormatMistake::YamlItem),
-            first,
-            ahead(text, first, 1),
-        ))
+        Some(yaml_item(text, first, at))
     } else if begins(text, first, b"-- ") {
-        Some(comment(text, first, 2))
+        Some(comment(DASHES, text, first, 2))
     } else if end == at {
         other_key(text, at)
     } else if byte_at(text, stop) == b'=' {
@@ -194,7 +353,7 @@ fn second_word<'a>(text: &'a str, end: usize, at: usize) -> Option<Finding<'a>>
     } else if byte_at(text, end_of(Class::Left, text, at)) == b'=' {
         None
     } else {
-        Some(other_sign(Mistake::Key(KeyMistake::NoEquals), text, at, at))
+        Some(other_sign(NO_EQUALS, text, at, at))
     }
 }
 
@@ -221,13 +380,9 @@ fn brace<'a>(text: &'a str, at: usize) -> Option<Finding<'a>>
     if begins(text, before, b"{{") && at != before {
         Some(placeholder(text, before))
     } else if begins(text, at, b"{{") || begins(text, at, b"{%") || begins(text, at, b"{#") {
-        Some(marked(
-            Mistake::Format(FormatMistake::TemplateLine),
-            at,
-            last_of_line(text, at),
-        ))
+        Some(marked(TEMPLATE_LINE, at, last_of_line(text, at)))
     } else if byte_at(text, end_of(Class::Gap, text, next)) == b'"' {
-        Some(marked(Mistake::Format(FormatMistake::JsonDocument), at, next))
+        Some(marked(JSON_DOCUMENT, at, next))
     } else {
         brace_header(text, at)
     }
@@ -242,12 +397,7 @@ fn brace_header<'a>(text: &'a str, at: usize) -> Option<Finding<'a>>
     let end = end_of(Class::Dotted, text, name);
     if name < end && byte_at(text, end) == b'}' && is_last(text, ahead(text, end, 1)) {
         let code = pieces("[", part(text, name, end), "]");
-        Some(replaced(
-            Mistake::Format(FormatMistake::BraceHeader),
-            at,
-            ahead(text, end, 1),
-            code,
-        ))
+        Some(replaced(BRACE_HEADER, at, ahead(text, end, 1), code))
     } else {
         None
     }
@@ -261,42 +411,30 @@ fn placeholder<'a>(text: &'a str, at: usize) -> Finding<'a>
     let close = end_of(Class::Enclosed, text, at);
     let quotes = end_of(Class::Unquoted, text, at);
     if close > quotes || !begins(text, close, b"}}") {
-        return marked(
-            Mistake::Format(FormatMistake::Template),
-            at,
-            ahead(text, at, 2),
-        );
+        return marked(TEMPLATE, at, ahead(text, at, 2));
     }
     let end = ahead(text, close, 2);
-    quoted(Mistake::Format(FormatMistake::Template), text, at, end)
+    quoted(TEMPLATE, text, at, end)
 }
 
 /// Makes the mistake of an extra dot or comma.
 #[tactic(auto, unfolding(crate::specs::found::Keys::extra))]
 pub(crate) fn extra<'a>(mistake: Mistake, text: &'a str, at: usize) -> Finding<'a>
-    ensures { finding_content result ≡ spec.extra mistake text.now at }
+    ensures { finding_content result ≡ spec.extra (texts mistake.entry) text.now at }
 {
-    replaced(mistake, at, ahead(text, at, 1), pieces("", "", ""))
+    removed(mistake, at, ahead(text, at, 1))
 }
 
 /// Makes the mistake of an equals sign or a closing bracket where a key is expected.
 #[tactic(auto, unfolding(crate::specs::found::Keys::missing_key))]
 fn missing_key<'a>(mistake: Mistake, text: &'a str, at: usize) -> Finding<'a>
-    ensures { finding_content result ≡ spec.missing_key mistake text.now at }
+    ensures { finding_content result ≡ spec.missing_key (texts mistake.entry) text.now at }
 {
     if byte_before(text, at) == b'.' {
         let end = start_of(Class::Blank, text, at);
-        extra(
-            Mistake::Key(KeyMistake::ExtraDot),
-            text,
-            end.saturating_sub(1),
-        )
+        extra(EXTRA_DOT, text, end.saturating_sub(1))
     } else if begins(text, at, b"=======") {
-        marked(
-            Mistake::Symbol(SymbolMistake::Conflict),
-            at,
-            last_of_line(text, at),
-        )
+        marked(CONFLICT, at, last_of_line(text, at))
     } else {
         marked(mistake, at, ahead(text, at, 1))
     }
@@ -308,10 +446,10 @@ pub(crate) fn no_key<'a>(found: &str, text: &'a str, at: usize) -> Option<Findin
     ensures { option_map finding_content result ≡ spec.no_key found.now text.now at }
 {
     match found {
-        "a period" => Some(extra(Mistake::Key(KeyMistake::ExtraDot), text, at)),
-        "a comma" => Some(extra(Mistake::List(ListMistake::ExtraComma), text, at)),
-        "an equals" => Some(missing_key(Mistake::Key(KeyMistake::NoKey), text, at)),
-        "a right bracket" => Some(missing_key(Mistake::Key(KeyMistake::NoName), text, at)),
+        "a period" => Some(extra(EXTRA_DOT, text, at)),
+        "a comma" => Some(extra(EXTRA_COMMA, text, at)),
+        "an equals" => Some(missing_key(NO_KEY, text, at)),
+        "a right bracket" => Some(missing_key(NO_NAME, text, at)),
         "a left brace" => brace(text, at),
         _ => None,
     }

@@ -1,19 +1,22 @@
 //! Missing values, and arrays, inline tables and headers that are not closed.
 ghost use Rattle.std.specs.Prelude.{◌≡◌, option_map};
 ghost use Rattle.toml_span_report.specs.Finding.{finding_content};
+ghost use Rattle.toml_span_report.specs.Words.{texts};
 ghost use Rattle.toml_span_report.specs.found.Lists as spec;
 
 use crate::bytes::{
     Class, ahead, begins, byte_at, byte_before, byte_behind, end_of, first_of_line, is_last,
     last_of_line, part, start_of,
 };
-use crate::finding::{
-    Finding, KeyMistake, ListMistake, Mistake, NumberMistake, ValueMistake, marked, mended, pieces,
-    replaced, span_of,
-};
+use crate::finding::{Finding, marked, mended, pieces, removed, replaced, span_of};
 use crate::mistakes::keys::{header_key, other_sign};
 use crate::mistakes::values::{unquoted, unquoted_value};
 use crate::scan::{is_in_header, is_long, open_before};
+use crate::words::{
+    ARRAY_ALONE, CLOSED_BY_BRACE, CLOSED_BY_BRACKET, EQUALS, EXTRA_COMMA, HASH_VALUE,
+    LEADING_POINT, Mistake, NO_COMMA, NO_COMMA_IN_TABLE, NO_VALUE_BEHIND, OPEN_ARRAY, OPEN_HEADER,
+    OPEN_TABLE, VALUE_BELOW,
+};
 
 /// Makes the mistake of a bracket that is not closed: the outermost one open before an offset.
 #[tactic(auto, unfolding(crate::specs::found::Lists::unclosed))]
@@ -22,9 +25,9 @@ pub(crate) fn unclosed<'a>(text: &'a str, at: usize) -> Finding<'a>
 {
     let bracket = open_before(text, at).bracket;
     let mistake = if byte_at(text, bracket) == b'{' {
-        Mistake::List(ListMistake::OpenTable)
+        OPEN_TABLE
     } else {
-        Mistake::List(ListMistake::OpenArray)
+        OPEN_ARRAY
     };
     let mut found = marked(mistake, at, at);
     found.also = span_of(bracket, ahead(text, bracket, 1));
@@ -59,12 +62,7 @@ fn value_below<'a>(text: &'a str, at: usize) -> Option<Finding<'a>>
             " ",
             part(text, below, end),
         );
-        Some(mended(
-            Mistake::Value(ValueMistake::ValueBelow),
-            span_of(at, at),
-            span_of(start, end),
-            code,
-        ))
+        Some(mended(VALUE_BELOW, span_of(at, at), span_of(start, end), code))
     } else {
         None
     }
@@ -78,7 +76,7 @@ pub(crate) fn missing_value<'a>(text: &'a str, at: usize) -> Option<Finding<'a>>
     if byte_before(text, at) == b'=' {
         match value_below(text, at) {
             Some(found) => Some(found),
-            None => Some(marked(Mistake::Value(ValueMistake::NoValueBehind), at, at)),
+            None => Some(marked(NO_VALUE_BEHIND, at, at)),
         }
     } else {
         open_end(text, at)
@@ -93,7 +91,7 @@ fn hash<'a>(text: &'a str, at: usize) -> Option<Finding<'a>>
     let end = end_of(Class::Hex, text, ahead(text, at, 1));
     if ahead(text, at, 1) < end && end == end_of(Class::Word, text, at) {
         let quoted = pieces("\"", part(text, at, end), "\"");
-        Some(replaced(Mistake::Value(ValueMistake::HashValue), at, end, quoted))
+        Some(replaced(HASH_VALUE, at, end, quoted))
     } else {
         missing_value(text, at)
     }
@@ -108,12 +106,7 @@ fn comma<'a>(text: &'a str, at: usize) -> Option<Finding<'a>>
         None
     } else {
         let end = ahead(text, at, 1);
-        Some(replaced(
-            Mistake::List(ListMistake::ExtraComma),
-            at,
-            end,
-            pieces("", "", ""),
-        ))
+        Some(removed(EXTRA_COMMA, at, end))
     }
 }
 
@@ -128,7 +121,7 @@ fn point<'a>(text: &'a str, at: usize) -> Option<Finding<'a>>
         Some(unquoted_value(text, at))
     } else if digits == end {
         let code = pieces("0", part(text, at, end), "");
-        Some(replaced(Mistake::Number(NumberMistake::LeadingPoint), at, end, code))
+        Some(replaced(LEADING_POINT, at, end, code))
     } else {
         None
     }
@@ -141,12 +134,7 @@ fn equals<'a>(text: &'a str, at: usize) -> Option<Finding<'a>>
 {
     let before = at.saturating_sub(1);
     if begins(text, before, b"==") {
-        Some(other_sign(
-            Mistake::Key(KeyMistake::Equals),
-            text,
-            before,
-            ahead(text, at, 1),
-        ))
+        Some(other_sign(EQUALS, text, before, ahead(text, at, 1)))
     } else {
         None
     }
@@ -180,7 +168,7 @@ fn open_header<'a>(text: &'a str, bracket: usize) -> Finding<'a>
         "]"
     };
     let code = pieces(part(text, bracket, end), closing, "");
-    replaced(Mistake::List(ListMistake::OpenHeader), bracket, end, code)
+    replaced(OPEN_HEADER, bracket, end, code)
 }
 
 /// Finds the mistake of what was found where a header should end.
@@ -190,11 +178,7 @@ fn header<'a>(found: &str, text: &'a str, at: usize, bracket: usize) -> Option<F
 {
     match found {
         "a newline" | "eof" | "a comment" => Some(open_header(text, bracket)),
-        "a comma" => Some(marked(
-            Mistake::List(ListMistake::ArrayAlone),
-            bracket,
-            last_of_line(text, at),
-        )),
+        "a comma" => Some(marked(ARRAY_ALONE, bracket, last_of_line(text, at))),
         _ => header_key(text, at),
     }
 }
@@ -236,7 +220,7 @@ pub(crate) fn word<'a>(text: &'a str, at: usize) -> Finding<'a>
 /// Makes the mistake of a missing comma before an offset.
 #[tactic(auto, unfolding(crate::specs::found::Lists::missing_comma))]
 fn missing_comma<'a>(mistake: Mistake, text: &'a str, at: usize) -> Finding<'a>
-    ensures { finding_content result ≡ spec.missing_comma mistake text.now at }
+    ensures { finding_content result ≡ spec.missing_comma (texts mistake.entry) text.now at }
 {
     let end = start_of(Class::Gap, text, at);
     let mut found = marked(mistake, at, end_of(Class::Word, text, at));
@@ -254,7 +238,7 @@ fn missing_comma<'a>(mistake: Mistake, text: &'a str, at: usize) -> Finding<'a>
 /// Finds the mistake of another token where an array or an inline table continues or ends.
 #[tactic(auto, unfolding(crate::specs::found::Lists::unseparated))]
 fn unseparated<'a>(mistake: Mistake, text: &'a str, at: usize) -> Finding<'a>
-    ensures { finding_content result ≡ spec.unseparated mistake text.now at }
+    ensures { finding_content result ≡ spec.unseparated (texts mistake.entry) text.now at }
 {
     let is_unindented = start_of(Class::Line, text, at) == at;
     if is_assignment(text, at) || byte_at(text, at) == b'[' && is_unindented {
@@ -272,7 +256,7 @@ fn wrong_closing<'a>(
     at: usize,
     closing: &'static str,
 ) -> Finding<'a>
-    ensures { finding_content result ≡ spec.wrong_closing mistake text.now at closing.now }
+    ensures { finding_content result ≡ spec.wrong_closing (texts mistake.entry) text.now at closing.now }
 {
     let end = ahead(text, at, 1);
     let bracket = open_before(text, at).bracket;
@@ -306,14 +290,9 @@ pub(crate) fn no_bracket<'a>(found: &str, text: &'a str, at: usize) -> Option<Fi
     }
     match found {
         "eof" => Some(unclosed(text, at)),
-        "a right brace" => Some(wrong_closing(
-            Mistake::List(ListMistake::ClosedByBrace),
-            text,
-            at,
-            "]",
-        )),
+        "a right brace" => Some(wrong_closing(CLOSED_BY_BRACE, text, at, "]")),
         "a period" | "a colon" | "a plus" => glued(text, at),
-        _ => Some(unseparated(Mistake::List(ListMistake::NoComma), text, at)),
+        _ => Some(unseparated(NO_COMMA, text, at)),
     }
 }
 
@@ -324,13 +303,8 @@ pub(crate) fn no_comma<'a>(found: &str, text: &'a str, at: usize) -> Option<Find
 {
     match found {
         "eof" => Some(unclosed(text, at)),
-        "a right bracket" => Some(wrong_closing(
-            Mistake::List(ListMistake::ClosedByBracket),
-            text,
-            at,
-            "}",
-        )),
+        "a right bracket" => Some(wrong_closing(CLOSED_BY_BRACKET, text, at, "}")),
         "a period" | "a colon" | "a plus" => glued(text, at),
-        _ => Some(unseparated(Mistake::List(ListMistake::NoCommaInTable), text, at)),
+        _ => Some(unseparated(NO_COMMA_IN_TABLE, text, at)),
     }
 }

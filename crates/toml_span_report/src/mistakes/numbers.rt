@@ -1,16 +1,18 @@
 //! Numbers that are not valid in TOML.
-ghost use Rattle.std.specs.Prelude.{◌≡◌, option_map};
+ghost use Rattle.std.specs.Prelude.{◌≡◌, length, option_map};
 ghost use Rattle.toml_span_report.specs.Finding.{finding_content};
 ghost use Rattle.toml_span_report.specs.found.Numbers as spec;
 
 use crate::bytes::{Class, ahead, begins, byte_at, end_of, is_in, part, start_of};
-use crate::finding::{
-    Code, Finding, Mistake, NumberMistake, ValueMistake, marked, pieces, quoted, replaced,
-};
+use crate::finding::{Code, Finding, marked, pieces, quoted, replaced, six};
 use crate::mistakes::dates::slash_date;
+use crate::words::{
+    LEADING_ZERO, OCTAL, OTHER_DIGIT, SIGNED_DECIMAL, SIGNED_PREFIX, SIGNS, THOUSANDS, TOO_LARGE,
+    TRAILING_POINT, UNDERSCORE, UNQUOTED, UPPER_PREFIX,
+};
 
 /// Returns where a number begins after its sign.
-fn behind_sign(text: &str, at: usize) -> usize
+pub(crate) fn behind_sign(text: &str, at: usize) -> usize
     ensures { result ≡ spec.behind_sign text.now at }
 {
     if matches!(byte_at(text, at), b'+' | b'-') {
@@ -44,6 +46,77 @@ fn lower_prefix(letter: u8) -> &'static str
     }
 }
 
+/// Returns the value of a digit, or 16 for any other byte.
+fn digit_of(byte: u8) -> u64
+    ensures { result ≡ spec.digit_of byte }
+{
+    match byte {
+        b'0'..=b'9' => u64::from(byte - 48),
+        b'a'..=b'f' => u64::from(byte - 87),
+        b'A'..=b'F' => u64::from(byte - 55),
+        _ => 16,
+    }
+}
+
+/// Returns the base of a number whose prefix has this letter.
+fn base_of(letter: u8) -> u64
+    ensures { result ≡ spec.base_of letter }
+{
+    match letter {
+        b'x' | b'X' => 16,
+        b'o' | b'O' => 8,
+        _ => 2,
+    }
+}
+
+/// Returns a value with one more digit, or with `_`, which changes nothing. `u64::MAX` stands for all that is greater.
+fn next_value(value: Option<u64>, base: u64, byte: u8) -> Option<u64>
+    ensures { result ≡ spec.next_value value base byte }
+{
+    let value = value?;
+    if byte == b'_' {
+        Some(value)
+    } else if digit_of(byte) < base {
+        Some(value.saturating_mul(base).saturating_add(digit_of(byte)))
+    } else {
+        None
+    }
+}
+
+/// Returns the value of digits, or `u64::MAX` if it is greater. `None` if one of them is not a digit in this base.
+fn value_of(digits: &str, base: u64) -> Option<u64>
+    ensures { result ≡ spec.value_of digits.now base (length digits.now) }
+{
+    let mut value = Some(0);
+    for i in 0..digits.len() {
+        value = next_value(value, base, byte_at(digits, i));
+    }
+    value
+}
+
+/// Finds the mistake of a signed number with a prefix, whose `0` is at `zero`: a decimal number may have a sign.
+#[tactic(auto, unfolding(crate::specs::found::Numbers::signed_prefix))]
+fn signed_prefix<'a>(text: &'a str, start: usize, zero: usize, end: usize) -> Finding<'a>
+    ensures { finding_content result ≡ spec.signed_prefix text.now start zero end }
+{
+    let base = base_of(byte_at(text, ahead(text, zero, 1)));
+    match value_of(part(text, ahead(text, zero, 2), end), base) {
+        Some(value) if value <= 9223372036854775808 => {
+            let sign = if byte_at(text, start) == b'-' {
+                "-"
+            } else {
+                ""
+            };
+            let code = Code {
+                number: Some(value),
+                ..pieces(sign, "", "")
+            };
+            replaced(SIGNED_DECIMAL, start, end, code)
+        }
+        _ => marked(SIGNED_PREFIX, start, end),
+    }
+}
+
 /// Finds the mistake of a number with a prefix, whose `0` is at `zero`.
 #[tactic(auto, unfolding(crate::specs::found::Numbers::prefixed))]
 fn prefixed<'a>(text: &'a str, start: usize, zero: usize, end: usize) -> Option<Finding<'a>>
@@ -55,18 +128,13 @@ fn prefixed<'a>(text: &'a str, start: usize, zero: usize, end: usize) -> Option<
     if byte_at(text, zero) != b'0' || (digits.is_empty() && lower.is_empty()) {
         None
     } else if start != zero {
-        Some(marked(Mistake::Number(NumberMistake::SignedPrefix), start, end))
+        Some(signed_prefix(text, start, zero, end))
     } else if digits.is_empty() {
         let code = pieces(lower, part(text, ahead(text, zero, 2), end), "");
-        Some(replaced(
-            Mistake::Number(NumberMistake::UpperPrefix),
-            start,
-            end,
-            code,
-        ))
+        Some(replaced(UPPER_PREFIX, start, end, code))
     } else {
-        let mut found = marked(Mistake::Number(NumberMistake::OtherDigit), start, end);
-        found.name = digits;
+        let mut found = marked(OTHER_DIGIT, start, end);
+        found.label = pieces(digits, "", "");
         Some(found)
     }
 }
@@ -81,7 +149,7 @@ fn zeros<'a>(text: &'a str, start: usize, digits: usize, end: usize) -> Finding<
         && !matches!(byte_at(text, more), b'0' | b'8' | b'9');
     if is_mode && start == digits && end_of(Class::Digit, text, digits) == end {
         let code = pieces("0o", part(text, more, end), "");
-        return replaced(Mistake::Number(NumberMistake::Octal), start, end, code);
+        return replaced(OCTAL, start, end, code);
     }
     let other = end_of(Class::Zero, text, digits);
     let kept = if is_in(Class::Digit, byte_at(text, other)) {
@@ -90,12 +158,7 @@ fn zeros<'a>(text: &'a str, start: usize, digits: usize, end: usize) -> Finding<
         other.saturating_sub(1)
     };
     let code = pieces(part(text, start, digits), part(text, kept, end), "");
-    replaced(
-        Mistake::Number(NumberMistake::LeadingZero),
-        start,
-        end,
-        code,
-    )
+    replaced(LEADING_ZERO, start, end, code)
 }
 
 /// Finds the mistake of a number whose decimal point, at `point`, has no digit after it.
@@ -106,12 +169,7 @@ fn trailing_point<'a>(text: &'a str, start: usize, point: usize, end: usize) -> 
     let next = ahead(text, point, 1);
     if byte_at(text, point) == b'.' && (next == end || matches!(byte_at(text, next), b'e' | b'E')) {
         let code = pieces(part(text, start, next), "0", part(text, next, end));
-        Some(replaced(
-            Mistake::Number(NumberMistake::TrailingPoint),
-            start,
-            end,
-            code,
-        ))
+        Some(replaced(TRAILING_POINT, start, end, code))
     } else {
         None
     }
@@ -126,7 +184,7 @@ fn integer<'a>(text: &'a str, start: usize, digits: usize, end: usize) -> Findin
     let second = ahead(text, first, 1);
     if byte_at(text, end.saturating_sub(1)) == b'_' && second == end {
         replaced(
-            Mistake::Number(NumberMistake::Underscore),
+            UNDERSCORE,
             start,
             end,
             pieces(part(text, start, first), "", ""),
@@ -137,9 +195,9 @@ fn integer<'a>(text: &'a str, start: usize, digits: usize, end: usize) -> Findin
             part(text, ahead(text, second, 1), end),
             "",
         );
-        replaced(Mistake::Number(NumberMistake::Underscore), start, end, code)
+        replaced(UNDERSCORE, start, end, code)
     } else {
-        marked(Mistake::Number(NumberMistake::TooLarge), start, end)
+        marked(TOO_LARGE, start, end)
     }
 }
 
@@ -158,7 +216,7 @@ fn plain<'a>(text: &'a str, start: usize, digits: usize, end: usize) -> Option<F
     } else if end <= end_of(Class::Number, text, start) {
         trailing_point(text, start, point, end)
     } else {
-        Some(quoted(Mistake::Value(ValueMistake::Unquoted), text, start, end))
+        Some(quoted(UNQUOTED, text, start, end))
     }
 }
 
@@ -178,7 +236,7 @@ pub(crate) fn number<'a>(text: &'a str, at: usize) -> Option<Finding<'a>>
     }
     if matches!(byte_at(text, digits), b'+' | b'-') {
         let code = pieces(part(text, digits, end), "", "");
-        return Some(replaced(Mistake::Number(NumberMistake::Signs), start, end, code));
+        return Some(replaced(SIGNS, start, end, code));
     }
     plain(text, start, digits, end)
 }
@@ -196,21 +254,23 @@ pub(crate) fn thousands<'a>(text: &'a str, at: usize) -> Option<Finding<'a>>
     if start == at || end_of(Class::Digit, text, start) != at || group != ahead(text, next, 3) {
         None
     } else if byte_at(text, group) == b',' && last == ahead(text, other, 3) {
-        let code = Code {
-            first: part(text, start, at),
-            second: "_",
-            third: part(text, next, group),
-            fourth: "_",
-            fifth: part(text, other, last),
-        };
-        Some(replaced(Mistake::Number(NumberMistake::Thousands), start, last, code))
-    } else {
-        let code = pieces(part(text, start, at), "_", part(text, next, group));
-        Some(replaced(
-            Mistake::Number(NumberMistake::Thousands),
+        let (first, second, third) = (
+            part(text, start, at),
+            part(text, next, group),
+            part(text, other, last),
+        );
+        let mut found = replaced(
+            THOUSANDS,
             start,
-            group,
-            code,
-        ))
+            last,
+            six(first, "_", second, "_", third, ""),
+        );
+        found.other = pieces(first, second, third);
+        Some(found)
+    } else {
+        let (first, second) = (part(text, start, at), part(text, next, group));
+        let mut found = replaced(THOUSANDS, start, group, pieces(first, "_", second));
+        found.other = pieces(first, second, "");
+        Some(found)
     }
 }

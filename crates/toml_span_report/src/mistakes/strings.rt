@@ -6,25 +6,43 @@ ghost use Rattle.toml_span_report.specs.found.Strings as spec;
 use crate::bytes::{
     Class, ahead, begins, byte_at, end_of, first_of_line, last_of_line, part, start_of,
 };
-use crate::finding::{
-    Finding, KeyMistake, LineMistake, Mistake, TextMistake, marked, mended, pieces, replaced,
-    span_of,
-};
+use crate::finding::{Finding, marked, mended, pieces, replaced, span_of};
 use crate::scan::{is_long, open_before};
+use crate::words::{
+    BACKSLASH, BACKSLASH_IN_LONG, CONTROL, CONTROL_IN_LITERAL, LONG_KEY, NO_CHARACTER, OPEN_KEY,
+    OPEN_LITERAL, OPEN_LONG, OPEN_LONG_LITERAL, OPEN_STRING, QUOTE_IN_STRING, SHORT_ESCAPE,
+    SURROGATE,
+};
 
 /// Makes the mistake of a string on one line, with its quote at `quote`, that is not closed before `end`.
 #[tactic(auto, unfolding(crate::specs::found::Strings::open_string))]
 fn open_string<'a>(text: &'a str, quote: usize, end: usize) -> Finding<'a>
     ensures { finding_content result ≡ spec.open_string text.now quote end }
 {
-    let mistake = if first_of_line(text, quote) == quote && open_before(text, quote).depth == 0 {
-        Mistake::Key(KeyMistake::OpenKey)
-    } else if byte_at(text, quote) == b'"' {
-        Mistake::Text(TextMistake::OpenString)
+    if first_of_line(text, quote) == quote && open_before(text, quote).depth == 0 {
+        return open_key(text, quote, end);
+    }
+    let mistake = if byte_at(text, quote) == b'"' {
+        OPEN_STRING
     } else {
-        Mistake::Text(TextMistake::OpenLiteral)
+        OPEN_LITERAL
     };
     marked(mistake, quote, end)
+}
+
+/// Makes the mistake of a key with its quote at `quote`, that is not closed before `end`.
+#[tactic(auto, unfolding(crate::specs::found::Strings::open_key))]
+fn open_key<'a>(text: &'a str, quote: usize, end: usize) -> Finding<'a>
+    ensures { finding_content result ≡ spec.open_key text.now quote end }
+{
+    let equals = end_of(Class::Left, text, quote);
+    let key_end = start_of(Class::Blank, text, equals);
+    let first = part(text, quote, ahead(text, quote, 1));
+    if byte_at(text, equals) != b'=' {
+        return marked(OPEN_KEY, quote, end);
+    }
+    let code = pieces(part(text, quote, key_end), first, part(text, key_end, end));
+    replaced(OPEN_KEY, quote, end, code)
 }
 
 /// Returns two hexadecimal digits for a byte below 32, or for 127.
@@ -52,9 +70,9 @@ fn control<'a>(text: &'a str, at: usize, quote: usize) -> Finding<'a>
     let end = ahead(text, at, 1);
     if byte_at(text, quote) == b'"' {
         let code = pieces("\\u00", hex_of(byte_at(text, at)), "");
-        replaced(Mistake::Text(TextMistake::Control), at, end, code)
+        replaced(CONTROL, at, end, code)
     } else {
-        marked(Mistake::Text(TextMistake::ControlInLiteral), at, end)
+        marked(CONTROL_IN_LITERAL, at, end)
     }
 }
 
@@ -80,12 +98,15 @@ fn backslash<'a>(text: &'a str, at: usize, end: usize) -> Finding<'a>
     let quote = open_before(text, at).string;
     let content = ahead(text, quote, 1);
     let close = end_of(Class::Unquoted, text, content);
-    if is_long(text, quote) || byte_at(text, close) != b'"' {
-        return marked(Mistake::Text(TextMistake::Backslash), at, end);
+    if is_long(text, quote) {
+        return marked(BACKSLASH_IN_LONG, at, end);
+    }
+    if byte_at(text, close) != b'"' {
+        return marked(BACKSLASH, at, end);
     }
     let code = pieces("'", part(text, content, close), "'");
     mended(
-        Mistake::Text(TextMistake::Backslash),
+        BACKSLASH,
         span_of(at, end),
         span_of(quote, ahead(text, close, 1)),
         code,
@@ -133,12 +154,14 @@ pub(crate) fn hex_escape<'a>(text: &'a str, at: usize) -> Finding<'a>
     let letter = byte_at(text, digits.saturating_sub(1));
     if digits == at || byte_at(text, start) != b'\\' {
         let mut found = backslash(text, start, ahead(text, at, 1));
-        found.name = digits_after(letter);
+        found.label = pieces(digits_after(letter), "", "");
         return found;
     }
     let zeros = zeros_of(letter, at.saturating_sub(digits));
     let code = pieces(part(text, start, digits), zeros, part(text, digits, at));
-    replaced(Mistake::Text(TextMistake::ShortEscape), start, at, code)
+    let mut found = replaced(SHORT_ESCAPE, start, at, code);
+    found.label = pieces(digits_after(letter), "", "");
+    found
 }
 
 /// Finds the mistake of digits that name no character. The escape's letter is at `at`.
@@ -149,9 +172,9 @@ pub(crate) fn escape_value<'a>(text: &'a str, at: usize, value: u32) -> Finding<
     let start = at.saturating_sub(1);
     let length = if byte_at(text, at) == b'U' { 9 } else { 5 };
     let mistake = if value < 0xE000 {
-        Mistake::Text(TextMistake::Surrogate)
+        SURROGATE
     } else {
-        Mistake::Text(TextMistake::NoCharacter)
+        NO_CHARACTER
     };
     marked(mistake, start, ahead(text, at, length))
 }
@@ -162,13 +185,9 @@ pub(crate) fn unterminated<'a>(text: &'a str, at: usize) -> Finding<'a>
     ensures { finding_content result ≡ spec.unterminated text.now at }
 {
     if begins(text, at, b"\"\"\"") {
-        marked(Mistake::Text(TextMistake::OpenLong), at, ahead(text, at, 3))
+        marked(OPEN_LONG, at, ahead(text, at, 3))
     } else if begins(text, at, b"'''") {
-        marked(
-            Mistake::Text(TextMistake::OpenLongLiteral),
-            at,
-            ahead(text, at, 3),
-        )
+        marked(OPEN_LONG_LITERAL, at, ahead(text, at, 3))
     } else {
         open_string(text, at, end_of(Class::Line, text, at))
     }
@@ -179,7 +198,7 @@ pub(crate) fn unterminated<'a>(text: &'a str, at: usize) -> Finding<'a>
 pub(crate) fn long_key<'a>(text: &'a str, at: usize) -> Finding<'a>
     ensures { finding_content result ≡ spec.long_key text.now at }
 {
-    marked(Mistake::Key(KeyMistake::LongKey), at, ahead(text, at, 3))
+    marked(LONG_KEY, at, ahead(text, at, 3))
 }
 
 /// Finds the mistake of a word right after a string, or between two: the string contains its own quote.
@@ -199,7 +218,7 @@ pub(crate) fn quote_in_string<'a>(text: &'a str, at: usize) -> Option<Finding<'a
     } else if quote == b'"' && !has(text, content, close, b'\'') {
         let code = pieces("'", part(text, content, close), "'");
         Some(mended(
-            Mistake::Line(LineMistake::QuoteInString),
+            QUOTE_IN_STRING,
             span_of(open, end),
             span_of(open, end),
             code,
@@ -207,7 +226,7 @@ pub(crate) fn quote_in_string<'a>(text: &'a str, at: usize) -> Option<Finding<'a
     } else if quote == b'\'' && !has(text, content, close, b'"') {
         let code = pieces("\"", part(text, content, close), "\"");
         Some(mended(
-            Mistake::Line(LineMistake::QuoteInString),
+            QUOTE_IN_STRING,
             span_of(open, end),
             span_of(open, end),
             code,

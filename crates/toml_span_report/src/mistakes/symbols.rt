@@ -8,11 +8,15 @@ use crate::bytes::{
     start_of,
 };
 use crate::finding::{
-    Finding, KeyMistake, Meant, Mistake, SymbolMistake, as_meant, marked, pieces, replaced, span_of,
+    Finding, Meant, as_meant, marked, mended, pieces, removed, replaced, span_of,
 };
 use crate::mistakes::keys::{comment, header_key, other_key, other_sign};
 use crate::mistakes::values::unquoted_value;
 use crate::scan::{is_in_header, open_before};
+use crate::words::{
+    ARROW, BACKTICKS, BLOCK_COMMENT, COMMENT_LINE, CONFLICT, CURLY_QUOTES, INVISIBLE, LONE_RETURN,
+    MARKUP, OTHER_SIGN, OTHER_SPACE, PARENTHESES, SEMICOLON, SEMICOLONS, SLASHES,
+};
 
 /// Returns the TOML character that a character looks like, with the mistake and the character's Unicode name.
 #[tactic(auto, unfolding(crate::specs::found::Symbols::look_alike))]
@@ -20,61 +24,17 @@ fn look_alike(c: char) -> Option<Meant>
     ensures { option_map meant_content result ≡ spec.look_alike c }
 {
     match c as u32 {
-        0xA0 => as_meant(
-            Mistake::Symbol(SymbolMistake::OtherSpace),
-            "NO-BREAK SPACE (U+00A0)",
-            " ",
-        ),
-        0x2009 => as_meant(
-            Mistake::Symbol(SymbolMistake::OtherSpace),
-            "THIN SPACE (U+2009)",
-            " ",
-        ),
-        0x202F => as_meant(
-            Mistake::Symbol(SymbolMistake::OtherSpace),
-            "NARROW NO-BREAK SPACE (U+202F)",
-            " ",
-        ),
-        0x3000 => as_meant(
-            Mistake::Symbol(SymbolMistake::OtherSpace),
-            "IDEOGRAPHIC SPACE (U+3000)",
-            " ",
-        ),
-        0x200B => as_meant(
-            Mistake::Symbol(SymbolMistake::Invisible),
-            "ZERO WIDTH SPACE (U+200B)",
-            "",
-        ),
-        0xFEFF => as_meant(
-            Mistake::Symbol(SymbolMistake::Invisible),
-            "BYTE ORDER MARK (U+FEFF)",
-            "",
-        ),
-        0x2013 => as_meant(
-            Mistake::Symbol(SymbolMistake::OtherSign),
-            "EN DASH (U+2013)",
-            "-",
-        ),
-        0x2014 => as_meant(
-            Mistake::Symbol(SymbolMistake::OtherSign),
-            "EM DASH (U+2014)",
-            "-",
-        ),
-        0x2212 => as_meant(
-            Mistake::Symbol(SymbolMistake::OtherSign),
-            "MINUS SIGN (U+2212)",
-            "-",
-        ),
-        0xFF1D => as_meant(
-            Mistake::Symbol(SymbolMistake::OtherSign),
-            "FULLWIDTH EQUALS SIGN (U+FF1D)",
-            "=",
-        ),
-        0xFF0C => as_meant(
-            Mistake::Symbol(SymbolMistake::OtherSign),
-            "FULLWIDTH COMMA (U+FF0C)",
-            ",",
-        ),
+        0xA0 => as_meant(OTHER_SPACE, "NO-BREAK SPACE (U+00A0)", " "),
+        0x2009 => as_meant(OTHER_SPACE, "THIN SPACE (U+2009)", " "),
+        0x202F => as_meant(OTHER_SPACE, "NARROW NO-BREAK SPACE (U+202F)", " "),
+        0x3000 => as_meant(OTHER_SPACE, "IDEOGRAPHIC SPACE (U+3000)", " "),
+        0x200B => as_meant(INVISIBLE, "ZERO WIDTH SPACE (U+200B)", ""),
+        0xFEFF => as_meant(INVISIBLE, "BYTE ORDER MARK (U+FEFF)", ""),
+        0x2013 => as_meant(OTHER_SIGN, "EN DASH (U+2013)", "-"),
+        0x2014 => as_meant(OTHER_SIGN, "EM DASH (U+2014)", "-"),
+        0x2212 => as_meant(OTHER_SIGN, "MINUS SIGN (U+2212)", "-"),
+        0xFF1D => as_meant(OTHER_SIGN, "FULLWIDTH EQUALS SIGN (U+FF1D)", "="),
+        0xFF0C => as_meant(OTHER_SIGN, "FULLWIDTH COMMA (U+FF0C)", ","),
         _ => None,
     }
 }
@@ -102,20 +62,20 @@ fn curly<'a>(text: &'a str, at: usize, name: &'static str) -> Finding<'a>
 {
     let content = ahead(text, at, 3);
     let close = end_of(Class::Straight, text, content);
-    let mut found = marked(
-        Mistake::Symbol(SymbolMistake::CurlyQuotes),
-        at,
-        ahead(text, at, 1),
-    );
-    found.name = name;
-    if begins(text, close, b"\xE2\x80")
+    let mark = span_of(at, ahead(text, at, 1));
+    let is_closed = begins(text, close, b"\xE2\x80")
         && end_of(Class::Unquoted, text, content) >= close
-        && end_of(Class::Unescaped, text, content) >= close
-    {
-        found.edit = Some(span_of(at, ahead(text, close, 3)));
-        found.code = pieces("\"", part(text, content, close), "\"");
+        && end_of(Class::Unescaped, text, content) >= close;
+    let found = if is_closed {
+        let code = pieces("\"", part(text, content, close), "\"");
+        mended(CURLY_QUOTES, mark, span_of(at, ahead(text, close, 3)), code)
+    } else {
+        marked(CURLY_QUOTES, mark.start, mark.end)
+    };
+    Finding {
+        label: pieces(name, "", ""),
+        ..found
     }
-    found
 }
 
 /// Makes the mistake of a character that stands for another one.
@@ -126,7 +86,7 @@ fn other_character<'a>(text: &'a str, at: usize, meant: Meant) -> Finding<'a>
     let end = end_of(Class::Continuation, text, ahead(text, at, 1));
     let code = pieces(meant.code, "", "");
     let mut found = replaced(meant.mistake, at, end, code);
-    found.name = meant.name;
+    found.label = pieces(meant.name, "", "");
     found
 }
 
@@ -152,15 +112,9 @@ fn semicolon<'a>(text: &'a str, at: usize) -> Finding<'a>
 {
     let end = ahead(text, at, 1);
     if is_last(text, end) && first_of_line(text, at) != at {
-        replaced(
-            Mistake::Symbol(SymbolMistake::Semicolon),
-            at,
-            end,
-            pieces("", "", ""),
-        )
-    } else {
-        comment(text, at, 1)
+        return removed(SEMICOLON, at, end);
     }
+    comment(SEMICOLONS, text, at, 1)
 }
 
 /// Finds the mistake of a string between backticks.
@@ -171,15 +125,10 @@ fn backticks<'a>(text: &'a str, at: usize) -> Finding<'a>
     let content = ahead(text, at, 1);
     let close = end_of(Class::Unquoted, text, content);
     if byte_at(text, close) != b'`' || end_of(Class::Unescaped, text, content) < close {
-        return marked(Mistake::Symbol(SymbolMistake::Backticks), at, content);
+        return marked(BACKTICKS, at, content);
     }
     let code = pieces("\"", part(text, content, close), "\"");
-    replaced(
-        Mistake::Symbol(SymbolMistake::Backticks),
-        at,
-        ahead(text, close, 1),
-        code,
-    )
+    replaced(BACKTICKS, at, ahead(text, close, 1), code)
 }
 
 /// Finds the mistake of a list in parentheses.
@@ -190,15 +139,10 @@ fn parentheses<'a>(text: &'a str, at: usize) -> Finding<'a>
     let content = ahead(text, at, 1);
     let close = end_of(Class::Enclosed, text, content);
     if byte_at(text, close) != b')' {
-        return marked(Mistake::Symbol(SymbolMistake::Parentheses), at, content);
+        return marked(PARENTHESES, at, content);
     }
     let code = pieces("[", part(text, content, close), "]");
-    replaced(
-        Mistake::Symbol(SymbolMistake::Parentheses),
-        at,
-        ahead(text, close, 1),
-        code,
-    )
+    replaced(PARENTHESES, at, ahead(text, close, 1), code)
 }
 
 /// Finds the mistake of what was found at the beginning of a line.
@@ -211,12 +155,27 @@ fn at_line_start<'a>(text: &'a str, at: usize) -> Option<Finding<'a>>
         || begins(text, at, b">>>>>>>")
         || begins(text, at, b"|||||||")
     {
-        return Some(marked(Mistake::Symbol(SymbolMistake::Conflict), at, end));
+        return Some(marked(CONFLICT, at, end));
     }
     if begins(text, at, b"<") && byte_at(text, end.saturating_sub(1)) == b'>' {
-        return Some(marked(Mistake::Symbol(SymbolMistake::Markup), at, end));
+        return Some(marked(MARKUP, at, end));
     }
     None
+}
+
+/// Makes the mistake of a block comment: one on a single line, after which the line ends, can be replaced.
+#[tactic(auto, unfolding(crate::specs::found::Symbols::block_comment))]
+fn block_comment<'a>(text: &'a str, at: usize) -> Finding<'a>
+    ensures { finding_content result ≡ spec.block_comment text.now at }
+{
+    let start = ahead(text, at, 2);
+    let last = last_of_line(text, at);
+    let close = last.saturating_sub(2);
+    if start > close || !begins(text, close, b"*/") {
+        return marked(BLOCK_COMMENT, at, start);
+    }
+    let content = part(text, start, start_of(Class::Blank, text, close));
+    replaced(COMMENT_LINE, at, last, pieces("#", content, ""))
 }
 
 /// Finds the mistake of a comment or a line's end as other languages write them.
@@ -225,21 +184,13 @@ fn foreign<'a>(text: &'a str, at: usize) -> Option<Finding<'a>>
     ensures { option_map finding_content result ≡ spec.foreign text.now at }
 {
     if begins(text, at, b"//") {
-        Some(comment(text, at, 2))
+        Some(comment(SLASHES, text, at, 2))
     } else if begins(text, at, b"/*") {
-        Some(marked(
-            Mistake::Symbol(SymbolMistake::BlockComment),
-            at,
-            ahead(text, at, 2),
-        ))
+        Some(block_comment(text, at))
     } else if begins(text, at, b";") {
         Some(semicolon(text, at))
     } else if begins(text, at, b"\r") {
-        Some(marked(
-            Mistake::Symbol(SymbolMistake::LoneReturn),
-            at,
-            ahead(text, at, 1),
-        ))
+        Some(marked(LONE_RETURN, at, ahead(text, at, 1)))
     } else {
         None
     }
@@ -269,20 +220,11 @@ fn value<'a>(text: &'a str, at: usize, start: usize) -> Option<Finding<'a>>
     match byte_at(text, at) {
         b'>' if start == at && byte_at(text, at.saturating_sub(1)) == b'=' => {
             let from = at.saturating_sub(1);
-            Some(other_sign(
-                Mistake::Key(KeyMistake::Equals),
-                text,
-                from,
-                ahead(text, at, 1),
-            ))
+            Some(other_sign(ARROW, text, from, ahead(text, at, 1)))
         }
         b'|' | b'>' => None,
-        b'\r' => Some(marked(
-            Mistake::Symbol(SymbolMistake::LoneReturn),
-            at,
-            ahead(text, at, 1),
-        )),
-        b'/' if start < at && begins(text, at, b"//") => Some(comment(text, at, 2)),
+        b'\r' => Some(marked(LONE_RETURN, at, ahead(text, at, 1))),
+        b'/' if start < at && begins(text, at, b"//") => Some(comment(SLASHES, text, at, 2)),
         b';' if is_last(text, ahead(text, at, 1)) => Some(semicolon(text, at)),
         b'`' => Some(backticks(text, at)),
         b'(' => Some(parentheses(text, at)),

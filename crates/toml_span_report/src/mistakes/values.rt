@@ -4,39 +4,24 @@ ghost use Rattle.toml_span_report.specs.Finding.{finding_content, meant_content}
 ghost use Rattle.toml_span_report.specs.found.Values as spec;
 
 use crate::bytes::{Class, ahead, byte_at, byte_behind, end_of, part, start_of};
-use crate::finding::{
-    Finding, Meant, Mistake, ValueMistake, as_meant, marked, pieces, quoted, replaced,
+use crate::finding::{Finding, Meant, as_meant, marked, pieces, quoted, replaced};
+use crate::words::{
+    NULL, OTHER_BOOLEAN, OTHER_FLOAT, PREFIXED, RAW_STRING, UNQUOTED, UNQUOTED_TEXT, UPPER_BOOLEAN,
 };
 
 /// Returns what TOML has for a word of other languages: the mistake, and the code to write.
 #[tactic(auto, unfolding(crate::specs::found::Values::known_word))]
-fn known_word(word: &str) -> Option<Meant>
+pub(crate) fn known_word(word: &str) -> Option<Meant>
     ensures { option_map meant_content result ≡ spec.known_word word.now }
 {
     match word {
-        "True" | "TRUE" => as_meant(Mistake::Value(ValueMistake::UpperBoolean), "", "true"),
-        "False" | "FALSE" => as_meant(Mistake::Value(ValueMistake::UpperBoolean), "", "false"),
-        "yes" | "Yes" | "YES" | "on" | "On" | "ON" => as_meant(
-            Mistake::Value(ValueMistake::OtherBoolean),
-            "",
-            "true",
-        ),
-        "no" | "No" | "NO" | "off" | "Off" | "OFF" => as_meant(
-            Mistake::Value(ValueMistake::OtherBoolean),
-            "",
-            "false",
-        ),
-        "null" | "Null" | "NULL" | "None" | "nil" | "undefined" => as_meant(
-            Mistake::Value(ValueMistake::Null),
-            "",
-            "",
-        ),
-        "NaN" | "NAN" | "Nan" => as_meant(Mistake::Value(ValueMistake::OtherFloat), "", "nan"),
-        "Infinity" | "infinity" | "Inf" | "INF" => as_meant(
-            Mistake::Value(ValueMistake::OtherFloat),
-            "",
-            "inf",
-        ),
+        "True" | "TRUE" => as_meant(UPPER_BOOLEAN, "", "true"),
+        "False" | "FALSE" => as_meant(UPPER_BOOLEAN, "", "false"),
+        "yes" | "Yes" | "YES" | "on" | "On" | "ON" => as_meant(OTHER_BOOLEAN, "", "true"),
+        "no" | "No" | "NO" | "off" | "Off" | "OFF" => as_meant(OTHER_BOOLEAN, "", "false"),
+        "null" | "Null" | "NULL" | "None" | "nil" | "undefined" => as_meant(NULL, "", ""),
+        "NaN" | "NAN" | "Nan" => as_meant(OTHER_FLOAT, "", "nan"),
+        "Infinity" | "infinity" | "Inf" | "INF" => as_meant(OTHER_FLOAT, "", "inf"),
         _ => None,
     }
 }
@@ -61,13 +46,8 @@ pub(crate) fn unquoted_value<'a>(text: &'a str, at: usize) -> Finding<'a>
 {
     let end = end_of(Class::Word, text, at);
     match byte_behind(text, end) {
-        b'"' | b'\'' => marked(Mistake::Value(ValueMistake::UnquotedText), at, end),
-        _ => quoted(
-            Mistake::Value(ValueMistake::Unquoted),
-            text,
-            at,
-            phrase_end(text, at, end),
-        ),
+        b'"' | b'\'' => marked(UNQUOTED_TEXT, at, end),
+        _ => quoted(UNQUOTED, text, at, phrase_end(text, at, end)),
     }
 }
 
@@ -79,17 +59,17 @@ fn prefixed<'a>(text: &'a str, at: usize, quote: usize) -> Finding<'a>
     let close = end_of(Class::Unquoted, text, ahead(text, quote, 1));
     let content = part(text, ahead(text, quote, 1), close);
     if byte_at(text, close) != byte_at(text, quote) || content.is_empty() {
-        marked(Mistake::Value(ValueMistake::UnquotedText), at, quote)
+        marked(UNQUOTED_TEXT, at, quote)
     } else if matches!(byte_at(text, at), b'r' | b'R') {
         replaced(
-            Mistake::Value(ValueMistake::RawString),
+            RAW_STRING,
             at,
             ahead(text, close, 1),
             pieces("'", content, "'"),
         )
     } else {
         replaced(
-            Mistake::Value(ValueMistake::Prefixed),
+            PREFIXED,
             at,
             ahead(text, close, 1),
             pieces(part(text, quote, ahead(text, close, 1)), "", ""),

@@ -1,26 +1,29 @@
 //! Tokens other than the expected ones, and values of another kind than a typed read expects.
 ghost use Rattle.std.specs.Prelude.{◌≡◌, option_map};
 ghost use Rattle.toml_span_report.specs.Finding.{finding_content};
+ghost use Rattle.toml_span_report.specs.Words.{texts};
 ghost use Rattle.toml_span_report.specs.found.Wanted as spec;
 
 use crate::bytes::{
     Class, ahead, byte_at, byte_before, byte_behind, end_of, first_of_line, is_in, is_last,
     last_of_line, part, start_of,
 };
-use crate::finding::{
-    Finding, LineMistake, ListMistake, Mistake, ValueMistake, marked, mended, pieces, quoted,
-    replaced, span_of,
-};
+use crate::finding::{Finding, marked, mended, pieces, quoted, removed, replaced, span_of};
 use crate::mistakes::keys::{extra, no_equals, no_key};
 use crate::mistakes::lists::{no_bracket, no_comma, no_value, open_end};
 use crate::mistakes::numbers::thousands;
 use crate::mistakes::strings::quote_in_string;
 use crate::mistakes::values::unquoted_value;
+use crate::tables::text_in;
+use crate::words::{
+    AFTER_VALUE, COMMA_BEHIND_VALUE, EXTRA_CLOSING, FLOAT_DUE, HALF_DAY, HEADER_BRACKET, JOINED,
+    KEY_AFTER_HEADER, LAST_COMMA, Mistake, SECOND_KEY, STRING_DUE, VALUE_OF_HEADER, ZONE_NAME,
+};
 use toml_span_lex::span::Span;
 
 /// Makes the mistake of a key that needs its own line: a line feed replaces what precedes it from an offset on.
 fn broken<'a>(mistake: Mistake, text: &'a str, from: usize, at: usize) -> Finding<'a>
-    ensures { finding_content result ≡ spec.broken mistake text.now from at }
+    ensures { finding_content result ≡ spec.broken (texts mistake.entry) text.now from at }
 {
     let mark = span_of(at, end_of(Class::Dotted, text, at));
     mended(mistake, mark, span_of(from, at), pieces("\n", "", ""))
@@ -36,21 +39,16 @@ fn comma<'a>(text: &'a str, at: usize) -> Finding<'a>
         return found;
     }
     if is_last(text, end) || byte_behind(text, end) == b'#' {
-        replaced(
-            Mistake::Line(LineMistake::LastComma),
-            at,
-            end,
-            pieces("", "", ""),
-        )
+        removed(LAST_COMMA, at, end)
     } else if byte_at(text, end_of(Class::Left, text, end)) == b'=' {
         mended(
-            Mistake::Line(LineMistake::CommaBehindValue),
+            COMMA_BEHIND_VALUE,
             span_of(at, end),
             span_of(at, end_of(Class::Blank, text, end)),
             pieces("\n", "", ""),
         )
     } else {
-        marked(Mistake::Line(LineMistake::AfterValue), at, end)
+        marked(AFTER_VALUE, at, end)
     }
 }
 
@@ -63,7 +61,7 @@ fn header_value<'a>(text: &'a str, line: usize, at: usize) -> Finding<'a>
     let last = last_of_line(text, at);
     let name = part(text, ahead(text, line, 1), stop);
     let code = pieces(name, " ", part(text, at, last));
-    replaced(Mistake::Line(LineMistake::ValueOfHeader), line, last, code)
+    replaced(VALUE_OF_HEADER, line, last, code)
 }
 
 /// Finds the mistake of a header with more after it on its line.
@@ -73,12 +71,11 @@ fn behind_header<'a>(found: &str, text: &'a str, line: usize, at: usize) -> Opti
 {
     let end = ahead(text, at, 1);
     let from = start_of(Class::Blank, text, at);
-    let mistake = Mistake::Line(LineMistake::KeyAfterHeader);
     match found {
-        "a right bracket" => Some(extra(Mistake::List(ListMistake::HeaderBracket), text, at)),
+        "a right bracket" => Some(extra(HEADER_BRACKET, text, at)),
         "an equals" => Some(header_value(text, line, at)),
-        "an identifier" | "a string" => Some(broken(mistake, text, from, at)),
-        _ => Some(marked(Mistake::Line(LineMistake::AfterValue), at, end)),
+        "an identifier" | "a string" => Some(broken(KEY_AFTER_HEADER, text, from, at)),
+        _ => Some(marked(AFTER_VALUE, at, end)),
     }
 }
 
@@ -87,6 +84,60 @@ fn is_half_day(word: &str) -> bool
     ensures { result ≡ spec.is_half_day word.now }
 {
     matches!(word, "AM" | "PM" | "am" | "pm")
+}
+
+/// The hours of the afternoon on a 24-hour clock.
+const AFTERNOON: [(&str, &str); 11] = [
+    ("01", "13"),
+    ("02", "14"),
+    ("03", "15"),
+    ("04", "16"),
+    ("05", "17"),
+    ("06", "18"),
+    ("07", "19"),
+    ("08", "20"),
+    ("09", "21"),
+    ("10", "22"),
+    ("11", "23"),
+];
+
+/// Returns an hour of a 12-hour clock on a 24-hour clock.
+#[tactic(auto, unfolding(crate::specs::found::Wanted::full_hour))]
+fn full_hour<'a>(hour: &'a str, is_late: bool) -> &'a str
+    ensures { result.now ≡ spec.full_hour hour.now is_late }
+{
+    if is_late {
+        match text_in(&AFTERNOON, hour) {
+            Some(later) => later,
+            None => hour,
+        }
+    } else if hour == "12" {
+        "00"
+    } else {
+        hour
+    }
+}
+
+/// Makes the mistake of a time with `AM` or `PM` after it, which is at `at`.
+#[tactic(auto, unfolding(crate::specs::found::Wanted::half_day))]
+fn half_day<'a>(text: &'a str, at: usize, end: usize) -> Finding<'a>
+    ensures { finding_content result ≡ spec.half_day text.now at end }
+{
+    let before = start_of(Class::Blank, text, at);
+    let start = start_of(Class::Clock, text, before);
+    let minutes = ahead(text, start, 2);
+    if byte_at(text, minutes) != b':' {
+        return marked(HALF_DAY, at, end);
+    }
+    let is_late = matches!(byte_at(text, at), b'P' | b'p');
+    let hour = full_hour(part(text, start, minutes), is_late);
+    let seconds = if before == ahead(text, start, 5) {
+        ":00"
+    } else {
+        ""
+    };
+    let code = pieces(hour, part(text, minutes, before), seconds);
+    mended(HALF_DAY, span_of(at, end), span_of(start, end), code)
 }
 
 /// Returns whether a word is a name of the offset that TOML writes as `Z`.
@@ -104,12 +155,7 @@ fn zone<'a>(text: &'a str, at: usize, end: usize) -> Finding<'a>
     let before = start_of(Class::Blank, text, at);
     let start = start_of(Class::Atom, text, before);
     let code = pieces(part(text, start, before), "Z", "");
-    mended(
-        Mistake::Line(LineMistake::ZoneName),
-        span_of(at, end),
-        span_of(start, end),
-        code,
-    )
+    mended(ZONE_NAME, span_of(at, end), span_of(start, end), code)
 }
 
 /// Finds the mistake of a word after a value, on its line.
@@ -121,20 +167,15 @@ fn word_behind<'a>(text: &'a str, at: usize) -> Finding<'a>
     let is_time = is_in(Class::Digit, byte_before(text, at));
     let word = part(text, at, end);
     if is_time && is_half_day(word) {
-        return marked(Mistake::Line(LineMistake::HalfDay), at, end);
+        return half_day(text, at, end);
     }
     if is_time && is_zone(word) {
         return zone(text, at, end);
     }
     if byte_behind(text, end_of(Class::Dotted, text, at)) == b'=' {
-        return broken(
-            Mistake::Line(LineMistake::SecondKey),
-            text,
-            start_of(Class::Blank, text, at),
-            at,
-        );
+        return broken(SECOND_KEY, text, start_of(Class::Blank, text, at), at);
     }
-    marked(Mistake::Line(LineMistake::AfterValue), at, end)
+    marked(AFTER_VALUE, at, end)
 }
 
 /// Finds the mistake of what was found after a value, on its line.
@@ -146,25 +187,12 @@ fn behind_value<'a>(found: &str, text: &'a str, at: usize) -> Option<Finding<'a>
     let start = start_of(Class::Atom, text, at);
     match found {
         "a comma" => Some(comma(text, at)),
-        "a right bracket" | "a right brace" => Some(replaced(
-            Mistake::List(ListMistake::ExtraClosing),
-            at,
-            ahead(text, at, 1),
-            pieces("", "", ""),
-        )),
-        "a plus" if is_string => Some(marked(
-            Mistake::Line(LineMistake::Joined),
-            at,
-            ahead(text, at, 1),
-        )),
+        "a right bracket" | "a right brace" => Some(removed(EXTRA_CLOSING, at, ahead(text, at, 1))),
+        "a plus" if is_string => Some(marked(JOINED, at, ahead(text, at, 1))),
         "a period" | "a colon" | "a plus" if start < at => Some(unquoted_value(text, start)),
         "an identifier" | "a string" if is_string => quote_in_string(text, at),
         "an identifier" => Some(word_behind(text, at)),
-        _ => Some(marked(
-            Mistake::Line(LineMistake::AfterValue),
-            at,
-            ahead(text, at, 1),
-        )),
+        _ => Some(marked(AFTER_VALUE, at, ahead(text, at, 1))),
     }
 }
 
@@ -212,10 +240,10 @@ fn other_kind<'a>(expected: &str, found: &str, text: &'a str, span: Span) -> Opt
     match found {
         "integer" if expected == "a float" && end_of(Class::Number, text, from) == to => {
             let code = pieces(part(text, from, to), ".0", "");
-            Some(replaced(Mistake::Value(ValueMistake::FloatDue), from, to, code))
+            Some(replaced(FLOAT_DUE, from, to, code))
         }
         "integer" | "float" | "boolean" if expected == "a string" => {
-            Some(quoted(Mistake::Value(ValueMistake::StringDue), text, from, to))
+            Some(quoted(STRING_DUE, text, from, to))
         }
         _ => None,
     }

@@ -3,4 +3,4 @@ use Rattle.toml_span_report.proofs.explanations.explain.Goals as goal
 
 pub returns : goal.returns
 unfolding explained
-returns c = c.page_in.ensures
+returns c = c.text_in.ensures

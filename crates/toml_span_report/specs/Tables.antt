@@ -1,0 +1,8 @@
+-- Tables of texts.
+use Rattle.std.specs.Prelude.{ℕ, List, [], ◌∷◌, Option, Some, None, if◌then◌else◌}
+use Rattle.std.specs.Str.{bytes_eq}
+
+-- the text of a key
+unfoldable pub text_in : List (List ℕ × List ℕ) → List ℕ → Option (List ℕ)
+text_in [] key = None
+text_in (entry ∷ entries) key = if bytes_eq entry.0 key then Some entry.1 else text_in entries key
