@@ -6,3 +6,4 @@ pub mod SpelledAgain
 pub mod OpenedLemmas
 pub mod SectionLemmas
 pub mod ValueSizes
+pub mod Uses

@@ -35,6 +35,11 @@ pub elements_small : (i : ℕ) (vs : List Val) (v : Val) (all : ℕ) → i < len
     elements_size (drop (i + 1) vs) ≤ all
 elements_small i vs v all below here before = grind (arith, nat_tests, common_steps)
 
+-- a pair, and those after it
+pub assigned_small : (i : ℕ) (es : List Assignment) (e : Assignment) (all : ℕ) → i < length es → get_or es i e ≡ e → assigned_size (drop i es) ≤ all →
+    assigned_size (drop (i + 1) es) ≤ all
+assigned_small i es e all below here = grind (arith, nat_tests, common_steps)
+
 -- ---- the mentions in elements and in assignments
 
 abbrev pub elements_mentions : Path → ℕ → List Val → List Mentioned

@@ -3,6 +3,7 @@ pub mod Keys
 pub mod Lines
 pub mod Literals
 pub mod Mentions
+pub mod Newer
 pub mod Order
 pub mod Points
 pub mod Quoted

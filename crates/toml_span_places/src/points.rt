@@ -25,7 +25,7 @@ pub struct InsertionPoint {
 }
 
 /// Returns the start of a text, after a byte order mark.
-fn text_start(text: &str) -> usize
+pub(crate) fn text_start(text: &str) -> usize
     ensures { result ≡ spec.text_start text.now }
 {
     let is_marked = byte_at(text, 0) == 0xEF
