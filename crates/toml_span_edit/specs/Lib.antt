@@ -1,1 +1,4 @@
-pub mod Changes
+pub mod Same
+pub mod Made
+pub mod Edited
+pub mod Listed

@@ -1,13 +1,30 @@
-//! Changes one place of a TOML document and leaves its other bytes as they are.
+//! Edits TOML documents and leaves their other bytes as they are.
 #![tactic(auto)]
 
-mod changes;
-mod enclosed;
+mod adding;
+mod document;
+mod edits;
 mod given;
+mod growing;
+mod items;
+mod lines;
+mod made;
+mod mentions;
+mod moving;
 mod paths;
+mod plan;
 mod reason;
+mod removing;
+mod same;
+mod setting;
+mod step;
 mod tasks;
-mod texts;
+mod unchanged;
 
+pub use edits::{Change, Edit, EditError, Edits};
+pub use given::string_text;
+pub use paths::segments;
 pub use reason::Reason;
+pub use same::same_tree;
 pub use tasks::{Task, edited};
+pub use unchanged::validated;

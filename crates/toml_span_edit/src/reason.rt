@@ -1,7 +1,7 @@
 //! Why an edit is refused.
 
 /// Why an edit is refused.
-#[derive(Drop)]
+#[derive(Debug, Drop)]
 pub enum Reason {
     /// The document is larger than 16 MiB.
     TooLong,
@@ -11,18 +11,21 @@ pub enum Reason {
     NoDocument(String),
     /// There is no value at the path.
     Nothing,
-    /// The given value is not one TOML value.
-    NoValue,
+    /// The given value is not one TOML value. For a bare word, the string that it may stand for, as it is
+    /// written in a shell, and a question mark.
+    NoValue(Option<String>),
     /// Headers or dotted keys define what the path names.
     NotSpelled,
     /// The path does not name a key.
     NoKey,
-    /// A dotted key inside an inline table defines what the path names.
-    Enclosed,
+    /// There is a value at the path already.
+    There,
     /// The path does not name a table.
     NoTable,
-    /// The table has no lines of its own.
-    NoBody,
+    /// The path does not name an array, or a position in one.
+    NoArray,
+    /// An element of an array of tables has to be given as an inline table.
+    NoInlineTable,
     /// The result would not be valid TOML: where, and why.
     WouldBeNone(String),
     /// The edit would change more than the path names.
@@ -30,36 +33,38 @@ pub enum Reason {
 }
 
 impl Reason {
-    /// The reason in words.
+    /// Returns the reason in words. For some reasons `detail` follows.
     pub fn text(&self) -> &'static str {
         match self {
             Reason::TooLong => "the file is larger than 16 MiB",
             Reason::NotUtf8 => "the file is not valid UTF-8",
             Reason::NoDocument(_) => "the file is not valid TOML: ",
             Reason::Nothing => "there is no value at this path",
-            Reason::NoValue =>
+            Reason::NoValue(None) =>
                 "the given value is not one TOML value (strings need quotes: `'\"b\"'`)",
+            Reason::NoValue(Some(_)) => "the given value is not one TOML value: did you mean ",
             Reason::NotSpelled => {
                 "headers or dotted keys define this table or array; set the values in it instead"
             }
             Reason::NoKey => "the path does not name a key",
-            Reason::Enclosed => {
-                "a dotted key in an inline table defines this value; set that inline table instead"
-            }
+            Reason::There => "there is a value at this path already",
             Reason::NoTable => "the path does not name a table",
-            Reason::NoBody => {
-                "this table has no header and no lines of its own; add its header first"
+            Reason::NoArray => "the path does not name an array, or a position in one",
+            Reason::NoInlineTable => {
+                "sections define the elements of this array; the value must be an inline table"
             }
             Reason::WouldBeNone(_) => "the result would not be valid TOML: ",
             Reason::WouldDiffer => "this would change more than the value at the path",
         }
     }
 
-    /// The line, the column and the message of an error, which follow the reason, or nothing.
+    /// Returns what follows the reason: the line, the column and the message of an error, or the string that a bare
+    /// word may stand for. Empty for other reasons.
     pub fn detail(&self) -> &str {
         match self {
             Reason::NoDocument(fault) => fault.as_str(),
             Reason::WouldBeNone(fault) => fault.as_str(),
+            Reason::NoValue(Some(string)) => string.as_str(),
             _ => "",
         }
     }

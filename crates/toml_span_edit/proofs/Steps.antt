@@ -1,0 +1,63 @@
+-- Edits that are made one after the other, and paths without their last segment.
+use Rattle.toml_span_lex.proofs.Common.{arith, ◌≡◌, ◌<◌, ◌≤◌, ℕ, ◌+◌, ◌-◌, List, [], ◌∷◌, ◌++◌, length, take, drop, take_more, get_or, map, map-append, refl, sym, ap, subst, ◌∙◌, Bor, Result, Ok, Err, IfOk}
+use Rattle.std.proofs.lemmas.List.{take_all}
+use Rattle.toml_span_edit.specs.Edited.{EditMade, EditsMade}
+use Rattle.toml_span_edit.specs.declared.edits.Change.TheVariants as changes
+use Rattle.toml_span_edit.specs.declared.edits.Edit.{Edit}
+
+-- one more edit after those that are made
+edits_more : (es : List Edit) (e : Edit) (text before after : List ℕ) →
+    EditsMade es text before → EditMade e before after → EditsMade (es ++ e ∷ []) text after
+edits_more [] e text before after h m = (after, subst (λ (x : List ℕ). EditMade e x after) h m, refl)
+edits_more (f ∷ es) e text before after h m = (h.0, h.1, edits_more es e h.0 before after h.2 m)
+
+-- what is read past the end of edits
+abbrev pub no_edit : Edit
+no_edit = record {
+  path = record { ref_ptr = (0, 0); now = [] };
+  change = changes.Set (record { ref_ptr = (0, 0); now = [] });
+}
+
+-- the edit at a position after those before it
+pub edits_next : (es : List Edit) (i : ℕ) (d : Edit) (text before after : List ℕ) →
+    i < length es → EditsMade (take i es) text before → EditMade (get_or es i d) before after →
+    EditsMade (take (i + 1) es) text after
+edits_next es i d text before after h done m =
+    subst (λ (fs : List Edit). EditsMade fs text after) (sym (take_more es i d h))
+    (edits_more (take i es) (get_or es i d) text before after done m)
+
+-- the first edit, and then the others
+pub edits_first : (es : List Edit) (d : Edit) (text mid after : List ℕ) →
+    1 ≤ length es → EditMade (get_or es 0 d) text mid → EditsMade (take (length es - 1) (drop 1 es)) mid after →
+    EditsMade es text after
+edits_first [] d text mid after h m rest = absurd (omega arith)
+edits_first (e ∷ es) d text mid after h m rest =
+    (mid, m, subst (λ (fs : List Edit). EditsMade fs mid after) (take_all (length (e ∷ es) - 1) es (omega arith)) rest)
+
+-- a segment that is lent
+abbrev pub now_of : Bor (List ℕ) → List ℕ
+now_of segment = segment.now
+
+-- what is read past the end of a path
+abbrev pub no_name : Bor (List ℕ)
+no_name = record { ref_ptr = (0, 0); now = [] }
+
+-- the segments of a path but for the last one, and the last one
+abbrev pub front_of : List (Bor (List ℕ)) → List (List ℕ)
+front_of path = map now_of (take (length path - 1) path)
+
+abbrev pub last_of : List (Bor (List ℕ)) → List ℕ
+last_of path = (get_or path (length path - 1) no_name).now
+
+pub split_last : (path : List (Bor (List ℕ))) → 1 ≤ length path →
+    map now_of path ≡ front_of path ++ last_of path ∷ []
+split_last path h =
+    let n : ℕ = length path - 1 in
+    let e : path ≡ take n path ++ get_or path n no_name ∷ [] =
+    sym (take_all (n + 1) path (omega arith)) ∙ take_more path n no_name (omega arith) in
+    ap (map now_of) e ∙ map-append now_of (take n path) (get_or path n no_name ∷ [])
+
+-- what holds of a result implies what else does
+pub if_ok : {A E : Type 0} (P Q : A → Type 0) → ((x : A) → P x → Q x) → (r : Result A E) → IfOk r P → IfOk r Q
+if_ok P Q f (Ok x) h = f x h
+if_ok P Q f (Err e) h = h

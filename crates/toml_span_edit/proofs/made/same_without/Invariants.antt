@@ -1,0 +1,10 @@
+use Rattle.toml_span_lex.proofs.Common.{◌≡◌}
+use Rattle.toml_span_tree.specs.Value.{members_view}
+use Rattle.toml_span_edit.specs.Made.{without}
+use Rattle.toml_span_edit.specs.Same.{same_members}
+use Rattle.toml_span_edit.proofs.made.same_without.Given as goal
+
+abbrev pub invariant-loop-key : goal.invariant-loop-key
+invariant-loop-key l =
+    same_members (without l.name (members_view l.table.entries)) (without l.other_name (members_view l.others.entries))
+    ≡ same_members (without l.name (members_view l.key-iterator)) (without l.other_name (members_view l.rest))

@@ -1,0 +1,182 @@
+//! Elements that are added to arrays.
+use crate::adding::{add_deep, dot_after, dotted, known, put_section, section_place};
+use crate::document::{Document, written};
+use crate::given::{check_value, probe_text, probed};
+use crate::items::{Item, bare, count_of, put_item};
+use crate::lines::{comments_above, line_end, line_start, part, point};
+use crate::mentions::{Mention, opens_element};
+use crate::paths::{front_of, position, rest_of};
+use crate::plan::Plan;
+use crate::reason::Reason;
+use toml_span::Stop;
+use toml_span_read::{Section, Val, ValKind};
+
+/// The section of an array's element, with the pairs of a value as its lines, which has to be an inline table.
+fn element_text(
+    document: Document<'_, '_>,
+    header: &str,
+    value: &str,
+) -> Result<String, Stop<Reason>> {
+    let probe = probe_text(document.alloc, value)?;
+    let sections = probed(document.alloc, probe.as_str(), value)?;
+    let end = line_end(document.text);
+    let mut lines = format!(in document.alloc; "[[{header}]]{end}")?;
+    let Some(given) = given_value(sections.as_slice()) else {
+        return Err(Stop::Fault(Reason::NoInlineTable));
+    };
+    let ValKind::Inline(pairs) = &given.kind else {
+        return Err(Stop::Fault(Reason::NoInlineTable));
+    };
+    for pair in pairs {
+        lines.push_str(part(probe.as_str(), pair.extent.start, pair.extent.end))?;
+        lines.push_str(end)?;
+    }
+    Ok(lines)
+}
+
+/// The value of the only assignment.
+fn given_value<'s, 'de>(sections: &'s [Section<'de>]) -> Option<&'s Val<'de>> {
+    Some(&sections.first()?.assignments.as_slice().first()?.value)
+}
+
+/// The header of an array of tables, and where its last section ends. None where no header names an element.
+fn elements_end<'s>(
+    document: Document<'s, '_>,
+    mentions: &[Mention<'s, '_>],
+) -> Option<(&'s str, usize)> {
+    match (mentions.first()?, mentions.last()?) {
+        (Mention::Below(first, index), Mention::Below(last, _)) if opens_element(*first, *index) =>
+            {
+                Some((
+                    document.header_text(*first, *index),
+                    document.body_end(*last),
+                ))
+            }
+        _ => None,
+    }
+}
+
+/// Whether a value is an inline table.
+fn is_inline(document: Document<'_, '_>, value: &str) -> Result<bool, Stop<Reason>> {
+    let probe = probe_text(document.alloc, value)?;
+    let sections = probed(document.alloc, probe.as_str(), value)?;
+    Ok(match given_value(sections.as_slice()) {
+        Some(given) => matches!(&given.kind, ValKind::Inline(_)),
+        None => false,
+    })
+}
+
+/// Adds an array with one element where nothing is at the path: as a section, if the element is an inline table and no
+/// braces or dotted keys define the table of the array.
+fn append_first(
+    document: Document<'_, '_>,
+    path: &[&str],
+    value: &str,
+    plan: &mut Plan,
+) -> Result<(), Stop<Reason>> {
+    let depth = known(document, path)?;
+    let place = section_place(document, front_of(path, depth))?;
+    if let (Some((at, table)), true) = (place, is_inline(document, value)?) {
+        let (dot, name) = (dot_after(table), dotted(document, rest_of(path, depth))?);
+        let header = format!(in document.alloc; "{table}{dot}{name}")?;
+        let lines = element_text(document, header.as_str(), value)?;
+        put_section(document, at, lines.as_str(), plan)?;
+        return Ok(());
+    }
+    let array = format!(in document.alloc; "[{value}]")?;
+    add_deep(document, path, array.as_str(), plan)
+}
+
+/// Adds an element after the last one of the array at a path. In an array of tables it is a section, and its value has
+/// to be an inline table. Where nothing is at the path, the array is added with this element alone.
+pub(crate) fn append(
+    document: Document<'_, '_>,
+    path: &[&str],
+    value: &str,
+    plan: &mut Plan,
+) -> Result<(), Stop<Reason>> {
+    check_value(document.alloc, value)?;
+    let mentions = document.mentions(path)?;
+    if mentions.is_empty() {
+        return append_first(document, path, value, plan);
+    }
+    if let Some((header, at)) = elements_end(document, mentions.as_slice()) {
+        let lines = element_text(document, header, value)?;
+        put_section(document, at, lines.as_str(), plan)?;
+        return Ok(());
+    }
+    match written(mentions.as_slice()) {
+        Some(list) if matches!(&list.kind, ValKind::Array(_)) => {
+            put_item(
+                document.alloc,
+                document.text,
+                list,
+                count_of(list),
+                bare(value),
+                plan,
+            )?;
+            Ok(())
+        }
+        _ => Err(Stop::Fault(Reason::NoArray)),
+    }
+}
+
+/// Puts an element of an array of tables before the one whose section this is.
+fn put_element(
+    document: Document<'_, '_>,
+    next: &Section<'_>,
+    value: &str,
+    plan: &mut Plan,
+) -> Result<(), Stop<Reason>> {
+    let index = next.header.len().saturating_sub(1);
+    let header = document.header_text(next, index);
+    let mut lines = element_text(document, header, value)?;
+    lines.push_str(line_end(document.text))?;
+    let start = line_start(document.text, next.header_span.start);
+    plan.put(point(comments_above(document.text, start)), lines)?;
+    Ok(())
+}
+
+/// Adds an element before the one at a path, which is a position in an array, or after the last one.
+pub(crate) fn insert(
+    document: Document<'_, '_>,
+    path: &[&str],
+    item: Item<'_>,
+    plan: &mut Plan,
+) -> Result<(), Stop<Reason>> {
+    let value = item.text;
+    check_value(document.alloc, value)?;
+    let [front @ .., segment] = path else {
+        return Err(Stop::Fault(Reason::NoArray));
+    };
+    let Some(at) = position(*segment) else {
+        return Err(Stop::Fault(Reason::NoArray));
+    };
+    let mentions = document.mentions(front)?;
+    if let Some(list) = written(mentions.as_slice()) {
+        if matches!(&list.kind, ValKind::Array(_)) && at <= count_of(list) {
+            put_item(document.alloc, document.text, list, at, item, plan)?;
+            return Ok(());
+        }
+        return Err(Stop::Fault(Reason::NoArray));
+    }
+    let there = document.mentions(path)?;
+    match there.as_slice().first() {
+        Some(Mention::Own(next)) if next.array => put_element(document, *next, value, plan),
+        _ if at == elements(mentions.as_slice()) && at > 0 => append(document, front, value, plan),
+        _ => Err(Stop::Fault(Reason::NoArray)),
+    }
+}
+
+/// How many elements the sections of an array of tables open.
+fn elements(mentions: &[Mention<'_, '_>]) -> usize {
+    let mut count: usize = 0;
+    for mention in mentions {
+        if let Mention::Below(section, index) = mention {
+            if opens_element(*section, *index) {
+                count = count.saturating_add(1);
+            }
+        }
+    }
+    count
+}

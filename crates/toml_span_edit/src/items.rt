@@ -1,0 +1,347 @@
+//! Items in brackets or braces: elements of arrays, and pairs of inline tables.
+use crate::lines::{
+    begins_line, blanks_before, comments_above, indent, line_end, line_start, line_stop, next_line,
+    part, point,
+};
+use crate::plan::Plan;
+use std::alloc::{AllocError, Global};
+use std::borrow::CowStr;
+use toml_span::Span;
+use toml_span::value::{Value, ValueInner};
+use toml_span_places::literal_span;
+use toml_span_read::{Val, ValKind};
+
+/// The span of a value with its quotes.
+pub(crate) fn literal_of(text: &str, value: &Val<'_>) -> Span {
+    let ValKind::String(string) = &value.kind else {
+        return value.span;
+    };
+    let shown = if string.is_empty() { "" } else { "x" };
+    let inner = ValueInner::String(CowStr::Borrowed(shown));
+    let shown = Value::with_span(inner, value.span);
+    let span = literal_span(text, &shown);
+    drop(shown);
+    span
+}
+
+/// How many items there are in brackets or braces.
+pub(crate) fn count_of(list: &Val<'_>) -> usize {
+    match &list.kind {
+        ValKind::Array(items) => items.len(),
+        ValKind::Inline(pairs) => pairs.len(),
+        _ => 0,
+    }
+}
+
+/// The span of an item: an element, or a pair from its key to the end of its value. None where there is none.
+pub(crate) fn item_span(text: &str, list: &Val<'_>, index: usize) -> Option<Span> {
+    match &list.kind {
+        ValKind::Array(items) => Some(literal_of(text, items.get(index)?)),
+        ValKind::Inline(pairs) => Some(pairs.get(index)?.extent),
+        _ => None,
+    }
+}
+
+/// Where the closing bracket or brace is.
+fn close_of(list: &Val<'_>) -> usize {
+    list.span.end.saturating_sub(1)
+}
+
+/// Where the space after an item ends: at the next item, or the closing bracket or brace.
+fn space_end(text: &str, list: &Val<'_>, index: usize) -> usize {
+    match item_span(text, list, index.saturating_add(1)) {
+        Some(next) => next.start,
+        None => close_of(list),
+    }
+}
+
+/// Where the comma is between two offsets that have only blanks, line ends and comments between them besides.
+fn comma_between(text: &str, start: usize, end: usize) -> Option<usize> {
+    let mut is_comment = false;
+    for (index, byte) in part(text, start, end).bytes().enumerate() {
+        match byte {
+            b'\n' => is_comment = false,
+            b'#' => is_comment = true,
+            b',' if !is_comment => return Some(start.saturating_add(index)),
+            _ => {}
+        }
+    }
+    None
+}
+
+/// Cuts a comma, with its line if nothing else is on it.
+fn cut_comma(text: &str, comma: usize, plan: &mut Plan) -> Result<(), AllocError> {
+    let stop = line_stop(text, comma);
+    let after = comma.saturating_add(1);
+    if begins_line(text, comma) && part(text, after, stop).trim().is_empty() {
+        let start = blanks_before(text, comma);
+        return plan.cut(Span {
+            start,
+            end: next_line(text, comma),
+        });
+    }
+    plan.cut(Span {
+        start: comma,
+        end: after,
+    })
+}
+
+/// Cuts items, the last of which has the end of its line after it, with the comment there, and a comma.
+fn cut_to_line_end(
+    text: &str,
+    items: Span,
+    space: usize,
+    plan: &mut Plan,
+) -> Result<(), AllocError> {
+    let stop = line_stop(text, items.end);
+    let start = blanks_before(text, items.start);
+    if begins_line(text, items.start) {
+        plan.cut(Span {
+            start,
+            end: next_line(text, items.end),
+        })?;
+    } else {
+        plan.cut(Span { start, end: stop })?;
+    }
+    match comma_between(text, items.end, space) {
+        Some(comma) if comma >= stop => cut_comma(text, comma, plan),
+        _ => Ok(()),
+    }
+}
+
+/// Cuts items that have the closing bracket or brace on their line, with one comma: the one before them, unless a
+/// comment or a line end is there, or else the one after them.
+fn cut_last(
+    text: &str,
+    before: Option<Span>,
+    items: Span,
+    close: usize,
+    plan: &mut Plan,
+) -> Result<(), AllocError> {
+    if let Some(before) = before {
+        let between = part(text, before.end, items.start);
+        if !between.contains('\n') && !between.contains('#') {
+            return plan.cut(Span {
+                start: before.end,
+                end: items.end,
+            });
+        }
+    }
+    let end = match comma_between(text, items.end, close) {
+        Some(comma) => comma.saturating_add(1),
+        None => items.end,
+    };
+    plan.cut(Span {
+        start: items.start,
+        end,
+    })
+}
+
+/// Takes the items from one to another out of brackets or braces, each with one comma and the comment at the end of its
+/// line. A comment on a line of its own stays, since it belongs to what follows it.
+pub(crate) fn cut_items(
+    text: &str,
+    list: &Val<'_>,
+    first: usize,
+    last: usize,
+    plan: &mut Plan,
+) -> Result<(), AllocError> {
+    let (Some(from), Some(to)) = (item_span(text, list, first), item_span(text, list, last)) else {
+        return Ok(());
+    };
+    let items = Span {
+        start: from.start,
+        end: to.end,
+    };
+    let end = space_end(text, list, last);
+    if part(text, items.end, end).contains('\n') {
+        return cut_to_line_end(text, items, end, plan);
+    }
+    if last.saturating_add(1) < count_of(list) {
+        return plan.cut(Span {
+            start: items.start,
+            end,
+        });
+    }
+    let before = match first {
+        0 => None,
+        _ => item_span(text, list, first.saturating_sub(1)),
+    };
+    cut_last(text, before, items, end, plan)
+}
+
+/// Puts the first item into brackets or braces.
+fn put_first(
+    alloc: Global,
+    text: &str,
+    list: &Val<'_>,
+    item: &str,
+    plan: &mut Plan,
+) -> Result<(), AllocError> {
+    let start = list.span.start.saturating_add(1);
+    let inner = part(text, start, close_of(list));
+    let end = if inner.trim().is_empty() {
+        close_of(list)
+    } else {
+        start
+    };
+    let new = match &list.kind {
+        ValKind::Array(_) if end == close_of(list) => String::from_str(alloc, item)?,
+        _ => format!(in alloc; " {item} ")?,
+    };
+    plan.put(Span { start, end }, new)
+}
+
+/// An item that is put in: lines above it with its comments, and what follows its comma on its line.
+#[derive(Clone, Copy)]
+pub(crate) struct Item<'i> {
+    pub above: &'i str,
+    pub text: &'i str,
+    pub note: &'i str,
+}
+
+/// Puts an item after the last one, on a line of its own where the last one begins its line, or where a comment ends
+/// that line.
+fn put_last(
+    alloc: Global,
+    text: &str,
+    list: &Val<'_>,
+    last: Span,
+    item: Item<'_>,
+    plan: &mut Plan,
+) -> Result<(), AllocError> {
+    let Item {
+        above,
+        text: item,
+        note,
+    } = item;
+    let close = close_of(list);
+    let (front, end) = (front_of(alloc, text, list, last)?, line_end(text));
+    let comma = comma_between(text, last.end, close);
+    if !part(text, last.end, close).contains('\n') {
+        let new = if begins_line(text, last.start) {
+            format!(in alloc; ",{end}{front}{item}")?
+        } else {
+            format!(in alloc; ", {item}")?
+        };
+        return plan.put(point(last.end), new);
+    }
+    let stop = line_stop(text, comma.unwrap_or(last.end));
+    if !begins_line(text, last.start) && !part(text, last.end, stop).contains('#') {
+        return plan.put(point(last.end), format!(in alloc; ", {item}")?);
+    }
+    match comma {
+        Some(comma) if part(text, comma, close).contains('\n') => plan.put(
+            point(next_line(text, comma)),
+            format!(in alloc; "{above}{front}{item},{note}{end}")?,
+        ),
+        Some(comma) => plan.put(
+            point(comma.saturating_add(1)),
+            format!(in alloc; " {item}")?,
+        ),
+        None => {
+            plan.put(point(last.end), String::from_str(alloc, ",")?)?;
+            plan.put(
+                point(stop),
+                format!(in alloc; "{end}{above}{front}{item}{note}")?,
+            )
+        }
+    }
+}
+
+/// The blanks before a new item on a line of its own: those of the line of the last item, or four more than those of
+/// the line that opens the brackets.
+fn front_of(alloc: Global, text: &str, list: &Val<'_>, last: Span) -> Result<String, AllocError> {
+    let mut front = String::from_str(alloc, indent(text, last.start))?;
+    if list.span.start >= line_start(text, last.start) {
+        front.push_str("    ")?;
+    }
+    Ok(front)
+}
+
+/// Puts an item before another one: on a line of its own, above the comments of that one, where that one begins its
+/// line.
+fn put_before(
+    alloc: Global,
+    text: &str,
+    list: &Val<'_>,
+    index: usize,
+    next: Span,
+    item: Item<'_>,
+    plan: &mut Plan,
+) -> Result<(), AllocError> {
+    let Item {
+        above,
+        text: item,
+        note,
+    } = item;
+    let before = match index {
+        0 => list.span.start.saturating_add(1),
+        _ => match item_span(text, list, index.saturating_sub(1)) {
+            Some(before) => { comma_between(text, before.end, next.start).unwrap_or(before.end) }
+            None => next.start,
+        },
+    };
+    let line = next_line(text, before);
+    if begins_line(text, next.start) && line <= next.start {
+        let (front, end) = (indent(text, next.start), line_end(text));
+        return plan.put(
+            point(line),
+            format!(in alloc; "{above}{front}{item},{note}{end}")?,
+        );
+    }
+    plan.put(point(next.start), format!(in alloc; "{item}, ")?)
+}
+
+/// Puts an item into brackets or braces before the one at an index, or after the last one.
+pub(crate) fn put_item(
+    alloc: Global,
+    text: &str,
+    list: &Val<'_>,
+    index: usize,
+    item: Item<'_>,
+    plan: &mut Plan,
+) -> Result<(), AllocError> {
+    let count = count_of(list);
+    if let Some(next) = item_span(text, list, index) {
+        return put_before(alloc, text, list, index, next, item, plan);
+    }
+    match item_span(text, list, count.saturating_sub(1)) {
+        Some(last) => put_last(alloc, text, list, last, item, plan),
+        None => put_first(alloc, text, list, item.text, plan),
+    }
+}
+
+/// An item without comments.
+pub(crate) fn bare(text: &str) -> Item<'_> {
+    Item {
+        above: "",
+        text,
+        note: "",
+    }
+}
+
+/// The comment at the end of the line of what ends at an offset, after a comma if there is one, with the blanks before
+/// it.
+fn note_after(text: &str, end: usize) -> &str {
+    let rest = part(text, end, line_stop(text, end));
+    let note = match rest.trim_start().strip_prefix(',') {
+        Some(note) => note,
+        None => rest,
+    };
+    if note.trim_start().starts_with('#') {
+        note
+    } else {
+        ""
+    }
+}
+
+/// The comments of an item that begins its line: the lines above it, and the comment at the end of its line.
+pub(crate) fn comments_of(text: &str, item: Span) -> (&str, &str) {
+    if !begins_line(text, item.start) {
+        return ("", "");
+    }
+    let start = line_start(text, item.start);
+    let above = part(text, comments_above(text, start), start);
+    (above, note_after(text, item.end))
+}

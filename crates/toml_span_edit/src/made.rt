@@ -1,0 +1,338 @@
+//! Whether a tree is another one with a change made.
+ghost use Rattle.std.specs.Prelude.{◌≡◌, ◌&&◌, None, Some, map, option_map, option_and_then};
+ghost use Rattle.toml_span_tree.specs.Node.{get_item, get_member};
+ghost use Rattle.toml_span_tree.specs.Pointer.{position_of};
+ghost use Rattle.toml_span_tree.specs.Value.{inner_of, items_view, members_view, view};
+ghost use Rattle.toml_span_edit.specs.Made as spec;
+ghost use Rattle.toml_span_edit.specs.Same.{same, same_members};
+
+use crate::paths::position;
+use crate::same::{same_items, same_tree};
+use std::collections::btree_map::Iter;
+use toml_span::value::{Array, Key, Table, Value, ValueInner};
+
+/// The value of an entry.
+fn entry_named<'v, 'de>(table: &'v Table<'de>, name: &str) -> Option<&'v Value<'de>>
+    ensures { option_map (λ v. view v.now) result ≡ get_member name.now (members_view table.now.entries) }
+{
+    for (key, value) in table.iter() {
+        if name == key.name.as_str() {
+            return Some(value);
+        }
+    }
+    None
+}
+
+/// The element at the position that a segment spells.
+fn element_named<'v, 'de>(array: &'v Array<'de>, segment: &str) -> Option<&'v Value<'de>>
+    ensures { option_map (λ v. view v.now) result
+        ≡ option_and_then (λ i. get_item i (items_view array.now.items)) (position_of segment.now) }
+{
+    array.get(position(segment)?)
+}
+
+/// The value that a segment names in a table or an array.
+pub(crate) fn child<'v, 'de>(value: &'v Value<'de>, segment: &str) -> Option<&'v Value<'de>>
+    ensures { option_map (λ v. view v.now) result ≡ spec.child segment.now (inner_of (view value.now)) }
+{
+    if value.is_taken() {
+        return None;
+    }
+    match value.as_ref() {
+        ValueInner::Array(array) => element_named(array, segment),
+        ValueInner::Table(table) => entry_named(table, segment),
+        _ => None,
+    }
+}
+
+/// Whether two arrays are the same, except for the elements at a position, which both have.
+#[tactic(auto, using(crate::proofs::Elements::short_but, crate::proofs::Elements::few_but))]
+fn items_but(items: &[Value<'_>], at: usize, others: &[Value<'_>]) -> bool
+    ensures { result ≡ spec.items_but at (items_view items.now) (items_view others.now) }
+{
+    if at >= items.len() {
+        return false;
+    }
+    if at >= others.len() {
+        return false;
+    }
+    same_items(&items[..at], &others[..at]) && same_items(&items[at + 1..], &others[at + 1..])
+}
+
+/// Whether two arrays are the same, except for the elements at the position that a segment spells.
+fn array_but(array: &Array<'_>, segment: &str, others: &Array<'_>) -> bool
+    ensures { result ≡ spec.at_position (λ i. spec.items_but i (items_view array.now.items)
+        (items_view others.now.items)) (position_of segment.now) }
+{
+    match position(segment) {
+        Some(at) => items_but(array.as_slice(), at, others.as_slice()),
+        None => false,
+    }
+}
+
+/// Whether two tables are the same, except for the values of the entries with a name.
+fn members_but(table: &Table<'_>, name: &str, others: &Table<'_>) -> bool
+    ensures { result ≡ spec.members_but name.now (members_view table.now.entries) (members_view others.now.entries) }
+{
+    let mut rest = others.iter();
+    for (key, value) in table.iter() {
+        let Some((other_key, other)) = rest.next() else {
+            return false;
+        };
+        if key.name.as_str() != other_key.name.as_str() {
+            return false;
+        }
+        if name != key.name.as_str() && !same_tree(value, other) {
+            return false;
+        }
+    }
+    rest.next().is_none()
+}
+
+/// Whether two tables, or two arrays, are the same, except for what the segment names.
+fn same_but(value: &Value<'_>, segment: &str, other: &Value<'_>) -> bool
+    ensures { result ≡ spec.same_but segment.now (inner_of (view value.now)) (inner_of (view other.now)) }
+{
+    if let (Some(array), Some(others)) = (value.as_array(), other.as_array()) {
+        return array_but(array, segment, others);
+    }
+    match (value.as_table(), other.as_table()) {
+        (Some(table), Some(others)) => members_but(table, segment, others),
+        _ => false,
+    }
+}
+
+/// Whether the second elements are the first ones without the one at a position.
+#[tactic(auto, using(crate::proofs::Elements::short_gone, crate::proofs::Elements::few_gone))]
+fn item_gone(items: &[Value<'_>], at: usize, others: &[Value<'_>]) -> bool
+    ensures { result ≡ spec.item_gone at (items_view items.now) (items_view others.now) }
+{
+    if at >= items.len() {
+        return false;
+    }
+    if at > others.len() {
+        return false;
+    }
+    same_items(&items[..at], &others[..at]) && same_items(&items[at + 1..], &others[at..])
+}
+
+/// Whether the second array is the first one without the element at the position that a segment spells.
+fn array_gone(array: &Array<'_>, segment: &str, others: &Array<'_>) -> bool
+    ensures { result ≡ spec.at_position (λ i. spec.item_gone i (items_view array.now.items)
+        (items_view others.now.items)) (position_of segment.now) }
+{
+    match position(segment) {
+        Some(at) => item_gone(array.as_slice(), at, others.as_slice()),
+        None => false,
+    }
+}
+
+/// Whether the second entries are the first ones without those with a name.
+fn members_gone(table: &Table<'_>, name: &str, others: &Table<'_>) -> bool
+    ensures { result ≡ same_members (spec.without name.now (members_view table.now.entries))
+        (members_view others.now.entries) }
+{
+    let mut rest = others.iter();
+    for (key, value) in table.iter() {
+        if name == key.name.as_str() {
+            continue;
+        }
+        let Some((other_key, other)) = rest.next() else {
+            return false;
+        };
+        if key.name.as_str() != other_key.name.as_str() || !same_tree(value, other) {
+            return false;
+        }
+    }
+    rest.next().is_none()
+}
+
+/// Whether the second value is the first one without what the segment names in it.
+fn gone(value: &Value<'_>, segment: &str, other: &Value<'_>) -> bool
+    ensures { result ≡ spec.gone segment.now (inner_of (view value.now)) (inner_of (view other.now)) }
+{
+    if let (Some(array), Some(others)) = (value.as_array(), other.as_array()) {
+        return array_gone(array, segment, others);
+    }
+    match (value.as_table(), other.as_table()) {
+        (Some(table), Some(others)) => {
+            entry_named(table, segment).is_some() && members_gone(table, segment, others)
+        }
+        _ => false,
+    }
+}
+
+/// Whether the second value is the first one, and the segment names this value in it.
+fn put(value: &Value<'_>, segment: &str, new: &Value<'_>, other: &Value<'_>) -> bool
+    ensures { result ≡ spec.put segment.now (view new.now) (view value.now) (view other.now) }
+{
+    match child(other, segment) {
+        Some(there) => gone(other, segment, value) && same_tree(new, there),
+        None => false,
+    }
+}
+
+/// Whether the second elements are the first ones, and one more after them.
+fn item_last(items: &[Value<'_>], new: &Value<'_>, others: &[Value<'_>]) -> bool
+    ensures { result ≡ spec.item_last (view new.now) (items_view items.now) (items_view others.now) }
+{
+    let mut rest = others.iter();
+    for item in items {
+        let Some(other) = rest.next() else {
+            return false;
+        };
+        if !same_tree(item, other) {
+            return false;
+        }
+    }
+    match rest.next() {
+        Some(other) => same_tree(new, other) && rest.next().is_none(),
+        None => false,
+    }
+}
+
+/// Whether the second array is the first one, and one more element after its last one.
+fn last(value: &Value<'_>, new: &Value<'_>, other: &Value<'_>) -> bool
+    ensures { result ≡ spec.last (view new.now) (inner_of (view value.now)) (inner_of (view other.now)) }
+{
+    match (value.as_array(), other.as_array()) {
+        (Some(array), Some(others)) => item_last(array.as_slice(), new, others.as_slice()),
+        _ => false,
+    }
+}
+
+/// The next entry with another name.
+fn next_but<'v, 'de>(
+    rest: &mut Iter<'v, Key<'de>, Value<'de>>,
+    name: &str,
+) -> Option<(&'v Key<'de>, &'v Value<'de>)>
+    ensures { spec.IsNext name.now rest.old result rest.new }
+{
+    'entries: while let Some((key, value)) = rest.next() {
+        if name != key.name.as_str() {
+            return Some((key, value));
+        }
+    }
+    None
+}
+
+/// Whether two tables are the same without the entries with a name in one and another name in the other.
+fn same_without(table: &Table<'_>, name: &str, others: &Table<'_>, other_name: &str) -> bool
+    ensures { result ≡ same_members (spec.without name.now (members_view table.now.entries))
+        (spec.without other_name.now (members_view others.now.entries)) }
+{
+    let mut rest = others.iter();
+    for (key, value) in table.iter() {
+        if name == key.name.as_str() {
+            continue;
+        }
+        let Some((other_key, other)) = next_but(&mut rest, other_name) else {
+            return false;
+        };
+        if key.name.as_str() != other_key.name.as_str() || !same_tree(value, other) {
+            return false;
+        }
+    }
+    next_but(&mut rest, other_name).is_none()
+}
+
+/// Whether the second table is the first one in which the entry with a name has another one.
+fn renamed(value: &Value<'_>, name: &str, new: &str, other: &Value<'_>) -> bool
+    ensures { result ≡ spec.renamed name.now new.now (inner_of (view value.now)) (inner_of (view other.now)) }
+{
+    let (Some(table), Some(others)) = (value.as_table(), other.as_table()) else {
+        return false;
+    };
+    match (entry_named(table, name), entry_named(others, new)) {
+        (Some(value), Some(other)) => {
+            same_tree(value, other) && same_without(table, name, others, new)
+        }
+        _ => false,
+    }
+}
+
+/// What a change makes of the value at a path. A segment names an entry of the table there, or an element of the array.
+#[derive(Clone, Copy)]
+pub(crate) enum Local<'l, 'v, 'de> {
+    /// It is another value.
+    Set(&'v Value<'de>),
+    /// What the segment names in it is gone.
+    Gone(&'l str),
+    /// The segment names another value in it.
+    Put(&'l str, &'v Value<'de>),
+    /// It has another value as its last element.
+    Last(&'v Value<'de>),
+    /// Its entry with a name has another one.
+    Renamed(&'l str, &'l str),
+}
+
+impl Local<'_, '_, '_> {
+    /// Whether the second value is the first one with this change.
+    fn holds(self, value: &Value<'_>, other: &Value<'_>) -> bool
+        ensures { result ≡ spec.local self.entry (view value.now) (view other.now) }
+    {
+        match self {
+            Local::Set(new) => same_tree(new, other),
+            Local::Gone(segment) => gone(value, segment, other),
+            Local::Put(segment, new) => put(value, segment, new, other),
+            Local::Last(new) => last(value, new, other),
+            Local::Renamed(name, new) => renamed(value, name, new, other),
+        }
+    }
+}
+
+/// Whether the second tree is the first one with a change at a path, and all else is the same.
+pub(crate) fn changed(
+    path: &[&str],
+    local: Local<'_, '_, '_>,
+    value: &Value<'_>,
+    other: &Value<'_>,
+) -> bool
+    ensures { result ≡ spec.at (map (λ s. s.now) path.now) (spec.local local.entry) (view value.now) (view other.now) }
+{
+    let [segment, rest @ ..] = path else {
+        return local.holds(value, other);
+    };
+    match (child(value, *segment), child(other, *segment)) {
+        (Some(below), Some(other_below)) => {
+            same_but(value, *segment, other) && changed(rest, local, below, other_below)
+        }
+        _ => false,
+    }
+}
+
+/// Whether a value is another one in one table more for each of the names, which has nothing else.
+fn is_nested(names: &[&str], new: &Value<'_>, value: &Value<'_>) -> bool
+    ensures { result ≡ same (spec.nested (map (λ s. s.now) names.now) (view new.now)) (view value.now) }
+{
+    let [name, rest @ ..] = names else {
+        return same_tree(new, value);
+    };
+    let Some(table) = value.as_table() else {
+        return false;
+    };
+    let mut entries = table.iter();
+    match entries.next() {
+        Some((key, below)) => {
+            *name == key.name.as_str() && (is_nested(rest, new, below) && entries.next().is_none())
+        }
+        None => false,
+    }
+}
+
+/// Whether the second tree is the first one with a value at a path, where the first one has none, and with the tables
+/// that were missing on the way.
+pub(crate) fn added(path: &[&str], new: &Value<'_>, value: &Value<'_>, other: &Value<'_>) -> bool
+    ensures { result ≡ spec.added (map (λ s. s.now) path.now) (view new.now) (view value.now) (view other.now) }
+{
+    let [segment, rest @ ..] = path else {
+        return false;
+    };
+    match (child(value, *segment), child(other, *segment)) {
+        (Some(below), Some(other_below)) => {
+            same_but(value, *segment, other) && added(rest, new, below, other_below)
+        }
+        (None, Some(there)) => gone(other, *segment, value) && is_nested(rest, new, there),
+        _ => false,
+    }
+}

@@ -1,0 +1,164 @@
+//! Values that are removed.
+use crate::document::Document;
+use crate::items::cut_items;
+use crate::lines::{line_end, line_stop};
+use crate::mentions::{Home, Mention};
+use crate::plan::Plan;
+use crate::reason::Reason;
+use std::alloc::AllocError;
+use toml_span::{Span, Stop};
+use toml_span_places::{assignment_lines, section_lines};
+use toml_span_read::Val;
+
+/// Items of one array or inline table, next to each other.
+#[derive(Clone, Copy)]
+struct Run<'s, 'de> {
+    list: &'s Val<'de>,
+    first: usize,
+    last: usize,
+}
+
+/// The items that are cut for a mention, which is in brackets or braces. None for one on lines.
+fn run_of<'s, 'de>(mention: &Mention<'s, 'de>) -> Option<Run<'s, 'de>> {
+    let (list, index) = match *mention {
+        Mention::Dotted(_, _, Home::Braces(list, index)) => (list, index),
+        Mention::Assigned(_, Home::Braces(list, index)) => (list, index),
+        Mention::Element(list, index) => (list, index),
+        _ => return None,
+    };
+    Some(Run {
+        list,
+        first: index,
+        last: index,
+    })
+}
+
+/// Returns the lines to cut with a mention, or None if it is not on lines of its own.
+fn lines_of(text: &str, mention: &Mention<'_, '_>) -> Option<Span> {
+    match *mention {
+        Mention::Own(section) => Some(section_lines(text, section)),
+        Mention::Below(section, _) => Some(section_lines(text, section)),
+        Mention::Dotted(assignment, _, Home::Lines) => Some(assignment_lines(text, assignment)),
+        Mention::Assigned(assignment, Home::Lines) => Some(assignment_lines(text, assignment)),
+        _ => None,
+    }
+}
+
+/// Both runs as one, if the second continues the first.
+fn joined<'s, 'de>(run: Run<'s, 'de>, next: Run<'s, 'de>) -> Option<Run<'s, 'de>> {
+    let continues = run.list.span == next.list.span && run.last.saturating_add(1) == next.first;
+    if continues {
+        Some(Run {
+            list: run.list,
+            first: run.first,
+            last: next.last,
+        })
+    } else {
+        None
+    }
+}
+
+/// Takes the items of a run out.
+fn cut_run(text: &str, run: Option<Run<'_, '_>>, plan: &mut Plan) -> Result<(), AllocError> {
+    match run {
+        Some(run) => cut_items(text, run.list, run.first, run.last, plan),
+        None => Ok(()),
+    }
+}
+
+/// Takes out what these mentions name.
+fn cut_all(text: &str, mentions: &[Mention<'_, '_>], plan: &mut Plan) -> Result<(), AllocError> {
+    let mut open = None;
+    for mention in mentions {
+        if let Some(lines) = lines_of(text, mention) {
+            plan.cut(lines)?;
+        }
+        if let Some(next) = run_of(mention) {
+            let both = match open {
+                Some(run) => joined(run, next),
+                None => None,
+            };
+            if both.is_none() {
+                cut_run(text, open, plan)?;
+            }
+            open = Some(both.unwrap_or(next));
+        }
+    }
+    cut_run(text, open, plan)
+}
+
+/// Whether a mention does not define a table by itself, but only names it on the way to another value.
+fn passes(mention: &Mention<'_, '_>) -> bool {
+    match *mention {
+        Mention::Below(_, _) => true,
+        Mention::Dotted(_, _, _) => true,
+        _ => false,
+    }
+}
+
+/// Whether a table is there only because of these values in it, this many: no header or braces define it.
+fn is_implied(table: &[Mention<'_, '_>], values: usize) -> bool {
+    table.len() == values && table.iter().all(|mention| passes(mention))
+}
+
+/// Writes an empty table at the first of the mentions, which name a value in it and are removed.
+fn keep_table(
+    document: Document<'_, '_>,
+    table: &Mention<'_, '_>,
+    plan: &mut Plan,
+) -> Result<(), AllocError> {
+    let text = document.text;
+    match *table {
+        Mention::Below(section, index) => {
+            let (header, end) = (document.header_text(section, index), line_end(text));
+            let new = format!(in document.alloc; "[{header}]{end}")?;
+            plan.put(section_lines(text, section), new)
+        }
+        Mention::Dotted(assignment, index, home) => {
+            let mut new = String::from_str(
+                document.alloc,
+                document.dotted_text(assignment, index),
+            )?;
+            new.push_str(" = {}")?;
+            let extent = assignment.extent;
+            let end = match home {
+                Home::Lines => line_stop(text, extent.end),
+                Home::Braces(_, _) => extent.end,
+            };
+            plan.put(
+                Span {
+                    start: extent.start,
+                    end,
+                },
+                new,
+            )
+        }
+        _ => Ok(()),
+    }
+}
+
+/// Takes out the value at a path. A table that is only there because of it stays, empty, and is written as a header or
+/// as `{}`.
+pub(crate) fn remove(
+    document: Document<'_, '_>,
+    path: &[&str],
+    plan: &mut Plan,
+) -> Result<(), Stop<Reason>> {
+    let mentions = document.mentions(path)?;
+    let [front @ .., _] = path else {
+        return Err(Stop::Fault(Reason::WouldDiffer));
+    };
+    let [_, rest @ ..] = mentions.as_slice() else {
+        return Err(Stop::Fault(Reason::Nothing));
+    };
+    let table = document.mentions(front)?;
+    if !front.is_empty() && is_implied(table.as_slice(), mentions.len()) {
+        if let Some(at) = table.as_slice().first() {
+            keep_table(document, at, plan)?;
+        }
+        cut_all(document.text, rest, plan)?;
+        return Ok(());
+    }
+    cut_all(document.text, mentions.as_slice(), plan)?;
+    Ok(())
+}

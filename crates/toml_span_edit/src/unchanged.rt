@@ -1,0 +1,29 @@
+//! New texts of a document that are checked before they are returned.
+ghost use Rattle.std.specs.Prelude.{◌≡◌, IfOk, string_bytes};
+ghost use Rattle.toml_span_edit.specs.Edited.{IsSameDocument};
+
+use crate::reason::Reason;
+use crate::same::same_tree;
+use crate::step::{new_tree, old_tree};
+use std::alloc::Global;
+use toml_span::Stop;
+
+/// Returns a new text of a document, if both are documents with the same tree, except for spans: the same keys and
+/// values, where floats and dates have the same text. Blanks, comments, the order of entries and the spelling of
+/// strings and integers may differ.
+///
+/// The error is `NoDocument`, `WouldBeNone` or `WouldDiffer`, or out of memory.
+pub fn validated(alloc: Global, text: &str, new: String) -> Result<String, Stop<Reason>>
+    ensures same { IfOk result (λ out. IsSameDocument text.now (string_bytes out)) }
+    ensures text { IfOk result (λ out. string_bytes out ≡ string_bytes new) }
+{
+    let old = old_tree(alloc, text)?;
+    let root = new_tree(alloc, new.as_str())?;
+    let is_same = same_tree(&old, &root);
+    drop(root);
+    if is_same {
+        Ok(new)
+    } else {
+        Err(Stop::Fault(Reason::WouldDiffer))
+    }
+}

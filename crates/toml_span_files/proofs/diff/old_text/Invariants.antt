@@ -1,0 +1,7 @@
+use Rattle.std.proofs.Common.{◌≡◌, take, string_bytes}
+use Rattle.std.specs.List.{flat_map}
+use Rattle.toml_span_files.specs.Diff.{old_part}
+use Rattle.toml_span_files.proofs.diff.old_text.Given as goal
+
+abbrev pub invariant-loop-part : goal.invariant-loop-part
+invariant-loop-part l = string_bytes l.text ≡ flat_map old_part (take l.part-index l.parts)

@@ -1,0 +1,20 @@
+-- What the parts of two texts spell.
+use Rattle.std.specs.Prelude.{◌≡◌, ℕ, List, []}
+use Rattle.std.specs.List.{flat_map}
+use Rattle.toml_span_files.specs.declared.diff.Part.{Part}
+use Rattle.toml_span_files.specs.declared.diff.Part.TheVariants.{Same, Old, New}
+
+abbrev pub old_part : Part → List ℕ
+old_part (Same text) = text.now
+old_part (Old text) = text.now
+old_part (New text) = []
+
+abbrev pub new_part : Part → List ℕ
+new_part (Same text) = text.now
+new_part (Old text) = []
+new_part (New text) = text.now
+
+-- the parts that only the new text has left out, they are the old text; the other way round, the new one
+pub record Splits (old new : List ℕ) (parts : List Part) : Type 0 where
+  pub old_text : flat_map old_part parts ≡ old
+  pub new_text : flat_map new_part parts ≡ new

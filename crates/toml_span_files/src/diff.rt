@@ -1,0 +1,189 @@
+//! The difference of two texts, line by line.
+ghost use Rattle.std.specs.Prelude.{◌≡◌, IfOk, IsTrue, string_bytes};
+ghost use Rattle.std.specs.List.{flat_map};
+ghost use Rattle.toml_span_files.specs.Diff.{Splits};
+ghost use Rattle.toml_span_files.specs.Diff as spec;
+
+use std::alloc::{AllocError, Global};
+
+/// How many lines are compared at most to find where two texts go on alike.
+const WINDOW: usize = 256;
+
+/// One or more lines of two texts.
+#[derive(Clone, Copy)]
+pub enum Part<'t> {
+    /// Both have them.
+    Same(&'t str),
+    /// Only the old text has them.
+    Old(&'t str),
+    /// Only the new text has them.
+    New(&'t str),
+}
+
+/// Returns the old text of parts.
+fn old_text(alloc: Global, parts: &[Part<'_>]) -> Result<String, AllocError>
+    ensures { IfOk result (λ text. string_bytes text ≡ flat_map spec.old_part parts.now) }
+{
+    let mut text = String::new(alloc);
+    for part in parts {
+        match *part {
+            Part::Same(lines) | Part::Old(lines) => text.push_str(lines)?,
+            Part::New(_) => {}
+        }
+    }
+    Ok(text)
+}
+
+/// Returns the new text of parts.
+fn new_text(alloc: Global, parts: &[Part<'_>]) -> Result<String, AllocError>
+    ensures { IfOk result (λ text. string_bytes text ≡ flat_map spec.new_part parts.now) }
+{
+    let mut text = String::new(alloc);
+    for part in parts {
+        match *part {
+            Part::Same(lines) | Part::New(lines) => text.push_str(lines)?,
+            Part::Old(_) => {}
+        }
+    }
+    Ok(text)
+}
+
+/// Returns how many bytes of both texts are the same lines at the start.
+fn shared_front(old: &str, new: &str) -> usize {
+    let mut length = 0usize;
+    for (one, other) in old.split_inclusive('\n').zip(new.split_inclusive('\n')) {
+        if one != other {
+            break;
+        }
+        length = length.saturating_add(one.len());
+    }
+    length
+}
+
+/// Returns how many lines at the end are the same.
+fn shared_back(old: &[&str], new: &[&str]) -> usize {
+    let mut count = 0usize;
+    for (one, other) in old.iter().rev().zip(new.iter().rev()) {
+        if *one != *other {
+            break;
+        }
+        count = count.saturating_add(1);
+    }
+    count
+}
+
+/// Returns whether texts go on alike: with the same line, and the same one after it if the first is short.
+fn go_on_alike(old: &[&str], new: &[&str]) -> bool {
+    match (old, new) {
+        ([one, old_rest @ ..], [other, new_rest @ ..]) => {
+            *one == *other && (one.trim().len() > 2 || old_rest.first() == new_rest.first())
+        }
+        _ => false,
+    }
+}
+
+/// Returns after how many lines of each text they go on alike: the fewest in all, within the window.
+fn next_alike(old: &[&str], new: &[&str]) -> Option<(usize, usize)> {
+    for passed in 1..=WINDOW {
+        for of_old in 0..=passed {
+            let of_new = passed.saturating_sub(of_old);
+            let (old, new) = (
+                old.get(of_old..).unwrap_or(&[]),
+                new.get(of_new..).unwrap_or(&[]),
+            );
+            if go_on_alike(old, new) {
+                return Some((of_old, of_new));
+            }
+        }
+    }
+    None
+}
+
+/// Adds lines that one text has and the other one hasn't.
+fn push_changed<'t>(
+    old: &[&'t str],
+    new: &[&'t str],
+    parts: &mut Vec<Part<'t>>,
+) -> Result<(), AllocError> {
+    for line in old {
+        parts.push(Part::Old(*line))?;
+    }
+    for line in new {
+        parts.push(Part::New(*line))?;
+    }
+    Ok(())
+}
+
+/// Adds the parts of two lists of lines.
+fn push_lines<'t>(
+    old: &[&'t str],
+    new: &[&'t str],
+    parts: &mut Vec<Part<'t>>,
+) -> Result<(), AllocError> {
+    let (mut at_old, mut at_new) = (0usize, 0usize);
+    for _ in 0..old.len().saturating_add(new.len()) {
+        let old_rest = old.get(at_old..).unwrap_or(&[]);
+        let new_rest = new.get(at_new..).unwrap_or(&[]);
+        let (of_old, of_new) = match (old_rest.first(), new_rest.first()) {
+            (Some(one), Some(other)) if *one == *other => {
+                parts.push(Part::Same(*one))?;
+                (1, 1)
+            }
+            _ => {
+                let all = (old_rest.len(), new_rest.len());
+                let (of_old, of_new) = next_alike(old_rest, new_rest).unwrap_or(all);
+                let old_front = old_rest.get(..of_old).unwrap_or(old_rest);
+                push_changed(old_front, new_rest.get(..of_new).unwrap_or(new_rest), parts)?;
+                (of_old, of_new)
+            }
+        };
+        at_old = at_old.saturating_add(of_old);
+        at_new = at_new.saturating_add(of_new);
+    }
+    Ok(())
+}
+
+/// Returns parts that should be those of two texts.
+fn guessed<'t>(alloc: Global, old: &'t str, new: &'t str) -> Result<Vec<Part<'t>>, AllocError> {
+    let front = shared_front(old, new);
+    let (same, old) = old.split_at_checked(front).unwrap_or(("", old));
+    let new = new.get(front..).unwrap_or("");
+    let old_lines: Vec<&'t str> = old.split_inclusive('\n').collect(alloc)?;
+    let new_lines: Vec<&'t str> = new.split_inclusive('\n').collect(alloc)?;
+    let (old_lines, new_lines) = (old_lines.as_slice(), new_lines.as_slice());
+    let back = shared_back(old_lines, new_lines);
+    let (old_count, new_count) = (
+        old_lines.len().saturating_sub(back),
+        new_lines.len().saturating_sub(back),
+    );
+    let mut parts = vec![in alloc; Part::Same(same)]?;
+    push_lines(
+        old_lines.get(..old_count).unwrap_or(&[]),
+        new_lines.get(..new_count).unwrap_or(&[]),
+        &mut parts,
+    )?;
+    for line in old_lines.get(old_count..).unwrap_or(&[]) {
+        parts.push(Part::Same(*line))?;
+    }
+    Ok(parts)
+}
+
+/// Returns whether the parts, joined, are exactly the old text and the new one. Fails if an allocation fails.
+fn splits(alloc: Global, old: &str, new: &str, parts: &[Part<'_>]) -> Result<bool, AllocError>
+    ensures { IfOk result (λ does. IsTrue does → Splits old.now new.now parts.now) }
+{
+    let has_old = old_text(alloc, parts)?.as_str() == old;
+    let has_new = new_text(alloc, parts)?.as_str() == new;
+    Ok(has_old && has_new)
+}
+
+/// Returns the parts of two texts, in order: those that are the same, and lines that only one of them has.
+pub fn parts<'t>(alloc: Global, old: &'t str, new: &'t str) -> Result<Vec<Part<'t>>, AllocError>
+    ensures spelled { IfOk result (λ parts. Splits old.now new.now parts.items) }
+{
+    let parts = guessed(alloc, old, new)?;
+    if splits(alloc, old, new, parts.as_slice())? {
+        return Ok(parts);
+    }
+    Ok(vec![in alloc; Part::Old(old), Part::New(new)]?)
+}

@@ -1,0 +1,270 @@
+//! A file of the system.
+ghost use Rattle.std.specs.Prelude.{None};
+
+use crate::LIMIT;
+use crate::beside::{Beside, is_same, lock, waited};
+use crate::failure::{Failure, unread, unwritten};
+use crate::place::{beside, folder, place_of};
+use crate::steps::Steps;
+use std::alloc::Global;
+use std::fs::{File, Metadata, OpenOptions, Permissions};
+use std::io::{ErrorKind, Read, Seek, SeekFrom, Write};
+use std::os::unix::fs::{MetadataExt, PermissionsExt, fchown};
+use std::{fs, io};
+
+/// How a file is edited.
+#[derive(Clone, Copy)]
+pub struct Options {
+    /// How many seconds to wait for another run.
+    pub wait: u64,
+    /// Edit a read-only file too, and one whose owner or group can't be kept.
+    pub is_forced: bool,
+    /// Write into the file itself: it keeps its owner, its other names, its access control list and its extended
+    /// attributes, and its folder need not be writable. A run that is killed while it writes leaves a part of each
+    /// text.
+    pub is_in_place: bool,
+}
+
+impl Options {
+    /// Waits for 5 seconds, refuses what `is_forced` allows, and doesn't write in place.
+    pub const USUAL: Options = Options {
+        wait: 5,
+        is_forced: false,
+        is_in_place: false,
+    };
+}
+
+/// A file of the system that an edit reads and replaces.
+///
+/// The new text is written into a file beside it, which replaces it. Access control lists and extended attributes
+/// can't be seen from here, and are lost, except in place.
+#[derive(Drop)]
+pub struct Disk<'r> {
+    rt: &'r HostRuntime,
+    /// The file's name, without links at its end.
+    place: String,
+    options: Options,
+    /// The file as it was at the first read.
+    found: Option<Metadata>,
+    beside: Option<Beside>,
+    /// The file itself and the new text, to be written in place.
+    open: Option<File>,
+    ready: Vec<u8>,
+}
+
+/// Refuses anything but a regular file.
+fn check_kind(found: &Metadata) -> Result<(), Failure> {
+    if found.is_dir() {
+        Err(Failure::Directory)
+    } else if found.is_file() {
+        Ok(())
+    } else {
+        Err(Failure::NotRegular)
+    }
+}
+
+/// Refuses a file that can't be replaced by one of its kind.
+fn check(found: &Metadata, options: Options) -> Result<(), Failure> {
+    check_kind(found)?;
+    if found.permissions().readonly() && !options.is_forced {
+        return Err(Failure::ReadOnly);
+    }
+    if found.nlink() > 1 && !options.is_in_place {
+        return Err(Failure::Linked);
+    }
+    Ok(())
+}
+
+/// Returns whether a failure says that nothing can be made in the folder.
+fn is_closed(failure: &Failure) -> bool {
+    match failure {
+        Failure::Unwritten(error) => matches!(
+            error.kind(),
+            ErrorKind::PermissionDenied | ErrorKind::ReadOnlyFilesystem
+        ),
+        _ => false,
+    }
+}
+
+/// Returns the new file, or None where none can be made beside a file that is written in place.
+fn beside_or_none(
+    locked: Result<Beside, Failure>,
+    options: Options,
+) -> Result<Option<Beside>, Failure> {
+    match locked {
+        Ok(beside) => Ok(Some(beside)),
+        Err(failure) => {
+            if options.is_in_place && is_closed(&failure) {
+                Ok(None)
+            } else {
+                Err(failure)
+            }
+        }
+    }
+}
+
+/// Gives a new file the owner and the group of another one. Returns the mode for it: without set-id bits if it has
+/// another owner or group.
+fn keep_owner(file: &File, found: &Metadata, is_forced: bool) -> Result<u32, Failure> {
+    let new = file.metadata().map_err(unwritten)?;
+    let mode = found.permissions().mode();
+    if new.uid() == found.uid() && new.gid() == found.gid() {
+        return Ok(mode);
+    }
+    match fchown(file, Some(found.uid()), Some(found.gid())) {
+        Ok(()) => Ok(mode),
+        Err(_) if is_forced => Ok(mode & 0o777),
+        Err(error) => Err(Failure::Owner(error)),
+    }
+}
+
+/// Writes a new file, and gives it the owner, the group and at last the mode of another one.
+fn fill(file: &mut File, found: &Metadata, text: &[u8], is_forced: bool) -> Result<(), Failure> {
+    file.write_all(text).map_err(unwritten)?;
+    file.sync_all().map_err(unwritten)?;
+    let mode = keep_owner(file, found, is_forced)?;
+    file.set_permissions(Permissions::from_mode(mode))
+        .map_err(unwritten)
+}
+
+/// Reads a file to its end, or until there are more bytes than an edited file may have.
+fn front_of(alloc: Global, file: &mut File) -> Result<Vec<u8>, Failure> {
+    let mut bytes = Vec::new(alloc);
+    let mut buf = [0u8; 8192];
+    for _ in 0..u64::MAX {
+        let count = match file.read(&mut buf) {
+            Ok(count) => count,
+            Err(error) if error.kind() == ErrorKind::Interrupted => continue,
+            Err(error) => return Err(unread(error)),
+        };
+        if count == 0 || bytes.len() > LIMIT {
+            break;
+        }
+        bytes.extend_from_slice(buf.get(..count).unwrap_or(&[]))?;
+    }
+    Ok(bytes)
+}
+
+/// Writes the part of a text that is longer than a file after the file's end, so that a full disk is noticed while the
+/// file still has all of its bytes. After an error it has them alone.
+fn extend(file: &mut File, text: &[u8]) -> io::Result<()> {
+    let length = file.metadata()?.len();
+    let tail = text
+        .get(usize::try_from(length).unwrap_or(usize::MAX)..)
+        .unwrap_or(&[]);
+    file.seek(SeekFrom::Start(length))?;
+    let written = file.write_all(tail);
+    if written.is_err() {
+        file.set_len(length)?;
+    }
+    written
+}
+
+/// Writes a text over a file that is at least as long.
+fn overwrite(file: &mut File, text: &[u8]) -> io::Result<()> {
+    file.seek(SeekFrom::Start(0))?;
+    file.write_all(text)?;
+    file.set_len(text.len() as u64)?;
+    file.sync_all()
+}
+
+impl<'r> Disk<'r> {
+    /// Returns the file of this name. Links are followed: the file that they lead to is edited.
+    pub fn new(rt: &'r HostRuntime, name: &str, options: Options) -> Result<Disk<'r>, Failure> {
+        Ok(Disk {
+            rt,
+            place: place_of(rt, name)?,
+            options,
+            found: None,
+            beside: None,
+            open: None,
+            ready: Vec::new(rt.alloc()),
+        })
+    }
+
+    /// Opens the file for writing in place, and locks it, since there may be no new file.
+    fn open_in_place(&mut self) -> Result<(), Failure> {
+        let mut options = OpenOptions::new();
+        let open = options
+            .read(true)
+            .write(true)
+            .open(self.rt, self.place.as_str());
+        let file = open.map_err(unwritten)?;
+        if !waited(self.rt, &file, self.options.wait) {
+            return Err(Failure::Busy(String::from_str(self.rt.alloc(), self.place.as_str())?));
+        }
+        self.open = Some(file);
+        Ok(())
+    }
+
+    /// Remembers the file at the first read, and later refuses another one.
+    fn recognize(&mut self, found: Metadata) -> Result<(), Failure> {
+        check_kind(&found)?;
+        if let Some(first) = &self.found
+            && !is_same(first, &found)
+        {
+            return Err(Failure::Changed);
+        }
+        self.found = Some(found);
+        Ok(())
+    }
+}
+
+impl Steps for Disk<'_> {
+    ghost past = { λ _. None };
+
+    fn begin(&mut self) -> Result<(), Failure> {
+        let found = fs::metadata(self.rt, self.place.as_str()).map_err(unread)?;
+        check(&found, self.options)?;
+        let name = beside(self.rt.alloc(), self.place.as_str())?;
+        self.beside = beside_or_none(lock(self.rt, name, self.options.wait), self.options)?;
+        if self.options.is_in_place {
+            self.open_in_place()?;
+        }
+        Ok(())
+    }
+
+    fn read(&mut self) -> Result<Vec<u8>, Failure> {
+        let mut file = File::open(self.rt, self.place.as_str()).map_err(unread)?;
+        self.recognize(file.metadata().map_err(unread)?)?;
+        front_of(self.rt.alloc(), &mut file)
+    }
+
+    fn prepare(&mut self, text: &[u8]) -> Result<(), Failure> {
+        if self.options.is_in_place {
+            self.ready = Vec::from_slice(self.rt.alloc(), text)?;
+            return Ok(());
+        }
+        match (&mut self.beside, &self.found) {
+            (Some(beside), Some(found)) => {
+                fill(&mut beside.file, found, text, self.options.is_forced)
+            }
+            _ => Err(Failure::Changed),
+        }
+    }
+
+    fn replace(&mut self) -> Result<(), Failure> {
+        if let Some(file) = &mut self.open {
+            extend(file, self.ready.as_slice()).map_err(unwritten)?;
+            return overwrite(file, self.ready.as_slice()).map_err(Failure::Damaged);
+        }
+        let Some(beside) = &self.beside else {
+            return Err(Failure::Changed);
+        };
+        fs::rename(self.rt, beside.name.as_str(), self.place.as_str()).map_err(unwritten)?;
+        self.beside = None;
+        // (the file is replaced by now, whether or not its folder can be synced)
+        if let Ok(open) = File::open(self.rt, folder(self.place.as_str())) {
+            let _synced = open.sync_all();
+        }
+        Ok(())
+    }
+
+    fn discard(&mut self) {
+        if let Some(beside) = self.beside.take() {
+            // (a failure here adds nothing to the error that is reported)
+            let _removed = fs::remove_file(self.rt, beside.name.as_str());
+        }
+        self.open = None;
+    }
+}

@@ -1,0 +1,173 @@
+//! Differences in the unified format.
+use crate::diff::{Part, parts};
+use std::alloc::{AllocError, Global};
+use std::fmt::Write;
+
+/// How many lines that both texts have are shown on each side of a change.
+const CONTEXT: usize = 3;
+
+/// The lines of one text that a hunk shows.
+#[derive(Clone, Copy)]
+struct Range {
+    /// How many lines are before them.
+    before: usize,
+    count: usize,
+}
+
+/// Hunks, while lines are added to them.
+#[derive(Drop)]
+struct Hunks<'t> {
+    /// The hunks that are complete.
+    out: String,
+    /// The lines of the last one.
+    body: String,
+    /// Whether the last one has a change.
+    is_open: bool,
+    /// The lines since the last change that both texts have: the last ones if no hunk is open.
+    waiting: Vec<&'t str>,
+    old: Range,
+    new: Range,
+}
+
+impl Range {
+    /// Counts a line of the hunk.
+    fn count(&mut self) {
+        self.count = self.count.saturating_add(1);
+    }
+
+    /// Passes the lines of the hunk, and one more if it is given.
+    fn pass(&mut self, more: usize) {
+        self.before = self.before.saturating_add(self.count).saturating_add(more);
+        self.count = 0;
+    }
+
+    /// Adds the range as `diff` writes it: the first line, counted from 1, and the number of lines.
+    fn push(self, out: &mut String) -> Result<(), AllocError> {
+        let first = if self.count == 0 {
+            self.before
+        } else {
+            self.before.saturating_add(1)
+        };
+        let count = self.count;
+        write!(out, "{first},{count}")
+    }
+}
+
+impl<'t> Hunks<'t> {
+    /// Adds a line to the hunk.
+    fn push(&mut self, mark: char, line: &str) -> Result<(), AllocError> {
+        if mark != '+' {
+            self.old.count();
+        }
+        if mark != '-' {
+            self.new.count();
+        }
+        self.body.push(mark)?;
+        self.body.push_str(line)?;
+        if !line.ends_with('\n') {
+            self.body.push_str("\n\\ No newline at end of file\n")?;
+        }
+        Ok(())
+    }
+
+    /// Adds the first of the lines that wait, at most this many.
+    fn push_waiting(&mut self, most: usize) -> Result<(), AllocError> {
+        for _ in 0..most {
+            if self.waiting.is_empty() {
+                break;
+            }
+            let line = self.waiting.remove(0);
+            self.push(' ', line)?;
+        }
+        Ok(())
+    }
+
+    /// Adds a line that only one of the texts has.
+    fn change(&mut self, mark: char, line: &str) -> Result<(), AllocError> {
+        self.push_waiting(usize::MAX)?;
+        self.is_open = true;
+        self.push(mark, line)
+    }
+
+    /// Ends the hunk.
+    fn close(&mut self) -> Result<(), AllocError> {
+        self.push_waiting(CONTEXT)?;
+        self.out.push_str("@@ -")?;
+        self.old.push(&mut self.out)?;
+        self.out.push_str(" +")?;
+        self.new.push(&mut self.out)?;
+        self.out.push_str(" @@\n")?;
+        self.out.push_str(self.body.as_str())?;
+        self.body.clear();
+        self.is_open = false;
+        self.old.pass(0);
+        self.new.pass(0);
+        Ok(())
+    }
+
+    /// Adds a line that both texts have.
+    fn same(&mut self, line: &'t str) -> Result<(), AllocError> {
+        self.waiting.push(line)?;
+        if self.is_open && self.waiting.len() > CONTEXT * 2 {
+            self.close()?;
+        }
+        if !self.is_open && self.waiting.len() > CONTEXT {
+            self.waiting.remove(0);
+            self.old.pass(1);
+            self.new.pass(1);
+        }
+        Ok(())
+    }
+
+    /// Adds the lines of a part.
+    fn part(&mut self, part: Part<'t>) -> Result<(), AllocError> {
+        match part {
+            Part::Same(lines) => {
+                for line in lines.split_inclusive('\n') {
+                    self.same(line)?;
+                }
+            }
+            Part::Old(lines) => {
+                for line in lines.split_inclusive('\n') {
+                    self.change('-', line)?;
+                }
+            }
+            Part::New(lines) => {
+                for line in lines.split_inclusive('\n') {
+                    self.change('+', line)?;
+                }
+            }
+        }
+        Ok(())
+    }
+}
+
+/// Returns the difference of two texts in the unified format, with three lines of context, or an empty text if they are
+/// the same. The name is that of the file in both head lines. All is as it is in the texts, which may have control
+/// characters.
+pub fn unified(alloc: Global, name: &str, old: &str, new: &str) -> Result<String, AllocError> {
+    let parts = parts(alloc, old, new)?;
+    let none = Range {
+        before: 0,
+        count: 0,
+    };
+    let mut hunks = Hunks {
+        out: String::new(alloc),
+        body: String::new(alloc),
+        is_open: false,
+        waiting: Vec::new(alloc),
+        old: none,
+        new: none,
+    };
+    for part in parts.as_slice() {
+        hunks.part(*part)?;
+    }
+    if hunks.is_open {
+        hunks.close()?;
+    }
+    if hunks.out.is_empty() {
+        return Ok(hunks.out);
+    }
+    let hunks = hunks.out;
+    format!(in alloc; "--- {name}\n+++ {name}\n{hunks}")
+}

@@ -1,0 +1,22 @@
+//! Edits one file: locks it against other runs, reads it, and replaces it whole or not at all. Shows what an edit
+//! changes.
+#![tactic(auto)]
+
+mod beside;
+mod diff;
+mod disk;
+mod editing;
+mod failure;
+mod hunks;
+mod place;
+mod steps;
+
+pub use diff::{Part, parts};
+pub use disk::{Disk, Options};
+pub use editing::{edit, edit_file, put, put_file};
+pub use failure::{Failed, Failure};
+pub use hunks::unified;
+pub use steps::Steps;
+
+/// The most bytes that a file may have before and after an edit: 16 MiB.
+pub const LIMIT: usize = 16_777_216;

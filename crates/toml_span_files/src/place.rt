@@ -1,0 +1,75 @@
+//! Names of files.
+use crate::failure::{Failure, unread};
+use std::alloc::{AllocError, Global};
+use std::io::ErrorKind;
+use std::{fs, io};
+
+/// The most links that are followed one after another, as on Linux.
+const LINKS: usize = 40;
+
+/// What the name of a new file ends in.
+const ENDING: &str = ".toml-span";
+
+/// The most bytes of a file's name that the name of the new file begins with.
+const KEPT: usize = 128;
+
+/// Returns the part of a name up to its last slash, and the rest.
+fn split(name: &str) -> (&str, &str) {
+    match name.rsplit_once('/') {
+        Some((folder, rest)) => (
+            name.get(..folder.len().saturating_add(1)).unwrap_or(""),
+            rest,
+        ),
+        None => ("", name),
+    }
+}
+
+/// Returns the folder of a file, as a name that can be opened.
+pub(crate) fn folder(place: &str) -> &str {
+    match split(place).0 {
+        "" => ".",
+        folder => folder,
+    }
+}
+
+/// Returns the name to which a link leads, read from the folder of the link.
+fn led_to(alloc: Global, link: &str, target: &str) -> Result<String, AllocError> {
+    if target.starts_with('/') {
+        return String::from_str(alloc, target);
+    }
+    let mut place = String::from_str(alloc, split(link).0)?;
+    place.push_str(target)?;
+    Ok(place)
+}
+
+/// Follows the links of a name. Returns the name of what it leads to at last.
+pub(crate) fn place_of(rt: &HostRuntime, name: &str) -> Result<String, Failure> {
+    let mut place = String::from_str(rt.alloc(), name)?;
+    for _ in 0..LINKS {
+        let found = fs::symlink_metadata(rt, place.as_str()).map_err(unread)?;
+        if !found.is_symlink() {
+            return Ok(place);
+        }
+        let target = fs::read_link(rt, place.as_str()).map_err(unread)?;
+        place = led_to(rt.alloc(), place.as_str(), target.as_str())?;
+    }
+    Err(Failure::Unread(io::Error::from(ErrorKind::FilesystemLoop)))
+}
+
+/// Returns the name of the new file beside a file: the file's name, or the first bytes of a long one, and `.toml-span`.
+pub(crate) fn beside(alloc: Global, place: &str) -> Result<String, AllocError> {
+    let (folder, name) = split(place);
+    let mut new = String::from_str(alloc, folder)?;
+    let most = folder.len().saturating_add(KEPT);
+    for c in name.chars() {
+        if new.len().saturating_add(c.len_utf8()) > most {
+            break;
+        }
+        new.push(c)?;
+    }
+    new.push_str(ENDING)?;
+    if new.as_str() == place {
+        new.push('~')?;
+    }
+    Ok(new)
+}
