@@ -9,7 +9,9 @@ use Rattle.toml_span_read.specs.Faults.{Tells}
 use Rattle.toml_span_read.specs.Read.{document}
 use Rattle.toml_span_read.specs.declared.fault.Fault.{Fault}
 use Rattle.toml_span_read.specs.declared.section.Section.{Section}
+use Rattle.std.specs.List.Sorted.{IsPermutation}
 use Rattle.toml_span_format.specs.Comments.{HasComments}
+use Rattle.toml_span_format.specs.Permuted.{PermutedSections}
 use Rattle.toml_span_format.specs.Same.{bare_section}
 use Rattle.toml_span_format.specs.declared.errors.FormatError.{FormatError}
 use Rattle.toml_span_format.specs.declared.errors.FormatError.TheVariants as errors
@@ -35,10 +37,30 @@ SameComments old new = (ts : List (List ℕ)) × HasComments old ts × HasCommen
 abbrev pub SameDocument : List ℕ → List ℕ → Type 0
 SameDocument old new = SameSections old new × SameComments old new
 
--- a text with the same sections and comments, or the fault of reading
-abbrev pub Formats : List ℕ → Result (String Global) (Stop FormatError) → Type 0
-Formats text (Ok new) = SameDocument text (string_bytes new)
-Formats text (Err (stops.Memory e)) = Unit {0}
-Formats text (Err (stops.Fault (errors.Invalid error))) =
+-- These are the comments of a text, in any order.
+abbrev pub CommentsPermuted : List ℕ → List (List ℕ) → Type 0
+CommentsPermuted text us = (ts : List (List ℕ)) × HasComments text ts × IsPermutation ts us
+
+-- Both texts have the same comments, except for their order.
+abbrev pub PermutedComments : List ℕ → List ℕ → Type 0
+PermutedComments old new = (us : List (List ℕ)) × CommentsPermuted old us × CommentsPermuted new us
+
+-- Both texts have the same sections, except for the order of the assignments in each, and such comments.
+abbrev pub PermutedDocument : List ℕ → List ℕ → Type 0
+PermutedDocument old new = ((bs : List Block) × (cs : List Block) × document old depth_limit (Ok bs)
+    × document new depth_limit (Ok cs) × PermutedSections bs cs) × PermutedComments old new
+
+-- a text that keeps something of this one, or the fault of reading
+abbrev pub Keeps : (List ℕ → List ℕ → Type 0) → List ℕ → Result (String Global) (Stop FormatError) → Type 0
+Keeps P text (Ok new) = P text (string_bytes new)
+Keeps P text (Err (stops.Memory e)) = Unit {0}
+Keeps P text (Err (stops.Fault (errors.Invalid error))) =
     (fault : Fault) × document text depth_limit (Err fault) × Tells text fault (content_of error)
-Formats text (Err (stops.Fault errors.WouldDiffer)) = (bs : List Block) × document text depth_limit (Ok bs)
+Keeps P text (Err (stops.Fault errors.WouldDiffer)) = (bs : List Block) × document text depth_limit (Ok bs)
+
+-- the same sections and comments
+abbrev pub Formats : List ℕ → Result (String Global) (Stop FormatError) → Type 0
+Formats text result = Keeps SameDocument text result
+
+abbrev pub FormatsSorted : List ℕ → Result (String Global) (Stop FormatError) → Type 0
+FormatsSorted text result = Keeps PermutedDocument text result

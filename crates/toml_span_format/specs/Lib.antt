@@ -1,3 +1,4 @@
 pub mod Same
+pub mod Permuted
 pub mod Comments
 pub mod Document

@@ -16,7 +16,10 @@ use toml_span_lex::stop::Stop;
 use toml_span_read::{Section, read_sections};
 
 /// Reads the sections of a text.
-fn sections_of<'t>(alloc: Global, text: &'t str) -> Result<Vec<Section<'t>>, Stop<FormatError<'t>>>
+pub(crate) fn sections_of<'t>(
+    alloc: Global,
+    text: &'t str,
+) -> Result<Vec<Section<'t>>, Stop<FormatError<'t>>>
     ensures { spec.ReadsSections text.now result }
 {
     match read_sections(alloc, text, 128) {
@@ -26,19 +29,32 @@ fn sections_of<'t>(alloc: Global, text: &'t str) -> Result<Vec<Section<'t>>, Sto
     }
 }
 
-/// Lays a document out.
-fn laid_out(alloc: Global, text: &str, options: Options) -> Result<String, AllocError> {
-    let mark = if text.starts_with('\u{feff}') {
+/// Returns the byte order mark of a text, or nothing.
+pub(crate) fn mark_of(text: &str) -> &'static str {
+    if text.starts_with('\u{feff}') {
         "\u{feff}"
     } else {
         ""
-    };
+    }
+}
+
+/// Lays a document out.
+fn laid_out(alloc: Global, text: &str, options: Options) -> Result<String, AllocError> {
     let read = pieces_of(alloc, text)?;
-    print(alloc, mark, read.line_end, read.pieces.as_slice(), options)
+    print(
+        alloc,
+        mark_of(text),
+        read.line_end,
+        read.pieces.as_slice(),
+        options,
+    )
 }
 
 /// Returns the comments of a text, or None if its tokens have a fault.
-fn comments_read<'t>(alloc: Global, text: &'t str) -> Result<Option<Vec<&'t str>>, AllocError>
+pub(crate) fn comments_read<'t>(
+    alloc: Global,
+    text: &'t str,
+) -> Result<Option<Vec<&'t str>>, AllocError>
     ensures { IfOk result (λ read. IfSome read (λ found.
         HasComments text.now (map (λ t. t.now) found.items))) }
 {
@@ -50,7 +66,7 @@ fn comments_read<'t>(alloc: Global, text: &'t str) -> Result<Option<Vec<&'t str>
 }
 
 /// Returns whether two lists of texts are the same.
-fn same_texts(a: &[&str], b: &[&str]) -> bool
+pub(crate) fn same_texts(a: &[&str], b: &[&str]) -> bool
     ensures { IsTrue result ↔ (map (λ t. t.now) a.now ≡ map (λ t. t.now) b.now) }
 {
     a == b

@@ -62,7 +62,8 @@ impl Printer {
         }
         self.is_begun = true;
         self.is_after_open = false;
-        for _ in 0..self.spaces {
+        // (so that a line is no longer for each further level, and the text not larger without limit)
+        for _ in 0..self.spaces.min(self.options.width) {
             self.out.push(' ')?;
         }
         Ok(())

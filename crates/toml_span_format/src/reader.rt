@@ -75,6 +75,8 @@ struct Reader<'t> {
     in_scalar: bool,
     /// What is between the last piece and the next token.
     gap: Gap,
+    /// Whether a comma is on the current line. Such a line is not blank.
+    has_comma: bool,
     /// The first line end outside of strings.
     line_end: Option<&'static str>,
 }
@@ -92,6 +94,7 @@ impl<'t> Reader<'t> {
     fn piece(&mut self, kind: Kind, text: &'t str, start: usize) -> Piece<'t> {
         let gap = self.gap;
         self.gap = Gap::SameLine;
+        self.has_comma = false;
         Piece {
             kind,
             text,
@@ -104,6 +107,13 @@ impl<'t> Reader<'t> {
     fn widen(&mut self, by: usize) {
         if let Some(frame) = self.open.last_mut() {
             frame.width = frame.width.saturating_add(by);
+        }
+    }
+
+    /// Adds the columns of a text to the array or inline table around.
+    fn widen_by(&mut self, text: &str) {
+        if let Some(frame) = self.open.last_mut() {
+            frame.width = frame.width.saturating_add(columns(text));
         }
     }
 
@@ -125,7 +135,12 @@ impl<'t> Reader<'t> {
 
     /// Adds a line end.
     fn line_end(&mut self, span: Span) {
-        self.gap = self.gap.with_line_end();
+        self.gap = if self.has_comma {
+            self.gap.on_new_line()
+        } else {
+            self.gap.with_line_end()
+        };
+        self.has_comma = false;
         if self.line_end.is_none() {
             self.line_end = Some(if span.end.saturating_sub(span.start) == 1 {
                 "\n"
@@ -178,7 +193,7 @@ impl<'t> Reader<'t> {
 
     /// Adds a dot or a part of a key.
     fn part(&mut self, text: &'t str, start: usize) -> Result<(), AllocError> {
-        self.widen(columns(text));
+        self.widen_by(text);
         if self.key.is_empty() {
             self.count();
             self.place = Place::Key;
@@ -213,7 +228,7 @@ impl<'t> Reader<'t> {
     fn scalar(&mut self, text: &'t str, start: usize) -> Result<(), AllocError> {
         if !self.in_scalar {
             self.begin_value()?;
-            self.widen(columns(text));
+            self.widen_by(text);
             let piece = self.piece(Kind::Scalar, text, start);
             self.pieces.push(piece)?;
             self.in_scalar = true;
@@ -288,6 +303,7 @@ impl<'t> Reader<'t> {
     /// Adds a comma.
     fn comma(&mut self) {
         self.in_scalar = false;
+        self.has_comma = true;
         if let Some(frame) = self.open.last_mut() {
             frame.ends_in_comma = true;
         }
@@ -376,6 +392,7 @@ pub(crate) fn pieces_of<'t>(alloc: Global, text: &'t str) -> Result<Pieces<'t>, 
         place: Place::Line,
         in_scalar: false,
         gap: Gap::NextLine,
+        has_comma: false,
         line_end: None,
     };
     for _ in 0..text.len() {

@@ -14,7 +14,7 @@ fn same_key(a: &Key<'_>, b: &Key<'_>) -> bool
 }
 
 /// Returns whether two lists of keys have the same names.
-fn same_keys(a: &[Key<'_>], b: &[Key<'_>]) -> bool
+pub(crate) fn same_keys(a: &[Key<'_>], b: &[Key<'_>]) -> bool
     ensures { IsTrue result ↔ (map bare_key (map simple_key a.now) ≡ map bare_key (map simple_key b.now)) }
 {
     if a.len() != b.len() {
@@ -70,7 +70,7 @@ fn same_values(a: &[Val<'_>], b: &[Val<'_>]) -> bool
 
 /// Returns whether two assignments are the same.
 #[cycle(same_value)]
-fn same_pair(a: &Assignment<'_>, b: &Assignment<'_>) -> bool
+pub(crate) fn same_pair(a: &Assignment<'_>, b: &Assignment<'_>) -> bool
     ensures { IsTrue result ↔ (bare_assignment (key_value a.now) ≡ bare_assignment (key_value b.now)) }
 {
     same_parts(&a.parts, &b.parts) && same_value(&a.value, &b.value)

@@ -1,0 +1,159 @@
+//! Puts the lines of a document in the order of their keys.
+use crate::pieces::{Gap, Kind, Piece};
+use std::alloc::{AllocError, Global};
+use toml_span_read::{DottedKey, Section};
+
+/// Returns the names of the parts of a key.
+pub(crate) fn names_of<'s>(
+    alloc: Global,
+    key: &'s DottedKey<'_>,
+) -> Result<Vec<&'s str>, AllocError> {
+    let mut names = Vec::new(alloc);
+    for part in &key.inner {
+        names.push(part.name.as_ref())?;
+    }
+    names.push(key.last.name.as_ref())?;
+    Ok(names)
+}
+
+/// An assignment of a section with the comments that belong to it. Entries are compared by their keys.
+#[derive(Drop)]
+#[derive_where(PartialEq, Eq, PartialOrd, Ord)]
+struct Entry<'s> {
+    names: Vec<&'s str>,
+    /// The indices of its first piece, and of the first piece after it.
+    #[derive_where(skip(EqHashOrd))]
+    start: usize,
+    #[derive_where(skip(EqHashOrd))]
+    end: usize,
+}
+
+/// What is sorted so far.
+#[derive(Drop)]
+struct Sorter<'p, 't, 's> {
+    pieces: &'p [Piece<'t>],
+    sorted: Vec<Piece<'t>>,
+    /// The entries since the last blank line or header.
+    run: Vec<Entry<'s>>,
+    /// The index of the first piece after the run, and the key of the assignment there, if it has begun.
+    start: usize,
+    key: Option<Vec<&'s str>>,
+    /// Whether all pieces after the run are comments.
+    is_comment: bool,
+}
+
+impl Sorter<'_, '_, '_> {
+    /// Adds pieces, of which the first one gets another gap.
+    fn copy(&mut self, start: usize, end: usize, gap: Gap) -> Result<(), AllocError> {
+        for (at, piece) in self
+            .pieces
+            .get(start..end)
+            .unwrap_or(&[])
+            .iter()
+            .enumerate()
+        {
+            let mut piece = *piece;
+            if at == 0 {
+                piece.gap = gap;
+            }
+            self.sorted.push(piece)?;
+        }
+        Ok(())
+    }
+
+    /// Returns the gap before a piece.
+    fn gap_at(&self, at: usize) -> Gap {
+        match self.pieces.get(at) {
+            Some(piece) => piece.gap,
+            None => Gap::NextLine,
+        }
+    }
+
+    /// Ends the run: adds its entries in their order.
+    fn end_run(&mut self, alloc: Global) -> Result<(), AllocError> {
+        let mut run = Vec::new(alloc);
+        run.append(&mut self.run)?;
+        let mut gap = match run.first() {
+            Some(first) => self.gap_at(first.start),
+            None => Gap::NextLine,
+        };
+        run.sort()?;
+        for entry in &run {
+            self.copy(entry.start, entry.end, gap)?;
+            gap = Gap::NextLine;
+        }
+        Ok(())
+    }
+
+    /// Ends what follows the run before a piece: an assignment joins the run, and others end it.
+    fn end_entry(&mut self, alloc: Global, end: usize) -> Result<(), AllocError> {
+        let start = self.start;
+        self.start = end;
+        match self.key.take() {
+            Some(names) => {
+                self.run.push(Entry { names, start, end })?;
+                Ok(())
+            }
+            None => {
+                self.end_run(alloc)?;
+                let gap = self.gap_at(start);
+                self.copy(start, end, gap)
+            }
+        }
+    }
+
+    /// Begins a line with a piece: a header, a comment, or an assignment, to which comments right above it belong.
+    fn begin_line(&mut self, alloc: Global, at: usize) -> Result<(), AllocError> {
+        let Some(piece) = self.pieces.get(at) else {
+            return Ok(());
+        };
+        let is_apart = piece.gap == Gap::BlankLine || piece.kind == Kind::Header;
+        if is_apart || !self.is_comment {
+            self.end_entry(alloc, at)?;
+        }
+        if is_apart {
+            self.end_run(alloc)?;
+        }
+        self.is_comment = piece.kind == Kind::Comment;
+        Ok(())
+    }
+}
+
+/// Returns the pieces of a document with the assignments of each run of lines sorted by their keys, as
+/// `format_sorted` says.
+pub(crate) fn sorted_lines<'t>(
+    alloc: Global,
+    sections: &[Section<'_>],
+    pieces: &[Piece<'t>],
+) -> Result<Vec<Piece<'t>>, AllocError> {
+    let mut keys = sections
+        .iter()
+        .flat_map(|section| section.assignments.iter());
+    let mut sorter = Sorter {
+        pieces,
+        sorted: Vec::new(alloc),
+        run: Vec::new(alloc),
+        start: 0,
+        key: None,
+        is_comment: false,
+    };
+    let mut depth = 0usize;
+    for (at, piece) in pieces.iter().enumerate() {
+        match piece.kind {
+            Kind::OpenArray(_) | Kind::OpenTable(_) => depth = depth.saturating_add(1),
+            Kind::Close => depth = depth.saturating_sub(1),
+            Kind::Header => sorter.begin_line(alloc, at)?,
+            Kind::Comment if depth == 0 && piece.is_own_comment() => sorter.begin_line(alloc, at)?,
+            Kind::Key if depth == 0 => {
+                sorter.begin_line(alloc, at)?;
+                if let Some(assignment) = keys.next() {
+                    sorter.key = Some(names_of(alloc, &assignment.parts)?);
+                }
+            }
+            _ => (),
+        }
+    }
+    sorter.end_entry(alloc, pieces.len())?;
+    sorter.end_run(alloc)?;
+    Ok(sorter.sorted)
+}
