@@ -1,5 +1,7 @@
 pub mod Commas
 pub mod Endings
+pub mod Errors
+pub mod Fixings
 pub mod Judged
 pub mod Pieces
 pub mod Statuses

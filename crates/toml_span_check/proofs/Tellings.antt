@@ -1,11 +1,12 @@
--- One more file that is told of.
+-- One more file with its report.
 use Rattle.toml_span_lex.proofs.Common.{◌≡◌, ◌<◌, ◌+◌, ◌⊎◌, ℕ, Bool, false, List, [], ◌∷◌, ◌++◌, map, take, drop, get_or, length, Option, Result, Ok, Err, IsErrAnd, refl, sym, ap, subst, inl, inr, ◌∙◌, append_assoc, take-append-drop, string_bytes, suc, arith, length-append, take_more, map-append, Appends-trans, nat_tests, common_steps}
 use Rattle.std.proofs.lemmas.List.{append-nil}
 use Rattle.toml_span_check.specs.declared.answer.Task.{Task}
 use Rattle.toml_span_check.specs.declared.answer.Task.TheVariants.{Check, Show}
 use Rattle.toml_span_check.specs.declared.faults.Format.{Format}
-use Rattle.toml_span_check.specs.Run.{Asked, Reading, Gathered, Finds, FindsAll, no_name, one_more, Logs, Shows, Tells, TellsFirst, nothing, answered, unread, together, whole}
+use Rattle.toml_span_check.specs.Run.{Asked, Reading, Gathered, Finds, FindsAll, no_name, one_more, Logs, Shows, Tells, TellsFirst, nothing, answered, unread, none_wrong, together, whole}
 use Rattle.toml_span_check.specs.code.Telling.{Adds, BegunOne, Holds, TellsAll, TellsFiles, TellsOne, TextsOf}
+use Rattle.toml_span_check.specs.declared.run.Tally.{Tally}
 use Rattle.toml_span_check.specs.declared.run.Telling.{Telling}
 use Rattle.toml_span_lines.specs.Held.{HoldsRest}
 use Rattle.toml_span_lines.specs.Run.{HasWritten}
@@ -19,15 +20,15 @@ logs-none log = grind (arith, nat_tests, common_steps)
 logs-more : (a b c : Option Asked) (rs : List Reading) (r : Reading) → Logs a b rs → Logs b c (r ∷ []) → Logs a c (rs ++ r ∷ [])
 logs-more a b c rs r h k = grind (arith, nat_tests, common_steps)
 
-pub finds-none : (log : Option Asked) (files : List (List ℕ)) → files ≡ [] → FindsAll [] log log files
-finds-none log files none = rw none (no_name log)
+pub finds-none : (excludes : List (List ℕ)) (log : Option Asked) (files : List (List ℕ)) → files ≡ [] → FindsAll excludes [] log log files
+finds-none excludes log files none = rw none (no_name log)
 
-pub finds-more : (names more : List (List ℕ)) (name : List ℕ) (old mid new : Option Asked) (files found all : List (List ℕ)) →
-    FindsAll names old mid files → more ≡ names ++ name ∷ [] → Finds mid new (name, found) → all ≡ files ++ found → FindsAll more old new all
-finds-more names more name old mid new files found all before n search a = rw (n, a) (one_more names old mid new files name found before search)
+pub finds-more : (excludes names more : List (List ℕ)) (name : List ℕ) (old mid new : Option Asked) (files found all : List (List ℕ)) →
+    FindsAll excludes names old mid files → more ≡ names ++ name ∷ [] → Finds mid new (excludes, name, found) → all ≡ files ++ found → FindsAll excludes more old new all
+finds-more excludes names more name old mid new files found all before n search a = rw (n, a) (one_more names old mid new files name found before search)
 
 pub tells-start : (format : Format) (task : Task) (pointer : List ℕ) (log : Option Asked) (out errors : List ℕ) → out ≡ [] → errors ≡ [] →
-    Tells format task pointer [] log log out errors 0 0
+    Tells format task pointer [] log log out errors 0 none_wrong
 tells-start format task pointer log out errors none silent =
     record { readings = []; asked = refl; logged = logs-none log; told = rw (none, silent) nothing }
 
@@ -55,7 +56,7 @@ names-split text names i = ap (map text) (sym (take-append-drop i names)) ∙ ma
 
 -- ---- what is written and held
 
--- a text behind what was written
+-- a text after what was written
 pub holds-behind : (a b c : Option (List ℕ)) (all held text kept : List ℕ) (h : HoldsRest a b all held) → HoldsRest b c text kept → HoldsRest a c (h.0 ++ text) kept
 holds-behind a b c all held text kept h k = (h.0 ++ k.0, Appends-trans a b c h.0 k.0 h.1 k.1, append_assoc h.0 k.0 kept ∙ ap (λ l. h.0 ++ l) k.2)
 
@@ -64,14 +65,14 @@ written-behind a b c all held text h w =
     let front = written-front b c text w in
     front-written a c (h.0 ++ text) front.0 (holds-behind a b c all held text front.0 h front.1)
 
-adds-behind : (format : Format) (task : Task) (pointer name : List ℕ) (reading : Result (List ℕ) (List ℕ)) (held errors : List ℕ) (status wrong : ℕ) (t : TextsOf) (front all : List ℕ) →
+adds-behind : (format : Format) (task : Task) (pointer name : List ℕ) (reading : Result (List ℕ) (List ℕ)) (held errors : List ℕ) (status : ℕ) (wrong : Tally) (t : TextsOf) (front all : List ℕ) →
     Adds format task pointer name reading (held, errors, status, wrong) t → front ++ held ≡ all →
     Adds format task pointer name reading (all, errors, status, wrong) (front ++ t.0, t.1, t.2, t.3)
 adds-behind format task pointer name reading held errors status wrong t front all a is = grind (arith, nat_tests, common_steps)
 
 -- ---- files, one after another
 
--- what was told of the files so far, and is written or held
+-- the reports on the files so far, written or held
 abbrev pub Upto : Format → Task → List ℕ → List (List ℕ) → Option Asked → Option Asked → Option (List ℕ) → Option (List ℕ) → TextsOf → Type 0
 Upto format task pointer names old new a b t =
     ((b ≡ a) ⊎ Shows task) × ((all : List ℕ) × Tells format task pointer names old new all t.1 t.2 t.3 × Holds task a b all t.0)
@@ -88,16 +89,16 @@ holds-next task all held text kept front is (inr shows) k = inr shows
 holds-next task all held text kept front is (inl same) (inr shows) = inr shows
 holds-next task all held text kept front is (inl same) (inl more) = inl (more ∙ sym (ap (λ f. f ++ text) (no-front front held all is same)))
 
--- of documents that are shown nothing stands round what is told
+-- where documents are shown, nothing surrounds the reports
 whole-shown : (format : Format) (task : Task) (text : List ℕ) → Shows task → text ≡ whole format task text
 whole-shown format task text shows = grind (arith, nat_tests, common_steps)
 
--- what is told of all files together is held
+-- the reports on all files together are held
 pub whole-held : (format : Format) (task : Task) (a b : Option (List ℕ)) (all held kept : List ℕ) → Holds task a b all held → kept ≡ whole format task held → HoldsRest a b (whole format task all) kept
 whole-held format (Show form) a b all held kept h is = subst (HoldsRest a b all) (sym is) h.0
-whole-held format Check a b all held kept (h, inl same) is =
+whole-held format (Check version) a b all held kept (h, inl same) is =
     (h.0, h.1, ap (λ f. f ++ kept) (no-front h.0 held all h.2 same) ∙ is ∙ ap (together format) same)
-whole-held format Check a b all held kept (h, inr (form, wrong)) is = cc
+whole-held format (Check version) a b all held kept (h, inr (form, wrong)) is = cc
 
 shows-next : (task : Task) (a b c : Option (List ℕ)) → (b ≡ a) ⊎ Shows task → (c ≡ b) ⊎ Shows task → (c ≡ a) ⊎ Shows task
 shows-next task a b c h k = grind (arith, nat_tests, common_steps)
@@ -149,7 +150,7 @@ pub stops-reading : (format : Format) (task : Task) (pointer : List ℕ) (names 
 stops-reading format task pointer names rest files old mid new a b t failed r before parts good err =
     grind (arith, nat_tests, common_steps, first-upto format task pointer names rest files old mid a b t before parts)
 
--- a file is not told of to its end
+-- the report on a file does not end
 stops-with : (format : Format) (task : Task) (pointer : List ℕ) (names more rest files : List (List ℕ)) (name : List ℕ) (old mid new : Option Asked) (reading : Result (List ℕ) (List ℕ)) (a b c : Option (List ℕ)) (t u : TextsOf) (failed : Bool) (e : Unwritten) →
     Upto format task pointer names old mid a b t → more ≡ names ++ name ∷ [] → files ≡ more ++ rest → Logs mid new ((name, reading) ∷ []) →
     TellsOne format task pointer name reading (Err e) b c failed t u → TellsFiles format task pointer files (Err e) old new a c failed
@@ -169,18 +170,18 @@ stops-telling format task pointer names more rest files name old mid new reading
 -- ---- the files that names are for
 
 -- memory is refused before a file is looked at
-pub stops-finding : (format : Format) (task : Task) (pointer : List ℕ) (names : List (List ℕ)) (old new : Option Asked) (a b : Option (List ℕ)) (failed : Bool) (r : Result Telling Unwritten) →
-    b ≡ a → failed ≡ false → IsErrAnd r (λ y. y ≡ Memory) → TellsAll format task pointer names r old new a b failed
-stops-finding format task pointer names old new a b failed r same good err = grind (arith, nat_tests, common_steps)
+pub stops-finding : (format : Format) (task : Task) (pointer : List ℕ) (excludes names : List (List ℕ)) (watched : Bool) (old new : Option Asked) (a b : Option (List ℕ)) (failed : Bool) (r : Result Telling Unwritten) →
+    b ≡ a → failed ≡ false → IsErrAnd r (λ y. y ≡ Memory) → TellsAll format task pointer excludes names watched r old new a b failed
+stops-finding format task pointer excludes names watched old new a b failed r same good err = grind (arith, nat_tests, common_steps)
 
-stops-all : (format : Format) (task : Task) (pointer : List ℕ) (names files : List (List ℕ)) (old mid new : Option Asked) (a b : Option (List ℕ)) (failed : Bool) (e : Unwritten) →
-    FindsAll names old mid files → TellsFiles format task pointer files (Err e) mid new a b failed → TellsAll format task pointer names (Err e) old new a b failed
-stops-all format task pointer names files old mid new a b failed e found h = grind (arith, nat_tests, common_steps)
+stops-all : (format : Format) (task : Task) (pointer : List ℕ) (excludes names files : List (List ℕ)) (watched : Bool) (old mid new : Option Asked) (a b : Option (List ℕ)) (failed : Bool) (e : Unwritten) →
+    FindsAll excludes names old mid files → TellsFiles format task pointer files (Err e) mid new a b failed → TellsAll format task pointer excludes names watched (Err e) old new a b failed
+stops-all format task pointer excludes names files watched old mid new a b failed e found h = grind (arith, nat_tests, common_steps)
 
--- memory is refused behind the files
-pub stops-counting : (format : Format) (task : Task) (pointer : List ℕ) (names files : List (List ℕ)) (old mid new : Option Asked) (a b : Option (List ℕ)) (failed : Bool) (t : Telling) (r : Result Telling Unwritten) →
-    FindsAll names old mid files → TellsFiles format task pointer files (Ok t) mid new a b failed → IsErrAnd r (λ y. y ≡ Memory) → TellsAll format task pointer names r old new a b failed
-stops-counting format task pointer names files old mid new a b failed t r found told err =
+-- memory runs out after the files
+pub stops-counting : (format : Format) (task : Task) (pointer : List ℕ) (excludes names files : List (List ℕ)) (watched : Bool) (old mid new : Option Asked) (a b : Option (List ℕ)) (failed : Bool) (t : Telling) (r : Result Telling Unwritten) →
+    FindsAll excludes names old mid files → TellsFiles format task pointer files (Ok t) mid new a b failed → IsErrAnd r (λ y. y ≡ Memory) → TellsAll format task pointer excludes names watched r old new a b failed
+stops-counting format task pointer excludes names files watched old mid new a b failed t r found told err =
     let text : TextsOf = (t.held.items, string_bytes t.errors, t.status, t.wrong) in
     let first = first-upto format task pointer files [] files mid new a b text (told.1, told.2) (sym (append-nil files)) in
-    grind (arith, nat_tests, common_steps, stops-all format task pointer names files old mid new a b failed Memory found (told.0, first))
+    grind (arith, nat_tests, common_steps, stops-all format task pointer excludes names files watched old mid new a b failed Memory found (told.0, first))

@@ -1,20 +1,22 @@
--- What is told of the bytes of a file.
+-- The answer to the bytes of a file.
 use Rattle.std.specs.Prelude.{◌≡◌, ◌<◌, ◌≤◌, ◌⊎◌, ℕ, true, false, IsUtf8, List, [], ◌++◌, length, codes, Option, Some}
 use Rattle.std.specs.Prelude.{None}
+use Rattle.std.specs.List.{flat_map}
 use Rattle.toml_span_tree.specs.declared.error.Error.{Error}
 use Rattle.toml_span_tree.specs.declared.value.Value.{Value}
-use Rattle.toml_span_tree.specs.Error.{content_of}
 use Rattle.toml_span_tree.specs.Node.{Node}
 use Rattle.toml_span_tree.specs.Pointer.{pointed}
 use Rattle.toml_span_tree.specs.Value.{view}
 use Rattle.toml_span_lex.specs.declared.stop.Stop.TheVariants as stops
 use Rattle.toml_span.specs.Parsing.{IsTree, IsRefusal}
-use Rattle.toml_span_report.specs.Errors.{TellsError}
 use Rattle.toml_span_report.specs.Report.{ReportContent, bare}
 use Rattle.toml_span_report.specs.declared.report.Severity.TheVariants as severity
+use Rattle.toml_span_check.specs.Every.{Checks}
 use Rattle.toml_span_check.specs.Faults.{fault_text}
+use Rattle.toml_span_check.specs.Newer.{Lacks}
 use Rattle.toml_span_check.specs.Shown.{raw, shown}
 use Rattle.toml_span_check.specs.declared.faults.Format.{Format}
+use Rattle.toml_span_check.specs.declared.newer.Version.{Version}
 use Rattle.toml_span_check.specs.declared.answer.Task.{Task}
 use Rattle.toml_span_check.specs.declared.answer.Task.TheVariants.{Check, Show}
 use Rattle.toml_span_check.specs.declared.answer.Form.{Form}
@@ -40,27 +42,38 @@ formed Items n = tree_lines n
 formed Raw n = raw n ++ codes "\n"
 formed Toml n = value_text n ++ codes "\n"
 
--- what a document gives: a status and a text
+-- the answer to a document: a status and a text
 abbrev pub found : Format → Form → List ℕ → List ℕ → Option Node → ℕ × List ℕ
 found format form pointer name (Some n) = (0, formed form n)
 found format form pointer name None = nothing_there format pointer name
 
-abbrev pub given : Format → Task → List ℕ → List ℕ → Node → ℕ × List ℕ
-given format Check pointer name n = (0, [])
-given format (Show form) pointer name n = found format form pointer name (pointed pointer n)
+-- the texts of reports
+abbrev pub report_text : Format → List ℕ → List ℕ → ReportContent → List ℕ
+report_text format name text r = fault_text format r name text
 
--- the text of an error: that of its report
-abbrev pub IsFaultText : Format → Error → List ℕ → List ℕ → List ℕ → Type 0
-IsFaultText format error name text out =
-    (report : ReportContent) × TellsError severity.Error text (content_of error) report
-    × (out ≡ fault_text format report name text)
+abbrev pub reports_text : Format → List ℕ → List ℕ → List ReportContent → List ℕ
+reports_text format name text rs = flat_map (report_text format name text) rs
 
--- a document, and what it gives; or none, and status 1 with the fault or the first clash
+-- the number and the texts of all errors of a text
+abbrev pub AreReported : Format → List ℕ → List ℕ → ℕ × List ℕ → Type 0
+AreReported format name text answer =
+    (rs : List ReportContent) × Checks text rs × (answer ≡ (length rs, reports_text format name text rs))
+
+-- the number and the texts of the errors of a valid text: what it uses that the version lacks
+abbrev pub AreLacking : Format → Version → List ℕ → List ℕ → ℕ × List ℕ → Type 0
+AreLacking format version name text answer =
+    (rs : List ReportContent) × Lacks version name text rs × (answer ≡ (length rs, reports_text format name text rs))
+
+-- the answer to a document
+abbrev pub Given : Format → Task → List ℕ → List ℕ → List ℕ → Node → ℕ × List ℕ → Type 0
+Given format (Check version) pointer name text n answer = AreLacking format version name text answer
+Given format (Show form) pointer name text n answer = answer ≡ found format form pointer name (pointed pointer n)
+
+-- a document and its answer; otherwise all errors of the text
 abbrev pub IsRead : Format → Task → List ℕ → List ℕ → List ℕ → ℕ × List ℕ → Type 0
 IsRead format task pointer name text answer =
-    ((root : Value) × IsTree text depth_limit root × (answer ≡ given format task pointer name (view root)))
-    ⊎ ((error : Error) × (out : List ℕ) × IsRefusal text depth_limit (stops.Fault error)
-    × IsFaultText format error name text out × (answer ≡ (1, out)))
+    ((root : Value) × IsTree text depth_limit root × Given format task pointer name text (view root) answer)
+    ⊎ ((error : Error) × IsRefusal text depth_limit (stops.Fault error) × AreReported format name text answer)
 
 abbrev pub too_long : Format → List ℕ → ℕ × List ℕ
 too_long format name = (1, plain_fault format (codes "too-long") (codes "the file is larger than 16 MiB") name)

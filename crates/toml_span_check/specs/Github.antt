@@ -1,4 +1,4 @@
--- A fault as a command of GitHub's workflows, which annotates the lines where it stands:
+-- A fault as a command of GitHub's workflows, which annotates its lines:
 -- `::error file=a.toml,line=2,endLine=2,col=1,endColumn=5,title=duplicate-key::duplicate key: `port``
 use Rattle.std.specs.Prelude.{ℕ, ◌-◌, max, ◌==◌, ◌&&◌, nat_lt, nat_le, List, [], ◌∷◌, ◌++◌, codes, length}
 use Rattle.std.specs.Prelude.{encode_utf8, slice_index, if◌then◌else◌}
@@ -34,7 +34,7 @@ escaped_message text = flat_map message_char (chars text)
 unfoldable pub escaped_property : List ℕ → List ℕ
 escaped_property text = flat_map property_char (chars text)
 
--- any other hidden character is told as in complaints, as `\u001b`
+-- any other hidden character is shown as in complaints, as `\u001b`
 abbrev pub message : List ℕ → List ℕ
 message text = visible (escaped_message text)
 
@@ -53,7 +53,7 @@ marked_end text span =
 abbrev pub line_column : List ℕ → ℕ → ℕ × ℕ
 line_column text at = (line_number text (place text at), column text (place text at))
 
--- GitHub takes no columns where the lines differ. That of the end is behind the last character.
+-- GitHub takes no columns where the lines differ. That of the end is after the last character.
 unfoldable pub columns : ℕ × ℕ → ℕ × ℕ → List ℕ
 columns start end =
     if start.0 == end.0 then codes ",col=" ++ decimal start.1 ++ codes ",endColumn=" ++ decimal end.1 else []
@@ -65,7 +65,7 @@ lines start end =
 abbrev pub region : List ℕ → Span → List ℕ
 region text span = lines (line_column text span.start) (line_column text (marked_end text span))
 
--- where the first primary label stands
+-- the place of the first primary label
 abbrev pub place_told : List ℕ → List Place → List ℕ
 place_told text [] = []
 place_told text (label ∷ labels) = if label.primary then region text label.span else place_told text labels

@@ -1,8 +1,12 @@
 pub mod Answer
 pub mod Dates
+pub mod Every
 pub mod Faults
+pub mod Fixing
 pub mod Github
 pub mod Lints
+pub mod Newer
+pub mod Patterns
 pub mod Run
 pub mod Sarif
 pub mod Shown

@@ -1,6 +1,6 @@
 -- What the program writes for the files that it reads.
-use Rattle.std.specs.Prelude.{◌≡◌, ◌↔◌, ◌≤◌, ◌⊎◌, ⊤, ℕ, ◌+◌, ◌==◌, nat_lt, max, Bool, true, false, ◌||◌, IsTrue, List}
-use Rattle.std.specs.Prelude.{[], ◌∷◌, ◌++◌, map, length, codes, if◌then◌else◌, Option, Some, None, Result, Ok, Err}
+use Rattle.std.specs.Prelude.{◌≡◌, ◌↔◌, ◌≤◌, ◌⊎◌, ⊤, ℕ, ◌+◌, ◌==◌, nat_lt, max, min, Bool, true, false, ◌||◌, IsTrue}
+use Rattle.std.specs.Prelude.{List, [], ◌∷◌, ◌++◌, map, length, codes, if◌then◌else◌, Option, Some, None, Result, Ok, Err}
 use Rattle.std.specs.Prelude.{String, Vec, string_bytes}
 use Rattle.std.specs.Fmt.{decimal}
 use Rattle.std.specs.Global.{Global}
@@ -17,12 +17,14 @@ use Rattle.toml_span_check.specs.declared.answer.Task.{Task}
 use Rattle.toml_span_check.specs.declared.answer.Task.TheVariants.{Check, Show}
 use Rattle.toml_span_check.specs.declared.faults.Format.{Format}
 use Rattle.toml_span_check.specs.declared.faults.Format.TheVariants.{Text, Sarif}
+use Rattle.toml_span_check.specs.declared.run.Tally.{Tally}
 
--- what was found for a name: of a folder the names of the files below it, else the name alone
+-- A search: the patterns of files that are left out, the name that is searched, and the files that were found. For a
+-- directory these are files below it, otherwise the name alone.
 abbrev pub Search : Type 0
-Search = List ℕ × List (List ℕ)
+Search = List (List ℕ) × List ℕ × List (List ℕ)
 
--- a file that was asked for: its name, and its bytes or in words why there are none
+-- a file that was asked for: its name, and its bytes, or the reason in words why it can't be read
 abbrev pub Reading : Type 0
 Reading = List ℕ × Result (List ℕ) (List ℕ)
 
@@ -40,7 +42,7 @@ abbrev pub HasReadOrNot : Option (List ℕ) → Option (List ℕ) → Result (Li
 HasReadOrNot old new (Ok bytes) = HasReadAll old new bytes
 HasReadOrNot old new (Err words) = (bytes : List ℕ) × HasRead old new bytes
 
--- why a file can't be read, by the kind of the error: the system's words, but for the commonest kinds
+-- why a file can't be read, by the kind of the error: the system's words, except for the commonest kinds
 abbrev pub IsReason : ErrorKind → List ℕ → Type 0
 IsReason kind.NotFound words = words ≡ codes "no such file"
 IsReason kind.PermissionDenied words = words ≡ codes "permission denied"
@@ -53,86 +55,106 @@ Finds None new search = ⊤
 Finds (Some asked) new search = new ≡ Some (record asked { searches = asked.searches ++ search ∷ [] })
 
 -- The files that names are for, in the order of the names.
-pub data FindsAll : List (List ℕ) → Option Asked → Option Asked → List (List ℕ) → Type 0 where
-  no_name : (log : Option Asked) → FindsAll [] log log []
+pub data FindsAll (excludes : List (List ℕ))
+    : List (List ℕ) → Option Asked → Option Asked → List (List ℕ) → Type 0 where
+  no_name : (log : Option Asked) → FindsAll excludes [] log log []
   one_more : (names : List (List ℕ)) (old mid new : Option Asked) (files : List (List ℕ)) (name : List ℕ)
-      (found : List (List ℕ)) → FindsAll names old mid files → Finds mid new (name, found)
-      → FindsAll (names ++ name ∷ []) old new (files ++ found)
+      (found : List (List ℕ)) → FindsAll excludes names old mid files → Finds mid new (excludes, name, found)
+      → FindsAll excludes (names ++ name ∷ []) old new (files ++ found)
 
 -- more readings, where they are known
 abbrev pub Logs : Option Asked → Option Asked → List Reading → Type 0
 Logs None new more = ⊤
 Logs (Some asked) new more = new ≡ Some (record asked { readings = asked.readings ++ more })
 
--- what is told of a file that can't be read
+-- the report on a file that can't be read
 abbrev pub complaint : List ℕ → List ℕ → List ℕ
 complaint name reason = codes "error: cannot read `" ++ visible name ++ codes "`: " ++ reason ++ codes "\n"
 
--- What is told of files, one after another: what their bytes give, what is told of those that can't be read, and the
--- greatest of their statuses, which is 2 for one that can't be read; and how many have a fault, which is status 1, or
--- can't be read.
+-- how many files have errors, and how many errors there are, after one more file with this many errors
+abbrev pub none_wrong : Tally
+none_wrong = record { files = 0; errors = 0 }
+
+abbrev pub counted : Tally → ℕ → Tally
+counted wrong errors = record { files = wrong.files + min errors 1; errors = wrong.errors + errors }
+
+-- the status of a file with this many errors
+abbrev pub status_of : ℕ → ℕ
+status_of errors = if errors == 0 then 0 else 1
+
+-- What is printed about files, one after another: the answer to the bytes of each, and those that can't be read. The
+-- status is the highest of theirs: 1 for a file with errors, and 2 for one that can't be read, which is one error.
 pub data Gathered (format : Format) (task : Task) (pointer : List ℕ)
-    : List Reading → List ℕ → List ℕ → ℕ → ℕ → Type 0 where
-  nothing : Gathered format task pointer [] [] [] 0 0
-  answered : (rs : List Reading) (out errors : List ℕ) (status wrong : ℕ) (name bytes : List ℕ) (answer : ℕ × List ℕ)
+    : List Reading → List ℕ → List ℕ → ℕ → Tally → Type 0 where
+  nothing : Gathered format task pointer [] [] [] 0 none_wrong
+  answered : (rs : List Reading) (out errors : List ℕ) (status : ℕ) (wrong : Tally) (name bytes : List ℕ)
+      (answer : ℕ × List ℕ)
       → Gathered format task pointer rs out errors status wrong → IsAnswer format task pointer name bytes answer
-      → Gathered format task pointer (rs ++ (name, Ok bytes) ∷ []) (out ++ answer.1) errors (max status answer.0)
-      (wrong + answer.0)
-  unread : (rs : List Reading) (out errors : List ℕ) (status wrong : ℕ) (name reason : List ℕ)
+      → Gathered format task pointer (rs ++ (name, Ok bytes) ∷ []) (out ++ answer.1) errors
+      (max status (status_of answer.0)) (counted wrong answer.0)
+  unread : (rs : List Reading) (out errors : List ℕ) (status : ℕ) (wrong : Tally) (name reason : List ℕ)
       → Gathered format task pointer rs out errors status wrong
       → Gathered format task pointer (rs ++ (name, Err reason) ∷ []) out
-      (errors ++ complaint (shown_word name) reason) 2 (wrong + 1)
+      (errors ++ complaint (shown_word name) reason) 2 (counted wrong 1)
 
--- the files of these names were read in their order, and this is told of them
+-- the files of these names were read in order, with these reports
 pub record Tells (format : Format) (task : Task) (pointer : List ℕ) (names : List (List ℕ))
-    (old new : Option Asked) (out errors : List ℕ) (status wrong : ℕ) : Type 0 where
+    (old new : Option Asked) (out errors : List ℕ) (status : ℕ) (wrong : Tally) : Type 0 where
   pub readings : List Reading
   pub asked : map (λ r. r.0) readings ≡ names
   pub logged : Logs old new readings
   pub told : Gathered format task pointer readings out errors status wrong
 
--- the last line of a check whose errors are reported in lines, if there are some: `3 files checked, 1 with errors`
-abbrev pub file_word : ℕ → List ℕ
-file_word files = if files == 1 then codes " file checked, " else codes " files checked, "
+-- the last line of a check whose errors are printed as text: `3 errors in 2 of 5 files`, or, without errors and
+-- somebody watches, `5 files checked`
+abbrev pub number_of : ℕ → List ℕ → List ℕ
+number_of n word = decimal n ++ word ++ (if n == 1 then [] else codes "s")
 
-unfoldable pub counts : ℕ → ℕ → List ℕ
-counts files wrong = decimal files ++ file_word files ++ decimal wrong ++ codes " with errors\n"
+unfoldable pub found_errors : ℕ → Tally → List ℕ
+found_errors files wrong =
+    number_of wrong.errors (codes " error") ++ codes " in " ++ decimal wrong.files ++ codes " of "
+    ++ number_of files (codes " file") ++ codes "\n"
 
-abbrev pub summary : Format → Task → ℕ → ℕ → List ℕ
-summary (Text style) Check files wrong = if nat_lt 0 wrong then counts files wrong else []
-summary _ _ files wrong = []
+unfoldable pub found_none : ℕ → List ℕ
+found_none files = number_of files (codes " file") ++ codes " checked\n"
 
--- what is told of all files together: where faults are told, a document in the format SARIF
+abbrev pub summary : Format → Task → Bool → ℕ → Tally → List ℕ
+summary (Text style) (Check version) is_watched files wrong =
+    if nat_lt 0 wrong.errors then found_errors files wrong else if is_watched then found_none files else []
+summary _ _ is_watched files wrong = []
+
+-- the reports on all files together: where errors are reported, a document in the format SARIF
 abbrev pub together : Format → List ℕ → List ℕ
 together Sarif told = document told
 together _ told = told
 
 abbrev pub whole : Format → Task → List ℕ → List ℕ
 whole format (Show form) told = told
-whole format Check told = together format told
+whole format (Check version) told = together format told
 
 -- what is written: in a quiet run nothing
 abbrev pub said : Bool → List ℕ → List ℕ
 said is_quiet text = if is_quiet then [] else text
 
--- what is told of them in a run: nothing where it is quiet
-pub record Told (format : Format) (task : Task) (pointer : List ℕ) (names : List (List ℕ)) (is_quiet : Bool)
+-- the reports of a run: nothing if it is quiet
+pub record Told (format : Format) (task : Task) (pointer : List ℕ) (excludes names : List (List ℕ))
+    (is_watched is_quiet : Bool)
     (old new : Option Asked) (out errors : List ℕ) (status : ℕ) : Type 0 where
   pub files : List (List ℕ)
   pub mid : Option Asked
-  pub found : FindsAll names old mid files
+  pub found : FindsAll excludes names old mid files
   pub all : List ℕ
   pub complaints : List ℕ
-  pub wrong : ℕ
+  pub wrong : Tally
   pub tells : Tells format task pointer files mid new all complaints status wrong
   pub shown : out ≡ said is_quiet (whole format task all)
-  pub warned : errors ≡ said is_quiet (complaints ++ summary format task (length files) wrong)
+  pub warned : errors ≡ said is_quiet (complaints ++ summary format task is_watched (length files) wrong)
 
 -- documents are shown
 abbrev pub Shows : Task → Type 0
 Shows task = (form : Form) × (task ≡ Show form)
 
--- The first files were read, all of them where faults are told, and the first bytes of what is told of them were
+-- The first files were read, all of them where errors are reported, and the first bytes of their reports were
 -- written.
 pub record TellsFirst (format : Format) (task : Task) (pointer : List ℕ) (files : List (List ℕ))
     (old new : Option Asked) (told told' : Option (List ℕ)) : Type 0 where
@@ -143,36 +165,37 @@ pub record TellsFirst (format : Format) (task : Task) (pointer : List ℕ) (file
   pub out : List ℕ
   pub complaints : List ℕ
   pub status : ℕ
-  pub wrong : ℕ
+  pub wrong : Tally
   pub tells : Tells format task pointer first old new out complaints status wrong
   pub written : HasWritten told told' (whole format task out)
 
 -- so in a run, which is not quiet
-pub record Begins (format : Format) (task : Task) (pointer : List ℕ) (names : List (List ℕ)) (is_quiet : Bool)
+pub record Begins (format : Format) (task : Task) (pointer : List ℕ) (excludes names : List (List ℕ)) (is_quiet : Bool)
     (old new : Option Asked) (told told' : Option (List ℕ)) : Type 0 where
   pub aloud : is_quiet ≡ false
   pub files : List (List ℕ)
   pub mid : Option Asked
-  pub found : FindsAll names old mid files
+  pub found : FindsAll excludes names old mid files
   pub tells : TellsFirst format task pointer files mid new told told'
 
 -- A run: standard output before and after and whether writing it failed, the same of standard error, and the status.
-pub record Runs (format : Format) (task : Task) (pointer : List ℕ) (names : List (List ℕ)) (is_quiet : Bool)
+pub record Runs (format : Format) (task : Task) (pointer : List ℕ) (excludes names : List (List ℕ))
+    (is_watched is_quiet : Bool)
     (old new : Option Asked) (told told' : Option (List ℕ)) (untold : Bool) (warned warned' : Option (List ℕ))
     (unwarned : Bool) (status : ℕ) : Type 0 where
   -- status 3 exactly where a write failed
   pub failed : (status ≡ 3) ↔ IsTrue (untold || unwarned)
-  -- without memory nothing is written, or where documents are shown the first bytes of what is told of the first files
+  -- without memory nothing is written, or where documents are shown the first bytes of the reports on the first files
   pub silent : status ≡ 4 → Keeps warned warned' × (Keeps told told'
-      ⊎ (Shows task × ((last : Option Asked) × Begins format task pointer names is_quiet old last told told')))
+      ⊎ (Shows task × ((last : Option Asked) × Begins format task pointer excludes names is_quiet old last told told')))
   -- so after a failed write of standard output
-  pub cut : untold ≡ true → Keeps warned warned' × Begins format task pointer names is_quiet old new told told'
+  pub cut : untold ≡ true → Keeps warned warned' × Begins format task pointer excludes names is_quiet old new told told'
   -- after one of standard error all of standard output is written
   pub warns : unwarned ≡ true → (out errors : List ℕ) × (answered : ℕ)
-      × Told format task pointer names is_quiet old new out errors answered × Appends told told' out
+      × Told format task pointer excludes names is_watched is_quiet old new out errors answered × Appends told told' out
       × HasWritten warned warned' errors
-  -- else all files are looked at, and what is told is written
+  -- otherwise all files are read, and the reports are written
   pub tells : ¬ (status ≡ 3) → ¬ (status ≡ 4) → (out errors : List ℕ)
-      × Told format task pointer names is_quiet old new out errors status × Appends told told' out
+      × Told format task pointer excludes names is_watched is_quiet old new out errors status × Appends told told' out
       × Appends warned warned' errors
   pub known : status ≤ 4

@@ -1,11 +1,11 @@
 -- The faults of a run as one document in the Static Analysis Results Interchange Format (SARIF), version 2.1.0. It has
 -- the rules, which are a constant text, and a result for each fault, on a line of its own.
-use Rattle.std.specs.Prelude.{◌≡◌, ◌⊎◌, ℕ, ◌+◌, ◌/◌, ◌%◌, ◌-◌, max, Bool, ◌==◌, ◌&&◌, ◌||◌, nat_le, nat_lt, List, []}
-use Rattle.std.specs.Prelude.{◌∷◌, ◌++◌, codes, drop, if◌then◌else◌}
+use Rattle.std.specs.Prelude.{◌≡◌, ◌⊎◌, ℕ, ◌+◌, ◌/◌, ◌%◌, ◌-◌, max, min, Bool, ◌==◌, ◌&&◌, ◌||◌, nat_le, nat_lt}
+use Rattle.std.specs.Prelude.{List, [], ◌∷◌, ◌++◌, codes, drop, length, if◌then◌else◌}
 use Rattle.std.specs.Fmt.{decimal}
 use Rattle.std.specs.List.{flat_map}
 use Rattle.toml_span_lex.specs.declared.span.Span.{Span}
-use Rattle.toml_span_report.specs.Report.{Place, ReportContent}
+use Rattle.toml_span_report.specs.Report.{Place, Repair, ReportContent}
 use Rattle.toml_span_report.specs.declared.report.Severity.{Severity}
 use Rattle.toml_span_report.specs.declared.report.Severity.TheVariants.{Error, Warning, Note}
 use Rattle.toml_span_report.specs.Visible.{quoted}
@@ -32,7 +32,7 @@ hex_digit n = if nat_lt n 10 then 48 + n else 55 + n
 abbrev pub uri_byte : ℕ → List ℕ
 uri_byte byte = if is_plain byte then byte ∷ [] else 37 ∷ hex_digit (byte / 16) ∷ hex_digit (byte % 16) ∷ []
 
--- a name that begins with a slash is a file of the system, any other stands in the folder of the run
+-- a name that begins with a slash is a file of the system, any other is relative to the folder of the run
 abbrev pub scheme_of : List ℕ → List ℕ
 scheme_of [] = []
 scheme_of (c ∷ cs) = if c == 47 then codes "file://" else []
@@ -42,15 +42,15 @@ uri name = scheme_of name ++ flat_map uri_byte name
 
 -- ---- places
 
--- the front of a place
+-- the location of a file, without the closing brace
 unfoldable pub artifact : List ℕ → List ℕ
-artifact name = codes "{\"physicalLocation\":{\"artifactLocation\":{\"uri\":\"" ++ uri name ++ codes "\"}"
+artifact name = codes "{\"artifactLocation\":{\"uri\":\"" ++ uri name ++ codes "\"}"
 
--- Lines and columns count from 1, columns in characters. The end is behind the last character, and a reversed span is
+-- Lines and columns count from 1, columns in characters. The end is after the last character, and a reversed span is
 -- empty.
 unfoldable pub lines : ℕ × ℕ → ℕ × ℕ → List ℕ
 lines start end =
-    codes ",\"region\":{\"startLine\":" ++ decimal start.0 ++ codes ",\"startColumn\":" ++ decimal start.1
+    codes "{\"startLine\":" ++ decimal start.0 ++ codes ",\"startColumn\":" ++ decimal start.1
     ++ codes ",\"endLine\":" ++ decimal end.0 ++ codes ",\"endColumn\":" ++ decimal end.1
 
 -- bytes count from 0
@@ -58,22 +58,29 @@ unfoldable pub bytes : ℕ → ℕ → List ℕ
 bytes start end =
     codes ",\"byteOffset\":" ++ decimal start ++ codes ",\"byteLength\":" ++ decimal (end - start) ++ codes "}"
 
+-- a region ends no later than the source
+abbrev pub within : List ℕ → ℕ → ℕ → List ℕ
+within text start end =
+    lines (line_column text start) (line_column text (max end start)) ++ bytes start (max end start)
+
 abbrev pub region : List ℕ → Span → List ℕ
-region text span =
-    lines (line_column text span.start) (line_column text (max span.start span.end))
-    ++ bytes span.start (max span.start span.end)
+region text span = within text (min span.start (length text)) (min span.end (length text))
 
 unfoldable pub location : List ℕ → List ℕ → Place → List ℕ
 location name text label =
-    artifact name ++ region text label.span ++ codes "},\"message\":{\"text\":" ++ quoted label.message ++ codes "}}"
+    codes "{\"physicalLocation\":" ++ artifact name ++ codes ",\"region\":" ++ region text label.span
+    ++ codes "},\"message\":{\"text\":" ++ quoted label.message ++ codes "}}"
+
+unfoldable pub file_alone : List ℕ → List ℕ
+file_alone name = codes "{\"physicalLocation\":" ++ artifact name ++ codes "}}"
 
 -- the place of the first primary label, and else the file alone
 abbrev pub place_told : List ℕ → List ℕ → List Place → List ℕ
-place_told name text [] = artifact name ++ codes "}}"
+place_told name text [] = file_alone name
 place_told name text (label ∷ labels) =
     if label.primary then location name text label else place_told name text labels
 
--- that of a label that is not primary, behind a comma
+-- that of a label that is not primary, after a comma
 abbrev pub other : List ℕ → List ℕ → Place → List ℕ
 other name text label = if label.primary then [] else codes "," ++ location name text label
 
@@ -89,6 +96,24 @@ places name text labels =
     codes ",\"locations\":[" ++ place_told name text labels ++ codes "],\"relatedLocations\":["
     ++ related name text labels ++ codes "]"
 
+-- ---- fixes
+
+unfoldable pub replacement : List ℕ → Repair → List ℕ
+replacement text fix =
+    codes "{\"deletedRegion\":" ++ region text fix.span ++ codes ",\"insertedContent\":{\"text\":" ++ quoted fix.text
+    ++ codes "}}"
+
+-- a fix that makes these replacements
+unfoldable pub change : List ℕ → List ℕ → Repair → List Repair → List ℕ
+change name text first more =
+    codes ",\"fixes\":[{\"artifactChanges\":[" ++ artifact name ++ codes ",\"replacements\":["
+    ++ replacement text first ++ flat_map (λ fix. codes "," ++ replacement text fix) more ++ codes "]}]}]"
+
+-- the fix of a report, if it has replacements
+abbrev pub fixes : List ℕ → List ℕ → List Repair → List ℕ
+fixes name text [] = []
+fixes name text (first ∷ more) = change name text first more
+
 -- ---- results
 
 unfoldable pub front : ReportContent → List ℕ
@@ -96,9 +121,9 @@ front r =
     codes ",\n{\"ruleId\":" ++ quoted r.code ++ codes ",\"level\":\"" ++ level_of r.severity
     ++ codes "\",\"message\":{\"text\":" ++ quoted r.message ++ codes "}"
 
--- a report as a result, behind a comma
+-- a report as a result, after a comma
 abbrev pub sarif : ReportContent → List ℕ → List ℕ → List ℕ
-sarif r name text = front r ++ places name text r.labels ++ codes "}"
+sarif r name text = front r ++ places name text r.labels ++ fixes name text r.replacements ++ codes "}"
 
 -- ---- the document
 

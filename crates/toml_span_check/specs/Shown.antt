@@ -29,7 +29,7 @@ scalar_text false (float x) = quoted (float_text x)
 scalar_text false (boolean b) = truth b
 scalar_text false (datetime d) = quoted d
 
--- the text of a scalar, and nothing of what is none
+-- the text of a scalar; nothing for another value
 abbrev pub own_text : Bool → Inner → List ℕ
 own_text is_tagged taken = []
 own_text is_tagged (scalar s) = scalar_text is_tagged s

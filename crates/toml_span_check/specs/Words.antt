@@ -14,7 +14,7 @@ byte_text byte = if nat_lt byte 128 then byte ∷ [] else codes "\0x" ++ digit (
 abbrev pub bytes_text : List ℕ → List ℕ
 bytes_text word = flat_map byte_text word
 
--- A word as a text. The system's words have no NUL, so that one stands only in a word that is no UTF-8.
+-- A word as a text. The system's words have no NUL, so one occurs only in a word that is not UTF-8.
 abbrev pub word_text : List ℕ → List ℕ
 word_text word = if is_utf8 word then word else bytes_text word
 

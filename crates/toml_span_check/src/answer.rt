@@ -1,9 +1,15 @@
-//! What is told of the bytes of a file.
-ghost use Rattle.std.specs.Prelude.{◌≡◌, IfOk, ℕ, List};
+//! The answer to the bytes of a file.
+ghost use Rattle.std.specs.Prelude.{◌≡◌, ◌++◌, IfOk, OnOk, ℕ, List, map, string_bytes};
+ghost use Rattle.toml_span_lex.specs.declared.stop.Stop.TheVariants.{Fault};
+ghost use Rattle.toml_span.specs.Parsing.{IsRefusal};
+ghost use Rattle.toml_span_read.specs.Data.{depth_limit};
+ghost use Rattle.toml_span_report.specs.Report.{report_content};
 ghost use Rattle.toml_span_check.specs.Answer as spec;
 ghost use Rattle.toml_span_check.specs.code.Judged.{Judges, JudgesText};
 
+use crate::every::errors_from;
 use crate::faults::{Format, fault_text};
+use crate::newer::{Version, version_reports};
 use std::alloc::{AllocError, Global};
 use toml_span::de::parse;
 use toml_span::{Error, Value};
@@ -28,8 +34,8 @@ pub enum Form {
 /// What to do with a document.
 #[derive(Clone, Copy, PartialEq, Eq)]
 pub enum Task {
-    /// Report its error.
-    Check,
+    /// Report its errors, of this version of TOML.
+    Check(Version),
     /// Show it, or a value in it.
     Show(Form),
 }
@@ -48,18 +54,56 @@ fn plain_fault(
     Ok(fault_text(alloc, format, &report, name, "")?.into_bytes())
 }
 
-/// The text for an error of a text.
-fn error_text(
+/// Adds the text of each report on a source.
+fn push_reports(
+    alloc: Global,
+    out: &mut String,
+    format: Format,
+    reports: &[Report],
+    name: &str,
+    text: &str,
+) -> Result<(), AllocError>
+    ensures { OnOk result (string_bytes out.new ≡ string_bytes out.old
+        ++ spec.reports_text format name.now text.now (map report_content reports.now)) }
+{
+    for report in reports {
+        let next = fault_text(alloc, format, report, name, text)?;
+        out.push_str(next.as_str())?;
+    }
+    Ok(())
+}
+
+/// Returns the number and the text of the errors of a source, of which `parse` returns the first one.
+fn errors_text(
     alloc: Global,
     format: Format,
     error: &Error<'_>,
     name: &str,
     text: &str,
-) -> Result<Vec<u8>, AllocError>
-    ensures { IfOk result (λ out. spec.IsFaultText format error.now name.now text.now out.items) }
+) -> Result<(usize, Vec<u8>), AllocError>
+    requires { IsRefusal text.now depth_limit (Fault error.now) }
+    ensures { IfOk result (λ out. spec.AreReported format name.now text.now (out.0, out.1.items)) }
 {
-    let report = Report::from_error(alloc, error, text)?;
-    Ok(fault_text(alloc, format, &report, name, text)?.into_bytes())
+    let reports = errors_from(alloc, text, error)?;
+    let mut out = String::new(alloc);
+    push_reports(alloc, &mut out, format, reports.as_slice(), name, text)?;
+    Ok((reports.len(), out.into_bytes()))
+}
+
+/// Returns the number and the text of the errors of a source that `parse` accepts.
+fn version_text(
+    alloc: Global,
+    format: Format,
+    version: Version,
+    name: &str,
+    text: &str,
+) -> Result<(usize, Vec<u8>), AllocError>
+    ensures { IfOk result (λ out. spec.AreLacking format version name.now text.now (out.0, out.1.items)) }
+{
+    let reports = version_reports(alloc, text, version, name)?;
+    let mut out = String::new(alloc);
+    push_reports(alloc, &mut out, format, reports.as_slice(), name, text)?;
+    Ok((reports.len(), out.into_bytes()))
 }
 
 /// The text where a pointer names nothing.
@@ -90,7 +134,7 @@ fn too_long(alloc: Global, format: Format, name: &str) -> Result<Vec<u8>, AllocE
     )
 }
 
-/// The text for a file that is no text.
+/// The text for a file that is not a text.
 fn not_utf8(alloc: Global, format: Format, name: &str) -> Result<Vec<u8>, AllocError>
     ensures { IfOk result (λ out. (1, out.items) ≡ spec.not_utf8 format name.now) }
 {
@@ -103,11 +147,11 @@ fn not_utf8(alloc: Global, format: Format, name: &str) -> Result<Vec<u8>, AllocE
     )
 }
 
-/// What is told of the bytes of a file, once they are judged.
+/// What the bytes of a file are.
 pub(crate) enum Judged<'t> {
-    /// A status and a text.
-    Text(u8, Vec<u8>),
-    /// A document, which is to be shown in a form.
+    /// Nothing to show: the number of errors, and their text.
+    Text(usize, Vec<u8>),
+    /// A document, which is shown in a form.
     Document(Form, Value<'t>),
 }
 
@@ -123,14 +167,18 @@ fn judge_text<'t>(
 {
     match parse(alloc, text) {
         Ok(root) => match task {
-            Task::Check => Ok(Judged::Text(0, Vec::new(alloc))),
+            Task::Check(version) => {
+                let (count, out) = version_text(alloc, format, version, name, text)?;
+                Ok(Judged::Text(count, out))
+            }
             Task::Show(form) => Ok(Judged::Document(form, root)),
         },
         Err(stop) => {
             let error = stop.fault()?;
-            let out = error_text(alloc, format, &error, name, text);
+            let told = errors_text(alloc, format, &error, name, text);
             drop(error);
-            Ok(Judged::Text(1, out?))
+            let (count, out) = told?;
+            Ok(Judged::Text(count, out))
         }
     }
 }

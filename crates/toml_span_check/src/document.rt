@@ -46,7 +46,8 @@ fn write_value<W: Sink>(
     write_held(writer, held)
 }
 
-/// Writes what a pointer names, or the fault that it names nothing. The last bytes are held. Answers the status.
+/// Writes what a pointer names, or the fault that it names nothing. The last bytes are held. Returns the number of
+/// errors.
 pub(crate) fn show<'t, W: Sink>(
     alloc: Global,
     format: Format,
@@ -56,9 +57,9 @@ pub(crate) fn show<'t, W: Sink>(
     root: &Value<'t>,
     held: &mut Vec<u8>,
     writer: &mut W,
-) -> Result<u8, Unwritten>
+) -> Result<usize, Unwritten>
     requires { W.failed writer.old ≡ false }
-    ensures status { IfOk result (λ s. s
+    ensures count { IfOk result (λ s. s
         ≡ (found format form pointer.now name.now (pointed pointer.now (view root.now))).0) }
     ensures out { Streams result (W.contents writer.old) (W.contents writer.new) (W.failed writer.new)
         (held.old.items ++ (found format form pointer.now name.now (pointed pointer.now (view root.now))).1)

@@ -1,20 +1,46 @@
-//! The TOML files below a folder.
-use crate::words::word_text;
+//! The TOML files below a directory.
+use crate::patterns::{Pattern, ignore_patterns, last_match, pattern_of};
+use crate::words::{is_bytes, word_text};
 use std::alloc::{AllocError, Global};
+use std::fs::File;
 use std::io::{BufRead, BufReader, ErrorKind};
 use std::rt::Files;
 use std::{fs, io};
+use toml_span_lines::run::{Cut, read_bytes};
+use toml_span_lines::told::Told;
 
-/// What was found below a folder.
+/// The name of the files that list what is ignored.
+const IGNORE: &str = ".gitignore";
+
+/// A `.gitignore` file.
 #[derive(Drop)]
-struct Below {
-    /// Names of files.
-    files: Vec<String>,
-    /// Names of folders that were not looked into yet.
-    folders: Vec<String>,
+struct Ignore {
+    patterns: Vec<Pattern>,
+    /// The length of the path of its directory, with the slash after it.
+    length: usize,
+    /// The position of the one in the next directory above, if there is one.
+    above: Option<usize>,
 }
 
-/// Whether a name is that of a folder, or of a link to one.
+/// A directory that was not searched yet.
+#[derive(Drop)]
+struct Folder {
+    path: String,
+    /// The position of the `.gitignore` file that holds for it.
+    ignore: Option<usize>,
+}
+
+/// What a search has found.
+#[derive(Drop)]
+struct Below {
+    files: Vec<String>,
+    folders: Vec<Folder>,
+    ignores: Vec<Ignore>,
+    /// The patterns of the command line.
+    excludes: Vec<Pattern>,
+}
+
+/// Returns whether a name is that of a directory, or of a link to one.
 pub fn is_folder(rt: &HostRuntime, name: &str) -> bool {
     match fs::metadata(rt, name) {
         Ok(found) => found.is_dir(),
@@ -22,7 +48,7 @@ pub fn is_folder(rt: &HostRuntime, name: &str) -> bool {
     }
 }
 
-/// Whether there is a file at a path, maybe by a link, or nobody knows what.
+/// Returns whether there is a file at a path, maybe by a link, or nobody knows what.
 fn may_be_file(rt: &HostRuntime, path: &str) -> bool {
     match fs::metadata(rt, path) {
         Ok(found) => found.is_file(),
@@ -30,12 +56,12 @@ fn may_be_file(rt: &HostRuntime, path: &str) -> bool {
     }
 }
 
-/// Whether a name is that of the folder itself or of the one above it.
+/// Returns whether a name is that of the directory itself or of the one above it.
 fn is_dots(name: &[u8]) -> bool {
     name == b".".as_slice() || name == b"..".as_slice()
 }
 
-/// The names that stand in a folder.
+/// Returns the names in a directory.
 fn names_in(rt: &HostRuntime, folder: &str) -> io::Result<Vec<Vec<u8>>> {
     let mut path = String::from_str(rt.alloc(), folder)?;
     path.push('/')?;
@@ -50,7 +76,7 @@ fn names_in(rt: &HostRuntime, folder: &str) -> io::Result<Vec<Vec<u8>>> {
     Ok(names)
 }
 
-/// The path of a name in a folder.
+/// Returns the path of a name in a directory.
 fn path_of(alloc: Global, folder: &str, name: &[u8]) -> Result<String, AllocError> {
     let mut path = String::from_str(alloc, folder)?;
     if !folder.ends_with('/') {
@@ -60,53 +86,208 @@ fn path_of(alloc: Global, folder: &str, name: &[u8]) -> Result<String, AllocErro
     Ok(path)
 }
 
+/// Returns the text of a file: empty if it can't be read or is not valid UTF-8.
+fn text_of(rt: &HostRuntime, alloc: Global, path: &str) -> Result<String, AllocError> {
+    let Ok(file) = File::open(rt, path) else {
+        return Ok(String::new(alloc));
+    };
+    match read_bytes(alloc, &mut Told::new(file)) {
+        Ok(bytes) => match str::from_utf8(bytes.as_slice()) {
+            Ok(text) => String::from_str(alloc, text),
+            Err(_) => Ok(String::new(alloc)),
+        },
+        Err(Cut::Memory) => Err(AllocError),
+        Err(Cut::Failed(_)) => Ok(String::new(alloc)),
+    }
+}
+
+/// Returns the last name of a path.
+fn last_name(path: &str) -> &str {
+    match path.rsplit_once('/') {
+        Some((_, name)) => name,
+        None => path,
+    }
+}
+
+/// Returns whether a directory of this name is searched only if it is asked for: a hidden one, `target` and
+/// `node_modules`.
+fn is_passed_over(name: &str) -> bool {
+    name.starts_with('.') || name == "target" || name == "node_modules"
+}
+
 impl Below {
-    /// Adds what stands at a path, where it is a folder, or a file of which the name ends in `.toml`. What can't be
-    /// asked for is added too, since it may be one: reading it tells why.
-    fn push(&mut self, rt: &HostRuntime, path: String) -> Result<(), AllocError> {
-        match fs::symlink_metadata(rt, path.as_str()) {
-            Ok(found) if found.is_dir() => self.folders.push(path)?,
-            Ok(_) => {
-                if path.ends_with(".toml") && may_be_file(rt, path.as_str()) {
-                    self.files.push(path)?;
-                }
+    /// Returns whether a `.gitignore` file, or one above it, leaves a path out. The deepest one that has a pattern for
+    /// it decides.
+    fn is_ignored(
+        &self,
+        alloc: Global,
+        path: &str,
+        is_directory: bool,
+        ignore: Option<usize>,
+    ) -> Result<bool, AllocError> {
+        let mut next = ignore;
+        for _ in 0..=self.ignores.len() {
+            let Some(at) = next else {
+                return Ok(false);
+            };
+            let Some(ignore) = self.ignores.get(at) else {
+                return Ok(false);
+            };
+            let inside = path.get(ignore.length..).unwrap_or(path);
+            let patterns = ignore.patterns.as_slice();
+            if let Some(found) = last_match(alloc, patterns, inside, is_directory)? {
+                return Ok(found);
             }
-            // It was removed meanwhile.
-            Err(error) if error.kind() == ErrorKind::NotFound => {}
-            Err(_) => self.files.push(path)?,
+            next = ignore.above;
+        }
+        Ok(false)
+    }
+
+    /// Returns whether a path is left out.
+    fn is_left_out(
+        &self,
+        alloc: Global,
+        path: &str,
+        is_directory: bool,
+        ignore: Option<usize>,
+    ) -> Result<bool, AllocError> {
+        if is_directory && is_passed_over(last_name(path)) {
+            return Ok(true);
+        }
+        let plain = path.strip_prefix("./").unwrap_or(path);
+        let excluded = last_match(alloc, self.excludes.as_slice(), plain, is_directory)?;
+        if excluded == Some(true) {
+            return Ok(true);
+        }
+        self.is_ignored(alloc, path, is_directory, ignore)
+    }
+
+    /// Adds a directory, unless it is left out.
+    fn push_folder(
+        &mut self,
+        alloc: Global,
+        path: String,
+        ignore: Option<usize>,
+    ) -> Result<(), AllocError> {
+        if !self.is_left_out(alloc, path.as_str(), true, ignore)? {
+            self.folders.push(Folder { path, ignore })?;
         }
         Ok(())
     }
 
-    /// Adds what stands in a folder, or the folder where it can't be listed: reading it tells why.
+    /// Adds a file, unless it is left out or is not a file.
+    fn push_file(
+        &mut self,
+        rt: &HostRuntime,
+        alloc: Global,
+        path: String,
+        ignore: Option<usize>,
+    ) -> Result<(), AllocError> {
+        if path.ends_with(".toml")
+            && may_be_file(rt, path.as_str())
+            && !self.is_left_out(alloc, path.as_str(), false, ignore)?
+        {
+            self.files.push(path)?;
+        }
+        Ok(())
+    }
+
+    /// Adds what is at a path, if it is a directory, or a file whose name ends in `.toml`. What can't be examined is
+    /// added too, since it may be one, and reading it says why. But a name that is not valid UTF-8 must end in `.toml`.
+    fn push(
+        &mut self,
+        rt: &HostRuntime,
+        alloc: Global,
+        path: String,
+        ignore: Option<usize>,
+    ) -> Result<(), AllocError> {
+        match fs::symlink_metadata(rt, path.as_str()) {
+            Ok(found) if found.is_dir() => self.push_folder(alloc, path, ignore),
+            Ok(_) => self.push_file(rt, alloc, path, ignore),
+            // It was removed meanwhile.
+            Err(error) if error.kind() == ErrorKind::NotFound => Ok(()),
+            Err(_) if is_bytes(path.as_str()) && !path.ends_with(".toml") => Ok(()),
+            Err(_) => {
+                self.files.push(path)?;
+                Ok(())
+            }
+        }
+    }
+
+    /// Reads the `.gitignore` file of a directory, if its names have one. Returns the position of the one that holds
+    /// there.
+    fn ignore_of(
+        &mut self,
+        rt: &HostRuntime,
+        alloc: Global,
+        folder: &Folder,
+        names: &[Vec<u8>],
+    ) -> Result<Option<usize>, AllocError> {
+        if !names
+            .iter()
+            .any(|name| name.as_slice() == IGNORE.as_bytes())
+        {
+            return Ok(folder.ignore);
+        }
+        let path = path_of(alloc, folder.path.as_str(), IGNORE.as_bytes())?;
+        let text = text_of(rt, alloc, path.as_str())?;
+        let at = self.ignores.len();
+        self.ignores.push(Ignore {
+            patterns: ignore_patterns(alloc, text.as_str())?,
+            length: path.len().saturating_sub(IGNORE.len()),
+            above: folder.ignore,
+        })?;
+        Ok(Some(at))
+    }
+
+    /// Adds what is in a directory, or the directory if it can't be listed: reading it says why.
     fn look_into(
         &mut self,
         rt: &HostRuntime,
         alloc: Global,
-        folder: String,
+        folder: Folder,
     ) -> Result<(), AllocError> {
-        match names_in(rt, folder.as_str()) {
+        match names_in(rt, folder.path.as_str()) {
             Ok(names) => {
+                let ignore = self.ignore_of(rt, alloc, &folder, names.as_slice())?;
                 for name in names.as_slice() {
-                    self.push(rt, path_of(alloc, folder.as_str(), name.as_slice())?)?;
+                    let path = path_of(alloc, folder.path.as_str(), name.as_slice())?;
+                    self.push(rt, alloc, path, ignore)?;
                 }
             }
             Err(error) if error.kind() == ErrorKind::OutOfMemory => return Err(AllocError),
-            Err(_) => self.files.push(folder)?,
+            Err(_) => self.files.push(folder.path)?,
         }
         Ok(())
     }
 }
 
-/// The names of the TOML files below a folder, in the order of their bytes. Links to folders aren't followed.
+/// Returns the patterns that are among these texts.
+fn patterns_of(alloc: Global, texts: &[&str]) -> Result<Vec<Pattern>, AllocError> {
+    let mut patterns = Vec::new(alloc);
+    for text in texts {
+        if let Some(pattern) = pattern_of(alloc, *text)? {
+            patterns.push(pattern)?;
+        }
+    }
+    Ok(patterns)
+}
+
+/// Returns the names of the TOML files below a directory, in the order of their bytes. Links to directories aren't
+/// followed. What the patterns `excludes` match is left out, and so is what `.gitignore` files in the directory and
+/// below it match, and directories that are hidden or named `target` or `node_modules`.
 pub(crate) fn files_below(
     rt: &HostRuntime,
     alloc: Global,
     folder: &str,
+    excludes: &[&str],
 ) -> Result<Vec<String>, AllocError> {
+    let path = String::from_str(alloc, folder)?;
     let mut below = Below {
         files: Vec::new(alloc),
-        folders: vec![in alloc; String::from_str(alloc, folder)?]?,
+        folders: vec![in alloc; Folder { path, ignore: None }]?,
+        ignores: Vec::new(alloc),
+        excludes: patterns_of(alloc, excludes)?,
     };
     for _ in 0..u64::MAX {
         match below.folders.pop() {

@@ -1,4 +1,4 @@
-//! A fault as a command of GitHub's workflows, which annotates the lines where it stands.
+//! A fault as a command of GitHub's workflows, which annotates its lines.
 ghost use Rattle.std.specs.Prelude.{◌≡◌, ◌++◌, OnOk, IfOk, map, string_bytes};
 ghost use Rattle.std.specs.Fmt.{decimal};
 ghost use Rattle.toml_span_tree.specs.Diagnostic.{label_content};
@@ -103,7 +103,7 @@ fn marked_end(text: &str, span: Span) -> usize
     }
 }
 
-/// Adds the columns of what is marked, if it is on one line.
+/// Adds the columns of the marked part, if it is on one line.
 #[tactic(auto, unfolding(crate::specs::Github::columns))]
 fn push_columns(
     out: &mut String,
@@ -119,7 +119,7 @@ fn push_columns(
     push_number(out, ",endColumn=", end.1)
 }
 
-/// Adds the lines of what is marked, and its columns, if it is on one line.
+/// Adds the lines of the marked part, and its columns, if it is on one line.
 #[tactic(auto, unfolding(crate::specs::Github::lines))]
 fn push_lines(
     out: &mut String,
@@ -133,7 +133,7 @@ fn push_lines(
     push_columns(out, start, end)
 }
 
-/// Adds where a label stands.
+/// Adds the place of a label.
 fn push_region(out: &mut String, text: &str, span: Span) -> Result<(), AllocError>
     ensures { OnOk result (string_bytes out.new ≡ string_bytes out.old ++ spec.region text.now span) }
 {
@@ -142,7 +142,7 @@ fn push_region(out: &mut String, text: &str, span: Span) -> Result<(), AllocErro
     push_lines(out, start, end)
 }
 
-/// Adds where the first primary label stands, if there is one.
+/// Adds the place of the first primary label, if there is one.
 fn push_place(out: &mut String, text: &str, labels: &[Label<()>]) -> Result<(), AllocError>
     ensures { OnOk result (string_bytes out.new ≡ string_bytes out.old
         ++ spec.place_told text.now (map label_content labels.now)) }

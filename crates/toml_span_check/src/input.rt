@@ -13,23 +13,29 @@ use toml_span_lines::run::{Cut, read_bytes};
 use toml_span_lines::source::Source;
 use toml_span_lines::told::Told;
 
-/// What files are read from.
+/// Where files are found and read.
 pub trait Inputs {
-    /// What was found for names and what was read, where that is known.
+    /// The searches and readings so far, if they are known.
     ghost log: { Self → Option Asked };
 
-    /// The names of the files that a name is for: of a folder those below it, else the name alone.
-    fn find(&mut self, alloc: Global, name: &str) -> Result<Vec<String>, AllocError>
+    /// Returns the names of the files that a name is for: of a directory those below it that no pattern of `excludes`
+    /// matches, otherwise the name alone.
+    fn find(
+        &mut self,
+        alloc: Global,
+        excludes: &[&str],
+        name: &str,
+    ) -> Result<Vec<String>, AllocError>
         ensures { IfOk result (λ found. Finds (log self.old) (log self.new)
-            (name.now, map (λ file. string_bytes file) found.items)) };
+            (map (λ pattern. pattern.now) excludes.now, name.now, map (λ file. string_bytes file) found.items)) };
 
-    /// The bytes of a file, or in words why there are none. Of a file that is longer than the bound some bytes more
-    /// than that are enough.
+    /// Returns the bytes of a file, or the reason why it can't be read. Of a file that is longer than the bound, a few
+    /// more bytes than that are enough.
     fn read(&mut self, alloc: Global, name: &str) -> Result<Result<Vec<u8>, String>, AllocError>
         ensures { IfOk result (λ r. Logs (log self.old) (log self.new) ((name.now, read_of r) ∷ [])) };
 }
 
-/// Why a file can't be read, in words: the system's, but for the commonest reasons.
+/// Returns why a file can't be read: in the system's words, except for the commonest reasons.
 fn reason(alloc: Global, error: &io::Error) -> Result<String, AllocError>
     ensures { IfOk result (λ words. IsReason (error_kind error.now) (string_bytes words)) }
 {
@@ -41,7 +47,7 @@ fn reason(alloc: Global, error: &io::Error) -> Result<String, AllocError>
     }
 }
 
-/// The bytes of what is open, or in words why there are none.
+/// Returns the bytes of an open file, or the reason why it can't be read.
 fn read_all<R: Source>(alloc: Global, reader: &mut R) -> Result<Result<Vec<u8>, String>, AllocError>
     requires { R.failed reader.old ≡ false }
     ensures { IfOk result (λ r. HasReadOrNot (R.remaining reader.old) (R.remaining reader.new) (read_of r)) }
@@ -62,10 +68,15 @@ pub struct Host {
 impl Inputs for Host {
     ghost log = { λ _. None };
 
-    fn find(&mut self, alloc: Global, name: &str) -> Result<Vec<String>, AllocError> {
+    fn find(
+        &mut self,
+        alloc: Global,
+        excludes: &[&str],
+        name: &str,
+    ) -> Result<Vec<String>, AllocError> {
         let mut found = Vec::new(alloc);
         if name != "-" && is_folder(&self.rt, name) {
-            found = files_below(&self.rt, alloc, name)?;
+            found = files_below(&self.rt, alloc, name, excludes)?;
         }
         if found.is_empty() {
             found.push(String::from_str(alloc, name)?)?;

@@ -4,12 +4,17 @@
 pub mod answer;
 mod dates;
 mod document;
+pub mod every;
 pub mod faults;
+pub mod fixing;
 pub mod folder;
 mod github;
 pub mod input;
 pub mod lints;
+pub mod newer;
+mod patterns;
 pub mod run;
 mod sarif;
 mod shown;
+mod statements;
 pub mod words;

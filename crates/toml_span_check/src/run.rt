@@ -19,29 +19,51 @@ use toml_span_lines::sink::Sink;
 use toml_span_lines::told::Told;
 use toml_span_report::visible::push_visible;
 
-/// What is told of files.
+/// How many files have errors or can't be read, and how many errors there are. A file that can't be read is one.
+#[derive(Clone, Copy, Drop)]
+struct Tally {
+    files: usize,
+    errors: usize,
+}
+
+/// What is printed about files.
 #[derive(Drop)]
 struct Telling {
-    /// What their bytes give and is not written yet.
+    /// Standard output that is not written yet.
     held: Vec<u8>,
-    /// What is said of those that can't be read.
+    /// Standard error: the files that can't be read.
     errors: String,
     status: u8,
-    /// How many have a fault or can't be read.
-    wrong: usize,
+    wrong: Tally,
+}
+
+/// Returns the sum of two counts. A sum that does not fit ends the run as out of memory does.
+fn sum_of(count: usize, more: usize) -> Result<usize, AllocError>
+    ensures { IfOk result (λ sum. sum ≡ count + more) }
+{
+    match count.checked_add(more) {
+        Some(sum) => Ok(sum),
+        None => Err(AllocError),
+    }
 }
 
 impl Telling {
-    /// Counts a file that has a fault or can't be read, or more than one.
-    fn count(&mut self, more: u8) -> Result<(), AllocError>
-        ensures { OnOk result (self.new ≡ record self.old { wrong = self.old.wrong + more }) }
+    /// Counts a file with this many errors.
+    fn count(&mut self, errors: usize) -> Result<(), AllocError>
+        ensures { OnOk result (self.new ≡ record self.old { wrong = spec.counted self.old.wrong errors }) }
     {
-        let Some(wrong) = self.wrong.checked_add(more as usize) else {
-            return Err(AllocError);
-        };
-        self.wrong = wrong;
+        let files = sum_of(self.wrong.files, errors.min(1))?;
+        let errors = sum_of(self.wrong.errors, errors)?;
+        self.wrong = Tally { files, errors };
         Ok(())
     }
+}
+
+/// Returns the exit status of a file with this many errors.
+fn status_of(errors: usize) -> u8
+    ensures { result ≡ spec.status_of errors }
+{
+    if errors == 0 { 0 } else { 1 }
 }
 
 /// Adds the line that reports a file that can't be read.
@@ -56,8 +78,7 @@ pub fn push_complaint(out: &mut String, name: &str, reason: &str) -> Result<(), 
     Ok(())
 }
 
-/// Writes what is told of the bytes of a file: where a document is shown, at once, and else it is held. Answers the
-/// status.
+/// Writes a document that is shown, or holds the errors of a file. Returns the number of errors.
 fn tell_bytes<O: Sink>(
     alloc: Global,
     format: Format,
@@ -67,15 +88,15 @@ fn tell_bytes<O: Sink>(
     bytes: &[u8],
     held: &mut Vec<u8>,
     out: &mut O,
-) -> Result<u8, Unwritten>
+) -> Result<usize, Unwritten>
     requires { O.failed out.old ≡ false }
     ensures { TellsBytes format task pointer.now name.now bytes.now result
         (O.contents out.old) (O.contents out.new) (O.failed out.new) held.old.items held.new.items }
 {
     match judge(alloc, format, task, name, bytes)? {
-        Judged::Text(status, mut text) => {
+        Judged::Text(count, mut text) => {
             held.append(&mut text)?;
-            Ok(status)
+            Ok(count)
         }
         Judged::Document(form, root) => {
             show(alloc, format, form, pointer, name, &root, held, out)
@@ -83,7 +104,7 @@ fn tell_bytes<O: Sink>(
     }
 }
 
-/// Adds what is told of one file.
+/// Adds the report on one file.
 fn tell_one<O: Sink>(
     alloc: Global,
     format: Format,
@@ -103,7 +124,7 @@ fn tell_one<O: Sink>(
     match reading {
         Ok(bytes) => {
             let held = &mut telling.held;
-            let status = tell_bytes(
+            let found = tell_bytes(
                 alloc,
                 format,
                 task,
@@ -113,8 +134,8 @@ fn tell_one<O: Sink>(
                 held,
                 out,
             )?;
-            telling.status = telling.status.max(status);
-            telling.count(status)?;
+            telling.status = telling.status.max(status_of(found));
+            telling.count(found)?;
         }
         Err(reason) => {
             let name = shown_word(alloc, name)?;
@@ -129,21 +150,23 @@ fn tell_one<O: Sink>(
 /// The names of the files that names are for.
 fn find_all<I: Inputs>(
     alloc: Global,
+    excludes: &[&str],
     names: &[&str],
     inputs: &mut I,
 ) -> Result<Vec<String>, AllocError>
-    ensures { IfOk result (λ files. FindsAll (map (λ name. name.now) names.now) (I.log inputs.old) (I.log inputs.new)
+    ensures { IfOk result (λ files. FindsAll (map (λ pattern. pattern.now) excludes.now)
+        (map (λ name. name.now) names.now) (I.log inputs.old) (I.log inputs.new)
         (map (λ file. string_bytes file) files.items)) }
 {
     let mut files = Vec::new(alloc);
     for name in names {
-        let mut found = inputs.find(alloc, *name)?;
+        let mut found = inputs.find(alloc, excludes, *name)?;
         files.append(&mut found)?;
     }
     Ok(files)
 }
 
-/// Reads the files in their order, and writes or holds what is told of them.
+/// Reads the files in order, and writes or holds their reports.
 fn tell<I: Inputs, O: Sink>(
     alloc: Global,
     format: Format,
@@ -161,7 +184,10 @@ fn tell<I: Inputs, O: Sink>(
         held: Vec::new(alloc),
         errors: String::new(alloc),
         status: 0,
-        wrong: 0,
+        wrong: Tally {
+            files: 0,
+            errors: 0,
+        },
     };
     for name in names {
         let name = name.as_str();
@@ -180,69 +206,88 @@ fn tell<I: Inputs, O: Sink>(
     Ok(telling)
 }
 
-/// What stands behind a number of files.
-fn file_word(files: usize) -> &'static str
-    ensures { result.now ≡ spec.file_word files }
+/// Adds a number of things: `1 file`, `2 files`.
+fn push_number(out: &mut String, number: usize, word: &str) -> Result<(), AllocError>
+    ensures { OnOk result (string_bytes out.new ≡ string_bytes out.old ++ spec.number_of number word.now) }
 {
-    if files == 1 {
-        " file checked, "
-    } else {
-        " files checked, "
+    write!(out, "{number}")?;
+    out.push_str(word)?;
+    if number != 1 {
+        out.push_str("s")?;
     }
+    Ok(())
 }
 
-/// Adds a line with the number of files and of those with errors.
-#[tactic(auto, unfolding(crate::specs::Run::counts))]
-fn push_counts(out: &mut String, files: usize, wrong: usize) -> Result<(), AllocError>
-    ensures { OnOk result (string_bytes out.new ≡ string_bytes out.old ++ spec.counts files wrong) }
+/// Adds the line that counts errors: `3 errors in 2 of 5 files`.
+#[tactic(auto, unfolding(crate::specs::Run::found_errors))]
+fn push_errors(out: &mut String, files: usize, wrong: Tally) -> Result<(), AllocError>
+    ensures { OnOk result (string_bytes out.new ≡ string_bytes out.old ++ spec.found_errors files wrong) }
 {
-    write!(out, "{files}")?;
-    out.push_str(file_word(files))?;
-    write!(out, "{wrong}")?;
-    out.push_str(" with errors\n")
+    push_number(out, wrong.errors, " error")?;
+    out.push_str(" in ")?;
+    write!(out, "{}", wrong.files)?;
+    out.push_str(" of ")?;
+    push_number(out, files, " file")?;
+    out.push_str("\n")
 }
 
-/// Adds how many files were checked and how many of them have errors, if some have and errors are reported in lines.
+/// Adds the line that counts files without errors: `5 files checked`.
+#[tactic(auto, unfolding(crate::specs::Run::found_none))]
+fn push_checked(out: &mut String, files: usize) -> Result<(), AllocError>
+    ensures { OnOk result (string_bytes out.new ≡ string_bytes out.old ++ spec.found_none files) }
+{
+    push_number(out, files, " file")?;
+    out.push_str(" checked\n")
+}
+
+/// Adds the last line of a check whose errors are printed as text: how many errors there are, or, without errors and
+/// somebody watches, how many files were checked.
 fn push_summary(
     out: &mut String,
     format: Format,
     task: Task,
+    is_watched: bool,
     files: usize,
-    wrong: usize,
+    wrong: Tally,
 ) -> Result<(), AllocError>
-    ensures { OnOk result (string_bytes out.new ≡ string_bytes out.old ++ spec.summary format task files wrong) }
+    ensures { OnOk result (string_bytes out.new ≡ string_bytes out.old
+        ++ spec.summary format task is_watched files wrong) }
 {
     match (format, task) {
-        (Format::Text(_), Task::Check) if wrong > 0 => push_counts(out, files, wrong),
+        (Format::Text(_), Task::Check(_)) if wrong.errors > 0 => push_errors(out, files, wrong),
+        (Format::Text(_), Task::Check(_)) if is_watched => push_checked(out, files),
         _ => Ok(()),
     }
 }
 
-/// What is told of all files together.
+/// The reports on all files together.
 fn whole(alloc: Global, format: Format, task: Task, told: Vec<u8>) -> Result<Vec<u8>, AllocError>
     ensures { IfOk result (λ out. out.items ≡ spec.whole format task told.items) }
 {
     match (format, task) {
-        (Format::Sarif, Task::Check) => document(alloc, told.as_slice()),
+        (Format::Sarif, Task::Check(_)) => document(alloc, told.as_slice()),
         _ => Ok(told),
     }
 }
 
-/// Reads the files that these names are for, and writes or holds what is told of them, at the end how many have errors.
+/// Reads the files that these names are for, and writes or holds their reports, and at the end how many have errors.
 fn tell_all<I: Inputs, O: Sink>(
     alloc: Global,
     format: Format,
     task: Task,
     pointer: &str,
+    excludes: &[&str],
     names: &[&str],
+    is_watched: bool,
     inputs: &mut I,
     out: &mut O,
 ) -> Result<Telling, Unwritten>
     requires { O.failed out.old ≡ false }
-    ensures { TellsAll format task pointer.now (map (λ name. name.now) names.now) result
+    ensures { TellsAll format task pointer.now (map (λ pattern. pattern.now) excludes.now)
+        (map (λ name. name.now) names.now) is_watched result
         (I.log inputs.old) (I.log inputs.new) (O.contents out.old) (O.contents out.new) (O.failed out.new) }
 {
-    let found = find_all(alloc, names, inputs)?;
+    let found = find_all(alloc, excludes, names, inputs)?;
     let files = found.as_slice();
     let mut telling = tell(alloc, format, task, pointer, files, inputs, out)?;
     telling.held = whole(alloc, format, task, telling.held)?;
@@ -250,13 +295,14 @@ fn tell_all<I: Inputs, O: Sink>(
         &mut telling.errors,
         format,
         task,
+        is_watched,
         files.len(),
         telling.wrong,
     )?;
     Ok(telling)
 }
 
-/// Reads the files that these names are for, and writes what is told of them. Answers the status with which the program
+/// Reads the files that these names are for, and writes their reports. Returns the status with which the program
 /// ends: 0 where all are read, 1 where one has a fault, 2 where one can't be read, 3 where a write fails, 4 without
 /// memory.
 fn run_aloud<I: Inputs, O: Sink, E: Sink>(
@@ -264,19 +310,24 @@ fn run_aloud<I: Inputs, O: Sink, E: Sink>(
     format: Format,
     task: Task,
     pointer: &str,
+    excludes: &[&str],
     names: &[&str],
+    is_watched: bool,
     inputs: &mut I,
     out: &mut O,
     errors: &mut E,
 ) -> u8
     requires out { O.failed out.old ≡ false }
     requires errors { E.failed errors.old ≡ false }
-    ensures { Runs format task pointer.now (map (λ name. name.now) names.now) false
+    ensures { Runs format task pointer.now (map (λ pattern. pattern.now) excludes.now)
+        (map (λ name. name.now) names.now) is_watched false
         (I.log inputs.old) (I.log inputs.new)
         (O.contents out.old) (O.contents out.new) (O.failed out.new)
         (E.contents errors.old) (E.contents errors.new) (E.failed errors.new) result }
 {
-    let telling = match tell_all(alloc, format, task, pointer, names, inputs, out) {
+    let telling = match tell_all(
+        alloc, format, task, pointer, excludes, names, is_watched, inputs, out,
+    ) {
         Ok(telling) => telling,
         Err(Unwritten::Memory) => return 4,
         Err(Unwritten::Failed) => return 3,
@@ -294,14 +345,27 @@ fn run_quiet<I: Inputs>(
     format: Format,
     task: Task,
     pointer: &str,
+    excludes: &[&str],
     names: &[&str],
+    is_watched: bool,
     inputs: &mut I,
 ) -> u8
-    ensures { EndsQuiet format task pointer.now (map (λ name. name.now) names.now)
+    ensures { EndsQuiet format task pointer.now (map (λ pattern. pattern.now) excludes.now)
+        (map (λ name. name.now) names.now) is_watched
         (I.log inputs.old) (I.log inputs.new) result }
 {
     let mut nowhere = Told::new(sink());
-    match tell_all(alloc, format, task, pointer, names, inputs, &mut nowhere) {
+    match tell_all(
+        alloc,
+        format,
+        task,
+        pointer,
+        excludes,
+        names,
+        is_watched,
+        inputs,
+        &mut nowhere,
+    ) {
         Ok(telling) => telling.status,
         Err(_) => 4,
     }
@@ -313,7 +377,9 @@ pub fn run<I: Inputs, O: Sink, E: Sink>(
     format: Format,
     task: Task,
     pointer: &str,
+    excludes: &[&str],
     names: &[&str],
+    is_watched: bool,
     is_quiet: bool,
     inputs: &mut I,
     out: &mut O,
@@ -321,14 +387,19 @@ pub fn run<I: Inputs, O: Sink, E: Sink>(
 ) -> u8
     requires out { O.failed out.old ≡ false }
     requires errors { E.failed errors.old ≡ false }
-    ensures { Runs format task pointer.now (map (λ name. name.now) names.now) is_quiet
+    ensures { Runs format task pointer.now (map (λ pattern. pattern.now) excludes.now)
+        (map (λ name. name.now) names.now) is_watched is_quiet
         (I.log inputs.old) (I.log inputs.new)
         (O.contents out.old) (O.contents out.new) (O.failed out.new)
         (E.contents errors.old) (E.contents errors.new) (E.failed errors.new) result }
 {
     if is_quiet {
-        run_quiet(alloc, format, task, pointer, names, inputs)
+        run_quiet(
+            alloc, format, task, pointer, excludes, names, is_watched, inputs,
+        )
     } else {
-        run_aloud(alloc, format, task, pointer, names, inputs, out, errors)
+        run_aloud(
+            alloc, format, task, pointer, excludes, names, is_watched, inputs, out, errors,
+        )
     }
 }

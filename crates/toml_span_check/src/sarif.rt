@@ -1,8 +1,8 @@
 //! The faults of a run as one document in the Static Analysis Results Interchange Format (SARIF), version 2.1.0.
-ghost use Rattle.std.specs.Prelude.{◌≡◌, ◌<◌, ◌≤◌, ◌++◌, OnOk, IfOk, map, string_bytes};
+ghost use Rattle.std.specs.Prelude.{◌≡◌, ◌<◌, ◌≤◌, ◌++◌, OnOk, IfOk, codes, map, string_bytes};
 ghost use Rattle.std.specs.List.{flat_map};
 ghost use Rattle.toml_span_tree.specs.Diagnostic.{label_content};
-ghost use Rattle.toml_span_report.specs.Report.{report_content};
+ghost use Rattle.toml_span_report.specs.Report.{repair_of, report_content};
 ghost use Rattle.toml_span_check.specs.Sarif as spec;
 ghost use Rattle.toml_span_check.specs.Sarif.{BeginsWithComma};
 
@@ -10,35 +10,37 @@ use crate::github::push_number;
 use std::alloc::{AllocError, Global};
 use toml_span::{Label, Span};
 use toml_span_report::visible::push_quoted;
-use toml_span_report::{Report, Severity, line_column};
+use toml_span_report::{Replacement, Report, Severity, line_column};
 
-/// What stands before the results: a rule for each code that the checker has.
+/// The document up to its results, with a rule for each code of an error.
 const HEAD: &str = r#"{
 "$schema":"https://docs.oasis-open.org/sarif/sarif/v2.1.0/errata01/os/schemas/sarif-schema-2.1.0.json",
 "version":"2.1.0",
 "runs":[{"tool":{"driver":{"name":"toml-span","version":"0.7.2","rules":[
-{"id":"unexpected","shortDescription":{"text":"A character that begins no token."}},
-{"id":"unterminated-string","shortDescription":{"text":"A string that the text ends in."}},
-{"id":"invalid-char-in-string","shortDescription":{"text":"A character that a string does not hold."}},
-{"id":"invalid-escape","shortDescription":{"text":"A character after a backslash that begins no escape."}},
-{"id":"invalid-hex-escape","shortDescription":{"text":"A character in the place of a hexadecimal digit."}},
-{"id":"invalid-escape-value","shortDescription":{"text":"Digits that give no character."}},
+{"id":"unexpected","shortDescription":{"text":"A character that is not part of TOML here."}},
+{"id":"unterminated-string","shortDescription":{"text":"A string that is not closed before the end of the file."}},
+{"id":"invalid-char-in-string","shortDescription":{"text":"A character that a string cannot contain."}},
+{"id":"invalid-escape","shortDescription":{"text":"A backslash that begins no escape."}},
+{"id":"invalid-hex-escape","shortDescription":{"text":"An escape with too few hexadecimal digits."}},
+{"id":"invalid-escape-value","shortDescription":{"text":"An escape that is no character."}},
 {"id":"multiline-string-key","shortDescription":{"text":"A string of several lines as a key."}},
-{"id":"unquoted-string","shortDescription":{"text":"A word in the place of a value."}},
-{"id":"invalid-number","shortDescription":{"text":"What is due to be a number, and is none."}},
-{"id":"invalid-datetime","shortDescription":{"text":"What is due to be a date or a time, and is none."}},
-{"id":"unexpected-eof","shortDescription":{"text":"The end of the text in the place of a value."}},
-{"id":"wanted","shortDescription":{"text":"Another token than the one that is due."}},
-{"id":"exceeded-depth-limit","shortDescription":{"text":"What is nested deeper than 128."}},
-{"id":"dotted-key-invalid-type","shortDescription":{"text":"A key through a value."}},
-{"id":"duplicate-key","shortDescription":{"text":"A key that is there already."}},
-{"id":"duplicate-table","shortDescription":{"text":"A table that is there already."}},
-{"id":"redefine-as-array","shortDescription":{"text":"An array of tables where a table is already."}},
+{"id":"unquoted-string","shortDescription":{"text":"A value without quotes."}},
+{"id":"invalid-number","shortDescription":{"text":"A number that TOML does not have."}},
+{"id":"invalid-datetime","shortDescription":{"text":"A date or a time that does not exist."}},
+{"id":"unexpected-eof","shortDescription":{"text":"A value that is missing at the end of the file."}},
+{"id":"wanted","shortDescription":{"text":"Something else was expected here."}},
+{"id":"exceeded-depth-limit","shortDescription":{"text":"Keys or values that are too deeply nested."}},
+{"id":"dotted-key-invalid-type","shortDescription":{"text":"A dotted key that goes through a value."}},
+{"id":"duplicate-key","shortDescription":{"text":"A key that is defined twice."}},
+{"id":"duplicate-table","shortDescription":{"text":"A table that is defined twice."}},
+{"id":"redefine-as-array","shortDescription":{"text":"A list of tables with the name of a table."}},
+{"id":"too-many-errors","shortDescription":{"text":"More errors than are reported."}},
+{"id":"newer-toml","shortDescription":{"text":"Something that TOML 1.0 lacks."}},
 {"id":"not-utf-8","shortDescription":{"text":"A file that is not valid UTF-8."}},
 {"id":"too-long","shortDescription":{"text":"A file that is larger than 16 MiB."}}
 ]}},"columnKind":"unicodeCodePoints","results":["#;
 
-/// What stands behind them.
+/// The document after its results.
 const TAIL: &str = "\n]}]}\n";
 
 /// The level of a severity.
@@ -52,7 +54,7 @@ fn level_of(severity: Severity) -> &'static str
     }
 }
 
-/// Whether a byte stands for itself in a path of a URI: the unreserved ones, and the slash.
+/// Returns whether a byte is written as it is in a path of a URI: the unreserved ones, and the slash.
 fn is_plain(byte: u8) -> bool
     ensures { result ≡ spec.is_plain byte }
 {
@@ -83,7 +85,7 @@ fn push_uri_byte(out: &mut String, byte: u8) -> Result<(), AllocError>
     out.push(hex_digit(byte % 16) as char)
 }
 
-/// What stands before a name in its URI.
+/// The front of a name's URI.
 fn scheme_of(name: &str) -> &'static str
     ensures { result.now ≡ spec.scheme_of name.now }
 {
@@ -112,17 +114,17 @@ fn push_uri(out: &mut String, name: &str) -> Result<(), AllocError>
     push_path(out, name.as_bytes())
 }
 
-/// Adds the front of a place: the file.
+/// Adds the location of a file, as an object.
 fn push_artifact(out: &mut String, name: &str) -> Result<(), AllocError>
     ensures { OnOk result (string_bytes out.new ≡ string_bytes out.old ++ spec.artifact name.now) }
 {
-    out.push_str("{\"physicalLocation\":{\"artifactLocation\":{\"uri\":\"")?;
+    out.push_str("{\"artifactLocation\":{\"uri\":\"")?;
     push_uri(out, name)?;
     out.push_str("\"}")?;
     Ok(())
 }
 
-/// Adds the lines and columns of what is marked.
+/// Adds the lines and columns of a region, with the brace that opens it.
 fn push_lines(
     out: &mut String,
     start: (usize, usize),
@@ -130,14 +132,14 @@ fn push_lines(
 ) -> Result<(), AllocError>
     ensures { OnOk result (string_bytes out.new ≡ string_bytes out.old ++ spec.lines start end) }
 {
-    push_number(out, ",\"region\":{\"startLine\":", start.0)?;
+    push_number(out, "{\"startLine\":", start.0)?;
     push_number(out, ",\"startColumn\":", start.1)?;
     push_number(out, ",\"endLine\":", end.0)?;
     push_number(out, ",\"endColumn\":", end.1)?;
     Ok(())
 }
 
-/// Adds the bytes of what is marked.
+/// Adds the bytes of a region, with the brace that closes it.
 #[tactic(auto, unfolding(crate::specs::Sarif::bytes))]
 fn push_bytes(out: &mut String, start: usize, end: usize) -> Result<(), AllocError>
     requires { start ≤ end }
@@ -148,17 +150,17 @@ fn push_bytes(out: &mut String, start: usize, end: usize) -> Result<(), AllocErr
     out.push_str("}")
 }
 
-/// Adds what is marked.
+/// Adds the region of a span, which ends no later than the source.
 fn push_region(out: &mut String, text: &str, span: Span) -> Result<(), AllocError>
     ensures { OnOk result (string_bytes out.new ≡ string_bytes out.old ++ spec.region text.now span) }
 {
-    let end = span.start.max(span.end);
-    push_lines(out, line_column(text, span.start), line_column(text, end))?;
-    push_bytes(out, span.start, end)
+    let start = span.start.min(text.len());
+    let end = span.end.min(text.len()).max(start);
+    push_lines(out, line_column(text, start), line_column(text, end))?;
+    push_bytes(out, start, end)
 }
 
-/// Adds the place of a label, and what is said there.
-#[tactic(auto, unfolding(crate::specs::Sarif::location))]
+/// Adds the location of a label, and its message.
 fn push_location(
     alloc: Global,
     out: &mut String,
@@ -169,11 +171,24 @@ fn push_location(
     ensures { OnOk result (string_bytes out.new ≡ string_bytes out.old
         ++ spec.location name.now text.now (label_content label.now)) }
 {
+    out.push_str("{\"physicalLocation\":")?;
     push_artifact(out, name)?;
+    out.push_str(",\"region\":")?;
     push_region(out, text, label.span)?;
     out.push_str("},\"message\":{\"text\":")?;
     push_quoted(alloc, out, label.message.as_str())?;
-    out.push_str("}}")
+    out.push_str("}}")?;
+    Ok(())
+}
+
+/// Adds the location of a file alone.
+fn push_file(out: &mut String, name: &str) -> Result<(), AllocError>
+    ensures { OnOk result (string_bytes out.new ≡ string_bytes out.old ++ spec.file_alone name.now) }
+{
+    out.push_str("{\"physicalLocation\":")?;
+    push_artifact(out, name)?;
+    out.push_str("}}")?;
+    Ok(())
 }
 
 /// Adds the place of the first primary label, or else the file alone.
@@ -192,12 +207,10 @@ fn push_place(
             return push_location(alloc, out, name, text, label);
         }
     }
-    push_artifact(out, name)?;
-    out.push_str("}}")?;
-    Ok(())
+    push_file(out, name)
 }
 
-/// Adds the place of a label that is not primary, behind a comma.
+/// Adds the place of a label that is not primary, after a comma.
 fn push_other(
     alloc: Global,
     out: &mut String,
@@ -215,7 +228,7 @@ fn push_other(
     push_location(alloc, out, name, text, label)
 }
 
-/// The places of the labels that are not primary, each behind a comma.
+/// The places of the labels that are not primary, each after a comma.
 fn others(alloc: Global, name: &str, text: &str, labels: &[Label<()>]) -> Result<String, AllocError>
     ensures { IfOk result (λ out. string_bytes out
         ≡ flat_map (spec.other name.now text.now) (map label_content labels.now)) }
@@ -237,7 +250,7 @@ fn listed(elements: &[u8]) -> &[u8]
     }
 }
 
-/// Adds the code, the level and the message of a report, behind a comma.
+/// Adds the code, the level and the message of a report, after a comma.
 fn push_front(alloc: Global, out: &mut String, report: &Report) -> Result<(), AllocError>
     ensures { OnOk result (string_bytes out.new ≡ string_bytes out.old ++ spec.front (report_content report.now)) }
 {
@@ -297,7 +310,80 @@ fn push_places(
     Ok(())
 }
 
-/// A report as a result of the run, behind a comma.
+/// Adds a replacement: the region that it deletes, and the text that it inserts there.
+fn push_replacement(
+    alloc: Global,
+    out: &mut String,
+    text: &str,
+    fix: &Replacement,
+) -> Result<(), AllocError>
+    ensures { OnOk result (string_bytes out.new ≡ string_bytes out.old
+        ++ spec.replacement text.now (repair_of fix.now)) }
+{
+    out.push_str("{\"deletedRegion\":")?;
+    push_region(out, text, fix.span)?;
+    out.push_str(",\"insertedContent\":{\"text\":")?;
+    push_quoted(alloc, out, fix.text.as_str())?;
+    out.push_str("}}")?;
+    Ok(())
+}
+
+/// Adds replacements, each after a comma.
+fn push_replacements(
+    alloc: Global,
+    out: &mut String,
+    text: &str,
+    fixes: &[Replacement],
+) -> Result<(), AllocError>
+    ensures { OnOk result (string_bytes out.new ≡ string_bytes out.old
+        ++ flat_map (λ fix. codes "," ++ spec.replacement text.now fix) (map repair_of fixes.now)) }
+{
+    for fix in fixes {
+        out.push_str(",")?;
+        push_replacement(alloc, out, text, fix)?;
+    }
+    Ok(())
+}
+
+/// Adds a fix that makes these replacements.
+fn push_change(
+    alloc: Global,
+    out: &mut String,
+    name: &str,
+    text: &str,
+    first: &Replacement,
+    more: &[Replacement],
+) -> Result<(), AllocError>
+    ensures { OnOk result (string_bytes out.new ≡ string_bytes out.old
+        ++ spec.change name.now text.now (repair_of first.now) (map repair_of more.now)) }
+{
+    out.push_str(",\"fixes\":[{\"artifactChanges\":[")?;
+    push_artifact(out, name)?;
+    out.push_str(",\"replacements\":[")?;
+    push_replacement(alloc, out, text, first)?;
+    push_replacements(alloc, out, text, more)?;
+    out.push_str("]}]}]")?;
+    Ok(())
+}
+
+/// Adds the fix of a report, which makes all its replacements, or nothing if it has none.
+fn push_fixes(
+    alloc: Global,
+    out: &mut String,
+    name: &str,
+    text: &str,
+    fixes: &[Replacement],
+) -> Result<(), AllocError>
+    ensures { OnOk result (string_bytes out.new ≡ string_bytes out.old
+        ++ spec.fixes name.now text.now (map repair_of fixes.now)) }
+{
+    match fixes {
+        [first, more @ ..] => push_change(alloc, out, name, text, first, more),
+        [] => Ok(()),
+    }
+}
+
+/// A report as a result of the run, after a comma.
 pub(crate) fn sarif(
     alloc: Global,
     report: &Report,
@@ -309,6 +395,7 @@ pub(crate) fn sarif(
     let mut out = String::new(alloc);
     push_front(alloc, &mut out, report)?;
     push_places(alloc, &mut out, name, text, report.labels.as_slice())?;
+    push_fixes(alloc, &mut out, name, text, report.replacements.as_slice())?;
     out.push_str("}")?;
     Ok(out)
 }

@@ -15,7 +15,7 @@ pub(crate) fn truth(is_true: bool) -> &'static str
     if is_true { "true" } else { "false" }
 }
 
-/// Adds a comma, where something stands before.
+/// Adds a comma, if something precedes.
 pub(crate) fn push_comma(out: &mut String, later: bool) -> Result<(), AllocError>
     ensures { OnOk result (string_bytes out.new ≡ string_bytes out.old ++ spec.comma_if later) }
 {

@@ -13,7 +13,7 @@ fn push_digit(text: &mut String, digit: u8) -> Result<(), AllocError>
     text.push(char::from_digit(digit as u32, 16).unwrap_or('0'))
 }
 
-/// Adds a byte of a word: as it is where it is ASCII, else its number in base 16 behind a NUL, as `\0xe9`.
+/// Adds a byte of a word: as it is if it is ASCII, otherwise a NUL and its number in base 16, as `\0xe9`.
 fn push_byte(text: &mut String, byte: u8) -> Result<(), AllocError>
     ensures { OnOk result (string_bytes text.new ≡ string_bytes text.old ++ spec.byte_text byte) }
 {
@@ -36,8 +36,8 @@ fn bytes_text(alloc: Global, word: &[u8]) -> Result<String, AllocError>
     Ok(text)
 }
 
-/// A word as a text. One that is no UTF-8 has a NUL before the number of each byte that is no ASCII: no other word has
-/// a NUL, and no file's name.
+/// A word as a text. One that is not UTF-8 has a NUL before the number of each byte that is not ASCII: no other word
+/// has a NUL, and no file's name.
 pub fn word_text(alloc: Global, word: &[u8]) -> Result<String, AllocError>
     ensures { IfOk result (λ text. string_bytes text ≡ spec.word_text word.now) }
 {
@@ -47,7 +47,7 @@ pub fn word_text(alloc: Global, word: &[u8]) -> Result<String, AllocError>
     }
 }
 
-/// Whether a text is that of a word that is no UTF-8.
+/// Returns whether a text is that of a word that is not UTF-8.
 pub fn is_bytes(text: &str) -> bool
     ensures { result ≡ spec.is_bytes text.now }
 {

@@ -1,15 +1,16 @@
--- What is told of files while they are read: what is written of it, and what is held.
-use Rattle.std.specs.Prelude.{◌≡◌, ◌⊎◌, ℕ, ◌+◌, max, Bool, true, false, List, [], ◌++◌, Option, Result, Ok, Err}
+-- Reports while files are read: what is written of them, and what is held.
+use Rattle.std.specs.Prelude.{◌≡◌, ◌⊎◌, ℕ, max, Bool, true, false, List, [], ◌++◌, Option, Result, Ok, Err}
 use Rattle.std.specs.Prelude.{string_bytes}
 use Rattle.toml_span_lines.specs.Held.{HoldsRest}
 use Rattle.toml_span_lines.specs.Run.{HasWritten}
 use Rattle.toml_span_lines.specs.declared.held.Unwritten.{Unwritten}
 use Rattle.toml_span_lines.specs.declared.held.Unwritten.TheVariants.{Failed, Memory}
 use Rattle.toml_span_check.specs.Answer.{IsAnswer}
-use Rattle.toml_span_check.specs.Run.{Asked, Begins, Shows, Tells, TellsFirst, Told, complaint}
+use Rattle.toml_span_check.specs.Run.{Asked, Begins, Shows, Tells, TellsFirst, Told, complaint, counted, status_of}
 use Rattle.toml_span_check.specs.Words.{shown_word}
 use Rattle.toml_span_check.specs.declared.answer.Task.{Task}
 use Rattle.toml_span_check.specs.declared.faults.Format.{Format}
+use Rattle.toml_span_check.specs.declared.run.Tally.{Tally}
 use Rattle.toml_span_check.specs.declared.run.Telling.{Telling}
 
 -- Of a text a front was written, and the rest is held: all of it, where no document is shown.
@@ -24,13 +25,13 @@ Begun format task pointer name bytes old new held =
     Shows task × ((answer : ℕ × List ℕ) × IsAnswer format task pointer name bytes answer
     × HasWritten old new (held ++ answer.1))
 
--- With Ok a status: what is held and the answer are written, but for what is held now. Only of a document that is shown
--- anything is written.
+-- With Ok the number of errors: what is held and the answer are written, except for what is held now. Only of a
+-- document that is shown anything is written.
 abbrev pub TellsBytes : Format → Task → List ℕ → List ℕ → List ℕ → Result ℕ Unwritten → Option (List ℕ)
     → Option (List ℕ) → Bool → List ℕ → List ℕ → Type 0
-TellsBytes format task pointer name bytes (Ok status) old new failed held held' =
+TellsBytes format task pointer name bytes (Ok count) old new failed held held' =
     (failed ≡ false) × ((new ≡ old) ⊎ Shows task)
-    × ((text : List ℕ) × IsAnswer format task pointer name bytes (status, text)
+    × ((text : List ℕ) × IsAnswer format task pointer name bytes (count, text)
     × Holds task old new (held ++ text) held')
 TellsBytes format task pointer name bytes (Err Memory) old new failed held held' =
     (failed ≡ false) × ((new ≡ old) ⊎ Begun format task pointer name bytes old new held)
@@ -39,17 +40,19 @@ TellsBytes format task pointer name bytes (Err Failed) old new failed held held'
 
 -- ---- a file
 
--- what is told of files: of those that are read, of those that can't be read, the status, and how many have errors
+-- the reports on files: on those that are read, on those that can't be read, the status, and how many have errors
 abbrev pub TextsOf : Type 0
-TextsOf = List ℕ × List ℕ × ℕ × ℕ
+TextsOf = List ℕ × List ℕ × ℕ × Tally
 
 -- what one more reading adds
 abbrev pub Adds : Format → Task → List ℕ → List ℕ → Result (List ℕ) (List ℕ) → TextsOf → TextsOf → Type 0
 Adds format task pointer name (Ok bytes) old new =
     (answer : ℕ × List ℕ) × IsAnswer format task pointer name bytes answer
-    × (new.0 ≡ old.0 ++ answer.1) × (new.1 ≡ old.1) × (new.2 ≡ max old.2 answer.0) × (new.3 ≡ old.3 + answer.0)
+    × (new.0 ≡ old.0 ++ answer.1) × (new.1 ≡ old.1) × (new.2 ≡ max old.2 (status_of answer.0))
+    × (new.3 ≡ counted old.3 answer.0)
 Adds format task pointer name (Err reason) old new =
-    (new.0 ≡ old.0) × (new.1 ≡ old.1 ++ complaint (shown_word name) reason) × (new.2 ≡ 2) × (new.3 ≡ old.3 + 1)
+    (new.0 ≡ old.0) × (new.1 ≡ old.1 ++ complaint (shown_word name) reason) × (new.2 ≡ 2)
+    × (new.3 ≡ counted old.3 1)
 
 abbrev pub BegunOne : Format → Task → List ℕ → List ℕ → Result (List ℕ) (List ℕ) → Option (List ℕ) → Option (List ℕ)
     → TextsOf → Type 0
@@ -84,20 +87,22 @@ TellsFiles format task pointer names (Err Failed) old new told told' failed =
 
 -- ---- the files that names are for
 
--- nothing was written, or where documents are shown the first bytes of what is told of the first files
-abbrev pub TellsAll : Format → Task → List ℕ → List (List ℕ) → Result Telling Unwritten → Option Asked → Option Asked
-    → Option (List ℕ) → Option (List ℕ) → Bool → Type 0
-TellsAll format task pointer names (Ok t) old new told told' failed =
+-- nothing was written, or where documents are shown the first bytes of the reports on the first files
+abbrev pub TellsAll : Format → Task → List ℕ → List (List ℕ) → List (List ℕ) → Bool → Result Telling Unwritten
+    → Option Asked → Option Asked → Option (List ℕ) → Option (List ℕ) → Bool → Type 0
+TellsAll format task pointer excludes names is_watched (Ok t) old new told told' failed =
     (failed ≡ false) × ((told' ≡ told) ⊎ Shows task)
-    × ((out : List ℕ) × Told format task pointer names false old new out (string_bytes t.errors) t.status
+    × ((out : List ℕ)
+    × Told format task pointer excludes names is_watched false old new out (string_bytes t.errors) t.status
     × HoldsRest told told' out t.held.items)
-TellsAll format task pointer names (Err Memory) old new told told' failed =
+TellsAll format task pointer excludes names is_watched (Err Memory) old new told told' failed =
     (failed ≡ false) × ((told' ≡ told)
-    ⊎ (Shows task × ((last : Option Asked) × Begins format task pointer names false old last told told')))
-TellsAll format task pointer names (Err Failed) old new told told' failed =
-    (failed ≡ true) × Begins format task pointer names false old new told told'
+    ⊎ (Shows task × ((last : Option Asked) × Begins format task pointer excludes names false old last told told')))
+TellsAll format task pointer excludes names is_watched (Err Failed) old new told told' failed =
+    (failed ≡ true) × Begins format task pointer excludes names false old new told told'
 
--- a quiet run: without memory status 4, else that of what is told
-abbrev pub EndsQuiet : Format → Task → List ℕ → List (List ℕ) → Option Asked → Option Asked → ℕ → Type 0
-EndsQuiet format task pointer names old new status =
-    (status ≡ 4) ⊎ Told format task pointer names true old new [] [] status
+-- a quiet run: without memory status 4, otherwise that of the reports
+abbrev pub EndsQuiet : Format → Task → List ℕ → List (List ℕ) → List (List ℕ) → Bool → Option Asked → Option Asked → ℕ
+    → Type 0
+EndsQuiet format task pointer excludes names is_watched old new status =
+    (status ≡ 4) ⊎ Told format task pointer excludes names is_watched true old new [] [] status

@@ -4,7 +4,7 @@ use Rattle.toml_span_check.proofs.Tellings.{stops-finding, stops-counting, whole
 use Rattle.toml_span_check.proofs.run.tell_all.Goals as goal
 
 pub returns-in_err-found : goal.returns-in_err-found
-returns-in_err-found g c = stops-finding c.args.format c.args.task c.args.pointer.now _ _ _ _ _ _ c.from_residual.result refl c.requires c.from_residual.ensures.1
+returns-in_err-found g c = stops-finding c.args.format c.args.task c.args.pointer.now _ _ _ _ _ _ _ _ c.from_residual.result refl c.requires c.from_residual.ensures.1
 
 pub returns-in_err-telling : goal.returns-in_err-telling
 returns-in_err-telling g c = grind (arith, nat_tests, common_steps)
@@ -12,13 +12,13 @@ returns-in_err-telling g c = grind (arith, nat_tests, common_steps)
 pub returns-in_err-push_summary : goal.returns-in_err-push_summary
 returns-in_err-push_summary g c =
     let told = c.in_ok-telling.ensures in
-    stops-counting c.args.format c.args.task c.args.pointer.now _ (map (λ file. string_bytes file) c.in_ok-found.found.items) _ (g.I.Inputs.log c.find_all.new.inputs) _ _ _ _
+    stops-counting c.args.format c.args.task c.args.pointer.now _ _ (map (λ file. string_bytes file) c.in_ok-found.found.items) _ _ (g.I.Inputs.log c.find_all.new.inputs) _ _ _ _
     c.in_ok-telling.telling c.from_residual-in_err-push_summary.result c.in_ok-found.ensures (rw c.as_slice-files.ensures.value at told) c.from_residual-in_err-push_summary.ensures.1
 
 pub returns-in_err-telling-2 : goal.returns-in_err-telling-2
 returns-in_err-telling-2 g c =
     let told = c.in_ok-telling.ensures in
-    stops-counting c.args.format c.args.task c.args.pointer.now _ (map (λ file. string_bytes file) c.in_ok-found.found.items) _ (g.I.Inputs.log c.find_all.new.inputs) _ _ _ _
+    stops-counting c.args.format c.args.task c.args.pointer.now _ _ (map (λ file. string_bytes file) c.in_ok-found.found.items) _ _ (g.I.Inputs.log c.find_all.new.inputs) _ _ _ _
     c.in_ok-telling.telling c.from_residual-in_err-telling-2.result c.in_ok-found.ensures (rw c.as_slice-files.ensures.value at told) c.from_residual-in_err-telling-2.ensures.1
 
 pub returns : goal.returns
@@ -26,7 +26,7 @@ returns g c =
     let t = c.in_ok-telling.telling in
     let files = c.in_ok-found.found.items in
     let told = c.in_ok-telling.ensures in
-    let counted = ap (λ n. string_bytes t.errors ++ summary c.args.format c.args.task n t.wrong) (ap length c.as_slice-files.ensures.value ∙ sym (length-map files (λ file. string_bytes file))) in
+    let counted = ap (λ n. string_bytes t.errors ++ summary c.args.format c.args.task c.args.is_watched n t.wrong) (ap length c.as_slice-files.ensures.value ∙ sym (length-map files (λ file. string_bytes file))) in
     let tells = told.2.1 in (
       told.0,
       told.1,

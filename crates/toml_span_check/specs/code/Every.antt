@@ -1,0 +1,32 @@
+-- How the functions that find all errors share the work.
+use Rattle.std.specs.Prelude.{◌≡◌, ℕ, List, map, Option, Some, None, string_bytes}
+use Rattle.toml_span_lex.specs.declared.stop.Stop.TheVariants.{Fault}
+use Rattle.toml_span_tree.specs.declared.error.Error.{Error}
+use Rattle.toml_span_tree.specs.declared.value.Value.{Value}
+use Rattle.toml_span_tree.specs.Error.{content_of}
+use Rattle.toml_span_read.specs.Data.{depth_limit}
+use Rattle.toml_span.specs.Parsing.{IsTree, IsRefusal}
+use Rattle.toml_span_report.specs.Errors.{TellsError}
+use Rattle.toml_span_report.specs.Report.{report_content}
+use Rattle.toml_span_report.specs.declared.report.Severity.TheVariants as severity
+use Rattle.toml_span_check.specs.Every.{Progress}
+use Rattle.toml_span_check.specs.declared.every.ErrorAt.{ErrorAt}
+use Rattle.toml_span_check.specs.declared.every.Found.{Found}
+
+abbrev pub progress : Found → Progress
+progress f = record {
+  places = f.places.items;
+  reports = map report_content f.reports.items;
+  kept = string_bytes f.kept;
+}
+
+-- the report of this error, and its offset
+abbrev pub IsErrorOf : List ℕ → Error → ErrorAt → Type 0
+IsErrorOf text error made =
+    TellsError severity.Error text (content_of error) (report_content made.report)
+    × (made.place ≡ error.span.start)
+
+-- the error of a text, or none
+abbrev pub Judges : List ℕ → Option ErrorAt → Type 0
+Judges text None = (root : Value) × IsTree text depth_limit root
+Judges text (Some made) = (error : Error) × IsRefusal text depth_limit (Fault error) × IsErrorOf text error made

@@ -1,0 +1,229 @@
+//! All errors of a text.
+ghost use Rattle.std.specs.Prelude.{◌≡◌, ◌∷◌, ◌++◌, [], IfOk, OnOk, map, length, nat_le, string_bytes};
+ghost use Rattle.toml_span_lex.specs.declared.stop.Stop.TheVariants.{Fault};
+ghost use Rattle.toml_span.specs.Parsing.{IsRefusal};
+ghost use Rattle.toml_span_read.specs.Data.{depth_limit};
+ghost use Rattle.toml_span_report.specs.Report.{report_content};
+ghost use Rattle.toml_span_check.specs.Every as spec;
+ghost use Rattle.toml_span_check.specs.Every.{Adds, AddsReport, Checks, Finds, IsBlanked};
+ghost use Rattle.toml_span_check.specs.code.Every.{IsErrorOf, Judges, progress};
+
+use crate::statements::{Statement, is_clash, statement_of};
+use std::alloc::{AllocError, Global};
+use toml_span::Error;
+use toml_span::de::parse;
+use toml_span_report::Report;
+
+/// How many errors of a text are reported at most.
+const MOST: usize = 100;
+
+/// How many bytes the number of reports times the length of the text is at most, from the second report on: each may
+/// take one more pass over the text.
+const WORK: usize = 134_217_728;
+
+/// An error with its report.
+#[derive(Drop)]
+struct ErrorAt {
+    report: Report,
+    /// The offset at which the error's span starts.
+    place: usize,
+    /// Whether it is the error of two statements that exclude each other.
+    is_clash: bool,
+    statement: Statement,
+}
+
+/// The errors that are found so far.
+#[derive(Drop)]
+struct Found {
+    /// The text, in which the statements with errors are blanked.
+    kept: String,
+    /// The offsets of the errors.
+    places: Vec<usize>,
+    reports: Vec<Report>,
+}
+
+/// Returns how many errors of a text of this length are reported.
+fn most(len: usize) -> usize
+    ensures { result ≡ spec.most len }
+{
+    (WORK / len.max(1)).min(MOST).max(1)
+}
+
+/// Returns the text with spaces in place of the bytes from one offset to another. If these are not in order or not
+/// between characters, returns the text as it is.
+fn blanked(alloc: Global, text: &str, from: usize, to: usize) -> Result<String, AllocError>
+    ensures { IfOk result (λ out. IsBlanked text.now (string_bytes out)) }
+{
+    if from > to || !text.is_char_boundary(from) || !text.is_char_boundary(to) {
+        return String::from_str(alloc, text);
+    }
+    let mut out = String::from_str(alloc, &text[..from])?;
+    let spaces = " ".repeat(alloc, to - from)?;
+    out.push_str(spaces.as_str())?;
+    out.push_str(&text[to..])?;
+    Ok(out)
+}
+
+/// Makes the report of an error of a text, and finds its statement among those from an offset on.
+fn error_at(
+    alloc: Global,
+    text: &str,
+    from: usize,
+    error: &Error<'_>,
+) -> Result<ErrorAt, AllocError>
+    ensures { IfOk result (IsErrorOf text.now error.now) }
+{
+    let place = error.span.start;
+    Ok(ErrorAt {
+        report: Report::from_error(alloc, error, text)?,
+        place,
+        is_clash: is_clash(&error.kind),
+        statement: statement_of(text, from, place, is_clash(&error.kind)),
+    })
+}
+
+/// Returns the error of a text, if there is one. Its statement is looked for from an offset on.
+fn next_error(alloc: Global, text: &str, from: usize) -> Result<Option<ErrorAt>, AllocError>
+    ensures { IfOk result (Judges text.now) }
+{
+    match parse(alloc, text) {
+        Ok(_) => Ok(None),
+        Err(stop) => {
+            let error = stop.fault()?;
+            let next = error_at(alloc, text, from, &error)?;
+            Ok(Some(next))
+        }
+    }
+}
+
+/// Adds a report, unless there is one at its offset.
+fn push_new(found: &mut Found, report: Report, place: usize) -> Result<(), AllocError>
+    ensures { OnOk result (AddsReport (report_content report) place (progress found.old) (progress found.new)) }
+{
+    if !found.places.contains(&place) {
+        found.reports.push(report)?;
+    }
+    found.places.push(place)?;
+    Ok(())
+}
+
+/// Adds an error, and blanks its statement.
+fn with_error(alloc: Global, mut found: Found, next: ErrorAt) -> Result<Found, AllocError>
+    ensures { IfOk result (λ more. Adds (report_content next.report) next.place (progress found)
+        (progress more)) }
+{
+    let ErrorAt {
+        report,
+        place,
+        is_clash: _,
+        statement,
+    } = next;
+    let kept = blanked(alloc, found.kept.as_str(), statement.start, statement.end)?;
+    found.kept = kept;
+    push_new(&mut found, report, place)?;
+    Ok(found)
+}
+
+/// Whether no more errors are looked for in a text of this length.
+fn is_full(found: &Found, len: usize) -> bool
+    ensures { result ≡ nat_le (spec.most len) (length found.now.places.items) }
+{
+    most(len) <= found.places.len()
+}
+
+/// Adds the errors of reading the text from an offset on, each of the statements after the one before.
+fn with_faults(
+    alloc: Global,
+    mut found: Found,
+    text: &str,
+    from: usize,
+) -> Result<Found, AllocError>
+    requires { Finds text.now (progress found) }
+    ensures { IfOk result (λ more. Finds text.now (progress more)) }
+{
+    let mut at = from;
+    'faults: while !is_full(&found, text.len()) {
+        let copy = blanked(alloc, text, 0, at)?;
+        let next = match next_error(alloc, copy.as_str(), at)? {
+            Some(next) => next,
+            None => return Ok(found),
+        };
+        if next.is_clash {
+            return Ok(found);
+        }
+        at = next.statement.next;
+        found = with_error(alloc, found, next)?;
+    }
+    Ok(found)
+}
+
+/// Adds a report that there are more errors.
+fn with_too_many(alloc: Global, mut reports: Vec<Report>) -> Result<Vec<Report>, AllocError>
+    ensures { IfOk result (λ more. map report_content more.items
+        ≡ map report_content reports.items ++ spec.too_many ∷ []) }
+{
+    let last = Report::error(alloc, "too-many-errors", "too many errors")?;
+    reports.push(last)?;
+    Ok(reports)
+}
+
+/// Returns the reports of the errors that are found, and of those of the text in which their statements are blanked.
+fn with_clashes(alloc: Global, mut found: Found, text: &str) -> Result<Vec<Report>, AllocError>
+    requires { Finds text.now (progress found) }
+    ensures { IfOk result (λ reports. Checks text.now (map report_content reports.items)) }
+{
+    'clashes: while !is_full(&found, text.len()) {
+        match next_error(alloc, found.kept.as_str(), 0)? {
+            Some(next) => found = with_error(alloc, found, next)?,
+            None => return Ok(found.reports),
+        }
+    }
+    match next_error(alloc, found.kept.as_str(), 0)? {
+        Some(_) => with_too_many(alloc, found.reports),
+        None => Ok(found.reports),
+    }
+}
+
+/// Returns the reports of the errors of a text, of which `parse` returns the first one.
+pub(crate) fn errors_from(
+    alloc: Global,
+    text: &str,
+    error: &Error<'_>,
+) -> Result<Vec<Report>, AllocError>
+    requires { IsRefusal text.now depth_limit (Fault error.now) }
+    ensures { IfOk result (λ reports. Checks text.now (map report_content reports.items)) }
+{
+    let nothing = Found {
+        kept: String::from_str(alloc, text)?,
+        places: Vec::new(alloc),
+        reports: Vec::new(alloc),
+    };
+    let first = error_at(alloc, text, 0, error)?;
+    let next = first.statement.next;
+    let found = with_error(alloc, nothing, first)?;
+    let found = with_faults(alloc, found, text, next)?;
+    with_clashes(alloc, found, text)
+}
+
+/// Returns the reports of all errors of a text: none exactly if `parse` returns a tree, and else first that of the
+/// error that `parse` returns.
+///
+/// After an error of reading, reading goes on at the next statement. Where a statement is not closed, that is the next
+/// line that begins one and is indented no further. Then the statements with errors are blanked, and the others are
+/// parsed together: of two that exclude each other the later one is reported and blanked, a header with its section,
+/// until the rest is valid.
+///
+/// No offset is reported twice. At most 100 errors are looked for, and fewer in a text of more than 1.28 MiB: 128 MiB
+/// divided by its length, at least one. If there are more, the last report has the code `too-many-errors`.
+pub fn check(alloc: Global, text: &str) -> Result<Vec<Report>, AllocError>
+    ensures { IfOk result (λ reports. Checks text.now (map report_content reports.items)) }
+{
+    match parse(alloc, text) {
+        Ok(_) => Ok(Vec::new(alloc)),
+        Err(stop) => {
+            let error = stop.fault()?;
+            let reports = errors_from(alloc, text, &error)?;
+            Ok(reports)
+        }
+    }
+}

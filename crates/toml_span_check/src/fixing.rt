@@ -1,0 +1,154 @@
+//! The safe replacements of errors.
+ghost use Rattle.std.specs.Prelude.{◌≡◌, ◌+◌, IfOk, map, option_map, string_bytes};
+ghost use Rattle.toml_span_tree.specs.Error.{content_of};
+ghost use Rattle.toml_span_places.specs.Replace.{edit_of};
+ghost use Rattle.toml_span_report.specs.Report.{repair_of};
+ghost use Rattle.toml_span_check.specs.Fixing as spec;
+ghost use Rattle.toml_span_check.specs.Fixing.{Fixes, FixesError, Improves, NextFix};
+
+use std::alloc::{AllocError, Global};
+use toml_span::de::parse;
+use toml_span::{Error, Stop};
+use toml_span_places::{Replacement, replace_all};
+use toml_span_report::{Replacement as Repair, Report};
+
+/// How many errors of a file are fixed at most.
+const MOST: usize = 100;
+
+/// A source whose errors were fixed.
+#[derive(Drop)]
+pub struct Fixed {
+    pub text: String,
+    /// How many errors were fixed.
+    pub count: usize,
+}
+
+/// Returns whether all replacements are safe.
+fn all_safe(repairs: &[Repair]) -> bool
+    ensures { result ≡ spec.all_safe (map repair_of repairs.now) }
+{
+    for repair in repairs {
+        if !repair.is_safe {
+            return false;
+        }
+    }
+    true
+}
+
+/// Returns whether there are replacements, and all of them are safe.
+fn is_safe(repairs: &[Repair]) -> bool
+    ensures { result ≡ spec.is_safe (map repair_of repairs.now) }
+{
+    match repairs {
+        [] => false,
+        [_, ..] => all_safe(repairs),
+    }
+}
+
+/// Returns where the first replacement begins, and the length of its new text.
+fn first_place(repairs: &[Repair]) -> (usize, usize)
+    ensures { result.0 + result.1 ≡ spec.reach (map repair_of repairs.now) }
+{
+    match repairs.first() {
+        Some(first) => (first.span.start, first.text.len()),
+        None => (0, 0),
+    }
+}
+
+/// Returns the replacements as edits of the source.
+fn edits_of<'r>(alloc: Global, repairs: &'r [Repair]) -> Result<Vec<Replacement<'r>>, AllocError>
+    ensures { IfOk result (λ edits. map edit_of edits.items ≡ spec.edits (map repair_of repairs.now)) }
+{
+    let mut edits = Vec::new(alloc);
+    for repair in repairs {
+        edits.push(Replacement {
+            span: repair.span,
+            text: repair.text.as_str(),
+        })?;
+    }
+    Ok(edits)
+}
+
+/// Returns whether a source is valid, or its first error is not before the end of a text of this length at `from`.
+fn improves(alloc: Global, text: &str, from: usize, length: usize) -> Result<bool, AllocError>
+    ensures { IfOk result (Improves text.now (from + length)) }
+{
+    match parse(alloc, text) {
+        Ok(_) => Ok(true),
+        Err(stop) => {
+            let error = stop.fault()?;
+            let start = error.span.start;
+            drop(error);
+            Ok(from <= start && length <= start - from)
+        }
+    }
+}
+
+/// Returns the source with the replacements of a report, if they are safe and its first error is then further on.
+fn repaired(alloc: Global, text: &str, report: &Report) -> Result<Option<String>, AllocError>
+    ensures { IfOk result (λ new. spec.Repairs text.now (map repair_of report.now.replacements.items)
+        (option_map string_bytes new)) }
+{
+    let repairs = report.replacements.as_slice();
+    if !is_safe(repairs) {
+        return Ok(None);
+    }
+    let edits = edits_of(alloc, repairs)?;
+    let new = match replace_all(alloc, text, edits.as_slice()) {
+        Ok(new) => new,
+        Err(Stop::Fault(_)) => return Ok(None),
+        Err(Stop::Memory(error)) => return Err(error),
+    };
+    let (from, length) = first_place(repairs);
+    if improves(alloc, new.as_str(), from, length)? {
+        Ok(Some(new))
+    } else {
+        Ok(None)
+    }
+}
+
+/// Returns the source with an error of it fixed, or `None` if the error has no fix.
+fn with_error_fixed(
+    alloc: Global,
+    text: &str,
+    error: &Error<'_>,
+) -> Result<Option<String>, AllocError>
+    ensures { IfOk result (λ new. FixesError text.now (content_of error.now) (option_map string_bytes new)) }
+{
+    let report = Report::from_error(alloc, error, text)?;
+    let new = repaired(alloc, text, &report)?;
+    Ok(new)
+}
+
+/// Returns the source with its first error fixed, or `None` if it is valid or the error has no fix.
+fn next_fix(alloc: Global, text: &str) -> Result<Option<String>, AllocError>
+    ensures { IfOk result (λ new. NextFix text.now (option_map string_bytes new)) }
+{
+    match parse(alloc, text) {
+        Ok(_) => Ok(None),
+        Err(stop) => {
+            let error = stop.fault()?;
+            let new = with_error_fixed(alloc, text, &error)?;
+            Ok(new)
+        }
+    }
+}
+
+/// Returns the source with the fixes of its errors made, one after another, and how many there were. A fix is made if
+/// all replacements of the error's report are safe, and the first error of the result is after them. Ends at an error
+/// without a fix, or after 100. Each fix takes time linear in the source.
+pub fn with_fixes(alloc: Global, text: &str) -> Result<Fixed, AllocError>
+    ensures { IfOk result (λ made. Fixes text.now made.count (string_bytes made.text)) }
+{
+    let mut new = String::from_str(alloc, text)?;
+    for count in 0..MOST {
+        match next_fix(alloc, new.as_str())? {
+            Some(next) => new = next,
+            None => return Ok(Fixed { text: new, count }),
+        }
+    }
+    Ok(Fixed {
+        text: new,
+        count: MOST,
+    })
+}

@@ -1,0 +1,178 @@
+//! Patterns of the files and directories that a search leaves out.
+ghost use Rattle.std.specs.Prelude.{◌≡◌, ◌≤◌, IfSome, map, string_bytes};
+ghost use Rattle.toml_span_check.specs.Patterns as spec;
+
+use std::alloc::{AllocError, Global};
+
+/// How many steps a match may take. A pattern that would take more does not match.
+const STEPS: usize = 100_000;
+
+/// Returns whether a pattern without slashes matches a name: `*` any bytes, `?` one byte, all other bytes themselves.
+/// `None` if there are not enough steps. Takes them from `steps`.
+fn name_matches(steps: &mut usize, pattern: &[u8], name: &[u8]) -> Option<bool>
+    ensures value { IfSome result (λ found. found ≡ spec.name_matches pattern.now name.now) }
+    ensures steps { steps.new ≤ steps.old }
+{
+    let [code, rest @ ..] = pattern else {
+        return Some(name.is_empty());
+    };
+    *steps = steps.checked_sub(1)?;
+    match name {
+        [] if *code == b'*' => name_matches(steps, rest, name),
+        [] => Some(false),
+        [_, more @ ..] if *code == b'*' => {
+            if name_matches(steps, rest, name)? {
+                Some(true)
+            } else {
+                name_matches(steps, pattern, more)
+            }
+        }
+        [byte, more @ ..] if *code == b'?' || *code == *byte => name_matches(steps, rest, more),
+        [_, ..] => Some(false),
+    }
+}
+
+/// Returns whether a pattern matches a path, each given as its parts between slashes: `**` any parts, another part of
+/// the pattern one part. `None` if there are not enough steps. Takes them from `steps`.
+fn path_matches(steps: &mut usize, pattern: &[String], path: &[&str]) -> Option<bool>
+    ensures value { IfSome result (λ found. found
+        ≡ spec.path_matches (map string_bytes pattern.now) (map (λ part. part.now) path.now)) }
+    ensures steps { steps.new ≤ steps.old }
+{
+    let [first, rest @ ..] = pattern else {
+        return Some(path.is_empty());
+    };
+    *steps = steps.checked_sub(1)?;
+    match path {
+        [] if first.as_str() == "**" => path_matches(steps, rest, path),
+        [] => Some(false),
+        [_, more @ ..] if first.as_str() == "**" => {
+            if path_matches(steps, rest, path)? {
+                Some(true)
+            } else {
+                path_matches(steps, pattern, more)
+            }
+        }
+        [name, more @ ..] => {
+            if name_matches(steps, first.as_bytes(), name.as_bytes())? {
+                path_matches(steps, rest, more)
+            } else {
+                Some(false)
+            }
+        }
+    }
+}
+
+/// A pattern, as a line of a `.gitignore` file or as `--exclude` has it.
+#[derive(Drop)]
+pub(crate) struct Pattern {
+    /// The parts between slashes. The first is `**` if the pattern matches at any depth.
+    parts: Vec<String>,
+    /// Whether it takes back what earlier patterns leave out.
+    is_negated: bool,
+    /// Whether it matches directories only.
+    is_directory: bool,
+}
+
+/// Returns the parts of a path between slashes.
+fn parts_of<'t>(alloc: Global, path: &'t str) -> Result<Vec<&'t str>, AllocError> {
+    let mut parts = Vec::new(alloc);
+    let mut rest = path;
+    for _ in 0..path.len() {
+        match rest.split_once('/') {
+            Some((part, more)) => {
+                parts.push(part)?;
+                rest = more;
+            }
+            None => break,
+        }
+    }
+    parts.push(rest)?;
+    Ok(parts)
+}
+
+/// Returns the parts of a pattern without what is before and after it: with `**` before them if it has no slash.
+fn pattern_parts(alloc: Global, text: &str) -> Result<Vec<String>, AllocError> {
+    let mut parts = Vec::new(alloc);
+    if !text.contains('/') {
+        parts.push(String::from_str(alloc, "**")?)?;
+    }
+    for part in parts_of(alloc, text.strip_prefix('/').unwrap_or(text))? {
+        parts.push(String::from_str(alloc, part)?)?;
+    }
+    Ok(parts)
+}
+
+/// Returns a text without the `!` before it, if it has one, and whether it does.
+fn without_mark<'t>(text: &'t str) -> (bool, &'t str) {
+    match text.strip_prefix('!') {
+        Some(rest) => (true, rest),
+        None => (false, text),
+    }
+}
+
+/// Returns a text without the slash at its end, if it has one, and whether it does.
+fn without_slash<'t>(text: &'t str) -> (bool, &'t str) {
+    match text.strip_suffix('/') {
+        Some(front) => (true, front),
+        None => (false, text),
+    }
+}
+
+/// Returns a pattern. After `!` it takes back. Before a slash it matches directories only. With another slash it
+/// matches a whole path, otherwise a name at any depth. `None` if it is empty, or has `[` or a backslash, which are not
+/// supported.
+pub(crate) fn pattern_of(alloc: Global, text: &str) -> Result<Option<Pattern>, AllocError> {
+    let (is_negated, text) = without_mark(text);
+    let (is_directory, text) = without_slash(text);
+    if text.is_empty() || text.contains('[') || text.contains('\\') {
+        return Ok(None);
+    }
+    Ok(Some(Pattern {
+        parts: pattern_parts(alloc, text)?,
+        is_negated,
+        is_directory,
+    }))
+}
+
+/// Returns the patterns of the lines of a `.gitignore` file, in their order.
+pub(crate) fn ignore_patterns(alloc: Global, text: &str) -> Result<Vec<Pattern>, AllocError> {
+    let mut patterns = Vec::new(alloc);
+    for line in text.lines() {
+        let line = line.trim_end_matches(' ');
+        if line.starts_with('#') {
+            continue;
+        }
+        if let Some(pattern) = pattern_of(alloc, line)? {
+            patterns.push(pattern)?;
+        }
+    }
+    Ok(patterns)
+}
+
+/// Returns whether a pattern matches a path, given as its parts, of a directory or not.
+fn is_match(pattern: &Pattern, path: &[&str], is_directory: bool) -> bool {
+    if pattern.is_directory && !is_directory {
+        return false;
+    }
+    let mut steps = STEPS;
+    path_matches(&mut steps, pattern.parts.as_slice(), path).unwrap_or(false)
+}
+
+/// Returns what the last pattern that matches a path says: `Some(true)` to leave it out, `Some(false)` to take it back.
+/// The path is relative to the directory of the patterns.
+pub(crate) fn last_match(
+    alloc: Global,
+    patterns: &[Pattern],
+    path: &str,
+    is_directory: bool,
+) -> Result<Option<bool>, AllocError> {
+    let parts = parts_of(alloc, path)?;
+    let mut found = None;
+    for pattern in patterns {
+        if is_match(pattern, parts.as_slice(), is_directory) {
+            found = Some(!pattern.is_negated);
+        }
+    }
+    Ok(found)
+}
