@@ -2,6 +2,7 @@
 use Rattle.std.specs.Prelude.{◌≤◌, ℕ, Bool, true, false, ◌||◌, List, drop, Option, Some, None, slice_get}
 use Rattle.std.specs.Prelude.{if◌then◌else◌}
 use Rattle.std.specs.Io.KnownBytes.{Keeps}
+use Rattle.toml_span_cli.specs.Check.{Checks}
 use Rattle.toml_span_cli.specs.Commands.{command_named}
 use Rattle.toml_span_cli.specs.Say.{Says, Warns}
 use Rattle.toml_span_cli.specs.Show.{Shows}
@@ -29,40 +30,40 @@ request_of word exists =
 
 -- What a command does on words, of which the first is its name, or the program's: standard output before and after and
 -- whether writing it failed, the same of standard error, and the status, which is at most 4.
-abbrev pub Performs : Command → List (List ℕ) → Bool → Option (List ℕ) → Option (List ℕ) → Bool → Option (List ℕ)
+abbrev pub Performs : Command → List (List ℕ) → Bool → Bool → Option (List ℕ) → Option (List ℕ) → Bool → Option (List ℕ)
     → Option (List ℕ) → Bool → ℕ → Type 0
-Performs commands.Check words is_coloured told told' untold warned warned' unwarned status =
-    Starts readers.Check words is_coloured None None told told' untold warned warned' unwarned status
-Performs commands.Get words is_coloured told told' untold warned warned' unwarned status =
-    Starts readers.Get words is_coloured None None told told' untold warned warned' unwarned status
-Performs commands.Show words is_coloured told told' untold warned warned' unwarned status =
+Performs commands.Check words is_coloured is_watched told told' untold warned warned' unwarned status =
+    Checks words is_coloured is_watched told told' untold warned warned' unwarned status
+Performs commands.Get words is_coloured is_watched told told' untold warned warned' unwarned status =
+    Starts readers.Get words is_coloured is_watched None None told told' untold warned warned' unwarned status
+Performs commands.Show words is_coloured is_watched told told' untold warned warned' unwarned status =
     Shows words told told' untold warned warned' unwarned status
-Performs command words is_coloured told told' untold warned warned' unwarned status = status ≤ 4
+Performs command words is_coloured is_watched told told' untold warned warned' unwarned status = status ≤ 4
 
 -- What is done for a request: a command gets the words that follow the program's name, a check of files all of them.
-abbrev pub Answers : Request → List (List ℕ) → Bool → Option (List ℕ) → Option (List ℕ) → Bool → Option (List ℕ)
+abbrev pub Answers : Request → List (List ℕ) → Bool → Bool → Option (List ℕ) → Option (List ℕ) → Bool → Option (List ℕ)
     → Option (List ℕ) → Bool → ℕ → Type 0
-Answers (requests.Command command) words is_coloured told told' untold warned warned' unwarned status =
-    Performs command (drop 1 words) is_coloured told told' untold warned warned' unwarned status
-Answers requests.Files words is_coloured told told' untold warned warned' unwarned status =
-    Performs commands.Check words is_coloured told told' untold warned warned' unwarned status
-Answers requests.Help words is_coloured told told' untold warned warned' unwarned status =
+Answers (requests.Command command) words is_coloured is_watched told told' untold warned warned' unwarned status =
+    Performs command (drop 1 words) is_coloured is_watched told told' untold warned warned' unwarned status
+Answers requests.Files words is_coloured is_watched told told' untold warned warned' unwarned status =
+    Performs commands.Check words is_coloured is_watched told told' untold warned warned' unwarned status
+Answers requests.Help words is_coloured is_watched told told' untold warned warned' unwarned status =
     Says told told' untold HELP.now 0 status × Keeps warned warned'
-Answers requests.Version words is_coloured told told' untold warned warned' unwarned status =
+Answers requests.Version words is_coloured is_watched told told' untold warned warned' unwarned status =
     Says told told' untold VERSION.now 0 status × Keeps warned warned'
-Answers requests.Unknown words is_coloured told told' untold warned warned' unwarned status =
+Answers requests.Unknown words is_coloured is_watched told told' untold warned warned' unwarned status =
     Keeps told told' × Warns warned warned' unwarned 2 status
 
 -- what is done for the first argument, or for none
-abbrev pub AnswersFirst : Option (List ℕ) → List (List ℕ) → Bool → Option (List ℕ) → Option (List ℕ) → Bool
+abbrev pub AnswersFirst : Option (List ℕ) → List (List ℕ) → Bool → Bool → Option (List ℕ) → Option (List ℕ) → Bool
     → Option (List ℕ) → Option (List ℕ) → Bool → ℕ → Type 0
-AnswersFirst None words is_coloured told told' untold warned warned' unwarned status =
+AnswersFirst None words is_coloured is_watched told told' untold warned warned' unwarned status =
     Keeps told told' × Says warned warned' unwarned HELP.now 2 status
-AnswersFirst (Some word) words is_coloured told told' untold warned warned' unwarned status =
-    (exists : Bool) × Answers (request_of word exists) words is_coloured told told' untold warned warned' unwarned status
+AnswersFirst (Some word) words is_coloured is_watched told told' untold warned warned' unwarned status =
+    (exists : Bool) × Answers (request_of word exists) words is_coloured is_watched told told' untold warned warned' unwarned status
 
 -- What is done for the words of the command line, of which the first is the program's name.
-abbrev pub Dispatches : List (List ℕ) → Bool → Option (List ℕ) → Option (List ℕ) → Bool → Option (List ℕ)
+abbrev pub Dispatches : List (List ℕ) → Bool → Bool → Option (List ℕ) → Option (List ℕ) → Bool → Option (List ℕ)
     → Option (List ℕ) → Bool → ℕ → Type 0
-Dispatches words is_coloured told told' untold warned warned' unwarned status =
-    AnswersFirst (slice_get words 1) words is_coloured told told' untold warned warned' unwarned status
+Dispatches words is_coloured is_watched told told' untold warned warned' unwarned status =
+    AnswersFirst (slice_get words 1) words is_coloured is_watched told told' untold warned warned' unwarned status

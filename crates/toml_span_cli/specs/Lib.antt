@@ -1,6 +1,8 @@
+pub mod Check
 pub mod Colours
 pub mod Commands
 pub mod Dispatch
+pub mod Explain
 pub mod Options
 pub mod Say
 pub mod Show

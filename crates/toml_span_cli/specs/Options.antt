@@ -7,7 +7,7 @@ use Rattle.clap.specs.Lexer.{usize_max}
 use Rattle.clap.specs.Kinds.{Kinds, or_else}
 use Rattle.clap.specs.Faults.{fault_of}
 use Rattle.clap.specs.Words.{App, Row, Rule, all_of, first_of, matches_of, new_app, new_rule, with_rule}
-use Rattle.clap.specs.declared.builder.action.ArgAction.TheVariants.{SetTrue}
+use Rattle.clap.specs.declared.builder.action.ArgAction.TheVariants.{Append, SetTrue}
 use Rattle.clap.specs.declared.error.kind.ErrorKind.{ErrorKind}
 use Rattle.clap.specs.declared.error.kind.ErrorKind.TheVariants.{ArgumentConflict, InvalidValue}
 use Rattle.toml_span_check.specs.declared.answer.Task.{Task}
@@ -16,6 +16,8 @@ use Rattle.toml_span_check.specs.declared.answer.Form.{Form}
 use Rattle.toml_span_check.specs.declared.answer.Form.TheVariants as form
 use Rattle.toml_span_check.specs.declared.faults.Format.{Format}
 use Rattle.toml_span_check.specs.declared.faults.Format.TheVariants.{Text, Short, Json, Github, Sarif}
+use Rattle.toml_span_check.specs.declared.newer.Version.{Version}
+use Rattle.toml_span_check.specs.declared.newer.Version.TheVariants as version
 use Rattle.toml_span_cli.specs.declared.options.Mistake.{Mistake}
 use Rattle.toml_span_cli.specs.declared.options.Mistake.TheVariants as mistake
 use Rattle.toml_span_cli.specs.declared.options.Reader.{Reader}
@@ -33,6 +35,10 @@ flag name = record (new_rule name) { long = Some name; action = Some SetTrue }
 -- `--NAME VALUE`, with a value where it is not given
 abbrev pub choice : List ℕ → List ℕ → Rule
 choice name default = record (new_rule name) { long = Some name; defaults = default ∷ [] }
+
+-- `--NAME VALUE`, any number of times
+abbrev pub several : List ℕ → Rule
+several name = record (new_rule name) { long = Some name; action = Some Append }
 
 -- any number of names, and `-` where there is none
 abbrev pub files : Rule
@@ -55,9 +61,11 @@ common =
     with_rule (with_rule (with_version (new_app (codes "toml-span"))) (choice (codes "format") (codes "text")))
     (choice (codes "color") (codes "auto"))
 
--- `check [--format FORMAT] [--color WHEN] [--quiet] [FILE..]`
+-- `check [--format FORMAT] [--color WHEN] [--quiet] [--fix] [--toml VERSION] [--exclude PATTERN].. [FILE..]`
 unfoldable pub check : App
-check = with_rule (with_rule common (flag (codes "quiet"))) files
+check =
+    with_rule (with_rule (with_rule (with_rule (with_rule common (flag (codes "quiet"))) (flag (codes "fix")))
+    (choice (codes "toml") (codes "auto"))) (several (codes "exclude"))) files
 
 -- `[--format FORMAT] [--color WHEN] [--json] [--raw] [--toml] [--tagged] [--items]`
 unfoldable pub forms : App
@@ -122,9 +130,20 @@ abbrev pub is_pointer : List ℕ → Bool
 is_pointer [] = true
 is_pointer (first ∷ rest) = first == 47
 
+abbrev pub version_named : List ℕ → Option Version
+version_named name =
+    if bytes_eq name (codes "auto") then Some version.Auto
+    else if bytes_eq name (codes "1.0") then Some version.Toml10
+    else if bytes_eq name (codes "1.1") then Some version.Toml11
+    else None
+
+abbrev pub checks : Option Version → Result Task Mistake
+checks (Some version) = Ok (Check version)
+checks None = Err mistake.Version
+
 -- what to do with documents
 abbrev pub task_of : Reader → List Row → Result Task Mistake
-task_of readers.Check rows = Ok Check
+task_of readers.Check rows = checks (version_named (value_of rows (codes "toml")))
 task_of readers.Get rows =
     if is_bytes (value_of rows (codes "PATH")) then Err mistake.Path
     else if is_pointer (value_of rows (codes "PATH")) then shows (form_of rows)
@@ -156,20 +175,23 @@ asked reader rows is_terminal = with_style (style_named (value_of rows (codes "c
 unfoldable pub options : Reader → List (List ℕ) → List Row
 options reader words = matches_of (program reader) words
 
--- What words ask of a command that takes them: the format and the task, the path of the value that is shown, the names
--- of the files, and whether nothing is written.
+-- What words ask of a command that takes them: the format and the task, the path of the value that is shown, the
+-- patterns of what is left out, the names of the files, and whether nothing is printed and errors are fixed.
 pub record Asks (reader : Reader) (words : List (List ℕ)) (is_terminal : Bool) (format : Format) (task : Task)
-    (pointer : List ℕ) (names : List (List ℕ)) (is_quiet : Bool) : Type 0 where
+    (pointer : List ℕ) (excludes names : List (List ℕ)) (is_quiet is_fixing : Bool) : Type 0 where
   pub what : asked reader (options reader words) is_terminal ≡ Ok (format, task)
   pub place : pointer ≡ value_of (options reader words) (codes "PATH")
+  pub left_out : excludes ≡ unwrap_or (all_of (codes "exclude") (options reader words)) []
   pub files : names ≡ unwrap_or (all_of (codes "FILE") (options reader words)) []
   pub quiet : is_quiet ≡ is_given (options reader words) (codes "quiet")
+  pub fixing : is_fixing ≡ is_given (options reader words) (codes "fix")
 
 -- ---- what is wrong with them
 
 abbrev pub kind_of : Mistake → ErrorKind
 kind_of mistake.Format = InvalidValue
 kind_of mistake.Color = InvalidValue
+kind_of mistake.Version = InvalidValue
 kind_of mistake.Forms = ArgumentConflict
 kind_of mistake.Path = InvalidValue
 kind_of mistake.Slash = InvalidValue

@@ -31,12 +31,14 @@ Refuses reader kind told told' untold warned warned' unwarned status =
 
 -- A command on words. Where it takes them, it is a run on what they ask for; else no file is read. Without memory,
 -- which is status 4, nothing is read or written.
-abbrev pub Starts : Reader → List (List ℕ) → Bool → Option Asked → Option Asked
+abbrev pub Starts : Reader → List (List ℕ) → Bool → Bool → Option Asked → Option Asked
     → Option (List ℕ) → Option (List ℕ) → Bool → Option (List ℕ) → Option (List ℕ) → Bool → ℕ → Type 0
-Starts reader words is_terminal old new told told' untold warned warned' unwarned status =
-    ((format : Format) × (task : Task) × (pointer : List ℕ) × (names : List (List ℕ)) × (is_quiet : Bool)
+Starts reader words is_terminal is_watched old new told told' untold warned warned' unwarned status =
+    ((format : Format) × (task : Task) × (pointer : List ℕ) × (excludes names : List (List ℕ))
+    × (is_quiet is_fixing : Bool)
     × (faults reader words is_terminal ≡ [])
-    × Asks reader words is_terminal format task pointer names is_quiet
-    × Runs format task pointer names is_quiet old new told told' untold warned warned' unwarned status)
+    × Asks reader words is_terminal format task pointer excludes names is_quiet is_fixing
+    × Runs format task pointer excludes names is_watched is_quiet old new told told' untold warned warned' unwarned
+    status)
     ⊎ ((kind : ErrorKind) × ((kind ≡ OutOfMemory) ⊎ IsAmong kind (faults reader words is_terminal)) × (new ≡ old)
     × Refuses reader kind told told' untold warned warned' unwarned status)

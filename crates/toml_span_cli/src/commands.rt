@@ -2,7 +2,9 @@
 ghost use Rattle.std.specs.Prelude.{◌≡◌};
 ghost use Rattle.toml_span_cli.specs.Commands as spec;
 
-use crate::help::{ADD, CHECK, GET, HELP, REMOVE, RENAME, SET, SHOW};
+use crate::help::{
+    ADD, APPEND, CHECK, EDIT, EXPLAIN, FMT, GET, HELP, INSERT, MOVE, REMOVE, RENAME, SET, SHOW,
+};
 
 /// A command.
 #[derive(Clone, Copy, PartialEq, Eq)]
@@ -10,16 +12,23 @@ pub(crate) enum Command {
     Check,
     Show,
     Get,
+    Fmt,
     Set,
     Rename,
     Remove,
     Add,
+    Append,
+    Insert,
+    Move,
+    Edit,
+    Explain,
     Help,
 }
 
 /// The names of the commands.
-pub(crate) const NAMES: [&str; 8] = [
-    "check", "show", "get", "set", "rename", "remove", "add", "help",
+pub(crate) const NAMES: [&str; 14] = [
+    "check", "show", "get", "fmt", "set", "rename", "remove", "add", "append", "insert", "move",
+    "edit", "explain", "help",
 ];
 
 /// Returns the command of this name.
@@ -30,25 +39,37 @@ pub(crate) fn command_named(name: &str) -> Option<Command>
         "check" => Some(Command::Check),
         "show" => Some(Command::Show),
         "get" => Some(Command::Get),
+        "fmt" => Some(Command::Fmt),
         "set" => Some(Command::Set),
         "rename" => Some(Command::Rename),
         "remove" => Some(Command::Remove),
         "add" => Some(Command::Add),
+        "append" => Some(Command::Append),
+        "insert" => Some(Command::Insert),
+        "move" => Some(Command::Move),
+        "edit" => Some(Command::Edit),
+        "explain" => Some(Command::Explain),
         "help" => Some(Command::Help),
         _ => None,
     }
 }
 
-/// Returns the name of a command, and its arguments where they are no options.
+/// Returns the name of a command, and its arguments that are not options.
 pub(crate) fn arguments_of(command: Command) -> &'static str {
     match command {
         Command::Check => "check [OPTION].. [FILE|DIRECTORY|-]..",
         Command::Show => "show FILE",
         Command::Get => "get [OPTION].. FILE PATH",
-        Command::Set => "set FILE PATH VALUE",
-        Command::Rename => "rename FILE PATH NAME",
-        Command::Remove => "remove FILE PATH",
-        Command::Add => "add FILE PATH KEY VALUE",
+        Command::Fmt => "fmt [OPTION].. [FILE|DIRECTORY|-]..",
+        Command::Set => "set [OPTION].. FILE PATH VALUE",
+        Command::Rename => "rename [OPTION].. FILE PATH NAME",
+        Command::Remove => "remove [OPTION].. FILE PATH",
+        Command::Add => "add [OPTION].. FILE PATH KEY VALUE",
+        Command::Append => "append [OPTION].. FILE PATH VALUE",
+        Command::Insert => "insert [OPTION].. FILE PATH VALUE",
+        Command::Move => "move [OPTION].. FILE PATH PATH",
+        Command::Edit => "edit [OPTION].. FILE [-e EDIT]..",
+        Command::Explain => "explain [CODE]",
         Command::Help => "help [COMMAND]",
     }
 }
@@ -59,10 +80,16 @@ pub(crate) fn help_of(command: Command) -> &'static str {
         Command::Check => CHECK,
         Command::Show => SHOW,
         Command::Get => GET,
+        Command::Fmt => FMT,
         Command::Set => SET,
         Command::Rename => RENAME,
         Command::Remove => REMOVE,
         Command::Add => ADD,
+        Command::Append => APPEND,
+        Command::Insert => INSERT,
+        Command::Move => MOVE,
+        Command::Edit => EDIT,
+        Command::Explain => EXPLAIN,
         Command::Help => HELP,
     }
 }

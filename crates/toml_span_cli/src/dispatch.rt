@@ -4,8 +4,11 @@ ghost use Rattle.toml_span_cli.specs.Dispatch.{Dispatches, Performs};
 ghost use Rattle.toml_span_cli.specs.Dispatch as spec;
 ghost use Rattle.toml_span_cli.specs.Say.{Warns};
 
+use crate::check::check;
 use crate::commands::{Command, NAMES, command_named, help_of};
 use crate::edit::{edit, edit_help};
+use crate::explain::explain;
+use crate::fmt::fmt;
 use crate::help::{HELP, VERSION};
 use crate::options::Reader;
 use crate::say::{quoted_word, say, say_misuse};
@@ -95,9 +98,14 @@ fn say_help<O: Sink>(alloc: Global, command: Command, out: &mut O) -> Result<u8,
     ensures { IfOk result (λ status. status ≤ 4) }
 {
     match command {
-        Command::Set | Command::Rename | Command::Remove | Command::Add => {
-            Ok(say(out, edit_help(alloc, command)?.as_str(), 0))
-        }
+        Command::Set
+        | Command::Rename
+        | Command::Remove
+        | Command::Add
+        | Command::Append
+        | Command::Insert
+        | Command::Move
+        | Command::Edit => { Ok(say(out, edit_help(alloc, command)?.as_str(), 0)) }
         _ => Ok(say(out, help_of(command), 0)),
     }
 }
@@ -108,24 +116,41 @@ fn perform<O: Sink, E: Sink>(
     command: Command,
     words: &[String],
     is_coloured: bool,
+    is_watched: bool,
     host: &mut Host,
     out: &mut O,
     errors: &mut E,
 ) -> Result<u8, AllocError>
     requires out { O.failed out.old ≡ false }
     requires errors { E.failed errors.old ≡ false }
-    ensures { IfOk result (λ status. Performs command (map (λ w. string_bytes w) words.now) is_coloured
+    ensures { IfOk result (λ status. Performs command (map (λ w. string_bytes w) words.now) is_coloured is_watched
         (O.contents out.old) (O.contents out.new) (O.failed out.new)
         (E.contents errors.old) (E.contents errors.new) (E.failed errors.new) status) }
 {
     match command {
-        Command::Check => Ok(start(alloc, Reader::Check, words, is_coloured, host, out, errors)),
-        Command::Get => Ok(start(alloc, Reader::Get, words, is_coloured, host, out, errors)),
+        Command::Check => check(alloc, words, is_coloured, is_watched, host, out, errors),
+        Command::Get => Ok(start(
+            alloc,
+            Reader::Get,
+            words,
+            is_coloured,
+            is_watched,
+            host,
+            out,
+            errors,
+        )),
+        Command::Fmt => fmt(alloc, words, host, out, errors),
         Command::Show => show(alloc, words, host, out, errors),
+        Command::Explain => explain(alloc, words, out, errors),
         Command::Help => help(alloc, words, out, errors),
-        Command::Set | Command::Rename | Command::Remove | Command::Add => {
-            edit(alloc, command, words, host, out, errors)
-        }
+        Command::Set
+        | Command::Rename
+        | Command::Remove
+        | Command::Add
+        | Command::Append
+        | Command::Insert
+        | Command::Move
+        | Command::Edit => { edit(alloc, command, words, host, out, errors) }
     }
 }
 
@@ -136,13 +161,14 @@ pub(crate) fn dispatch<O: Sink, E: Sink>(
     alloc: Global,
     words: &[String],
     is_coloured: bool,
+    is_watched: bool,
     host: &mut Host,
     out: &mut O,
     errors: &mut E,
 ) -> Result<u8, AllocError>
     requires out { O.failed out.old ≡ false }
     requires errors { E.failed errors.old ≡ false }
-    ensures { IfOk result (λ status. Dispatches (map (λ w. string_bytes w) words.now) is_coloured
+    ensures { IfOk result (λ status. Dispatches (map (λ w. string_bytes w) words.now) is_coloured is_watched
         (O.contents out.old) (O.contents out.new) (O.failed out.new)
         (E.contents errors.old) (E.contents errors.new) (E.failed errors.new) status) }
 {
@@ -152,9 +178,31 @@ pub(crate) fn dispatch<O: Sink, E: Sink>(
     let word = word.as_str();
     match request_of(word, fs::symlink_metadata(&host.rt, word).is_ok()) {
         Request::Command(command) => {
-            perform(alloc, command, &words[1..], is_coloured, host, out, errors)
+            let words = &words[1..];
+            perform(
+                alloc,
+                command,
+                words,
+                is_coloured,
+                is_watched,
+                host,
+                out,
+                errors,
+            )
         }
-        Request::Files => { perform(alloc, Command::Check, words, is_coloured, host, out, errors) }
+        Request::Files => {
+            let command = Command::Check;
+            perform(
+                alloc,
+                command,
+                words,
+                is_coloured,
+                is_watched,
+                host,
+                out,
+                errors,
+            )
+        }
         Request::Help => Ok(say(out, HELP, 0)),
         Request::Version => Ok(say(out, VERSION, 0)),
         Request::Unknown => say_unknown(alloc, word, errors),

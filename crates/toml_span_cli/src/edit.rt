@@ -1,151 +1,136 @@
 //! The commands that edit a file.
 ghost use Rattle.std.specs.Prelude.{◌≡◌, ◌≤◌, IfOk, false};
-ghost use Rattle.toml_span_cli.specs.Say.{Warns};
 
-use crate::commands::{Command, help_of};
-use crate::files::{read_file, replace};
+use crate::answers::{Answer, failed, give, printed};
+use crate::arguments::{Arguments, Show, arguments_asked};
+use crate::changes::{Change, change_of, count_of, option_changes, script_changes};
+use crate::commands::{Command, arguments_of, help_of};
+use crate::files::{read_file, unedited};
 use crate::help::EDITING;
-use crate::options::{NO_POINTER, is_pointer};
-use crate::say::{quoted_word, say, say_misuse};
-use crate::show::say_unread;
-use crate::words::is_help;
+use crate::making::new_text;
+use crate::options::NO_POINTER;
 use std::alloc::{AllocError, Global};
-use std::io;
-use std::io::ErrorKind;
-use toml_span_check::input::Host;
+use std::io::IsTerminal;
+use toml_span::Stop;
+use toml_span_check::input::{Host, Inputs};
 use toml_span_check::words::is_bytes;
-use toml_span_edit::{Reason, Task, edited};
+use toml_span_files::{Failed, Failure, LIMIT, edit_file, unified};
 use toml_span_lines::sink::Sink;
-use toml_span_report::visible::push_visible;
+use toml_span_report::visible::{push_char, visible, visible_lines};
 
-/// An edit that arguments ask for.
-#[derive(Clone, Copy)]
-struct Change<'w> {
-    file: &'w str,
-    path: &'w str,
-    task: Task<'w>,
-}
-
-/// Returns the edit that the arguments of a command ask for, or None if there are more or fewer than it takes.
-fn change_of<'w>(command: Command, arguments: &'w [String]) -> Option<Change<'w>> {
-    let [file, path, rest @ ..] = arguments else {
-        return None;
-    };
-    let task = match (command, rest) {
-        (Command::Set, [value]) => Task::Set(value.as_str()),
-        (Command::Rename, [name]) => Task::Rename(name.as_str()),
-        (Command::Remove, []) => Task::Remove,
-        (Command::Add, [key, value]) => Task::Add(key.as_str(), value.as_str()),
-        _ => return None,
-    };
-    Some(Change {
-        file: file.as_str(),
-        path: path.as_str(),
-        task,
-    })
-}
-
-/// Reports why a file is not edited or written.
-fn complain<E: Sink>(
-    alloc: Global,
-    front: &str,
-    file: &str,
-    reason: &str,
-    detail: &str,
-    said: u8,
-    errors: &mut E,
-) -> Result<u8, AllocError>
-    requires { E.failed errors.old ≡ false }
-    ensures { IfOk result (λ status.
-        Warns (E.contents errors.old) (E.contents errors.new) (E.failed errors.new) said status) }
-{
-    let mut line = String::from_str(alloc, front)?;
-    line.push_str(quoted_word(alloc, file)?.as_str())?;
-    line.push_str(": ")?;
-    line.push_str(reason)?;
-    push_visible(&mut line, detail)?;
-    line.push('\n')?;
-    Ok(say(errors, line.as_str(), said))
-}
-
-/// Reports a file that can't be written. Returns status 3.
-fn say_unwritten<E: Sink>(
-    alloc: Global,
-    file: &str,
-    error: &io::Error,
-    errors: &mut E,
-) -> Result<u8, AllocError>
-    requires { E.failed errors.old ≡ false }
-    ensures { IfOk result (λ status.
-        Warns (E.contents errors.old) (E.contents errors.new) (E.failed errors.new) 3 status) }
-{
-    let front = "error: cannot write ";
-    match error.kind() {
-        ErrorKind::OutOfMemory => Err(AllocError),
-        ErrorKind::AlreadyExists => {
-            let reason = "the new file beside it exists already, with `.toml-span` after its name";
-            complain(alloc, front, file, reason, "", 3, errors)
+/// Returns a text as a terminal may get it: hidden characters by their numbers, except tabs and line ends.
+pub(crate) fn shown(alloc: Global, text: String, is_terminal: bool) -> Result<String, AllocError> {
+    if !is_terminal {
+        return Ok(text);
+    }
+    let mut out = String::new(alloc);
+    for c in text.as_str().chars() {
+        match c {
+            '\t' | '\r' | '\n' => out.push(c)?,
+            _ => push_char(&mut out, c)?,
         }
-        _ => {
-            let reason = error.to_string(alloc)?;
-            complain(alloc, front, file, "", reason.as_str(), 3, errors)
+    }
+    Ok(out)
+}
+
+/// Returns the answer for edits that are not made.
+fn refused(alloc: Global, file: &str, stop: Stop<String>) -> Result<Answer, AllocError> {
+    let reason = stop.fault()?;
+    failed(alloc, "error: cannot edit ", file, reason.as_str(), 1)
+}
+
+/// Prints the result of edits, or what they change.
+fn show(
+    alloc: Global,
+    file: &str,
+    changes: &[Change<'_>],
+    asked: &Arguments<'_>,
+    host: &mut Host,
+) -> Result<Answer, AllocError> {
+    let bytes = match read_file(alloc, host, file)? {
+        Ok(bytes) => bytes,
+        Err(reason) => {
+            return failed(alloc, "error: cannot read ", file, reason.as_str(), 2);
+        }
+    };
+    let is_forced = asked.options.is_forced;
+    let new = match new_text(alloc, bytes.as_slice(), changes, asked.is_string, is_forced) {
+        Ok(new) => new,
+        Err(stop) => return refused(alloc, file, stop),
+    };
+    if new.len() > LIMIT {
+        return unedited(alloc, file, &Failure::ResultTooLong, true);
+    }
+    if asked.show != Show::Diff {
+        return Ok(printed(alloc, shown(alloc, new, host.rt.stdout().is_terminal())?));
+    }
+    let old = str::from_utf8(bytes.as_slice()).unwrap_or("");
+    let name = visible(alloc, file)?;
+    let diff = unified(alloc, name.as_str(), old, new.as_str())?;
+    Ok(printed(alloc, shown(alloc, diff, host.rt.stdout().is_terminal())?))
+}
+
+/// Makes edits in a file.
+fn write(
+    alloc: Global,
+    file: &str,
+    changes: &[Change<'_>],
+    asked: &Arguments<'_>,
+    host: &mut Host,
+) -> Result<Answer, AllocError> {
+    let (is_string, is_forced) = (asked.is_string, asked.options.is_forced);
+    let make = |bytes: &[u8]| new_text(alloc, bytes, changes, is_string, is_forced);
+    match edit_file(&host.rt, file, asked.options, make) {
+        Ok(_) => Ok(printed(alloc, String::new(alloc))),
+        Err(Failed::Edit(stop)) => refused(alloc, file, stop),
+        Err(Failed::File(failure)) => {
+            unedited(alloc, file, &failure, !asked.options.is_in_place)
         }
     }
 }
 
-/// Makes an edit, and writes the result.
-fn perform<O: Sink, E: Sink>(
+/// Makes edits, or prints their result.
+fn perform(
     alloc: Global,
-    change: Change<'_>,
+    file: &str,
+    changes: &[Change<'_>],
+    asked: &Arguments<'_>,
     host: &mut Host,
-    out: &mut O,
-    errors: &mut E,
-) -> Result<u8, AllocError>
-    requires out { O.failed out.old ≡ false }
-    requires errors { E.failed errors.old ≡ false }
-    ensures { IfOk result (λ status. status ≤ 4) }
-{
-    let bytes = match read_file(alloc, host, change.file)? {
+) -> Result<Answer, AllocError> {
+    if file == "-" || asked.show != Show::No {
+        show(alloc, file, changes, asked, host)
+    } else {
+        write(alloc, file, changes, asked, host)
+    }
+}
+
+/// Makes the edits of a script, which is read from standard input, in the file.
+fn perform_script(
+    alloc: Global,
+    file: &str,
+    asked: &Arguments<'_>,
+    host: &mut Host,
+) -> Result<Answer, AllocError> {
+    let bytes = match host.read(alloc, "-")? {
         Ok(bytes) => bytes,
-        Err(reason) => return say_unread(alloc, change.file, reason.as_str(), errors),
+        Err(reason) => return failed(alloc, "error: cannot read ", "-", reason.as_str(), 2),
     };
-    let text = match edited(alloc, bytes.as_slice(), change.path, change.task) {
-        Ok(text) => text,
+    let Ok(script) = str::from_utf8(bytes.as_slice()) else {
+        return failed(
+            alloc,
+            "error: cannot read ",
+            "-",
+            "it is not valid UTF-8",
+            2,
+        );
+    };
+    match script_changes(alloc, script) {
+        Ok(changes) => perform(alloc, file, changes.as_slice(), asked, host),
         Err(stop) => {
             let reason = stop.fault()?;
-            return say_refused(alloc, change.file, &reason, errors);
+            failed(alloc, "error: cannot read ", "-", reason.as_str(), 2)
         }
-    };
-    if change.file == "-" {
-        return Ok(say(out, text.as_str(), 0));
     }
-    match replace(&host.rt, change.file, text.as_str()) {
-        Ok(()) => Ok(0),
-        Err(error) => say_unwritten(alloc, change.file, &error, errors),
-    }
-}
-
-/// Reports why an edit is refused. Returns status 1.
-fn say_refused<E: Sink>(
-    alloc: Global,
-    file: &str,
-    reason: &Reason,
-    errors: &mut E,
-) -> Result<u8, AllocError>
-    requires { E.failed errors.old ≡ false }
-    ensures { IfOk result (λ status.
-        Warns (E.contents errors.old) (E.contents errors.new) (E.failed errors.new) 1 status) }
-{
-    let front = "error: cannot edit ";
-    complain(
-        alloc,
-        front,
-        file,
-        reason.text(),
-        reason.detail(),
-        1,
-        errors,
-    )
 }
 
 /// Returns the help of a command that edits.
@@ -155,27 +140,98 @@ pub(crate) fn edit_help(alloc: Global, command: Command) -> Result<String, Alloc
     Ok(text)
 }
 
-/// Reports that a command takes another number of arguments. Returns status 2.
-fn say_count<E: Sink>(
-    alloc: Global,
-    command: Command,
-    given: usize,
-    errors: &mut E,
-) -> Result<u8, AllocError>
-    requires { E.failed errors.old ≡ false }
-    ensures { IfOk result (λ status.
-        Warns (E.contents errors.old) (E.contents errors.new) (E.failed errors.new) 2 status) }
-{
-    let wanted = match command {
-        Command::Add => 4,
-        Command::Set | Command::Rename => 3,
-        _ => 2,
-    };
-    let message = format!(in alloc; "expected {wanted} arguments, found {given}")?;
-    say_misuse(alloc, command, message.as_str(), errors)
+/// Returns the answer for wrong arguments.
+fn misuse(alloc: Global, command: Command, message: &str) -> Result<Answer, AllocError> {
+    let arguments = arguments_of(command);
+    let text = format!(in alloc;
+        "error: {message}\n\nUsage: toml-span {arguments}\n\nFor more information, try '--help'.\n"
+    )?;
+    Ok(Answer {
+        out: String::new(alloc),
+        errors: visible_lines(alloc, text.as_str())?,
+        status: 2,
+    })
 }
 
-/// Makes the edit that arguments ask for. The words are the command's name and its arguments.
+/// Returns the answer for another number of arguments than the command takes.
+fn miscounted(alloc: Global, command: Command, given: usize) -> Result<Answer, AllocError> {
+    let wanted = count_of(command).saturating_add(1);
+    let arguments = if wanted == 1 { "argument" } else { "arguments" };
+    let message = format!(in alloc; "expected {wanted} {arguments}, found {given}")?;
+    misuse(alloc, command, message.as_str())
+}
+
+/// Makes the edits that `-e` or a script on standard input asks for.
+fn edit_by_script(
+    alloc: Global,
+    asked: &Arguments<'_>,
+    host: &mut Host,
+) -> Result<Answer, AllocError> {
+    let [file] = asked.words.as_slice() else {
+        return miscounted(alloc, Command::Edit, asked.words.len());
+    };
+    if asked.edits.is_empty() {
+        if *file == "-" {
+            let message = "standard input can't be both the file and the edits: use `-e`";
+            return misuse(alloc, Command::Edit, message);
+        }
+        return perform_script(alloc, *file, asked, host);
+    }
+    match option_changes(alloc, asked.edits.as_slice()) {
+        Ok(changes) => perform(alloc, *file, changes.as_slice(), asked, host),
+        Err(stop) => {
+            let message = stop.fault()?;
+            misuse(alloc, Command::Edit, message.as_str())
+        }
+    }
+}
+
+/// Makes the edit that arguments ask for.
+fn edit_once(
+    alloc: Global,
+    command: Command,
+    asked: &Arguments<'_>,
+    host: &mut Host,
+) -> Result<Answer, AllocError> {
+    let words = asked.words.as_slice();
+    let [file, rest @ ..] = words else {
+        return miscounted(alloc, command, words.len());
+    };
+    match change_of(command, rest) {
+        Some(change) if change.has_pointers() => perform(alloc, *file, &[change], asked, host),
+        Some(_) => misuse(alloc, command, NO_POINTER),
+        None => miscounted(alloc, command, words.len()),
+    }
+}
+
+/// Returns the answer for the arguments of a command that edits.
+fn answer_of(
+    alloc: Global,
+    command: Command,
+    words: &[String],
+    host: &mut Host,
+) -> Result<Answer, AllocError> {
+    if words.iter().any(|word| is_bytes(word.as_str())) {
+        return misuse(alloc, command, "an argument is not valid UTF-8");
+    }
+    let asked = match arguments_asked(alloc, command, words) {
+        Ok(asked) => asked,
+        Err(stop) => {
+            let message = stop.fault()?;
+            return misuse(alloc, command, message.as_str());
+        }
+    };
+    if asked.is_help {
+        return Ok(printed(alloc, edit_help(alloc, command)?));
+    }
+    if command == Command::Edit {
+        edit_by_script(alloc, &asked, host)
+    } else {
+        edit_once(alloc, command, &asked, host)
+    }
+}
+
+/// Makes the edits that arguments ask for. The words are the command's name and its arguments. Returns the exit status.
 pub(crate) fn edit<O: Sink, E: Sink>(
     alloc: Global,
     command: Command,
@@ -189,19 +245,9 @@ pub(crate) fn edit<O: Sink, E: Sink>(
     ensures { IfOk result (λ status. status ≤ 4) }
 {
     let arguments = match words {
-        [_, dashes, rest @ ..] if dashes.as_str() == "--" => rest,
         [_, rest @ ..] => rest,
         [] => words,
     };
-    if arguments.iter().any(|word| is_bytes(word.as_str())) {
-        return say_misuse(alloc, command, "an argument is not valid UTF-8", errors);
-    }
-    match change_of(command, arguments) {
-        Some(change) if !is_pointer(change.path) => say_misuse(alloc, command, NO_POINTER, errors),
-        Some(change) => perform(alloc, change, host, out, errors),
-        None if arguments.iter().any(|word| is_help(word.as_str())) => {
-            Ok(say(out, edit_help(alloc, command)?.as_str(), 0))
-        }
-        None => say_count(alloc, command, arguments.len(), errors),
-    }
+    let answer = answer_of(alloc, command, arguments, host)?;
+    Ok(give(&answer, out, errors))
 }

@@ -1,17 +1,14 @@
-//! Single files that are read and replaced.
+//! Single files that are read and edited.
+ghost use Rattle.std.specs.Prelude.{◌≤◌};
+
+use crate::answers::{Answer, failed};
 use std::alloc::{AllocError, Global};
-use std::fs::File;
 use std::io::ErrorKind;
-use std::{fs, io};
 use toml_span_check::folder::is_folder;
 use toml_span_check::input::{Host, Inputs};
-use toml_span_lines::run::write_bytes;
-use toml_span_lines::told::Told;
+use toml_span_files::{Failure, Options, put_file};
 
-/// What the name of the new file beside a file ends in.
-const BESIDE: &str = ".toml-span";
-
-/// Returns the bytes of a file, or of standard input for `-`, or why there are none. A directory is not read.
+/// Returns the bytes of a file, or of standard input for `-`, or why they can't be read. A directory is not read.
 pub(crate) fn read_file(
     alloc: Global,
     host: &mut Host,
@@ -23,30 +20,77 @@ pub(crate) fn read_file(
     host.read(alloc, name)
 }
 
-/// Gives a new file the permissions of another one, and writes a text into it.
-fn fill(rt: &HostRuntime, file: File, name: &str, text: &str) -> io::Result<()> {
-    file.set_permissions(fs::metadata(rt, name)?.permissions())?;
-    let mut out = Told::new(file);
-    if !write_bytes(&mut out, text.as_bytes()) {
-        return Err(io::Error::from(ErrorKind::WriteZero));
+/// Returns how the line of a failure begins, and the exit status.
+fn beginning(failure: &Failure) -> (&'static str, u8)
+    ensures { result.1 ≤ 3 }
+{
+    match failure {
+        Failure::Unread(_) | Failure::Directory => ("error: cannot read ", 2),
+        Failure::TooLong | Failure::ResultTooLong => ("error: cannot edit ", 1),
+        _ => ("error: cannot write ", 3),
     }
-    out.into_inner().sync_all()
 }
 
-/// Replaces the text of a file. It is written whole into a new file beside it, which then gets the file's name. After
-/// an error the file is as it was. For a link, the file that it leads to is replaced.
-pub(crate) fn replace(rt: &HostRuntime, name: &str, text: &str) -> io::Result<()> {
-    let place = fs::canonicalize(rt, name)?;
-    let mut new = String::from_str(rt.alloc(), place.as_str())?;
-    new.push_str(BESIDE)?;
-    let file = File::create_new(rt, new.as_str())?;
-    let mut done = fill(rt, file, name, text);
-    if done.is_ok() {
-        done = fs::rename(rt, new.as_str(), place.as_str());
+/// Returns why a file is not edited, in words.
+fn words_of(alloc: Global, failure: &Failure) -> Result<String, AllocError> {
+    match failure {
+        Failure::Unread(error) => match error.kind() {
+            ErrorKind::NotFound => String::from_str(alloc, "no such file"),
+            ErrorKind::PermissionDenied => String::from_str(alloc, "permission denied"),
+            _ => error.to_string(alloc),
+        },
+        _ => failure.to_string(alloc),
     }
-    if done.is_err() {
-        // (a failure here adds nothing to the error that is reported)
-        let _removed = fs::remove_file(rt, new.as_str());
+}
+
+/// Returns the options that a failure makes one think of, or nothing.
+fn hint(failure: &Failure) -> &'static str {
+    match failure {
+        Failure::ReadOnly => "help: `--force` edits it all the same\n",
+        Failure::Linked =>
+            "help: `--in-place` writes into the file itself, which keeps its names\n",
+        Failure::Owner(_) => "help: `--in-place` keeps them, and `--force` goes without\n",
+        Failure::Busy(_) => "help: `--wait SECONDS` waits longer\n",
+        Failure::Unwritten(error) => match error.kind() {
+            ErrorKind::PermissionDenied | ErrorKind::ResourceBusy => {
+                "help: `--in-place` writes into the file itself, not beside it\n"
+            }
+            _ => "",
+        },
+        _ => "",
     }
-    done
+}
+
+/// Returns the answer for a file that is not edited. With `has_options`, it names the options that help.
+pub(crate) fn unedited(
+    alloc: Global,
+    file: &str,
+    failure: &Failure,
+    has_options: bool,
+) -> Result<Answer, AllocError> {
+    if let Failure::Memory = failure {
+        return Err(AllocError);
+    }
+    let (front, status) = beginning(failure);
+    let reason = words_of(alloc, failure)?;
+    let mut answer = failed(alloc, front, file, reason.as_str(), status)?;
+    if has_options {
+        answer.errors.push_str(hint(failure))?;
+    }
+    Ok(answer)
+}
+
+/// Puts a text in the place of a file that was read, and still has these bytes. Returns None, or the answer for a file
+/// that is not written.
+pub(crate) fn replace(
+    alloc: Global,
+    rt: &HostRuntime,
+    name: &str,
+    bytes: &[u8],
+    text: &str,
+) -> Result<Option<Answer>, AllocError> {
+    match put_file(rt, name, Options::USUAL, bytes, text) {
+        Ok(()) => Ok(None),
+        Err(failure) => Ok(Some(unedited(alloc, name, &failure, false)?)),
+    }
 }

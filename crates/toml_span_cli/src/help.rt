@@ -8,14 +8,20 @@ Usage: toml-span COMMAND [ARGUMENT]..
        toml-span FILE..    the same as `toml-span check FILE..`
 
 Commands:
-  check   report the errors of files
-  show    print every value of a file with its byte range
-  get     print one value
-  set     replace a value
-  rename  rename a key
-  remove  remove a value with its key, or an array element
-  add     add a key to a table
-  help    print this help, or the help of a command
+  check    report the errors of files
+  show     print every value of a file with its byte range
+  get      print one value
+  fmt      format files
+  set      replace a value, or add it
+  rename   rename a key
+  remove   remove a value with its key, or an array element
+  add      add a key to a table
+  append   add an element at the end of an array
+  insert   add an element before another one
+  move     move a value to another path
+  edit     make several edits at once
+  explain  print what an error code means
+  help     print this help, or the help of a command
 
 Options:
   -h, --help     print this help
@@ -30,8 +36,9 @@ Checks TOML files and reports errors.
 
 Usage: toml-span check [OPTION].. [FILE|DIRECTORY|-]..
 
-Directories are searched recursively for `*.toml`. Without a file, and for `-`,
-standard input is read.
+Directories are searched recursively for `*.toml`, without what `.gitignore`
+files in them list, hidden directories, `target` and `node_modules`. Without a
+file, and for `-`, standard input is read.
 
 Options:
   --format FORMAT  how to report errors [default: text]
@@ -42,6 +49,12 @@ Options:
                      sarif   one SARIF 2.1.0 document for all files
   --color WHEN     auto, always or never [default: auto]; auto means on a
                    terminal, unless NO_COLOR or CLICOLOR_FORCE decides
+  --fix            make the safe fixes that reports show, and check the result;
+                   files that have fixes are replaced, standard input is not
+  --toml VERSION   1.0, 1.1 or auto [default: auto]; auto means 1.0 for files
+                   named `pyproject.toml`, which pip reads, and 1.1 for others
+  --exclude GLOB   leave out what matches in directories: a name, or with a `/`
+                   a path, as in a `.gitignore` file; can be repeated
   --quiet          print nothing; only the exit status tells the result
   --               take all later arguments as files
   -h, --help       print this help
@@ -101,11 +114,60 @@ Exit status:
   4  out of memory
 ";
 
+/// The help of `explain`.
+pub(crate) const EXPLAIN: &str = "\
+Prints what an error code means, with an example and how to repair it.
+
+Usage: toml-span explain [CODE]
+
+Reports have the code in brackets: error[duplicate-key]. Without a code, all
+codes are listed.
+
+  toml-span explain duplicate-key
+
+Options:
+  -h, --help  print this help
+
+Exit status:
+  0  done
+  2  no such code, or the arguments are wrong
+  3  output can't be written
+  4  out of memory
+";
+
+/// The help of `fmt`.
+pub(crate) const FMT: &str = "\
+Formats TOML files, and keeps their values and comments.
+
+Usage: toml-span fmt [OPTION].. [FILE|DIRECTORY|-]..
+
+Directories are searched recursively for `*.toml`. Without a file, the current
+directory is taken. For `-`, standard input is formatted to standard output.
+
+Options:
+  --check      write no file; print the names of those that would change
+  --diff       write no file; print what would change
+  --sort-keys  sort the keys between two blank lines, each with its comments
+  --stdin      the same as `-`
+  --width N    columns that an array on one line may take [default: 80]
+  --indent N   spaces before an element on a line of its own [default: 4]
+  --           take all later arguments as files
+  -h, --help   print this help
+
+Exit status:
+  0  done, or with --check or --diff: no file would change
+  1  a file is not valid TOML, or with --check or --diff: a file would change
+  2  a file can't be read, or the arguments are wrong
+  3  a result can't be written
+  4  out of memory
+";
+
 /// The help of `set`.
 pub(crate) const SET: &str = "\
-Replaces a value in a TOML file, and keeps all its other bytes.
+Replaces a value in a TOML file, or adds it if its key is missing, and keeps all
+other bytes.
 
-Usage: toml-span set FILE PATH VALUE
+Usage: toml-span set [OPTION].. FILE PATH VALUE
 
 PATH is a pointer, as /server/ports/0: keys, and positions in arrays from 0.
 VALUE is TOML, so a string needs its quotes: '\"text\"'.
@@ -117,7 +179,7 @@ VALUE is TOML, so a string needs its quotes: '\"text\"'.
 pub(crate) const RENAME: &str = "\
 Renames a key in a TOML file wherever it is written, and keeps all other bytes.
 
-Usage: toml-span rename FILE PATH NAME
+Usage: toml-span rename [OPTION].. FILE PATH NAME
 
 PATH is a pointer to the value of the key, as /dependencies/serde. NAME is
 quoted in the file if TOML requires it.
@@ -129,7 +191,7 @@ quoted in the file if TOML requires it.
 pub(crate) const REMOVE: &str = "\
 Removes a value with its key, or an array element, from a TOML file.
 
-Usage: toml-span remove FILE PATH
+Usage: toml-span remove [OPTION].. FILE PATH
 
 PATH is a pointer, as /server/ports/0: keys, and positions in arrays from 0.
 A table is removed with all its sections.
@@ -141,13 +203,66 @@ A table is removed with all its sections.
 pub(crate) const ADD: &str = "\
 Adds a key with a value to a table of a TOML file, and keeps all other bytes.
 
-Usage: toml-span add FILE PATH KEY VALUE
+Usage: toml-span add [OPTION].. FILE PATH KEY VALUE
 
 PATH is a pointer to the table, as /server; the empty path '' names the
 document. KEY is quoted in the file if TOML requires it. VALUE is TOML, so a
 string needs its quotes: '\"text\"'.
 
   toml-span add Cargo.toml /dependencies log '\"0.4\"'
+";
+
+/// The help of `append`.
+pub(crate) const APPEND: &str = "\
+Adds an element at the end of an array in a TOML file.
+
+Usage: toml-span append [OPTION].. FILE PATH VALUE
+
+PATH is a pointer to the array, as /package/keywords. VALUE is TOML, so a string
+needs its quotes: '\"text\"'.
+
+  toml-span append Cargo.toml /package/keywords '\"parser\"'
+";
+
+/// The help of `insert`.
+pub(crate) const INSERT: &str = "\
+Adds an element to an array in a TOML file, before another one.
+
+Usage: toml-span insert [OPTION].. FILE PATH VALUE
+
+PATH is a pointer to the element that will follow, as /package/keywords/0. VALUE
+is TOML, so a string needs its quotes: '\"text\"'.
+
+  toml-span insert Cargo.toml /package/keywords/0 '\"toml\"'
+";
+
+/// The help of `move`.
+pub(crate) const MOVE: &str = "\
+Moves a value of a TOML file to another path. A line keeps its comments.
+
+Usage: toml-span move [OPTION].. FILE PATH PATH
+
+Both paths are pointers, as /server/ports/0: keys, and positions in arrays from
+0. There must be no value at the second one, except if both are elements of one
+array.
+
+  toml-span move Cargo.toml /dependencies/log /dev-dependencies/log
+";
+
+/// The help of `edit`.
+pub(crate) const EDIT: &str = "\
+Makes several edits in a TOML file at once: all of them or none.
+
+Usage: toml-span edit [OPTION].. FILE [-e EDIT]..
+
+An EDIT is a command that edits, with its arguments except FILE, as
+`set /package/version \"1.3.0\"`. Its last argument is the rest of the line. A
+path or key with blanks needs quotes: `remove '/a b'`. Without `-e`, the edits
+are read from standard input, one on a line; blank lines and lines that begin
+with `#` are ignored.
+
+  toml-span edit Cargo.toml -e 'set /package/edition \"2024\"' \\
+      -e 'remove /dependencies/log'
 ";
 
 /// What the help of each command that edits a file ends in.
@@ -157,7 +272,15 @@ differs. For `-`, standard input is read, and the result is written to standard
 output.
 
 Options:
-  -h, --help  print this help
+  --dry-run       print the result, and leave the file as it is
+  --diff          print what would change, and leave the file as it is
+  --string        take VALUE as text, without quotes
+  --force         edit a read-only file too, and one whose owner can't be kept
+  --in-place      write into the file itself, which keeps its owner, hard links
+                  and attributes; a run that is killed may leave half a file
+  --wait SECONDS  how long to wait for another edit of the file [default: 5]
+  --              take all later arguments as they are
+  -h, --help      print this help
 
 Exit status:
   0  done

@@ -3,12 +3,19 @@
 
 ghost use Rattle.std.specs.Prelude.{◌≤◌, IfOk};
 
+mod answers;
+mod arguments;
+mod changes;
+mod check;
 mod colours;
 mod commands;
 mod dispatch;
 mod edit;
+mod explain;
 mod files;
+mod fmt;
 mod help;
+mod making;
 mod options;
 mod say;
 mod show;
@@ -33,12 +40,15 @@ fn status_of(rt: HostRuntime) -> Result<u8, AllocError>
     let out = rt.stdout();
     let is_coloured = wants_colours(&rt, out.is_terminal())?;
     let mut out = Told::new(out);
-    let mut errors = Told::new(rt.stderr());
+    let errors = rt.stderr();
+    let is_watched = errors.is_terminal();
+    let mut errors = Told::new(errors);
     let mut host = Host { rt };
     dispatch(
         alloc,
         words.as_slice(),
         is_coloured,
+        is_watched,
         &mut host,
         &mut out,
         &mut errors,

@@ -10,6 +10,7 @@ use clap::{Arg, ArgAction, ArgMatches, Command, Error};
 use std::alloc::{AllocError, Global};
 use toml_span_check::answer::{Form, Task};
 use toml_span_check::faults::Format;
+use toml_span_check::newer::Version;
 use toml_span_check::words::is_bytes;
 use toml_span_report::Style;
 
@@ -22,7 +23,7 @@ pub(crate) enum Reader {
     Get,
 }
 
-/// What is wrong with a path that is no pointer.
+/// What is wrong with a path that is not a valid pointer.
 pub(crate) const NO_POINTER: &str = "PATH must begin with `/`, as in /package/name";
 
 /// What arguments ask for.
@@ -32,9 +33,13 @@ pub(crate) struct Options<'w> {
     pub(crate) task: Task,
     /// The path of the value to show: empty for the whole document.
     pub(crate) pointer: &'w str,
+    /// The patterns of files and directories to leave out of a search.
+    pub(crate) excludes: Vec<&'w str>,
     pub(crate) names: Vec<&'w str>,
     /// Write nothing.
     pub(crate) is_quiet: bool,
+    /// Make safe replacements before.
+    pub(crate) is_fixing: bool,
 }
 
 /// What is wrong with arguments that clap takes.
@@ -44,6 +49,8 @@ enum Mistake {
     Format,
     /// No such time for colors.
     Color,
+    /// No such version of TOML.
+    Version,
     /// Two forms of the value.
     Forms,
     /// The path is not valid UTF-8.
@@ -68,6 +75,14 @@ fn choice<'w>(alloc: Global, name: &'w str, default: &'w str) -> Arg<'w>
     ensures own { result.global ≡ false }
 {
     Arg::new(alloc, name).long(name).default_value(default)
+}
+
+/// An option that can be given several times.
+fn several<'w>(alloc: Global, name: &'w str) -> Arg<'w>
+    ensures rule { rule_of result ≡ spec.several name.entry.now }
+    ensures own { result.global ≡ false }
+{
+    Arg::new(alloc, name).long(name).action(ArgAction::Append)
 }
 
 /// The names of files.
@@ -104,6 +119,9 @@ fn check_command<'w>(alloc: Global) -> Result<Command<'w>, AllocError>
 {
     common(alloc, "toml-span check", CHECK)?
         .arg(flag(alloc, "quiet"))?
+        .arg(flag(alloc, "fix"))?
+        .arg(choice(alloc, "toml", "auto"))?
+        .arg(several(alloc, "exclude"))?
         .arg(files(alloc))
 }
 
@@ -215,12 +233,27 @@ pub(crate) fn is_pointer(path: &str) -> bool
     }
 }
 
+/// The version of TOML of this name.
+fn version_named(name: &str) -> Option<Version>
+    ensures { result ≡ spec.version_named name.now }
+{
+    match name {
+        "auto" => Some(Version::Auto),
+        "1.0" => Some(Version::Toml10),
+        "1.1" => Some(Version::Toml11),
+        _ => None,
+    }
+}
+
 /// What to do with documents.
 fn task_of(reader: Reader, matches: &ArgMatches<'_>) -> Result<Task, Mistake>
     ensures { result ≡ spec.task_of reader (rows_of (found_of matches.now)) }
 {
     match reader {
-        Reader::Check => Ok(Task::Check),
+        Reader::Check => match version_named(value_of(matches, "toml")) {
+            Some(version) => Ok(Task::Check(version)),
+            None => Err(Mistake::Version),
+        },
         Reader::Get if is_bytes(value_of(matches, "PATH")) => Err(Mistake::Path),
         Reader::Get if !is_pointer(value_of(matches, "PATH")) => Err(Mistake::Slash),
         Reader::Get => match form_of(matches) {
@@ -265,7 +298,7 @@ fn kind_of(mistake: Mistake) -> ErrorKind
     ensures { result ≡ spec.kind_of mistake }
 {
     match mistake {
-        Mistake::Format | Mistake::Color | Mistake::Path | Mistake::Slash =>
+        Mistake::Format | Mistake::Color | Mistake::Version | Mistake::Path | Mistake::Slash =>
             ErrorKind::InvalidValue,
         Mistake::Forms | Mistake::Sarif => ErrorKind::ArgumentConflict,
     }
@@ -276,6 +309,7 @@ fn message_of(mistake: Mistake) -> &'static str {
     match mistake {
         Mistake::Format => "the value of '--format' must be text, short, json, github or sarif",
         Mistake::Color => "the value of '--color' must be auto, always or never",
+        Mistake::Version => "the value of '--toml' must be 1.0, 1.1 or auto",
         Mistake::Forms =>
             "only one of '--json', '--raw', '--toml', '--tagged' and '--items' can be used",
         Mistake::Path => "PATH is not valid UTF-8",
@@ -293,7 +327,8 @@ pub(crate) fn options_of<'w>(
     is_terminal: bool,
 ) -> Result<Options<'w>, Error>
     ensures ok { IfOk result (λ o. spec.Asks reader (map (λ w. string_bytes w) words.entry.now) is_terminal
-        o.format o.task o.pointer.now (map (λ name. name.now) o.names.items) o.is_quiet) }
+        o.format o.task o.pointer.now (map (λ pattern. pattern.now) o.excludes.items)
+        (map (λ name. name.now) o.names.items) o.is_quiet o.is_fixing) }
     ensures fails { FailsBy (spec.faults reader (map (λ w. string_bytes w) words.entry.now) is_terminal) result }
 {
     let mut command = command(alloc, reader)?;
@@ -303,8 +338,10 @@ pub(crate) fn options_of<'w>(
             format,
             task,
             pointer: value_of(&matches, "PATH"),
+            excludes: Vec::from_slice(alloc, matches.get_strs("exclude").unwrap_or(&[]))?,
             names: Vec::from_slice(alloc, matches.get_strs("FILE").unwrap_or(&[]))?,
             is_quiet: is_given(&matches, "quiet"),
+            is_fixing: is_given(&matches, "fix"),
         }),
         Err(mistake) => Err(command.error(kind_of(mistake), message_of(mistake))?),
     }

@@ -89,13 +89,15 @@ pub(crate) fn start<I: Inputs, O: Sink, E: Sink>(
     reader: Reader,
     words: &[String],
     is_terminal: bool,
+    is_watched: bool,
     inputs: &mut I,
     out: &mut O,
     errors: &mut E,
 ) -> u8
     requires out { O.failed out.old ≡ false }
     requires errors { E.failed errors.old ≡ false }
-    ensures { Starts reader (map (λ w. string_bytes w) words.now) is_terminal (I.log inputs.old) (I.log inputs.new)
+    ensures { Starts reader (map (λ w. string_bytes w) words.now) is_terminal is_watched
+        (I.log inputs.old) (I.log inputs.new)
         (O.contents out.old) (O.contents out.new) (O.failed out.new)
         (E.contents errors.old) (E.contents errors.new) (E.failed errors.new) result }
 {
@@ -105,7 +107,9 @@ pub(crate) fn start<I: Inputs, O: Sink, E: Sink>(
             options.format,
             options.task,
             options.pointer,
+            options.excludes.as_slice(),
             options.names.as_slice(),
+            is_watched,
             options.is_quiet,
             inputs,
             out,

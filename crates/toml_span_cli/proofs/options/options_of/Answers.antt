@@ -60,11 +60,16 @@ returns-in-Ok-clause-ok c =
     record {
       what = ap (λ rs. asked c.args.reader rs c.args.is_terminal) (sym these) ∙ sym c.asked.ensures ∙ c.in-Ok.is;
       place = c.value_of.ensures ∙ ap (λ rs. value_of rs (80 ∷ 65 ∷ 84 ∷ 72 ∷ [])) these;
-      files =
+      left_out =
           ap (map (λ name. name.now)) (c.in_ok-from_slice-in-Ok.ensures.items ∙ ap (λ s. s.now) c.unwrap_or.ensures)
           ∙ or-none c.get_strs.result _ refl
-          ∙ ap (λ (o : Option (List (List ℕ))). unwrap_or o []) (c.get_strs.ensures ∙ all-row c.in_ok-matches.matches _ ∙ ap (all_of (70 ∷ 73 ∷ 76 ∷ 69 ∷ [])) these);
+          ∙ ap (λ (o : Option (List (List ℕ))). unwrap_or o []) (c.get_strs.ensures ∙ all-row c.in_ok-matches.matches _ ∙ ap (all_of (101 ∷ 120 ∷ 99 ∷ 108 ∷ 117 ∷ 100 ∷ 101 ∷ [])) these);
+      files =
+          ap (map (λ name. name.now)) (c.in_ok-from_slice-in-Ok-2.ensures.items ∙ ap (λ s. s.now) c.unwrap_or-in-Ok.ensures)
+          ∙ or-none c.get_strs-in-Ok.result _ refl
+          ∙ ap (λ (o : Option (List (List ℕ))). unwrap_or o []) (c.get_strs-in-Ok.ensures ∙ all-row c.in_ok-matches.matches _ ∙ ap (all_of (70 ∷ 73 ∷ 76 ∷ 69 ∷ [])) these);
       quiet = c.is_given.ensures ∙ ap (λ rs. is_given rs (113 ∷ 117 ∷ 105 ∷ 101 ∷ 116 ∷ [])) these;
+      fixing = c.is_given-in-Ok.ensures ∙ ap (λ rs. is_given rs (102 ∷ 105 ∷ 120 ∷ [])) these;
     }
 
 pub returns-in-Ok-clause-fails : goal.returns-in-Ok-clause-fails

@@ -1,0 +1,31 @@
+-- What `check` does on words: a run, before which errors are fixed if the words ask for that.
+use Rattle.std.specs.Prelude.{◌≡◌, ◌⊎◌, ℕ, Bool, true, List, Option, None}
+use Rattle.std.specs.Io.KnownBytes.{Keeps}
+use Rattle.toml_span_lines.specs.Run.{HasWritten}
+use Rattle.toml_span_check.specs.declared.answer.Task.{Task}
+use Rattle.toml_span_check.specs.declared.faults.Format.{Format}
+use Rattle.toml_span_cli.specs.Options.{Asks}
+use Rattle.toml_span_cli.specs.Start.{Starts}
+use Rattle.toml_span_cli.specs.declared.options.Reader.TheVariants as readers
+
+-- the words ask for fixing
+abbrev pub AsksForFixing : List (List ℕ) → Bool → Type 0
+AsksForFixing words is_terminal =
+    (format : Format) × (task : Task) × (pointer : List ℕ) × (excludes names : List (List ℕ)) × (is_quiet : Bool)
+    × Asks readers.Check words is_terminal format task pointer excludes names is_quiet true
+
+-- After files were fixed a line says how many, and they are checked; or it says why one can't be written, or can't be
+-- written itself, which is status 3, and nothing is checked.
+abbrev pub ChecksFixed : List (List ℕ) → Bool → Bool → Option (List ℕ) → Option (List ℕ) → Bool → Option (List ℕ)
+    → Option (List ℕ) → Bool → ℕ → Type 0
+ChecksFixed words is_terminal is_watched told told' untold warned warned' unwarned status =
+    (line : List ℕ) × (mid : Option (List ℕ)) × HasWritten warned mid line
+    × (Starts readers.Check words is_terminal is_watched None None told told' untold mid warned' unwarned status
+    ⊎ ((status ≡ 3) × Keeps told told' × (mid ≡ warned')))
+
+abbrev pub Checks : List (List ℕ) → Bool → Bool → Option (List ℕ) → Option (List ℕ) → Bool → Option (List ℕ)
+    → Option (List ℕ) → Bool → ℕ → Type 0
+Checks words is_terminal is_watched told told' untold warned warned' unwarned status =
+    Starts readers.Check words is_terminal is_watched None None told told' untold warned warned' unwarned status
+    ⊎ (AsksForFixing words is_terminal
+    × ChecksFixed words is_terminal is_watched told told' untold warned warned' unwarned status)

@@ -1,0 +1,15 @@
+-- The page of a code.
+use Rattle.std.specs.Prelude.{ℕ, List, codes, Option, Some, if◌then◌else◌}
+use Rattle.std.specs.Str.{bytes_eq}
+use Rattle.toml_span_report.specs.Explanations.{explained}
+use Rattle.toml_span_cli.specs.declared.explain.TheConstants.{NOT_UTF_8, TOO_LONG, TOO_MANY_ERRORS}
+use Rattle.toml_span_cli.specs.declared.explain.TheConstants.{NOTHING_THERE}
+
+-- that of an error of a document, or of another error that `check` and `get` report
+unfoldable pub page_of : List ℕ → Option (List ℕ)
+page_of code =
+    if bytes_eq code (codes "too-many-errors") then Some TOO_MANY_ERRORS.now
+    else if bytes_eq code (codes "not-utf-8") then Some NOT_UTF_8.now
+    else if bytes_eq code (codes "too-long") then Some TOO_LONG.now
+    else if bytes_eq code (codes "nothing-there") then Some NOTHING_THERE.now
+    else explained code

@@ -1,0 +1,64 @@
+//! What a command writes at its end.
+ghost use Rattle.std.specs.Prelude.{◌≡◌, ◌≤◌, false};
+
+use crate::say::quoted_word;
+use std::alloc::{AllocError, Global};
+use toml_span_lines::run::write_bytes;
+use toml_span_lines::sink::Sink;
+use toml_span_report::visible::push_visible;
+
+/// What a command writes, and the exit status.
+#[derive(Drop)]
+pub(crate) struct Answer {
+    pub(crate) out: String,
+    pub(crate) errors: String,
+    pub(crate) status: u8,
+    ghost small: { status ≤ 4 },
+}
+
+/// Returns the answer of a command that succeeds: it prints a text.
+pub(crate) fn printed(alloc: Global, out: String) -> Answer {
+    Answer {
+        out,
+        errors: String::new(alloc),
+        status: 0,
+    }
+}
+
+/// Returns the answer of a command that fails with this status: a line that names the file and the reason.
+pub(crate) fn failed(
+    alloc: Global,
+    front: &str,
+    file: &str,
+    reason: &str,
+    status: u8,
+) -> Result<Answer, AllocError>
+    requires { status ≤ 4 }
+{
+    let mut errors = String::from_str(alloc, front)?;
+    errors.push_str(quoted_word(alloc, file)?.as_str())?;
+    errors.push_str(": ")?;
+    push_visible(&mut errors, reason)?;
+    errors.push('\n')?;
+    Ok(Answer {
+        out: String::new(alloc),
+        errors,
+        status,
+    })
+}
+
+/// Writes an answer. Returns its status, or 3 if a write fails.
+pub(crate) fn give<O: Sink, E: Sink>(answer: &Answer, out: &mut O, errors: &mut E) -> u8
+    requires out { O.failed out.old ≡ false }
+    requires errors { E.failed errors.old ≡ false }
+    ensures { result ≤ 4 }
+{
+    if !write_bytes(errors, answer.errors.as_bytes()) {
+        return 3;
+    }
+    if write_bytes(out, answer.out.as_bytes()) {
+        answer.status
+    } else {
+        3
+    }
+}

@@ -1,0 +1,148 @@
+//! The arguments of the commands that edit a file.
+use crate::commands::Command;
+use crate::say::quoted_word;
+use std::alloc::{AllocError, Global};
+use toml_span::Stop;
+use toml_span_files::Options;
+
+/// The most seconds to wait: a day.
+const MOST_WAIT: u64 = 86_400;
+
+/// What is done with the result.
+#[derive(Clone, Copy, PartialEq, Eq)]
+pub(crate) enum Show {
+    /// It replaces the file.
+    No,
+    /// It is printed.
+    Text,
+    /// What it changes is printed.
+    Diff,
+}
+
+/// What the arguments of a command that edits a file ask for.
+#[derive(Drop)]
+pub(crate) struct Arguments<'w> {
+    /// The arguments that are not options.
+    pub(crate) words: Vec<&'w str>,
+    /// The edits of `-e`.
+    pub(crate) edits: Vec<&'w str>,
+    pub(crate) options: Options,
+    pub(crate) show: Show,
+    /// Values are texts, not TOML.
+    pub(crate) is_string: bool,
+    pub(crate) is_help: bool,
+}
+
+/// The option that the next argument belongs to.
+#[derive(Clone, Copy)]
+enum Waiting {
+    /// None.
+    No,
+    /// `--wait`
+    Wait,
+    /// `-e`
+    Edit,
+    /// None, and no later argument is an option.
+    Never,
+}
+
+/// Arguments, while they are read.
+#[derive(Drop)]
+struct Reading<'w> {
+    alloc: Global,
+    command: Command,
+    asked: Arguments<'w>,
+    waiting: Waiting,
+}
+
+/// Returns a number of seconds.
+fn seconds(alloc: Global, word: &str) -> Result<u64, Stop<String>> {
+    match word.parse::<u64>() {
+        Ok(number) if number <= MOST_WAIT => Ok(number),
+        _ => Err(Stop::Fault(format!(in alloc;
+            "the value of '--wait' must be a number of seconds from 0 to {MOST_WAIT}"
+        )?)),
+    }
+}
+
+impl<'w> Reading<'w> {
+    /// Refuses an argument.
+    fn unexpected(&self, word: &str) -> Result<(), Stop<String>> {
+        let word = quoted_word(self.alloc, word)?;
+        Err(Stop::Fault(format!(in self.alloc;
+            "unexpected argument {word}; to pass it as a value, write `--` before all values"
+        )?))
+    }
+
+    /// Takes an argument that begins with a dash.
+    fn option(&mut self, word: &'w str) -> Result<(), Stop<String>> {
+        match word {
+            "-h" | "--help" => self.asked.is_help = true,
+            "--force" => self.asked.options.is_forced = true,
+            "--in-place" => self.asked.options.is_in_place = true,
+            "--string" => self.asked.is_string = true,
+            "--dry-run" => self.asked.show = Show::Text,
+            "--diff" => self.asked.show = Show::Diff,
+            "--wait" => self.waiting = Waiting::Wait,
+            "-e" if self.command == Command::Edit => self.waiting = Waiting::Edit,
+            "--" => self.waiting = Waiting::Never,
+            _ => match word.strip_prefix("--wait=") {
+                Some(value) => self.asked.options.wait = seconds(self.alloc, value)?,
+                None if word.starts_with("--") => return self.unexpected(word),
+                None => self.asked.words.push(word)?,
+            },
+        }
+        Ok(())
+    }
+
+    /// Takes an argument.
+    fn take(&mut self, word: &'w str) -> Result<(), Stop<String>> {
+        match self.waiting {
+            Waiting::Wait => self.asked.options.wait = seconds(self.alloc, word)?,
+            Waiting::Edit => self.asked.edits.push(word)?,
+            Waiting::No if word.starts_with('-') => return self.option(word),
+            Waiting::No => {
+                self.asked.words.push(word)?;
+                return Ok(());
+            }
+            Waiting::Never => {
+                self.asked.words.push(word)?;
+                return Ok(());
+            }
+        }
+        self.waiting = Waiting::No;
+        Ok(())
+    }
+}
+
+/// Returns what the arguments of a command ask for, or what is wrong with them.
+pub(crate) fn arguments_asked<'w>(
+    alloc: Global,
+    command: Command,
+    words: &'w [String],
+) -> Result<Arguments<'w>, Stop<String>> {
+    let mut reading = Reading {
+        alloc,
+        command,
+        asked: Arguments {
+            words: Vec::new(alloc),
+            edits: Vec::new(alloc),
+            options: Options::USUAL,
+            show: Show::No,
+            is_string: false,
+            is_help: false,
+        },
+        waiting: Waiting::No,
+    };
+    for word in words {
+        reading.take(word.as_str())?;
+    }
+    match reading.waiting {
+        Waiting::Wait => Err(Stop::Fault(String::from_str(
+            alloc,
+            "a number must follow '--wait'",
+        )?)),
+        Waiting::Edit => Err(Stop::Fault(String::from_str(alloc, "an edit must follow '-e'")?)),
+        _ => Ok(reading.asked),
+    }
+}

@@ -1,0 +1,158 @@
+//! The edits that arguments and scripts ask for.
+use crate::commands::Command;
+use crate::options::{NO_POINTER, is_pointer};
+use std::alloc::{AllocError, Global};
+use toml_span::Stop;
+
+/// An edit at a path.
+#[derive(Clone, Copy)]
+pub(crate) struct Change<'w> {
+    pub(crate) path: &'w str,
+    pub(crate) task: Task<'w>,
+}
+
+/// What an edit does at its path.
+#[derive(Clone, Copy)]
+pub(crate) enum Task<'w> {
+    /// Sets the value, or adds it.
+    Set(&'w str),
+    /// Renames the key.
+    Rename(&'w str),
+    /// Removes the value with its key, or the element.
+    Remove,
+    /// Adds a key with a value to the table.
+    Add(&'w str, &'w str),
+    /// Adds an element at the end of the array.
+    Append(&'w str),
+    /// Adds an element before the one at the path.
+    Insert(&'w str),
+    /// Moves the value to another path.
+    Move(&'w str),
+}
+
+/// Returns how many arguments a command takes after the name of the file.
+pub(crate) fn count_of(command: Command) -> usize {
+    match command {
+        Command::Edit => 0,
+        Command::Remove => 1,
+        Command::Add => 3,
+        _ => 2,
+    }
+}
+
+/// Returns the edit of a command and its arguments after the name of the file, or None if there are more or fewer than
+/// it takes.
+pub(crate) fn change_of<'w>(command: Command, words: &[&'w str]) -> Option<Change<'w>> {
+    let [path, rest @ ..] = words else {
+        return None;
+    };
+    let task = match (command, rest) {
+        (Command::Set, [value]) => Task::Set(*value),
+        (Command::Rename, [name]) => Task::Rename(*name),
+        (Command::Remove, []) => Task::Remove,
+        (Command::Add, [key, value]) => Task::Add(*key, *value),
+        (Command::Append, [value]) => Task::Append(*value),
+        (Command::Insert, [value]) => Task::Insert(*value),
+        (Command::Move, [to]) => Task::Move(*to),
+        _ => return None,
+    };
+    Some(Change { path: *path, task })
+}
+
+impl<'w> Change<'w> {
+    /// Returns whether the paths of the edit begin with a slash or are empty.
+    pub(crate) fn has_pointers(&self) -> bool {
+        match self.task {
+            Task::Move(to) => is_pointer(self.path) && is_pointer(to),
+            _ => is_pointer(self.path),
+        }
+    }
+}
+
+/// Returns the command that a line of a script begins with.
+fn scripted(name: &str) -> Option<Command> {
+    match name {
+        "set" => Some(Command::Set),
+        "rename" => Some(Command::Rename),
+        "remove" => Some(Command::Remove),
+        "add" => Some(Command::Add),
+        "append" => Some(Command::Append),
+        "insert" => Some(Command::Insert),
+        "move" => Some(Command::Move),
+        _ => None,
+    }
+}
+
+/// Returns the first word of a line and what follows it. A word in quotes ends with the next such quote; nothing is
+/// escaped in it.
+fn first_word(line: &str) -> Option<(&str, &str)> {
+    let line = line.trim_start();
+    let (word, rest) = match (line.strip_prefix('\''), line.strip_prefix('"')) {
+        (Some(quoted), _) => quoted.split_once('\'')?,
+        (_, Some(quoted)) => quoted.split_once('"')?,
+        _ => match line.split_once([' ', '\t']) {
+            Some(parts) => parts,
+            None => (line, ""),
+        },
+    };
+    Some((word, rest.trim_start()))
+}
+
+/// Returns the edit that a line of a script asks for: a command and its arguments with blanks between them, of which
+/// the last one is the rest of the line.
+fn line_change(line: &str) -> Option<Change<'_>> {
+    let (name, rest) = first_word(line)?;
+    let command = scripted(name)?;
+    let (path, rest) = first_word(rest)?;
+    match command {
+        Command::Remove => change_of(command, &[path]).filter(|_| rest.is_empty()),
+        Command::Add => {
+            let (key, value) = first_word(rest)?;
+            change_of(command, &[path, key, value])
+        }
+        Command::Rename | Command::Move => {
+            let (to, rest) = first_word(rest)?;
+            change_of(command, &[path, to]).filter(|_| rest.is_empty())
+        }
+        _ => change_of(command, &[path, rest]),
+    }
+}
+
+/// Returns the edit of one line, or what is wrong with it.
+fn checked<'w>(
+    alloc: Global,
+    front: &str,
+    at: usize,
+    line: &'w str,
+) -> Result<Change<'w>, Stop<String>> {
+    let reason = match line_change(line.trim()) {
+        Some(change) if change.has_pointers() => return Ok(change),
+        Some(_) => NO_POINTER,
+        None => "it must be an edit, as in `set /package/name \"x\"`",
+    };
+    Err(Stop::Fault(format!(in alloc; "{front} {at}: {reason}")?))
+}
+
+/// Returns the edits of options.
+pub(crate) fn option_changes<'w>(
+    alloc: Global,
+    edits: &[&'w str],
+) -> Result<Vec<Change<'w>>, Stop<String>> {
+    let mut changes = Vec::new(alloc);
+    for (at, edit) in edits.iter().enumerate() {
+        changes.push(checked(alloc, "edit", at.saturating_add(1), *edit)?)?;
+    }
+    Ok(changes)
+}
+
+/// Returns the edits of a script, one per line. Lines that are blank or begin with `#` are ignored.
+pub(crate) fn script_changes(alloc: Global, script: &str) -> Result<Vec<Change<'_>>, Stop<String>> {
+    let mut changes = Vec::new(alloc);
+    for (at, line) in script.lines().enumerate() {
+        let line = line.trim();
+        if !line.is_empty() && !line.starts_with('#') {
+            changes.push(checked(alloc, "line", at.saturating_add(1), line)?)?;
+        }
+    }
+    Ok(changes)
+}

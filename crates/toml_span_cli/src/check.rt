@@ -1,0 +1,212 @@
+//! The command `check`.
+ghost use Rattle.std.specs.Prelude.{◌≡◌, ⊤, IfOk, MatchOption, false, map, string_bytes};
+ghost use Rattle.toml_span_cli.specs.Check.{AsksForFixing, Checks, ChecksFixed};
+
+use crate::answers::Answer;
+use crate::files::{read_file, replace};
+use crate::options::{Options, Reader, options_of};
+use crate::say::say;
+use crate::start::start;
+use std::alloc::{AllocError, Global};
+use toml_span_check::answer::Task;
+use toml_span_check::fixing::{Fixed, with_fixes};
+use toml_span_check::input::{Host, Inputs};
+use toml_span_check::newer::with_older_forms;
+use toml_span_lines::run::BOUND;
+use toml_span_lines::sink::Sink;
+
+/// How many errors were fixed, and in how many files.
+#[derive(Clone, Copy, Drop)]
+struct Count {
+    errors: usize,
+    files: usize,
+}
+
+/// Fixes errors of a source, and then replaces what its version of TOML lacks.
+fn fixed(alloc: Global, text: &str, task: Task, name: &str) -> Result<Fixed, AllocError> {
+    let made = with_fixes(alloc, text)?;
+    let Task::Check(version) = task else {
+        return Ok(made);
+    };
+    let older = with_older_forms(alloc, made.text.as_str(), version, name)?;
+    Ok(Fixed {
+        text: older.text,
+        count: made.count.saturating_add(older.count),
+    })
+}
+
+/// Fixes errors of a file, and replaces it if there were some. Returns how many, or why it is not written. A file that
+/// can't be read, or is not a text of at most 16 MiB, is left as it is: checking it says why.
+fn fix_file(
+    alloc: Global,
+    host: &mut Host,
+    task: Task,
+    name: &str,
+) -> Result<Result<usize, Answer>, AllocError> {
+    if name == "-" {
+        return Ok(Ok(0));
+    }
+    let Ok(bytes) = read_file(alloc, host, name)? else {
+        return Ok(Ok(0));
+    };
+    if bytes.len() > BOUND {
+        return Ok(Ok(0));
+    }
+    let Ok(text) = str::from_utf8(bytes.as_slice()) else {
+        return Ok(Ok(0));
+    };
+    let made = fixed(alloc, text, task, name)?;
+    if made.count == 0 {
+        return Ok(Ok(0));
+    }
+    match replace(alloc, &host.rt, name, bytes.as_slice(), made.text.as_str())? {
+        None => Ok(Ok(made.count)),
+        Some(answer) => Ok(Err(answer)),
+    }
+}
+
+/// What fixing leaves to print on standard error, and whether all that was fixed is written.
+#[derive(Drop)]
+struct Outcome {
+    line: String,
+    is_written: bool,
+}
+
+/// Returns the line that counts what was fixed: nothing if there is nothing to say.
+fn counted(alloc: Global, count: Count, is_quiet: bool) -> Result<Outcome, AllocError> {
+    let (errors, files) = (count.errors, count.files);
+    let mut line = String::new(alloc);
+    if errors > 0 && !is_quiet {
+        let error_word = if errors == 1 { "error" } else { "errors" };
+        let file_word = if files == 1 { "file" } else { "files" };
+        line = format!(in alloc; "fixed {errors} {error_word} in {files} {file_word}\n")?;
+    }
+    Ok(Outcome {
+        line,
+        is_written: true,
+    })
+}
+
+/// Fixes errors of the files that names are for, except for standard input.
+fn fix_files(alloc: Global, options: &Options<'_>, host: &mut Host) -> Result<Outcome, AllocError> {
+    let mut count = Count {
+        errors: 0,
+        files: 0,
+    };
+    for name in options.names.as_slice() {
+        let files = host.find(alloc, options.excludes.as_slice(), *name)?;
+        for file in files.as_slice() {
+            let file = file.as_str();
+            match fix_file(alloc, host, options.task, file)? {
+                Ok(0) => {}
+                Ok(made) => {
+                    count.errors = count.errors.saturating_add(made);
+                    count.files = count.files.saturating_add(1);
+                }
+                Err(answer) => {
+                    return Ok(Outcome {
+                        line: answer.errors,
+                        is_written: false,
+                    });
+                }
+            }
+        }
+    }
+    counted(alloc, count, options.is_quiet)
+}
+
+/// Does what `--fix` asks for. Returns `None` if the words don't ask for it, or are wrong.
+fn fix(
+    alloc: Global,
+    words: &[String],
+    is_coloured: bool,
+    host: &mut Host,
+) -> Result<Option<Outcome>, AllocError>
+    ensures { IfOk result (λ made. MatchOption made ⊤ (λ outcome.
+        AsksForFixing (map (λ w. string_bytes w) words.now) is_coloured)) }
+{
+    match options_of(alloc, Reader::Check, words, is_coloured) {
+        Ok(options) if options.is_fixing => Ok(Some(fix_files(alloc, &options, host)?)),
+        Err(error) if error.kind() == clap::error::ErrorKind::OutOfMemory => Err(AllocError),
+        _ => Ok(None),
+    }
+}
+
+/// Prints what fixing leaves to say, and checks the files if all that was fixed is written.
+fn check_fixed<O: Sink, E: Sink>(
+    alloc: Global,
+    outcome: &Outcome,
+    words: &[String],
+    is_coloured: bool,
+    is_watched: bool,
+    host: &mut Host,
+    out: &mut O,
+    errors: &mut E,
+) -> u8
+    requires out { O.failed out.old ≡ false }
+    requires errors { E.failed errors.old ≡ false }
+    ensures { ChecksFixed (map (λ w. string_bytes w) words.now) is_coloured is_watched
+        (O.contents out.old) (O.contents out.new) (O.failed out.new)
+        (E.contents errors.old) (E.contents errors.new) (E.failed errors.new) result }
+{
+    let line = outcome.line.as_str();
+    if !outcome.is_written {
+        return say(errors, line, 3);
+    }
+    match say(errors, line, 0) {
+        0 => start(
+            alloc,
+            Reader::Check,
+            words,
+            is_coloured,
+            is_watched,
+            host,
+            out,
+            errors,
+        ),
+        status => status,
+    }
+}
+
+/// Checks files, and fixes errors before if the words ask for it. The words are the command's name and its arguments.
+/// Returns the exit status.
+pub(crate) fn check<O: Sink, E: Sink>(
+    alloc: Global,
+    words: &[String],
+    is_coloured: bool,
+    is_watched: bool,
+    host: &mut Host,
+    out: &mut O,
+    errors: &mut E,
+) -> Result<u8, AllocError>
+    requires out { O.failed out.old ≡ false }
+    requires errors { E.failed errors.old ≡ false }
+    ensures { IfOk result (λ status. Checks (map (λ w. string_bytes w) words.now) is_coloured is_watched
+        (O.contents out.old) (O.contents out.new) (O.failed out.new)
+        (E.contents errors.old) (E.contents errors.new) (E.failed errors.new) status) }
+{
+    match fix(alloc, words, is_coloured, host)? {
+        Some(outcome) => {
+            Ok(check_fixed(
+                alloc,
+                &outcome,
+                words,
+                is_coloured,
+                is_watched,
+                host,
+                out,
+                errors,
+            ))
+        }
+        None => Ok(start(
+            alloc,
+            Reader::Check,
+            words,
+            is_coloured,
+            is_watched,
+            host,
+            out,
+            errors,
+        )),
+    }
+}

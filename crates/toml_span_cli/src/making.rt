@@ -1,0 +1,202 @@
+//! What edits make of the text of a file.
+use crate::changes::{Change, Task};
+use std::alloc::{AllocError, Global};
+use std::fmt::Write;
+use toml_span::Stop;
+use toml_span_edit::{Edit, EditError, Edits, Reason, segments, string_text};
+
+/// What an edit does.
+#[derive(Clone, Copy)]
+enum Kind {
+    Set,
+    /// Sets the value, also over tables that headers or dotted keys define.
+    SetForced,
+    Rename,
+    Remove,
+    Add,
+    Append,
+    Insert,
+    Move,
+}
+
+/// An edit as the library takes it.
+#[derive(Drop)]
+struct Prepared<'w> {
+    kind: Kind,
+    path: Vec<&'w str>,
+    /// Where a value is moved to.
+    target: Vec<&'w str>,
+    /// The value, or the new name.
+    value: String,
+}
+
+/// Returns a path's segments. None are lost: all paths are pointers (see `Change::has_pointers`).
+fn segments_of<'w>(alloc: Global, path: &'w str) -> Result<Vec<&'w str>, AllocError> {
+    match segments(alloc, path)? {
+        Some(segments) => Ok(segments),
+        None => Ok(Vec::new(alloc)),
+    }
+}
+
+/// Returns a value of the arguments as TOML.
+fn value_of(alloc: Global, value: &str, is_string: bool) -> Result<String, AllocError> {
+    if is_string {
+        string_text(alloc, value)
+    } else {
+        String::from_str(alloc, value)
+    }
+}
+
+/// Returns what a task does.
+fn kind_of(task: Task<'_>) -> Kind {
+    match task {
+        Task::Set(_) => Kind::Set,
+        Task::Rename(_) => Kind::Rename,
+        Task::Remove => Kind::Remove,
+        Task::Add(_, _) => Kind::Add,
+        Task::Append(_) => Kind::Append,
+        Task::Insert(_) => Kind::Insert,
+        Task::Move(_) => Kind::Move,
+    }
+}
+
+/// Prepares an edit.
+fn prepare<'w>(
+    alloc: Global,
+    change: &'w Change<'_>,
+    is_string: bool,
+) -> Result<Prepared<'w>, AllocError> {
+    let mut prepared = Prepared {
+        kind: kind_of(change.task),
+        path: segments_of(alloc, change.path)?,
+        target: Vec::new(alloc),
+        value: String::new(alloc),
+    };
+    match change.task {
+        Task::Set(value) | Task::Append(value) | Task::Insert(value) => {
+            prepared.value = value_of(alloc, value, is_string)?;
+        }
+        Task::Add(key, value) => {
+            prepared.path.push(key)?;
+            prepared.value = value_of(alloc, value, is_string)?;
+        }
+        Task::Move(to) => prepared.target = segments_of(alloc, to)?,
+        Task::Rename(name) => prepared.value = String::from_str(alloc, name)?,
+        Task::Remove => {}
+    }
+    Ok(prepared)
+}
+
+/// Prepares edits.
+fn prepare_all<'w>(
+    alloc: Global,
+    changes: &'w [Change<'_>],
+    is_string: bool,
+) -> Result<Vec<Prepared<'w>>, AllocError> {
+    let mut list = Vec::new(alloc);
+    for change in changes {
+        list.push(prepare(alloc, change, is_string)?)?;
+    }
+    Ok(list)
+}
+
+/// Returns a prepared edit as an `Edit` of `toml_span_edit`.
+fn edit_of<'w>(prepared: &'w Prepared<'w>) -> Edit<'w> {
+    let value = prepared.value.as_str();
+    let change = match prepared.kind {
+        Kind::Set => toml_span_edit::Change::SetOrAdd(value),
+        Kind::SetForced => toml_span_edit::Change::Replace(value),
+        Kind::Rename => toml_span_edit::Change::Rename(value),
+        Kind::Remove => toml_span_edit::Change::Remove,
+        Kind::Add => toml_span_edit::Change::Add(value),
+        Kind::Append => toml_span_edit::Change::Append(value),
+        Kind::Insert => toml_span_edit::Change::Insert(value),
+        Kind::Move => toml_span_edit::Change::MoveTo(prepared.target.as_slice()),
+    };
+    Edit {
+        path: prepared.path.as_slice(),
+        change,
+    }
+}
+
+/// Makes edits that are prepared.
+fn finished<'w>(
+    alloc: Global,
+    text: &'w str,
+    list: &'w [Prepared<'w>],
+) -> Result<String, Stop<EditError>> {
+    let mut edits = Edits::new(alloc, text);
+    for prepared in list {
+        edits.push(edit_of(prepared))?;
+    }
+    edits.finish()
+}
+
+/// Returns the words for a refused edit, with its number if there are several.
+fn words_of(alloc: Global, error: &EditError, count: usize) -> Result<String, AllocError> {
+    let mut words = String::new(alloc);
+    if count > 1 {
+        write!(words, "edit {}: ", error.edit.saturating_add(1))?;
+    }
+    words.push_str(error.reason.text())?;
+    words.push_str(error.reason.detail())?;
+    Ok(words)
+}
+
+/// Lets an edit write over tables, if that is why it is refused. Returns whether it did.
+fn force(list: &mut [Prepared<'_>], error: &EditError) -> bool {
+    let Reason::NotSpelled = error.reason else {
+        return false;
+    };
+    match list.get_mut(error.edit) {
+        Some(prepared) => match prepared.kind {
+            Kind::Set => {
+                prepared.kind = Kind::SetForced;
+                true
+            }
+            _ => false,
+        },
+        None => false,
+    }
+}
+
+/// Makes edits that are prepared. With `is_forced`, values are set over tables too.
+fn forced(
+    alloc: Global,
+    text: &str,
+    mut list: Vec<Prepared<'_>>,
+    is_forced: bool,
+) -> Result<String, Stop<String>> {
+    let count = list.len();
+    // (an edit is forced at most once)
+    for _ in 0..=count {
+        let error = match finished(alloc, text, list.as_slice()) {
+            Ok(new) => return Ok(new),
+            Err(stop) => stop.fault()?,
+        };
+        if !is_forced || !force(list.as_mut_slice(), &error) {
+            return Err(Stop::Fault(words_of(alloc, &error, count)?));
+        }
+    }
+    Err(Stop::Fault(String::from_str(alloc, "the tables in the way are not replaced")?))
+}
+
+/// Returns the text that edits make of the bytes of a file, or why they can't be made, in words. With `is_string`,
+/// values are texts. With `is_forced`, values are set over tables too.
+pub(crate) fn new_text(
+    alloc: Global,
+    bytes: &[u8],
+    changes: &[Change<'_>],
+    is_string: bool,
+    is_forced: bool,
+) -> Result<String, Stop<String>> {
+    let Ok(text) = str::from_utf8(bytes) else {
+        return Err(Stop::Fault(String::from_str(alloc, "the file is not valid UTF-8")?));
+    };
+    forced(
+        alloc,
+        text,
+        prepare_all(alloc, changes, is_string)?,
+        is_forced,
+    )
+}
