@@ -1,7 +1,5 @@
 /* What is computed from the records of a document alone: part of libtoml_span, without allocation, and not proved. */
-#include "toml_span.h"
-
-#include <string.h>
+#include "paths.h"
 
 const char *toml_span_kind_name(uint32_t kind) {
     static const char *const names[] = {"", "string", "integer", "float", "boolean", "datetime", "array", "table"};
@@ -17,49 +15,6 @@ toml_span_place toml_span_line_column(const char *text, size_t length, size_t of
     return place;
 }
 
-/* A step of a path: the bytes of a name or a position, and how it is written: '/' as a step of a JSON Pointer; of a
- * dotted key 'k' bare, '"' or '\'' between quotes, or '[' between brackets. */
-typedef struct {
-    const char *at, *end;
-    char written;
-} path_step;
-
-/* Writes a character as UTF-8; returns how many bytes it has, or 0 if there is no such character. */
-static size_t encode(unsigned long code, char bytes[4]) {
-    if (code > 0x10FFFF || (code >= 0xD800 && code < 0xE000)) return 0;
-    size_t length = code < 0x80 ? 1 : code < 0x800 ? 2 : code < 0x10000 ? 3 : 4;
-    for (size_t at = length; at-- > 1; code >>= 6) bytes[at] = (char)(0x80 | (code & 0x3F));
-    bytes[0] = (char)(length == 1 ? code : (0xF00UL >> length & 0xFF) | code);
-    return length;
-}
-
-/* Reads the bytes that an escape of TOML stands for, after its backslash; returns how many, or 0 if it is not valid. */
-static size_t unescape(path_step *step, char bytes[4]) {
-    static const char letters[] = "btnfre\"\\", meant[] = "\b\t\n\f\r\033\"\\";
-    char letter = step->at < step->end ? *step->at++ : 'u';
-    const char *found = (const char *)memchr(letters, letter, sizeof letters - 1);
-    int digits = letter == 'x' ? 2 : letter == 'u' ? 4 : letter == 'U' ? 8 : 0;
-    unsigned long code = 0;
-    if (found) bytes[0] = meant[found - letters];
-    if (found || digits == 0 || step->end - step->at < digits) return found != NULL;
-    for (; digits > 0; digits--, step->at++) {
-        static const char hexadecimal[] = "0123456789abcdefABCDEF";
-        const char *digit = (const char *)memchr(hexadecimal, *step->at, sizeof hexadecimal - 1);
-        if (!digit) return 0;
-        code = 16 * code + (unsigned long)(digit - hexadecimal < 16 ? digit - hexadecimal : digit - hexadecimal - 6);
-    }
-    return encode(code, bytes);
-}
-
-/* Reads the next character of a step; returns how many bytes of a name it stands for, or 0 if it is not valid. */
-static size_t next_bytes(path_step *step, char bytes[4]) {
-    bytes[0] = *step->at++;
-    if (step->written == '"' && bytes[0] == '\\') return unescape(step, bytes);
-    int is_escape = step->written == '/' && bytes[0] == '~' && step->at < step->end;
-    if (is_escape && (*step->at == '0' || *step->at == '1')) bytes[0] = *step->at++ == '0' ? '~' : '/';
-    return 1;
-}
-
 /* Whether a name is the one that a step has. */
 static int is_named(const char *name, size_t length, path_step step) {
     while (step.at < step.end) {
@@ -70,59 +25,6 @@ static int is_named(const char *name, size_t length, path_step step) {
         length -= count;
     }
     return length == 0;
-}
-
-/* The position that a step has: decimal digits without a leading zero; TOML_SPAN_NONE of any other step. */
-static size_t position_of(path_step step) {
-    size_t position = 0;
-    if (step.written != '/' && step.written != '[') return TOML_SPAN_NONE;
-    if (step.at == step.end || step.end - step.at > 18 || (*step.at == '0' && step.end - step.at > 1))
-        return TOML_SPAN_NONE;
-    for (; step.at < step.end; step.at++) {
-        if (*step.at < '0' || *step.at > '9') return TOML_SPAN_NONE;
-        position = 10 * position + (size_t)(*step.at - '0');
-    }
-    return position;
-}
-
-/* Where a string ends whose opening quote is at `at`: its closing quote, or NULL. */
-static const char *closing(const char *at) {
-    char quote = *at++;
-    for (; *at != quote; at++) {
-        if (quote == '"' && *at == '\\' && at[1] != 0) at++;
-        else if (*at == 0 || *at == '\n') return NULL;
-    }
-    return at;
-}
-
-/* Takes the first step of a dotted key, after a dot or, with is_first, at its start; returns what follows, or NULL if
- * there is none. */
-static const char *dotted_step(const char *path, int is_first, path_step *step) {
-    static const char blanks[] = " \t";
-    static const char bare[] = "ABCDEFGHIJKLMNOPQRSTUVWXYZabcdefghijklmnopqrstuvwxyz0123456789_-";
-    path += strspn(path, blanks);
-    step->written = *path == '[' ? '[' : 'k';
-    if (step->written != '[' && !is_first && *path++ != '.') return NULL;
-    path += strspn(path, blanks);
-    step->at = path;
-    step->end = path + strspn(path, bare);
-    if (*path == '"' || *path == '\'' || *path == '[') {
-        step->written = *path;
-        step->at = path + 1;
-        step->end = *path == '[' ? strchr(path, ']') : closing(path);
-    }
-    if (step->end == NULL || (step->written == 'k' && step->at == step->end)) return NULL;
-    path = step->end + (step->written != 'k');
-    return path + strspn(path, blanks);
-}
-
-/* Takes the first step of a path; returns what follows, or NULL if there is none. */
-static const char *take_step(const char *path, int is_pointer, int is_first, path_step *step) {
-    if (!is_pointer) return dotted_step(path, is_first, step);
-    step->written = '/';
-    step->at = path + 1;
-    step->end = step->at + strcspn(step->at, "/");
-    return step->end;
 }
 
 size_t toml_span_find(const toml_span_node *nodes, size_t count, const char *const sources[2], size_t from,

@@ -1,4 +1,4 @@
-/* toml_span: parses TOML 1.1 and keeps the byte range of each value and each key.
+/* toml_span: parses, edits and formats TOML 1.1, and keeps the byte range of each value and each key.
  *
  *     toml_span_counts counts;
  *     toml_span_fault fault;
@@ -8,7 +8,8 @@
  * What it allocates with malloc, it frees before it returns. So any number of threads may call it at once, and the
  * records stay valid as long as the arrays and the text do.
  *
- * - No pointer may be null, even where its length or room is 0, and the arrays must not overlap.
+ * - No pointer may be null, even where its length or room is 0, except in a toml_span_change. The arrays must not
+ *   overlap.
  * - The text needs no zero byte at its end.
  * - Offsets are in bytes of the text and count from 0; an end is exclusive. Lines and columns count from 0, and columns
  *   are in bytes.
@@ -28,7 +29,7 @@ extern "C" {
 
 #define TOML_SPAN_VERSION "0.7.2"
 
-/* The version of the binary interface, as in libtoml_span.so.0: it changes with the functions and the records. */
+/* The version of the binary interface, as in libtoml_span.so.0: it changes if a function or a record does. */
 #define TOML_SPAN_ABI 0
 
 /* The status that a call returns. */
@@ -36,14 +37,15 @@ enum {
     TOML_SPAN_READ = 0,    /* the text is valid TOML */
     TOML_SPAN_REFUSED = 1, /* it is not */
     TOML_SPAN_UNREAD = 2,  /* it is not UTF-8, or longer than TOML_SPAN_LONGEST */
+    TOML_SPAN_UNMADE = 3,  /* toml_span_edit: a change is refused */
     TOML_SPAN_MEMORY = 4   /* out of memory: malloc failed */
 };
 
 /* The most bytes that a document may have: 16 MiB. */
 #define TOML_SPAN_LONGEST 16777216
 
-/* More stack than any document takes: at most 401 KB were measured, in the
-   build without proofs, so 47 KB are left. */
+/* More stack than any document takes: at most 405 KB were measured, in the
+   build without proofs, so 43 KB are left. */
 #define TOML_SPAN_STACK 458752
 
 /* The kinds of values. A datetime is a date, a time or both, with or without an offset. */
@@ -136,6 +138,41 @@ uint32_t toml_span_message(const char *text, size_t length, char *out, size_t ro
 uint32_t toml_span_report(const char *text, size_t length, const char *name, size_t name_length, char *out, size_t room,
                           size_t *needed);
 
+/* ---- The calls that write a new text. READ sets `needed` to its length, and writes it into `out` if there is room for
+ * all of it; otherwise `out` is unchanged, and a second call with that much room has it. REFUSED writes the fault.
+ * Nothing else is written unless it says so below. */
+
+/* What a change does at its path. A value is TOML, such as 8080, "text" with its quotes, or [1, 2]. */
+enum {
+    TOML_SPAN_SET = 1,        /* writes the value over one, but not over a table that headers or dotted keys define */
+    TOML_SPAN_REPLACE = 2,    /* the same, also over these */
+    TOML_SPAN_SET_OR_ADD = 3, /* sets the value, or adds it with the tables that are missing on the way */
+    TOML_SPAN_RENAME = 4,     /* gives the key another name, which is `value`, without quotes */
+    TOML_SPAN_REMOVE = 5,     /* removes the value with its key, or the element */
+    TOML_SPAN_ADD = 6,        /* adds the value under a new key, the last of the path, to a table that is there */
+    TOML_SPAN_ADD_TABLE = 7,  /* adds an empty table */
+    TOML_SPAN_APPEND = 8,     /* adds the value to an array as its last element, or a new array with it */
+    TOML_SPAN_INSERT = 9,     /* adds the value before the element at the path, or after the last one */
+    TOML_SPAN_MOVE = 10       /* moves the value to another path, which is `value`, where there is none */
+};
+
+/* A change. Both texts end with a zero byte. The path is as toml_span_find takes it; `[0]` is the same as `.0`. The
+ * value may be null for REMOVE and ADD_TABLE. */
+typedef struct {
+    uint32_t change;
+    const char *path, *value;
+} toml_span_change;
+
+/* Makes changes, one after the other, and leaves all other bytes as they are. UNMADE means that a change is refused: it
+ * sets `refused` to its number, counted from 0, and writes the reason in words as toml_span_message does. */
+uint32_t toml_span_edit(const char *text, size_t length, const toml_span_change *changes, size_t count, char *out,
+                        size_t room, size_t *needed, size_t *refused, toml_span_fault *fault);
+
+/* Formats a text: an array is on one line if that has at most `width` columns (usually 80); otherwise its elements are
+ * on lines of their own, indented by `indent` spaces (usually 4; more than 64 count as 64). UNMADE would be a bug. */
+uint32_t toml_span_format(const char *text, size_t length, size_t width, size_t indent, char *out, size_t room,
+                          size_t *needed, toml_span_fault *fault);
+
 /* ---- The calls below look only at the records. */
 
 /* Visits the children of a record: TOML_SPAN_EACH(nodes, 0, child) printf("%zu\n", nodes[child].span.start); */
@@ -176,6 +213,7 @@ toml_span_place toml_span_line_column(const char *text, size_t length, size_t of
 TOML_SPAN_ASSERT(sizeof(size_t) == 8, "toml_span is built for 64 bits")
 TOML_SPAN_ASSERT(sizeof(toml_span_node) == 136, "the records have no gaps")
 TOML_SPAN_ASSERT(sizeof(toml_span_fault) == 56, "the faults have no gaps")
+TOML_SPAN_ASSERT(sizeof(toml_span_change) == 24, "a change is a number and two pointers")
 #undef TOML_SPAN_ASSERT
 
 #ifdef __cplusplus

@@ -6,7 +6,13 @@
  *         if (auto name = package["name"].as_string()) std::cout << *name << '\n';
  *
  * A value that is not there converts to false, and what is looked up in it is not there either, so steps can be
- * chained. Nothing throws, except that std::vector and std::string may if memory runs out. Offsets, lines and columns
+ * chained. `edit` and `format` return a new text:
+ *
+ *     std::string why;
+ *     auto edited = toml_span::edit(text, {{TOML_SPAN_SET, "server.port", "8080"}}, &why);
+ *     if (!edited) std::cerr << why << '\n';
+ *
+ * Nothing throws, except that std::vector and std::string may if memory runs out. Offsets, lines and columns
  * are those of toml_span.h: in bytes, counted from 0. */
 #ifndef TOML_SPAN_HPP
 #define TOML_SPAN_HPP
@@ -21,6 +27,60 @@
 #include <vector>
 
 namespace toml_span {
+
+namespace detail {
+
+/* The text that a call writes, which is called once more if there was too little room. */
+template <typename Write> std::string written(size_t room, Write write) {
+    std::string out(room, '\0');
+    size_t needed = 0;
+    write(out.data(), room, &needed);
+    out.resize(needed);
+    if (needed > room) write(out.data(), needed, &needed);
+    return out;
+}
+
+/* The new text that a call makes of one, or else nothing, and `why`. */
+template <typename Write>
+std::optional<std::string> made(std::string_view text, std::string *why, Write write) {
+    const char *from = text.data() ? text.data() : "";
+    uint32_t status = TOML_SPAN_UNREAD;
+    std::string made = written(2 * text.size() + 512, [&](char *out, size_t room, size_t *needed) {
+        status = write(from, out, room, needed);
+    });
+    if (status == TOML_SPAN_READ) return made;
+    if (status == TOML_SPAN_MEMORY) made = "out of memory";
+    if (status == TOML_SPAN_UNREAD) made = "the text is not UTF-8, or longer than 16 MiB";
+    if (status == TOML_SPAN_REFUSED)
+        made = written(512, [&](char *out, size_t room, size_t *needed) {
+            toml_span_message(from, text.size(), out, room, needed);
+        });
+    if (why) *why = std::move(made);
+    return std::nullopt;
+}
+
+} // namespace detail
+
+/* Makes changes of a text, one after the other, and leaves all other bytes as they are. */
+inline std::optional<std::string> edit(std::string_view text, const std::vector<toml_span_change> &changes,
+                                       std::string *why = nullptr) {
+    toml_span_change none = {0, nullptr, nullptr};
+    return detail::made(text, why, [&](const char *from, char *out, size_t room, size_t *needed) {
+        size_t refused;
+        toml_span_fault fault;
+        return toml_span_edit(from, text.size(), changes.empty() ? &none : changes.data(), changes.size(), out, room,
+                              needed, &refused, &fault);
+    });
+}
+
+/* Formats a text. */
+inline std::optional<std::string> format(std::string_view text, size_t width = 80, size_t indent = 4,
+                                         std::string *why = nullptr) {
+    return detail::made(text, why, [&](const char *from, char *out, size_t room, size_t *needed) {
+        toml_span_fault fault;
+        return toml_span_format(from, text.size(), width, indent, out, room, needed, &fault);
+    });
+}
 
 class value;
 
@@ -54,17 +114,17 @@ public:
 
     /* The fault: the name of its kind, its message, and its report, which has the lines with marks. */
     std::string code() const {
-        return written([this](char *out, size_t room, size_t *needed) {
+        return detail::written(512, [this](char *out, size_t room, size_t *needed) {
             toml_span_code(fault_.code, out, room, needed);
         });
     }
     std::string message() const {
-        return written([this](char *out, size_t room, size_t *needed) {
+        return detail::written(512, [this](char *out, size_t room, size_t *needed) {
             toml_span_message(sources_[0], length_, out, room, needed);
         });
     }
     std::string report(std::string_view name) const {
-        return written([this, name](char *out, size_t room, size_t *needed) {
+        return detail::written(512, [this, name](char *out, size_t room, size_t *needed) {
             toml_span_report(sources_[0], length_, name.data() ? name.data() : "", name.size(), out, room, needed);
         });
     }
@@ -74,16 +134,6 @@ public:
     inline value find(const char *pointer) const; /* by JSON Pointer, such as "/server/ports/0" */
 
 private:
-    template <typename Write> static std::string written(Write write) {
-        std::string out(512, '\0');
-        size_t needed = 0;
-        write(out.data(), out.size(), &needed);
-        size_t room = out.size();
-        out.resize(needed);
-        if (needed > room) write(out.data(), needed, &needed);
-        return out;
-    }
-
     const char *sources_[2];
     size_t length_;
     uint32_t status_ = TOML_SPAN_UNREAD;

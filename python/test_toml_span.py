@@ -421,6 +421,125 @@ class Dumps(unittest.TestCase):
                 toml_span.dumps(value)
 
 
+class Edits(unittest.TestCase):
+    TEXT = "# head\n[server] # here\nport = 80 # open\nhosts = ['a', 'b']\n\n[[bin]]\nname = 'x'\n"
+
+    def test_each_edit(self):
+        for call, old, new in (
+            (lambda edits: edits.set("server.port", 8080), "80 #", "8080 #"),
+            (lambda edits: edits.set("/server/hosts/1", "c\n"), "'b'", '"c\\n"'),
+            (lambda edits: edits.set(("server", "hosts", 0), {"x y": [1.5, date(1979, 5, 27)]}), "'a'",
+             '{ "x y" = [1.5, 1979-05-27] }'),
+            (lambda edits: edits.replace("server.hosts", {}), "['a', 'b']", "{}"),
+            (lambda edits: edits.set_or_add("server.tls.on", True), "\n[[bin]]",
+             "\n[server.tls]\non = true\n\n[[bin]]"),
+            (lambda edits: edits.rename("server.port", "a port"), "port", '"a port"'),
+            (lambda edits: edits.remove("server.hosts[0]"), "'a', ", ""),
+            (lambda edits: edits.add("server.debug", False), "'b']\n", "'b']\ndebug = false\n"),
+            (lambda edits: edits.add_table(["lints", "rust"]), "'x'\n", "'x'\n\n[lints.rust]\n"),
+            (lambda edits: edits.append("server.hosts", -1), "'b']", "'b', -1]"),
+            (lambda edits: edits.insert("server.hosts[0]", math.inf), "['a'", "[inf, 'a'"),
+            (lambda edits: edits.move("bin[0].name", "/bin/0/title"), "name", "title"),
+        ):
+            with self.subTest(new):
+                self.assertEqual(call(toml_span.edit(self.TEXT)).finish(), self.TEXT.replace(old, new, 1))
+
+    def test_edits_are_chained(self):
+        edits = toml_span.edit(self.TEXT).add("a", 1).append("a2", 1)
+        self.assertEqual(toml_span.loads(edits.rename("a", "b").finish())["b"], 1)
+        self.assertEqual(edits.finish(), edits.finish())
+        self.assertEqual(toml_span.edit(self.TEXT).finish(), self.TEXT)
+
+    def test_bytes_stay_bytes_and_line_ends_stay(self):
+        data = "'\u00e9' = 1 # \u00e9\r\n".encode()
+        self.assertEqual(toml_span.edit(data).set("'\u00e9'", "\u00e9").finish(), data.replace(b"1", b'"\xc3\xa9"'))
+        self.assertEqual(toml_span.edit(data.decode()).set("/\u00e9", 22).finish(), data.decode().replace("1", "22"))
+        self.assertEqual(toml_span.format(b"a=1\r\n"), b"a = 1\r\n")
+
+    def test_paths_of_nodes(self):
+        text = "a.'x/y~' = [1, {'\\' = 2}]\n'' = 3\n\"\\u0000\\n\" = 4\n[[t]]\n[[t]]\n'\u00e9\"' = 5\n"
+        root = toml_span.parse(text)
+        pair = root["a"]["x/y~"]
+        for node in (pair[0], pair[1]["\\"], root[""], root["\0\n"], root["t"][1]['\u00e9"']):
+            new = toml_span.edit(text).set(node.path, 77).finish()
+            start, end = node.char_span
+            self.assertEqual(new, f"{text[:start]}77{text[end:]}")
+
+    def test_every_value_of_the_documents_can_be_set(self):
+        def scalars(node):
+            if node.kind not in ("table", "array"):
+                yield node.path
+            for held in node.values() if node.kind == "table" else node if node.kind == "array" else ():
+                yield from scalars(held)
+
+        count = 0
+        for path in DOCUMENTS:
+            text = text_of(path)
+            for steps in list(scalars(toml_span.parse(text)))[:20]:
+                wanted = toml_span.loads(text)
+                holder = wanted
+                for step in steps[:-1]:
+                    holder = holder[step]
+                holder[steps[-1]] = "new"
+                self.assertEqual(repr(toml_span.loads(toml_span.edit(text).set(steps, "new").finish())), repr(wanted))
+                count += 1
+        self.assertGreater(count, 50)
+
+    def test_refusals(self):
+        with self.assertRaises(toml_span.EditError) as caught:
+            toml_span.edit(self.TEXT).set("server.port", 1).set("server.no", 2).finish()
+        error = caught.exception
+        self.assertIsInstance(error, ValueError)
+        self.assertEqual((error.msg, error.index, error.path), ("there is no value at this path", 1, "server.no"))
+        self.assertEqual(str(error), "there is no value at this path (edit 1, at 'server.no')")
+        self.assertEqual(str(pickle.loads(pickle.dumps(error))), str(error))
+        for call in (
+            lambda edits: edits.set("server", 1), lambda edits: edits.set("server..port", 1),
+            lambda edits: edits.rename("server.port", "hosts"), lambda edits: edits.remove(()),
+            lambda edits: edits.add("server.port", 1), lambda edits: edits.append("server.port", 1),
+            lambda edits: edits.move("server.port", "/server/hosts"), lambda edits: edits.move("server", ""),
+        ):
+            with self.assertRaises(toml_span.EditError):
+                call(toml_span.edit(self.TEXT)).finish()
+
+    def test_wrong_texts(self):
+        for text, pos in (("a = 1\na = 2", 6), (b"a = 1\na = 2", 6), ("# \ud800", 2), (b"# \xff", 2)):
+            for call in (lambda text: toml_span.edit(text).remove("a").finish(), toml_span.format):
+                with self.assertRaises(toml_span.TOMLDecodeError) as caught:
+                    call(text)
+                self.assertEqual(caught.exception.pos, pos)
+
+    def test_wrong_arguments(self):
+        edits = toml_span.edit("a = 1")
+        with self.assertRaises(toml_span.TOMLDecodeError):
+            toml_span.format("#" * 16777217)
+        for call, error in (
+            (lambda: toml_span.edit(None), TypeError), (lambda: toml_span.format(1), TypeError),
+            (lambda: edits.set("a", None), TypeError), (lambda: edits.set("a", 2**63), ValueError),
+            (lambda: edits.set(1, 1), TypeError), (lambda: edits.set((1.5,), 1), TypeError),
+            (lambda: edits.rename("a", 1), TypeError), (lambda: edits.rename("a", "\0"), ValueError),
+            (lambda: edits.set("a\0", 1), ValueError), (lambda: edits.rename("a", "\ud800"), ValueError),
+            (lambda: toml_span.format("", indent=65), ValueError), (lambda: toml_span.format("", width=-1), ValueError),
+        ):
+            with self.assertRaises(error):
+                call()
+        self.assertEqual(edits.finish(), "a = 1")
+
+    def test_formats(self):
+        self.assertEqual(toml_span.format("a=[1,2]"), "a = [1, 2]\n")
+        self.assertEqual(toml_span.format("a=[1,2]", width=9, indent=2), "a = [\n  1,\n  2,\n]\n")
+        self.assertEqual(toml_span.format("a=[1,2]", width=2**70), "a = [1, 2]\n")
+        for path in DOCUMENTS:
+            text = text_of(path)
+            new = toml_span.format(text)
+            self.assertEqual(repr(toml_span.loads(new)), repr(toml_span.loads(text)))
+            self.assertEqual(toml_span.format(new), new)
+        # (much longer than the text)
+        deep = f"a = {'[' * 100}#\n{']' * 100}"
+        self.assertEqual(toml_span.loads(toml_span.format(deep)), toml_span.loads(deep))
+        self.assertGreater(len(toml_span.format(deep)), 100 * len(deep))
+
+
 class Command(unittest.TestCase):
     def test_statuses(self):
         with tempfile.TemporaryDirectory() as folder:

@@ -1,5 +1,6 @@
 pub mod Arrays
 pub mod Bound
+pub mod Changes
 pub mod Costs
 pub mod Cuts
 pub mod Fits

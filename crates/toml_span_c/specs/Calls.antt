@@ -1,11 +1,14 @@
 -- What the calls return.
-use Rattle.std.specs.Prelude.{◌≡◌, ◌≤◌, ◌⊎◌, ℕ, IsUtf8, List, length}
+use Rattle.std.specs.Prelude.{◌≡◌, ◌≤◌, ◌⊎◌, ℕ, IsUtf8, List, length, nat_le, if◌then◌else◌}
 use Rattle.toml_span.specs.Parsing.{IsTree, IsRefusal}
 use Rattle.toml_span_c.specs.Faults.{fault_of}
+use Rattle.toml_span_c.specs.Edits.{ChangesMade}
 use Rattle.toml_span_c.specs.Records.{filled, tree_counts, tree_records, tree_strings}
+use Rattle.toml_span_c.specs.declared.edits.ChangeRecord.{ChangeRecord}
 use Rattle.toml_span_c.specs.declared.faults.FaultRecord.{FaultRecord}
 use Rattle.toml_span_c.specs.declared.records.Counts.{Counts}
 use Rattle.toml_span_c.specs.declared.records.Record.{Record}
+use Rattle.toml_span_format.specs.Document.{SameDocument}
 use Rattle.toml_span_lex.specs.declared.stop.Stop.TheVariants as stops
 use Rattle.toml_span_read.specs.Data.{depth_limit}
 use Rattle.toml_span_tree.specs.Error.{ErrorContent, content_of}
@@ -51,3 +54,23 @@ IsFaultOf fault error = fault ≡ fault_of error
 -- The array begins with the text, as far as there is room, and `needed` is the length of all of it.
 abbrev pub Fills : List ℕ → List ℕ → ℕ → List ℕ → Type 0
 Fills out out' needed text = (out' ≡ filled text out) × (needed ≡ length text)
+
+-- ---- the calls that write a new text
+
+-- The status is 2 if the bytes are not such a text; otherwise 0, 1, 4, or 3 if no new text was made.
+pub record IsNewStatus (bytes : List ℕ) (status : ℕ) : Type 0 where
+  pub unread : ¬ IsText bytes → status ≡ 2
+  pub read : IsText bytes → (status ≡ 0) ⊎ ((status ≡ 1) ⊎ ((status ≡ 3) ⊎ (status ≡ 4)))
+
+-- The array begins with the text if there is room for all of it, and is unchanged otherwise. `needed` is the length.
+abbrev pub Holds : List ℕ → List ℕ → ℕ → List ℕ → Type 0
+Holds out out' needed text =
+    (out' ≡ (if nat_le (length text) (length out) then filled text out else out)) × (needed ≡ length text)
+
+-- The bytes are a document. The changes make the new text of it.
+abbrev pub IsEdited : List ℕ → List ChangeRecord → List ℕ → Type 0
+IsEdited bytes changes new = IsDocument bytes × ChangesMade changes bytes new
+
+-- The bytes are a document. The new text has its sections and its comments.
+abbrev pub IsFormatted : List ℕ → List ℕ → Type 0
+IsFormatted bytes new = IsDocument bytes × SameDocument bytes new

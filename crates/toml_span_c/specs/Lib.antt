@@ -1,4 +1,5 @@
 pub mod Records
 pub mod Faults
+pub mod Edits
 pub mod Calls
 pub mod code

@@ -5,8 +5,10 @@
 #![tactic(auto)]
 
 mod answer;
+pub mod edits;
 pub mod faults;
 mod fill;
+pub mod format;
 pub mod laws;
 pub mod parse;
 pub mod records;

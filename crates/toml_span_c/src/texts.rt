@@ -3,7 +3,7 @@ ghost use Rattle.std.specs.Prelude.{◌≡◌, ◌≢◌, ℕ, List, IsUtf8};
 ghost use Rattle.toml_span_tree.specs.Message.{display_text};
 ghost use Rattle.toml_span_report.specs.Errors.{IsReport};
 ghost use Rattle.toml_span_report.specs.declared.colours.Style.TheVariants.{Plain};
-ghost use Rattle.toml_span_c.specs.Calls.{Fills, IsDocument, IsRefused, IsStatus};
+ghost use Rattle.toml_span_c.specs.Calls.{Fills, Holds, IsDocument, IsRefused, IsStatus};
 ghost use Rattle.toml_span_c.specs.Faults as spec;
 
 use crate::answer::{Answer, answer_to};
@@ -12,13 +12,24 @@ use std::alloc::Global;
 use toml_span_report::{Style, render_error};
 
 /// Fills an array with a text as far as there is room, and sets `length` to its whole length.
-fn put_front(out: &mut [u8], length: &mut usize, text: &str)
+pub(crate) fn put_front(out: &mut [u8], length: &mut usize, text: &str)
     ensures { Fills out.old out.new length.new text.now }
 {
     let bytes = text.as_bytes();
     let room = out.len().min(bytes.len());
     out[..room].copy_from_slice(&bytes[..room]);
     *length = bytes.len();
+}
+
+/// Writes a text into an array if there is room for all of it, and sets `length` to its length.
+pub(crate) fn put_whole(out: &mut [u8], length: &mut usize, text: &str)
+    ensures { Holds out.old out.new length.new text.now }
+{
+    if text.len() <= out.len() {
+        put_front(out, length, text);
+    } else {
+        *length = text.len();
+    }
 }
 
 /// Writes the name of a code, such as `duplicate-key`; nothing for any other number.

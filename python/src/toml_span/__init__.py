@@ -7,12 +7,18 @@
     >>> port.value, port.span, port.key_span, port.line
     (8080, (16, 20), (9, 13), 2)
 
+``edit`` changes a text and keeps its other bytes, and ``format`` lays it out:
+
+    >>> toml_span.edit('port = 80 # open\\n').set("port", 8080).finish()
+    'port = 8080 # open\\n'
+
 ``dumps`` writes a mapping as TOML. ``python3 -m toml_span FILE`` checks a file.
 """
 
 from ._decode import TOMLDecodeError, load, loads
+from ._edit import EditError, Edits, edit, format
 from ._encode import dumps
 from ._node import Node, parse
 
-__all__ = ["Node", "TOMLDecodeError", "dumps", "load", "loads", "parse"]
+__all__ = ["EditError", "Edits", "Node", "TOMLDecodeError", "dumps", "edit", "format", "load", "loads", "parse"]
 __version__ = "0.7.2"

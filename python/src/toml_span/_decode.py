@@ -7,6 +7,7 @@ import gc
 import io
 import pickle
 import re
+import struct
 import sys
 from datetime import date, datetime, time, timedelta, timezone
 from typing import Any, BinaryIO, Callable, Dict, Optional, Tuple, Union
@@ -81,7 +82,9 @@ def _error(text: str, data: bytes, fault: bytearray, name: str) -> TOMLDecodeErr
     )
 
 
-_Counts = ctypes.c_size_t * 2
+_COUNTS = struct.Struct("=2Q")
+# the first fields of a record
+_HEAD = struct.Struct("=II2Q")
 _Sources = ctypes.c_char_p * 2
 
 
@@ -105,28 +108,30 @@ class Document:
     def __init__(self, text: str, data: bytes, name: str) -> None:
         size = len(data)
         # (the strings never have more bytes than the text)
-        room, strings = size // 12 + 16, bytearray(size + 1)
-        counts, fault = _Counts(), bytearray(native.FAULT.size)
+        room, nodes = size // 12 + 16, _COUNTS.size + native.FAULT.size
         while True:
-            nodes = bytearray(room * native.NODE.size)
+            strings = nodes + room * native.NODE.size
+            block = bytearray(strings + size + 1)
+            at = _address(block)
             status = native.lib.toml_span_parse(
-                data, size, _address(nodes), room, _address(strings), size, counts, _address(fault)
+                data, size, at + nodes, room, at + strings, size, at, at + _COUNTS.size
             )
             if status == native.REFUSED:
-                raise _error(text, data, fault, name)
+                raise _error(text, data, block[_COUNTS.size : nodes], name)
             if status == native.MEMORY:
                 raise MemoryError
             if status != native.READ:
                 raise TOMLDecodeError(f"longer than {native.LONGEST} bytes", text, len(text))
-            if counts[0] <= room:
+            count, length = _COUNTS.unpack_from(block)
+            if count <= room:
                 break
-            room = counts[0]
-        self.text, self.data, self.count = text, data, counts[0]
-        self.strings = bytes(strings[: counts[1]])
-        self.records = bytearray(self.count * native.NODE.size)
+            room = count
+        self.text, self.data, self.count = text, data, count
+        self.strings = bytes(block[strings : strings + length])
+        self.records = bytearray(count * native.NODE.size)
         self.address = _address(self.records)
         self.sources = _Sources(data, self.strings)
-        native.lib.toml_span_sort(_address(nodes), self.count, self.address)
+        native.lib.toml_span_sort(at + nodes, count, self.address)
 
     def record(self, number: int) -> Tuple[Any, ...]:
         """All fields of a record."""
@@ -146,6 +151,15 @@ class Document:
         """The value of a record with all that it holds."""
         arguments = self.address, number, self.sources, parse_float is not float
         room, needed = len(self.data) + 16 * self.count + 64, ctypes.c_size_t()
+        if number > 0:
+            record = self.record(number)
+            if record[0] == native.INTEGER:
+                return record[16]
+            if record[0] == native.STRING:
+                source, at, length = record[9:12]
+                return (self.strings if source else self.data)[at : at + length].decode()
+            # (enough for most values: names in headers are not in the span of a table)
+            room = record[3] - record[2] + 16 * (record[15] - number) + 64
         while True:
             out = bytearray(room)
             native.lib.toml_span_pickle(*arguments, _address(out), room, ctypes.byref(needed))
@@ -156,7 +170,9 @@ class Document:
         collects = gc.isenabled()
         gc.disable()
         try:
-            return _Builder(out, self, parse_float).load()
+            builder = _Builder(io.BytesIO(out))
+            builder.document, builder.parse_float = self, parse_float
+            return builder.load()
         finally:
             if collects:
                 gc.enable()
@@ -165,15 +181,14 @@ class Document:
 class _Builder(pickle.Unpickler):
     """Builds what the library writes. Its pickles have no classes, so nothing is imported or called."""
 
-    def __init__(self, out: bytearray, document: Document, parse_float: Callable[[str], Any]) -> None:
-        super().__init__(io.BytesIO(out))
-        self.document, self.parse_float = document, parse_float
+    document: Document
+    parse_float: Callable[[str], Any]
 
     def find_class(self, module: str, name: str) -> Any:
         raise pickle.UnpicklingError(name)
 
     def persistent_load(self, number: int) -> Any:
-        kind, _, start, end = self.document.record(number)[:4]
+        kind, _, start, end = _HEAD.unpack_from(self.document.records, number * native.NODE.size)
         if kind == native.DATETIME:
             return self.document.moment(start, end)
         value = self.parse_float(self.document.data[start:end].decode())

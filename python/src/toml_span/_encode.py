@@ -4,7 +4,7 @@ from __future__ import annotations
 
 import re
 from datetime import date, datetime, time, timedelta
-from typing import Any, Dict, Iterator, List, Mapping, Tuple
+from typing import Any, Dict, Iterable, Iterator, List, Mapping, Tuple, Union
 
 from ._decode import TOMLDecodeError, loads
 
@@ -106,11 +106,36 @@ def dumps(mapping: Mapping[str, Any], /) -> str:
     if not isinstance(mapping, Mapping):
         raise TypeError(f"Expected a mapping, not '{type(mapping).__qualname__}'")
     plain = _plain(mapping)
-    text = "".join(_lines(plain, ())).lstrip("\n")
+    return _checked("".join(_lines(plain, ())).lstrip("\n"), plain)
+
+
+def _checked(text: str, plain: Any) -> str:
+    """A text, if ``loads`` has this value in it."""
     try:
         same = _is_same(plain, loads(text))
     except TOMLDecodeError as error:
         raise ValueError(f"TOML can't hold this: {error.msg}: {text.splitlines()[error.lineno - 1]}") from None
     if not same:
         raise ValueError("TOML can't hold this: it would be read as another value")
+    return text
+
+
+def value_text(value: Any) -> str:
+    """A value on one line, as ``dumps`` writes it."""
+    plain = _plain(value)
+    return _checked(f"v = {_inline(plain, 0)}", {"v": plain})[4:]
+
+
+def path_text(path: Iterable[Union[str, int]]) -> str:
+    """A dotted key of names and positions."""
+    if not isinstance(path, Iterable):
+        raise TypeError(f"a path must be a str or its steps, not '{type(path).__qualname__}'")
+    text = ""
+    for step in path:
+        if isinstance(step, str):
+            text += f".{_key(step)}" if text else _key(step)
+        elif isinstance(step, int):
+            text += f"[{int(step)}]"
+        else:
+            raise TypeError(f"a step of a path must be a str or an int, not '{type(step).__qualname__}'")
     return text

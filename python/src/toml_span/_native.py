@@ -7,7 +7,7 @@ import os
 import struct
 from typing import Any
 
-READ, REFUSED, UNREAD, MEMORY = 0, 1, 2, 4
+READ, REFUSED, UNREAD, UNMADE, MEMORY = range(5)
 STRING, INTEGER, FLOAT, BOOLEAN, DATETIME, ARRAY, TABLE = range(1, 8)
 NONE = (1 << 64) - 1
 LONGEST = 16777216
@@ -17,6 +17,12 @@ LONGEST = 16777216
 NODE = struct.Struct("=II14Qqd")
 FAULT = struct.Struct("=II6Q")
 NAME = "libtoml_span.so.0"
+
+
+class Change(ctypes.Structure):
+    """A change of a text: its number, its path and its value."""
+
+    _fields_ = [("number", ctypes.c_uint32), ("path", ctypes.c_char_p), ("value", ctypes.c_char_p)]
 
 
 def _library() -> ctypes.CDLL:
@@ -36,6 +42,8 @@ def _library() -> ctypes.CDLL:
         ("code", None, [ctypes.c_uint32, pointer, size, pointer]),
         ("find", size, [pointer, size, pointer, size, text]),
         ("sort", None, [pointer, size, pointer]),
+        ("edit", ctypes.c_uint32, [text, size, pointer, size, pointer, size, pointer, pointer, pointer]),
+        ("format", ctypes.c_uint32, [text, size, size, size, pointer, size, pointer, pointer]),
         ("pickle", None, [pointer, size, pointer, ctypes.c_int, pointer, size, pointer]),
     ):
         function: Any = getattr(library, "toml_span_" + name)

@@ -1,0 +1,244 @@
+//! The call that edits a document.
+ghost use Rattle.std.specs.Prelude.{◌≡◌, ◌≢◌, ◌⊎◌, ℕ, List, IfOk, IfSome, map, string_bytes};
+ghost use Rattle.toml_span_c.specs.Calls.{Fills, Holds, IsDocument, IsEdited, IsFaultOf, IsNewStatus, IsRefused};
+ghost use Rattle.toml_span_edit.specs.Edited.{EditMade};
+ghost use Rattle.toml_span_c.specs.Edits.{ChangeMade, ChangesMade, IsChange, names_of};
+
+use crate::answer::{Answer, answer_to};
+use crate::faults::{FaultRecord, fault_of};
+use crate::texts::{put_front, put_whole};
+use std::alloc::{AllocError, Global};
+use toml_span::Stop;
+use toml_span_edit::{Change, Edit, Edits, Reason};
+
+/// A segment of a path: the name of a key, or the position of an element.
+#[repr(C)]
+#[derive(Clone, Copy)]
+pub struct Segment<'a> {
+    pub bytes: &'a [u8],
+}
+
+/// A change of a document.
+#[repr(C)]
+#[derive(Clone, Copy)]
+pub struct ChangeRecord<'a> {
+    /// 1 set, 2 replace, 3 set or add, 4 rename, 5 remove, 6 add, 7 add a table, 8 append, 9 insert, 10 move; 0 if the
+    /// path has no segments because it is not one.
+    pub change: u32,
+    /// The segments from the root.
+    pub path: &'a [Segment<'a>],
+    /// The segments of the new path; only for 10.
+    pub target: &'a [Segment<'a>],
+    /// The value, which is TOML; for 4 the new name.
+    pub value: &'a [u8],
+}
+
+/// Why a change is refused.
+#[derive(Drop)]
+enum Refusal {
+    Reason(Reason),
+    NotUtf8,
+    NoPath,
+    NoChange,
+}
+
+/// Which change is refused, and why.
+#[derive(Drop)]
+struct Refused {
+    index: usize,
+    refusal: Refusal,
+}
+
+/// Returns the names of segments; None if one is not UTF-8.
+fn names<'a>(alloc: Global, segments: &[Segment<'a>]) -> Result<Option<Vec<&'a str>>, AllocError>
+    ensures { IfOk result (λ read. IfSome read (λ found. map (λ s. s.now) found.items ≡ names_of segments.now)) }
+{
+    let mut found = Vec::new(alloc);
+    for segment in segments {
+        let Ok(name) = str::from_utf8(segment.bytes) else {
+            return Ok(None);
+        };
+        found.push(name)?;
+    }
+    Ok(Some(found))
+}
+
+/// Returns the change of a record, or None if no change has its number.
+fn change_of<'e>(
+    asked: ChangeRecord<'_>,
+    value: &'e str,
+    target: &'e [&'e str],
+) -> Option<Change<'e>>
+    ensures { value.now ≡ asked.entry.value.now → map (λ s. s.now) target.now ≡ names_of asked.entry.target.now
+        → IfSome result (λ change. IsChange asked.entry change) }
+{
+    match asked.change {
+        1 => Some(Change::Set(value)),
+        2 => Some(Change::Replace(value)),
+        3 => Some(Change::SetOrAdd(value)),
+        4 => Some(Change::Rename(value)),
+        5 => Some(Change::Remove),
+        6 => Some(Change::Add(value)),
+        7 => Some(Change::AddTable),
+        8 => Some(Change::Append(value)),
+        9 => Some(Change::Insert(value)),
+        10 => Some(Change::MoveTo(target)),
+        _ => None,
+    }
+}
+
+/// Makes an edit of a text.
+fn edit_made(alloc: Global, text: &str, edit: Edit<'_>) -> Result<String, Stop<Refusal>>
+    ensures { IfOk result (λ new. EditMade edit.entry text.now (string_bytes new)) }
+{
+    let mut edits = Edits::new(alloc, text);
+    edits.push(edit)?;
+    match edits.finish() {
+        Ok(new) => Ok(new),
+        Err(Stop::Memory(error)) => Err(Stop::Memory(error)),
+        Err(Stop::Fault(error)) => Err(Stop::Fault(Refusal::Reason(error.reason))),
+    }
+}
+
+/// Makes one change of a text.
+fn change_made(alloc: Global, text: &str, asked: ChangeRecord<'_>) -> Result<String, Stop<Refusal>>
+    ensures { IfOk result (λ new. ChangeMade asked.entry text.now (string_bytes new)) }
+{
+    let (Some(path), Some(target)) = (names(alloc, asked.path)?, names(alloc, asked.target)?) else {
+        return Err(Stop::Fault(Refusal::NotUtf8));
+    };
+    let Ok(value) = str::from_utf8(asked.value) else {
+        return Err(Stop::Fault(Refusal::NotUtf8));
+    };
+    let Some(change) = change_of(asked, value, target.as_slice()) else {
+        let is_path = asked.change != 0;
+        return Err(Stop::Fault(if is_path {
+            Refusal::NoChange
+        } else {
+            Refusal::NoPath
+        }));
+    };
+    let path = path.as_slice();
+    edit_made(alloc, text, Edit { path, change })
+}
+
+/// Makes a change that has this index.
+fn indexed_change_made(
+    alloc: Global,
+    text: &str,
+    asked: ChangeRecord<'_>,
+    index: usize,
+) -> Result<String, Stop<Refused>>
+    ensures { IfOk result (λ new. ChangeMade asked.entry text.now (string_bytes new)) }
+{
+    match change_made(alloc, text, asked) {
+        Ok(new) => Ok(new),
+        Err(Stop::Memory(error)) => Err(Stop::Memory(error)),
+        Err(Stop::Fault(refusal)) => Err(Stop::Fault(Refused { index, refusal })),
+    }
+}
+
+/// Makes changes of a text, one after the other.
+fn changes_made(
+    alloc: Global,
+    text: &str,
+    changes: &[ChangeRecord<'_>],
+) -> Result<String, Stop<Refused>>
+    ensures { IfOk result (λ new. ChangesMade changes.now text.now (string_bytes new)) }
+{
+    let copy = String::from_str(alloc, text)?;
+    let mut new = copy;
+    for (index, asked) in changes.iter().enumerate() {
+        new = indexed_change_made(alloc, new.as_str(), *asked, index)?;
+    }
+    Ok(new)
+}
+
+/// Returns why a change is refused, in words.
+fn message_of(alloc: Global, refusal: &Refusal) -> Result<String, AllocError> {
+    match refusal {
+        Refusal::Reason(reason) => {
+            let mut message = String::from_str(alloc, reason.text())?;
+            message.push_str(reason.detail())?;
+            Ok(message)
+        }
+        Refusal::NotUtf8 => String::from_str(alloc, "the path or the value is not valid UTF-8"),
+        Refusal::NoPath => String::from_str(
+            alloc,
+            "the path is neither a JSON Pointer nor a dotted key",
+        ),
+        Refusal::NoChange => String::from_str(alloc, "there is no change with this number"),
+    }
+}
+
+/// Writes the text after changes of a document, or why one of them is refused. Returns 0, 3 or 4.
+fn put_changed(
+    alloc: Global,
+    document: &str,
+    changes: &[ChangeRecord<'_>],
+    out: &mut [u8],
+    needed: &mut usize,
+    refused: &mut usize,
+) -> u32
+    ensures status { (result ≡ 0) ⊎ ((result ≡ 3) ⊎ (result ≡ 4)) }
+    ensures made { result ≡ 0
+        → (new : List ℕ) × ChangesMade changes.now document.now new × Holds out.old out.new needed.new new }
+    ensures refused { result ≡ 3 → (reason : List ℕ) × Fills out.old out.new needed.new reason }
+    ensures out_kept { result ≡ 4 → (out.new ≡ out.old) × (needed.new ≡ needed.old) }
+    ensures refused_kept { result ≢ 3 → refused.new ≡ refused.old }
+{
+    match changes_made(alloc, document, changes) {
+        Ok(new) => {
+            put_whole(out, needed, new.as_str());
+            0
+        }
+        Err(Stop::Fault(Refused { index, refusal })) => match message_of(alloc, &refusal) {
+            Ok(message) => {
+                put_front(out, needed, message.as_str());
+                *refused = index;
+                3
+            }
+            Err(_) => 4,
+        },
+        Err(Stop::Memory(_)) => 4,
+    }
+}
+
+/// Makes changes of a document, one after the other, and writes the new text if there is room for all of it.
+///
+/// Returns 0 and sets `needed` to its length; 1 and sets `fault` to the error of the document; 2 if the text is longer
+/// than 16 MiB or not UTF-8; 3 if a change is refused: then `refused` is its index, and `out` and `needed` are those of
+/// the reason in words, as far as there is room; 4 if an allocation fails. Nothing else is written.
+#[unsafe(no_mangle)]
+pub extern "C" fn toml_span_edit_paths(
+    alloc: Global,
+    text: &[u8],
+    changes: &[ChangeRecord<'_>],
+    out: &mut [u8],
+    needed: &mut usize,
+    refused: &mut usize,
+    fault: &mut FaultRecord,
+) -> u32
+    ensures status { IsNewStatus text.now result }
+    ensures made { result ≡ 0
+        → (new : List ℕ) × IsEdited text.now changes.now new × Holds out.old out.new needed.new new }
+    ensures faulty { result ≡ 1 → IsRefused text.now (IsFaultOf fault.new) }
+    ensures refused { result ≡ 3
+        → IsDocument text.now × ((reason : List ℕ) × Fills out.old out.new needed.new reason) }
+    ensures out_kept { result ≢ 0 → result ≢ 3 → (out.new ≡ out.old) × (needed.new ≡ needed.old) }
+    ensures refused_kept { result ≢ 3 → refused.new ≡ refused.old }
+    ensures fault_kept { result ≢ 1 → fault.new ≡ fault.old }
+{
+    match answer_to(alloc, text) {
+        Answer::Tree(document, root) => {
+            drop(root);
+            put_changed(alloc, document, changes, out, needed, refused)
+        }
+        Answer::Fault(_text, error) => {
+            *fault = fault_of(&error);
+            1
+        }
+        Answer::Unread => 2,
+        Answer::Memory => 4,
+    }
+}

@@ -1,0 +1,79 @@
+//! The call that formats a document.
+ghost use Rattle.std.specs.Prelude.{◌≡◌, ◌≢◌, ◌⊎◌, ℕ, List};
+ghost use Rattle.toml_span_format.specs.Document.{SameDocument};
+ghost use Rattle.toml_span_c.specs.Calls.{Holds, IsDocument, IsFaultOf, IsFormatted, IsNewStatus, IsRefused};
+
+use crate::answer::{Answer, answer_to};
+use crate::faults::{FaultRecord, fault_of};
+use crate::texts::put_whole;
+use std::alloc::Global;
+use toml_span::Stop;
+use toml_span_format::{Options, format};
+
+/// The most spaces of an indent.
+pub const MOST_SPACES: usize = 64;
+
+/// Writes the formatted text of a document. Returns 0, 3 or 4.
+fn put_formatted(
+    alloc: Global,
+    document: &str,
+    options: Options,
+    out: &mut [u8],
+    needed: &mut usize,
+) -> u32
+    ensures status { (result ≡ 0) ⊎ ((result ≡ 3) ⊎ (result ≡ 4)) }
+    ensures made { result ≡ 0
+        → (new : List ℕ) × SameDocument document.now new × Holds out.old out.new needed.new new }
+    ensures out_kept { result ≢ 0 → (out.new ≡ out.old) × (needed.new ≡ needed.old) }
+{
+    match format(alloc, document, options) {
+        Ok(new) => {
+            put_whole(out, needed, new.as_str());
+            0
+        }
+        Err(Stop::Fault(_)) => 3,
+        Err(Stop::Memory(_)) => 4,
+    }
+}
+
+/// Formats a document, and writes the new text if there is room for all of it. An indent of more than 64 spaces is
+/// taken as 64.
+///
+/// Returns 0 and sets `needed` to its length; 1 and sets `fault` to the error of the document; 2 if the text is longer
+/// than 16 MiB or not UTF-8; 3 if the formatted text would differ, which is a bug; 4 if an allocation fails. Nothing
+/// else is written.
+#[unsafe(no_mangle)]
+pub extern "C" fn toml_span_format(
+    alloc: Global,
+    text: &[u8],
+    width: usize,
+    indent: usize,
+    out: &mut [u8],
+    needed: &mut usize,
+    fault: &mut FaultRecord,
+) -> u32
+    ensures status { IsNewStatus text.now result }
+    ensures made { result ≡ 0
+        → (new : List ℕ) × IsFormatted text.now new × Holds out.old out.new needed.new new }
+    ensures faulty { result ≡ 1 → IsRefused text.now (IsFaultOf fault.new) }
+    ensures unmade { result ≡ 3 → IsDocument text.now }
+    ensures out_kept { result ≢ 0 → (out.new ≡ out.old) × (needed.new ≡ needed.old) }
+    ensures fault_kept { result ≢ 1 → fault.new ≡ fault.old }
+{
+    match answer_to(alloc, text) {
+        Answer::Tree(document, root) => {
+            drop(root);
+            let options = Options {
+                width,
+                indent: indent.min(MOST_SPACES),
+            };
+            put_formatted(alloc, document, options, out, needed)
+        }
+        Answer::Fault(_text, error) => {
+            *fault = fault_of(&error);
+            1
+        }
+        Answer::Unread => 2,
+        Answer::Memory => 4,
+    }
+}

@@ -1,0 +1,159 @@
+"""From a text to another one: edits and the formatter."""
+
+from __future__ import annotations
+
+import ctypes
+from typing import Any, AnyStr, Callable, Generic, Iterable, List, Optional, Tuple, Union
+
+from . import _native as native
+from ._encode import path_text, value_text
+from ._node import parse
+
+Path = Union[str, Iterable[Union[str, int]]]
+
+
+class EditError(ValueError):
+    """An edit is refused. msg: why. index: its number, counted from 0. path: its path."""
+
+    def __init__(self, msg: str, index: int, path: str) -> None:
+        super().__init__(f"{msg} (edit {index}, at {path!r})")
+        self.msg, self.index, self.path = msg, index, path
+
+    def __reduce__(self) -> Any:
+        return type(self), (self.msg, self.index, self.path)
+
+
+def _checked(text: AnyStr) -> AnyStr:
+    if not isinstance(text, (str, bytes)):
+        raise TypeError(f"Expected str or bytes object, not '{type(text).__qualname__}'")
+    return text
+
+
+def _made(text: AnyStr, room: int, call: Callable[..., int], refused: Callable[[str], Exception]) -> AnyStr:
+    """The new text that a call of the library makes of a text."""
+    data = text.encode("utf-8", "surrogatepass") if isinstance(text, str) else text
+    needed = ctypes.c_size_t()
+    fault = ctypes.create_string_buffer(native.FAULT.size)
+    while True:
+        out = ctypes.create_string_buffer(room)
+        status = call(data, len(data), out, room, ctypes.byref(needed), fault)
+        if status == native.MEMORY:
+            raise MemoryError
+        if status in (native.REFUSED, native.UNREAD):
+            # (the error of a parse)
+            parse(text)
+            raise AssertionError("a text is refused and read")
+        if needed.value <= room:
+            break
+        room = needed.value
+    new = ctypes.string_at(out, needed.value)
+    if status == native.UNMADE:
+        raise refused(new.decode())
+    return new.decode() if isinstance(text, str) else new
+
+
+class Edits(Generic[AnyStr]):
+    """Edits of a text, which ``finish`` makes one after the other.
+
+    A path is a dotted key with positions, such as ``server.ports[0]``, a JSON Pointer, such as ``/server/ports/0``, or
+    names and positions, such as the ``path`` of a Node: ``("server", "ports", 0)``. A value is written as ``dumps``
+    does. Each method returns the edits, so that calls can be chained.
+    """
+
+    def __init__(self, text: AnyStr) -> None:
+        self._text = _checked(text)
+        self._changes: List[Tuple[int, bytes, bytes]] = []
+
+    def _add(self, number: int, path: Path, value: Optional[str]) -> Edits[AnyStr]:
+        texts = [path if isinstance(path, str) else path_text(path), "" if value is None else value]
+        if not isinstance(texts[1], str):
+            raise TypeError(f"a name must be a str, not '{type(value).__qualname__}'")
+        if any("\0" in text for text in texts):
+            raise ValueError("a path or a name must not have a null character")
+        self._changes.append((number, texts[0].encode(), texts[1].encode()))
+        return self
+
+    def set(self, path: Path, value: Any) -> Edits[AnyStr]:
+        """Writes a value over one, but not over a table or an array that headers or dotted keys define."""
+        return self._add(1, path, value_text(value))
+
+    def replace(self, path: Path, value: Any) -> Edits[AnyStr]:
+        """Writes a value over one, also over such a table or array."""
+        return self._add(2, path, value_text(value))
+
+    def set_or_add(self, path: Path, value: Any) -> Edits[AnyStr]:
+        """Sets a value, or adds it with the tables that are missing on the way."""
+        return self._add(3, path, value_text(value))
+
+    def rename(self, path: Path, name: str) -> Edits[AnyStr]:
+        """Gives a key another name."""
+        return self._add(4, path, name)
+
+    def remove(self, path: Path) -> Edits[AnyStr]:
+        """Removes a value with its key, or an element."""
+        return self._add(5, path, None)
+
+    def add(self, path: Path, value: Any) -> Edits[AnyStr]:
+        """Adds a value under a new key, the last of the path, to a table that is there."""
+        return self._add(6, path, value_text(value))
+
+    def add_table(self, path: Path) -> Edits[AnyStr]:
+        """Adds an empty table."""
+        return self._add(7, path, None)
+
+    def append(self, path: Path, value: Any) -> Edits[AnyStr]:
+        """Adds a value to an array as its last element, or a new array with it."""
+        return self._add(8, path, value_text(value))
+
+    def insert(self, path: Path, value: Any) -> Edits[AnyStr]:
+        """Adds a value before the element at the path, or after the last one."""
+        return self._add(9, path, value_text(value))
+
+    def move(self, path: Path, target: Path) -> Edits[AnyStr]:
+        """Moves a value to another path, at which there is none."""
+        return self._add(10, path, target if isinstance(target, str) else path_text(target))
+
+    def finish(self) -> AnyStr:
+        """Makes the edits, and returns the new text.
+
+        Raises TOMLDecodeError if the text is not valid TOML, and EditError for the first edit that is refused.
+        """
+        count, index = len(self._changes), ctypes.c_size_t()
+        changes = (native.Change * count)(*self._changes)
+
+        def call(data: bytes, size: int, out: Any, room: int, needed: Any, fault: Any) -> int:
+            status: int = native.lib.toml_span_edit(
+                data, size, changes, count, out, room, needed, ctypes.byref(index), fault
+            )
+            return status
+
+        room = 2 * len(self._text) + sum(len(path) + len(value) for _, path, value in self._changes) + 512
+        return _made(
+            self._text, room, call, lambda msg: EditError(msg, index.value, self._changes[index.value][1].decode())
+        )
+
+
+def edit(text: AnyStr) -> Edits[AnyStr]:
+    """Begins to edit a text, or its bytes. ``finish`` of what it returns makes the edits:
+
+    >>> toml_span.edit("a = 1 # one\\n").set("a", 2).add("b", [True]).finish()
+    'a = 2 # one\\nb = [true]\\n'
+    """
+    return Edits(text)
+
+
+def format(text: AnyStr, *, width: int = 80, indent: int = 4) -> AnyStr:
+    """Formats a text, or its bytes. Raises TOMLDecodeError.
+
+    Arrays on one line take at most ``width`` columns. Elements on lines of their own are indented by ``indent`` spaces,
+    at most 64.
+    """
+    if width < 0 or not 0 <= indent <= 64:
+        raise ValueError("width must not be negative, and indent must be from 0 to 64")
+
+    def call(data: bytes, size: int, out: Any, room: int, needed: Any, fault: Any) -> int:
+        status: int = native.lib.toml_span_format(data, size, min(width, 1 << 32), indent, out, room, needed, fault)
+        return status
+
+    room = 2 * len(_checked(text)) + 512
+    return _made(text, room, call, lambda msg: AssertionError("the formatter would change a value"))
