@@ -3,7 +3,7 @@
 #
 # It installs the library (scripts/c_library.sh), the proved one if that is there, into a folder of its own, and tries:
 # the examples with gcc and clang, pkg-config, CMake and meson; the exports and the layout of the records (abi.txt); the
-# calls under sanitizers (walk.c), with each request for memory refused (hold.c), between guard pages (fuzz.c), in
+# calls under sanitizers (walk.c, edits.c), with each request for memory refused (hold.c), between guard pages (fuzz.c), in
 # threads and with little stack (threads.c); the wheel, installed without network into a fresh environment. Times are
 # shown, and count only with --times, since a machine that others share shakes them. The last line counts.
 source "$(dirname -- "$(readlink -f -- "$0")")/common.sh"
@@ -21,7 +21,7 @@ for word; do if [ "$word" = --times ]; then times=told; else words+=("$word"); f
 told() {
     if "${@:2}" >"$work/said" 2>&1; then
         passed=$((passed + 1))
-        grep -E '^(hold|fuzz|threads|walk|speed|times):' "$work/said"
+        grep -E '^(hold|fuzz|threads|walk|edits|speed|times):' "$work/said"
     else
         failed=$((failed + 1))
         echo "c_test: failed: $1"
@@ -64,6 +64,15 @@ exits() { "${@:2}"; [ $? -eq "$1" ]; }
 keys() { "$1" examples/c/example.toml | diff - examples/c/example.keys; }
 values() { "$1" examples/c/example.toml | diff - examples/c/example.values; }
 
+# edited PROGRAM: it writes the edited and formatted document, and says why there is none
+edited() {
+    "$1" examples/c/example.toml server.ports '[80,443]' | diff - examples/c/example.edited &&
+        exits 13 "$1" examples/c/example.toml title.no 1 2>"$work/said.edit" &&
+        exits 11 "$1" "$runs/data/settings.toml" a 1 2>>"$work/said.edit" &&
+        printf '%s\n' 'title.no: the path does not name a table' "$runs/data/settings.toml:7:1: not valid TOML" |
+        diff - "$work/said.edit"
+}
+
 # refused PROGRAM: for a document that is refused it ends with status 1 and the report
 refused() {
     exits 1 "$1" "$runs/data/settings.toml" >"$work/out" 2>"$work/report" &&
@@ -80,7 +89,8 @@ example() {
 # exports FILE WORD..: the names that nm shows
 exports() { nm -g --defined-only "${@:2}" "$1" | awk '$2 ~ /[A-Z]/ && $3 != "" { print $2, $3 }' | sort; }
 
-# abi: the soname, the exports of both libraries and the layout of the records are those that are kept
+# abi: the soname, the exports of both libraries and the layout of the records are those that are kept. What is new may
+# be added under the same soname
 abi() {
     gcc "${strict[@]}" "$tests/abi.c" -o "$work/abi" && diff <(exports "$archive") <(exports "$shared" -D) &&
         {
@@ -88,7 +98,11 @@ abi() {
             exports "$shared" -D
             "$work/abi"
         } >"$work/abi.txt" && diff "$tests/abi.txt" "$work/abi.txt" && return
-    echo "the interface has changed: raise TOML_SPAN_ABI in include/toml_span.h, and keep the new one as $tests/abi.txt"
+    if diff "$tests/abi.txt" "$work/abi.txt" | grep -q '^<'; then
+        echo "the interface has changed: raise TOML_SPAN_ABI in include/toml_span.h, and keep the new $tests/abi.txt"
+    else
+        echo "the interface has more than before: keep the new $tests/abi.txt"
+    fi
     false
 }
 
@@ -100,10 +114,18 @@ for language in c:gcc c:clang c++:g++ c++:clang++; do
     command -v "$compiler" >/dev/null || continue
     example keys "$work/keys.$compiler" "$compiler" -x "${language%:*}" "${strict[@]}" examples/c/keys.c \
         -x none "$archive"
-    told "records.c with $compiler" "$compiler" -x "${language%:*}" "${strict[@]}" -c c/records.c -o "$work/records.o"
+    for file in records edit; do
+        told "$file.c with $compiler" "$compiler" -x "${language%:*}" "${strict[@]}" -c "c/$file.c" -o "$work/$file.o"
+    done
+    told "the example edit" "$compiler" -x "${language%:*}" "${strict[@]}" examples/c/edit.c -x none "$archive" \
+        -o "$work/edit.$compiler"
+    told "what edit writes" edited "$work/edit.$compiler"
     if [ "${language%:*}" = c ]; then continue; fi
     example values "$work/values.$compiler" "$compiler" -std=c++17 -pedantic -Wshadow -fno-exceptions -fno-rtti \
         "${strict[@]}" "${sanitize[@]}" examples/c/values.cpp "$archive"
+    told "edits.cpp with $compiler" "$compiler" -std=c++17 -pedantic -Wshadow -fno-exceptions -fno-rtti "${strict[@]}" \
+        "${sanitize[@]}" "$tests/edits.cpp" "$archive" -o "$work/edits.$compiler"
+    told "edits in C++ with $compiler" "$work/edits.$compiler"
 done
 
 # packaged, cmade, mesoned: programs that are linked as docs/C.md says start by themselves
@@ -124,9 +146,11 @@ if has pkg-config && has meson; then told "meson" mesoned; fi
 
 # build NAME WORD..: compiles a test
 build() { told "$1.c" gcc -std=c11 "${strict[@]}" "$tests/$1.c" "${@:2}" -pthread -o "$work/$1"; }
-build walk "${sanitize[@]}" c/records.c "$shared" "-Wl,-rpath,$lib"
+build walk "${sanitize[@]}" c/records.c c/edit.c "$shared" "-Wl,-rpath,$lib"
 told "lookups and orders" "$work/walk" "${documents[@]}"
 example keys "$work/keys.asan" gcc -std=c11 "${strict[@]}" "${sanitize[@]}" examples/c/keys.c "$archive"
+build edits "${sanitize[@]}" "$archive"
+told "edits and formats" "$work/edits" "${documents[@]}"
 build hold "$archive" -Wl,--wrap=malloc,--wrap=realloc
 told "refused memory and each room" "$work/hold" "${documents[@]}"
 if has valgrind; then

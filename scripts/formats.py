@@ -27,6 +27,7 @@ FILES = {
     b"..toml": 'a = "\u00e9\U0001f600", b\n'.encode(),
     b"lines.toml": b'a = 1\na.b = """x\ny"""\n',
     b"short.toml": b"a = [1,",
+    b"word.toml": "a = \u00e9t\u00e9\n".encode(),
     b"nothing.toml": b"",
     b"good.toml": b"a = 1\n",
     b"bytes.toml": b"a = '\xff'\n",
@@ -77,35 +78,48 @@ def annotation(fault, text):
     return f"::error {listed}::{escaped(fault['message'], '')}"
 
 
+def artifact(name):
+    """The location of a file."""
+    return {"uri": f"{'file://' if name.startswith('/') else ''}{urllib.parse.quote(name)}"}
+
+
+def region(span, text):
+    """A region, which ends no later than the source."""
+    start, end = (min(span[it], len(text)) for it in ("start", "end"))
+    (line, column), (last, after) = position(text, start), position(text, end)
+    found = {"startLine": line, "startColumn": column, "endLine": last, "endColumn": after}
+    return found | {"byteOffset": start, "byteLength": end - start}
+
+
 def location(name, label, text):
     """A location of SARIF."""
-    uri = f"{'file://' if name.startswith('/') else ''}{urllib.parse.quote(name)}"
-    physical = {"artifactLocation": {"uri": uri}}
+    physical = {"artifactLocation": artifact(name)}
     if not label:
         return {"physicalLocation": physical}
-    start, end = position(text, label["start"]), position(text, label["end"])
-    region = {"startLine": start[0], "startColumn": start[1], "endLine": end[0], "endColumn": end[1]}
-    region |= {"byteOffset": label["start"], "byteLength": label["end"] - label["start"]}
-    return {"physicalLocation": physical | {"region": region}, "message": {"text": label["message"]}}
+    return {"physicalLocation": physical | {"region": region(label, text)}, "message": {"text": label["message"]}}
 
 
 def result(fault, text):
     """A result of SARIF."""
     others = [label for label in fault["labels"] if not label["primary"]]
+    changes = [
+        {"deletedRegion": region(fix, text), "insertedContent": {"text": fix["text"]}} for fix in fault["fixes"]
+    ]
+    fix = {"artifactChanges": [{"artifactLocation": artifact(fault["file"]), "replacements": changes}]}
     return {
         "ruleId": fault["code"],
         "level": "error",
         "message": {"text": fault["message"]},
         "locations": [location(fault["file"], label_of(fault), text)],
         "relatedLocations": [location(fault["file"], label, text) for label in others],
-    }
+    } | ({"fixes": [fix]} if changes else {})
 
 
 def all_codes():
-    """The codes of the errors that a row reports, and of files that are not text."""
+    """The codes of the errors that a row reports, and of whole files."""
     with open(f"{TOP}/crates/toml_span_rows/stdout", encoding="utf-8") as rows:
         told = re.findall(r"(?m)^parse .*\n    error ([a-z-]+) ", rows.read())
-    return sorted({*told, "not-utf-8", "too-long"})
+    return sorted({*told, "too-many-errors", "newer-toml", "not-utf-8", "too-long"})
 
 
 def check(program, names):

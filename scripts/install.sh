@@ -163,10 +163,11 @@ for name, it in helps.items():
             bash.append(f"    '{at + 2} {name} '*) words=$(toml-span show \"${{COMP_WORDS[2]}}\" {paths}) ;;")
             here = f"and test (count (commandline -opc)) -eq {at + 2}"
             fish.append(f"{name}; {here}' -a '(toml-span show (commandline -opc)[3] {paths})'")
-        elif "COMMAND" in argument:
-            action = f"({' '.join(commands)})"
-            bash.append(f"    '{at + 2} {name} '*) words='{' '.join(commands)}' ;;")
-            fish.append(f"{name}' -a '{' '.join(commands)}'")
+        elif "COMMAND" in argument or "CODE" in argument:
+            names = list(commands) if "COMMAND" in argument else re.findall("(?m)^[a-z0-9-]+", ask("explain"))
+            action = f"({' '.join(names)})"
+            bash.append(f"    '{at + 2} {name} '*) words='{' '.join(names)}' ;;")
+            fish.append(f"{name}' -a '{' '.join(names)}'")
         words.append(quoted(f"{'*' if argument.endswith('..') else at + 1}:{argument.strip('[].').lower()}:{action}"))
     zsh.append(f"{name}) _arguments {' '.join(words)} ;;")
 write(

@@ -38,8 +38,8 @@ ROWS = "crates/toml_span_rows"
 FIELDS = ("first", "expected", "found", "key", "name")
 # names of the toolchain, of the C library and of other crates
 FOREIGN = """AsRef BuiltModule Comparable From Given Goals IsSortedBy IsStableBy Lts MALLOC_MMAP_THRESHOLD_
-MALLOC_TRIM_THRESHOLD_ ParsesChar Serialize Tie as_ codespan_reporting deny_unknown_fields from_iter table_from_str
-the_lemmas write_all""".split()
+MALLOC_TRIM_THRESHOLD_ ParsesChar Serialize Tie as_ codespan_reporting deny_unknown_fields from_iter reorder_keys
+table_from_str the_lemmas write_all""".split()
 # what only a reader of other papers could look up: their names, and their rules by number
 THINGS = r"(?:rule|row|rung|table|paper|section|request) (?:\d+|[A-F])"
 CITED = [
@@ -261,9 +261,9 @@ class Page:
         command = re.sub(r"^\$ \S+ ", "", command)
         for run in found(f"crates/*/runs/**/{name}.args") + found(f"crates/*/runs/{name}/args"):
             files = [run.removesuffix("args") + end for end in ("stdout", "stderr")]
-            told = [text_of(it).rstrip("\n") for it in files if os.path.isfile(f"{TOP}/{it}")]
+            told = "".join(text_of(it) for it in files if os.path.isfile(f"{TOP}/{it}")).rstrip("\n")
             words = text_of(run).splitlines()
-            if command in (" ".join(words), shlex.join(words)) and said == "\n".join(filter(None, told)).split("\n"):
+            if command in (" ".join(words), shlex.join(words)) and said == (told.split("\n") if told else []):
                 return
         self.fault(at, f"no run crates/*/runs/{name} is like this")
 

@@ -264,15 +264,60 @@ prefixes() {
     done
 }
 
+# edits: files of every kind that are edited
+edits() {
+    # shellcheck disable=SC2016,SC2034 # (backticks of messages; used by `writes`)
+    local number long left='error: cannot write `named.toml`: `named.toml.toml-span` was left by another run'
+    long=$(printf '%0240d' 0)
+    cd "$work/folder" || return
+    printf 'a = 1\n' | tee read.toml one.toml long.toml left.toml named.toml many.toml >"$long"
+    chmod 444 read.toml
+    ln one.toml other.toml
+    mkfifo pipe
+    ln -s named.toml linked.toml
+    writes 3 'error: cannot write `read.toml`: it is read-only
+help: `--force` edits it all the same' set read.toml /a 2
+    ends 0 set --force read.toml /a 2
+    holds test "$(stat -c %a read.toml)" = 444
+    writes 3 'error: cannot write `one.toml`: it has more than one name (hard links)
+help: `--in-place` writes into the file itself, which keeps its names' set one.toml /a 2
+    ends 0 set --in-place one.toml /a 22
+    ends 0 set --in-place one.toml /a 2
+    holds cmp one.toml read.toml
+    holds cmp other.toml read.toml
+    writes 3 'error: cannot write `pipe`: it is not a regular file' set pipe /a 2
+    writes 3 'error: cannot write `/dev/null`: it is not a regular file' set --in-place /dev/null /a 2
+    ends 0 set "$long" /a 2
+    holds cmp "$long" read.toml
+    echo other >named.toml.toml-span
+    writes 3 "$left: remove it if none is running" set --wait 0 named.toml /a 2
+    writes 3 "${left/named/linked}: remove it if none is running" set --wait=0 linked.toml /a 2
+    (umask 077 && echo other >left.toml.toml-span)
+    ends 0 set left.toml /a 2
+    holds cmp left.toml read.toml
+    (umask 077 && : >left.toml.toml-span)
+    exec 8<left.toml.toml-span
+    flock 8
+    writes 3 'error: cannot write `left.toml`: another run is editing it and holds `left.toml.toml-span`
+help: `--wait SECONDS` waits longer' set --wait 0 left.toml /a 3
+    exec 8<&-
+    for number in {1..8}; do "$program" add many.toml '' "k$number" "$number" & done
+    wait
+    holds test "$(grep -c '^k' many.toml)" = 8
+    holds test "$(echo *.toml-span)" = 'left.toml.toml-span named.toml.toml-span'
+    cd - >/dev/null || return
+}
+
 toml_span_cli() {
     local terminal='import os, pty, sys; sys.exit(os.waitstatus_to_exitcode(pty.spawn(sys.argv[1:])))'
     fresh
-    for part in cuts names prefixes; do "$part"; done
+    for part in cuts names prefixes edits; do "$part"; done
     out=/dev/full ends 3 check settings.toml
     out=/dev/full ends 3 check --help
     out=/dev/full ends 3 show tree.toml
     err=/dev/full ends 3 check --format
-    err=/dev/full ends 3 set tree.toml /nothing 1
+    err=/dev/full ends 3 remove tree.toml /nothing
+    out=/dev/full ends 3 set --diff tree.toml /name 1
     colored '' TERM=xterm
     colored yes CLICOLOR_FORCE=1 TERM=dumb
     colored '' CLICOLOR_FORCE=0
@@ -296,14 +341,15 @@ toml_span_cli() {
     ends 0 rename link.toml /dependencies/a dependencies
     holds test -L "$work/folder/link.toml"
     holds grep '^\[dependencies.dependencies\]$' "$work/folder/child.toml"
-    echo other >"$work/folder/odd.toml.toml-span"
-    ends 3 remove odd.toml /m/n
-    holds cmp "$work/folder/odd.toml" runs/data/odd.toml
-    for name in runs/{colour,github,json,sarif,summary,all_files,get_tagged,items,get_root_as_toml,set_odd} \
-        runs/{tagged,items}_{clashing,crossing,nested} \
-        runs/{rename_quoted,remove_dotted,remove_inline,add_to_empty,set_in_invalid}; do
+    for name in runs/{colour,github,json,sarif,summary,all_files,get_tagged,items,get_root_as_toml} \
+        runs/{tagged,items}_{clashing,crossing,nested} runs/{fmt_one,fmt_sorted}; do
         arguments_of
         refused 4 20 0
+    done
+    # (a request after the file was replaced, to sync its folder, or to remove the new file, may fail)
+    for name in runs/{set_odd,rename_quoted,remove_dotted,remove_inline,add_to_empty,set_in_invalid}; do
+        arguments_of
+        refused 4 20 1
     done
 }
 

@@ -262,7 +262,8 @@ def limits(named):
     programs = [[os.path.abspath(it)] for it in named]
     if not programs:
         cli, show = native("toml_span_cli"), native("toml_span_show")
-        programs = [[cli, "check"], [cli, "get", "--items", "-", ""], [cli, "get", "--tagged", "-", ""], [show]]
+        programs = [[cli, "check"], [cli, "fmt", "-"], [cli, "get", "--items", "-", ""]]
+        programs += [[cli, "get", "--tagged", "-", ""], [show]]
     for program in programs:
         print(f"{' '.join([os.path.relpath(program[0], TOP), *program[1:]])}:")
         for name, text in deepest():

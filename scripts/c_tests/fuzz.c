@@ -2,7 +2,7 @@
  *
  * Some lines of the documents with some bytes written over, left out or doubled, and arrays of a random length, each of
  * which begins or ends at such a page. Of a text that is read with room enough the records hang together: see `hangs`.
- * The numbers are those of a fixed seed. */
+ * One of eight texts is edited or formatted, too: see `is_rewritten`. The numbers are those of a fixed seed. */
 #define _DEFAULT_SOURCE
 #include "toml_span.h"
 
@@ -90,6 +90,29 @@ static int hangs(const toml_span_node *nodes, toml_span_counts counts, size_t le
     return aside == counts.strings && counts.strings <= length && counts.nodes <= length / 2 + 1 + length % 2;
 }
 
+/* Whether random changes, or the formatter, of a text with this status return the same status, or a change is refused;
+ * and whether what they make is a document. */
+static int is_rewritten(const char *text, size_t length, guarded block, uint32_t status) {
+    static const char *const paths[] = {"",      "a",     "/a/0",      "a[1]",  "b.c",
+                                        "/a/b",  "x.y.z", "\"a b\"",   "/a~1b", "arr[0].b"};
+    static const char *const values[] = {"1", "[1, 2]", "{a = 1}", "\"x\"", "'''\n'''",
+                                         "a", "x.y",    "",        "07:32", "[\n#\n]"};
+    toml_span_change changes[3];
+    for (size_t at = 0; at < 3; at++) {
+        toml_span_change change = {(uint32_t)pick(11), paths[pick(10)], values[pick(10)]};
+        changes[at] = change;
+    }
+    size_t room = pick(3) ? ROOM : pick(ROOM), needed = 0, refused = 99, count = pick(4);
+    char *out = part(block, room);
+    toml_span_fault fault = {0};
+    int is_edit = pick(2) == 0;
+    uint32_t now = is_edit ? toml_span_edit(text, length, changes, count, out, room, &needed, &refused, &fault)
+                           : toml_span_format(text, length, pick(90), pick(9), out, room, &needed, &fault);
+    if (now == TOML_SPAN_UNMADE) return is_edit && status == TOML_SPAN_READ && refused < count && needed > 0;
+    if (now != status || (now == TOML_SPAN_REFUSED) != (fault.code > 0)) return 0;
+    return now != TOML_SPAN_READ || needed > room || toml_span_check(out, needed) == TOML_SPAN_READ;
+}
+
 int main(int argc, char **argv) {
     if (argc < 3) return 2;
     long count = atol(argv[1]), read = 0, refused = 0, other = 0, wrong = 0;
@@ -101,6 +124,7 @@ int main(int argc, char **argv) {
     }
     if (total < LONGEST) return 2;
     guarded texts = guard(LONGEST), records = guard(ROOM * sizeof(toml_span_node)), bytes = guard(LONGEST);
+    guarded news = guard(ROOM);
     static char text[LONGEST];
     for (long at = 0; at < count; at++) {
         size_t length = change(text), room = pick(3) ? ROOM : pick(20), strings_room = pick(3) ? LONGEST : pick(9);
@@ -120,6 +144,7 @@ int main(int argc, char **argv) {
         } else if (status == TOML_SPAN_UNREAD) {
             other++;
         } else wrong++;
+        if (pick(8) == 0 && !is_rewritten(shown, length, news, status)) wrong++;
     }
     printf("fuzz: %ld texts: %ld are read, %ld refused, %ld no UTF-8; %ld wrong\n", count, read, refused, other, wrong);
     return wrong != 0 || read == 0 || refused == 0;

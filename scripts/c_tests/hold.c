@@ -2,7 +2,8 @@
  *
  * Linked with -Wl,--wrap=malloc,--wrap=realloc. For each document: with any one request refused a call answers 4 and
  * writes nothing; with any room the arrays have a prefix of the records and of the strings, nothing behind it is
- * touched, and the counts are the same. A document that is refused fills the fault alone. */
+ * touched, and the counts are the same. A document that is refused fills the fault alone. An edit and the formatter write
+ * nothing, too, with any one request refused. */
 #include "toml_span.h"
 
 #include <stdio.h>
@@ -111,6 +112,50 @@ static void hold(const char *name) {
     free(part.strings);
 }
 
+/* What toml_span_edit or toml_span_format writes. */
+typedef struct {
+    char out[1 << 17];
+    size_t needed, refused;
+    toml_span_fault fault;
+} writing;
+
+/* So many changes, or the formatter. */
+static uint32_t write_new(size_t count, writing *to) {
+    static const toml_span_change changes[] = {{TOML_SPAN_SET_OR_ADD, "new.'a b'", "[1, {b = 2}]"},
+                                               {TOML_SPAN_APPEND, "/new/a b", "\"x\""},
+                                               {TOML_SPAN_INSERT, "new.\"a b\"[0]", "3"},
+                                               {TOML_SPAN_REPLACE, "new.'a b'[1]", "[]"},
+                                               {TOML_SPAN_ADD_TABLE, "more", NULL},
+                                               {TOML_SPAN_MOVE, "new", "more.inner"},
+                                               {TOML_SPAN_RENAME, "more.inner", "last"},
+                                               {TOML_SPAN_REMOVE, "more", NULL},
+                                               {TOML_SPAN_SET, "none", "1"}};
+    memset(to, 0x5A, sizeof *to);
+    if (count == 0) return toml_span_format(text, length, 60, 2, to->out, sizeof to->out, &to->needed, &to->fault);
+    return toml_span_edit(text, length, changes, count, to->out, sizeof to->out, &to->needed, &to->refused, &to->fault);
+}
+
+static void hold_new(const char *name) {
+    static writing whole, part;
+    static const size_t counts[] = {0, 1, 8, 9};
+    for (size_t at = 0; at < sizeof counts / sizeof *counts; at++) {
+        asked = 0;
+        refused = -1;
+        uint32_t status = write_new(counts[at], &whole);
+        long requests = asked;
+        for (long request = 0; request < requests; request++) {
+            asked = 0;
+            refused = request;
+            uint32_t answer = write_new(counts[at], &part);
+            told(answer == TOML_SPAN_MEMORY && is_blank(&part, sizeof part), name, "refused request of a new text",
+                 (size_t)request);
+        }
+        refused = -1;
+        told(write_new(counts[at], &part) == status && !memcmp(&whole, &part, sizeof part), name, "new text",
+             counts[at]);
+    }
+}
+
 int main(int argc, char **argv) {
     for (int at = 1; at < argc; at++) {
         FILE *file = fopen(argv[at], "rb");
@@ -118,6 +163,7 @@ int main(int argc, char **argv) {
         length = fread(text, 1, sizeof text, file);
         fclose(file);
         hold(argv[at]);
+        hold_new(argv[at]);
     }
     printf("hold: %ld of %ld right, of %d documents\n", runs - wrong, runs, argc - 1);
     return wrong != 0 || argc < 2;

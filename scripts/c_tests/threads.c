@@ -1,4 +1,5 @@
-/* threads FILE..: eight threads that parse at once have what one has, and how much stack the deepest documents take. */
+/* threads FILE..: eight threads that parse, edit and format at once have what one has, and how much stack the deepest
+ * documents take. */
 #define _GNU_SOURCE
 #include "toml_span.h"
 
@@ -17,13 +18,31 @@ typedef struct {
     toml_span_counts counts;
     toml_span_fault fault;
     uint32_t status;
+    /* a change and its path in place of a parse; or with the path "*" the formatter */
+    toml_span_change change;
+    char out[4 * ROOM];
+    size_t needed, refused;
 } job;
+
+static void do_once(job *mine) {
+    const char *path = mine->change.path;
+    if (path == NULL)
+        mine->status = toml_span_parse(mine->text, mine->length, mine->nodes, ROOM, mine->strings, ROOM, &mine->counts,
+                                       &mine->fault);
+    else if (*path == '*')
+        mine->status = toml_span_format(mine->text, mine->length, 80, 4, mine->out, sizeof mine->out, &mine->needed,
+                                        &mine->fault);
+    else
+        mine->status = toml_span_edit(mine->text, mine->length, &mine->change, 1, mine->out, sizeof mine->out,
+                                      &mine->needed, &mine->refused, &mine->fault);
+}
 
 static void *work(void *given) {
     job *mine = given;
+    static const toml_span_change whats[] = {{0, NULL, NULL}, {0, "*", NULL}, {TOML_SPAN_SET_OR_ADD, "new.x", "1"}};
     for (int round = 0; round < ROUNDS; round++) {
-        mine->status = toml_span_parse(mine->text, mine->length, mine->nodes, ROOM, mine->strings, ROOM, &mine->counts,
-                                       &mine->fault);
+        mine->change = whats[round % 3];
+        do_once(mine);
     }
     return NULL;
 }
@@ -47,30 +66,51 @@ static int same_everywhere(const char *text, size_t length) {
 }
 
 static void *deep(void *given) {
-    job *mine = given;
-    mine->status = toml_span_parse(mine->text, mine->length, mine->nodes, ROOM, mine->strings, ROOM, &mine->counts,
-                                   &mine->fault);
+    do_once(given);
     return NULL;
 }
 
-/* How much of a thread's stack is written over. */
-static size_t stack_of(const char *text) {
+/* How much of a thread's stack a call writes over. */
+static size_t stack_of_call(const char *text, toml_span_change change) {
     static job one;
     static unsigned char *stack;
     if (!stack && posix_memalign((void **)&stack, 4096, STACK)) exit(2);
     memset(stack, 0xA5, STACK);
     one.text = text;
     one.length = strlen(text);
+    one.change = change;
     pthread_attr_t how;
     pthread_t thread;
     pthread_attr_init(&how);
     pthread_attr_setstack(&how, stack, STACK);
     pthread_create(&thread, &how, deep, &one);
     pthread_join(thread, NULL);
-    if (one.status != TOML_SPAN_READ) printf("threads: a deep document has status %u\n", one.status);
+    if (one.status != TOML_SPAN_READ && one.status != TOML_SPAN_UNMADE)
+        printf("threads: a deep document has status %u\n", one.status);
     size_t low = 0;
     while (low < STACK && stack[low] == 0xA5) low++;
-    return one.status == TOML_SPAN_READ ? STACK - low : STACK;
+    return one.status == TOML_SPAN_READ || one.status == TOML_SPAN_UNMADE ? STACK - low : STACK;
+}
+
+/* The most that any call takes: a parse, the formatter, and each change, also of the deepest value by a deep one. */
+static size_t stack_of(const char *text, const char *deepest) {
+    static const toml_span_change whats[] = {{0, NULL, NULL}, {0, "*", NULL}};
+    static char value[4 * LEVELS];
+    memset(value, 0, sizeof value);
+    memset(value, '[', LEVELS - 2), memset(value + LEVELS - 2, ']', LEVELS - 2);
+    size_t most = 0;
+    for (size_t at = 0; at < 2; at++) {
+        size_t size = stack_of_call(text, whats[at]);
+        most = size > most ? size : most;
+    }
+    for (uint32_t change = TOML_SPAN_SET; change <= TOML_SPAN_MOVE; change++)
+        for (int deep = 0; deep < 2; deep++) {
+            int named = change == TOML_SPAN_RENAME || change == TOML_SPAN_MOVE;
+            toml_span_change one = {change, deep ? deepest : "a", named ? "moved" : deep ? "1" : value};
+            size_t size = stack_of_call(text, one);
+            most = size > most ? size : most;
+        }
+    return most;
 }
 
 static char *repeat(char *end, const char *words, int times) {
@@ -99,17 +139,22 @@ int main(int argc, char **argv) {
     size_t most[4];
     char *end = repeat(text, "a=", 1);
     repeat(repeat(end, "[", LEVELS - 2), "]", LEVELS - 2);
-    most[0] = stack_of(text);
+    static char path[8 * LEVELS];
+    repeat(repeat(path, "a", 1), "[0]", LEVELS - 3);
+    most[0] = stack_of(text, path);
     end = repeat(header(text, LEVELS, "[", "]"), "b=", 1);
     repeat(repeat(repeat(end, "{a=", LEVELS / 2 - 1), "1", 1), "}", LEVELS / 2 - 1);
-    most[1] = stack_of(text);
+    repeat(repeat(repeat(path, "/a", LEVELS), "/b", 1), "/a", LEVELS / 2 - 1);
+    most[1] = stack_of(text, path);
     end = header(text, LEVELS, "[", "]");
     repeat(repeat(end, "b.", LEVELS - 1), "b=1", 1);
-    most[2] = stack_of(text);
+    repeat(repeat(path, "/a", LEVELS), "/b", LEVELS);
+    most[2] = stack_of(text, path);
     end = text;
     for (int parts = 1; parts <= LEVELS; parts++) end = header(end, parts, "[[", "]]");
     repeat(repeat(end, "b.", LEVELS - 1), "b=1", 1);
-    most[3] = stack_of(text);
+    repeat(repeat(path, "/a/0", LEVELS), "/b", LEVELS);
+    most[3] = stack_of(text, path);
     printf("threads: %d of %d documents the same in %d threads; the deepest take %zu, %zu, %zu, %zu bytes of stack\n",
            right, argc - 1, THREADS, most[0], most[1], most[2], most[3]);
     for (int at = 0; at < 4; at++) right -= most[at] >= TOML_SPAN_STACK;

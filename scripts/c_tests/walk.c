@@ -1,6 +1,6 @@
-/* walk FILE..: the calls that look only at the records, on rows of data and on documents.
+/* walk FILE..: the calls that look only at the records, and the paths of edits, on rows of data and on documents.
  *
- * It is compiled with c/records.c and sanitizers. */
+ * It is compiled with c/records.c, c/edit.c and sanitizers. */
 #include "toml_span.h"
 
 #include <stdio.h>
@@ -119,6 +119,101 @@ static const struct {
     {"'\"' = 5", "\"\\\"\"", 6, 7},
 };
 
+/* What toml_span_edit passes on. Here it is written down: each segment after its length, and a `>` before a target. */
+typedef struct {
+    const char *bytes;
+    size_t length;
+} segment;
+
+typedef struct {
+    uint32_t change;
+    const segment *path;
+    size_t path_length;
+    const segment *target;
+    size_t target_length;
+    const char *value;
+    size_t value_length;
+} change_record;
+
+uint32_t toml_span_edit_paths(const char *of, size_t size, const change_record *changes, size_t count, char *out,
+                              size_t room, size_t *needed, size_t *refused, toml_span_fault *fault);
+
+static char *put_segments(char *end, const segment *segments, size_t count) {
+    for (size_t at = 0; at < count; at++) {
+        end += sprintf(end, "%zu", segments[at].length);
+        memcpy(end, segments[at].bytes, segments[at].length);
+        end += segments[at].length;
+    }
+    return end;
+}
+
+uint32_t toml_span_edit_paths(const char *of, size_t size, const change_record *changes, size_t count, char *out,
+                              size_t room, size_t *needed, size_t *refused, toml_span_fault *fault) {
+    char *end = out;
+    for (size_t at = 0; at < count; at++) {
+        end += sprintf(end, "%c", changes[at].change == 0 ? '!' : '=');
+        if (changes[at].change == 0) continue;
+        end = put_segments(end, changes[at].path, changes[at].path_length);
+        if (changes[at].target_length > 0) end = put_segments(end + sprintf(end, ">"), changes[at].target,
+                                                              changes[at].target_length);
+    }
+    *needed = (size_t)(end - out);
+    return of != text || size != length || room != ROOM || *refused != 7 || fault == NULL;
+}
+
+/* A path, and its segments; a `!` if it is not a path. */
+static const struct {
+    const char *path, *wanted;
+} paths[] = {
+    {"", "="},
+    {"/", "=0"},
+    {"/a/", "=1a0"},
+    {"/a/0", "=1a10"},
+    {"/a~1b~0c~01/-", "=7a/b~c~11-"},
+    {"a.b.c", "=1a1b1c"},
+    {" a [1]\t. b ", "=1a111b"},
+    {"a[0][12]", "=1a10212"},
+    {"\"a/b\".''.'\\u'", "=3a/b02\\u"},
+    {"\"\\u00e9\\x41\\e\\t\\\\\"", "=6\xc3\xa9" "A\033\t\\"},
+    {"\"\\u0000\"", "=1\0"},
+    {"-_9", "=3-_9"},
+    {"a[01]", "!"},
+    {"a[-1]", "!"},
+    {"a[]", "!"},
+    {"a[1", "!"},
+    {"a]", "!"},
+    {"a.", "!"},
+    {".a", "!"},
+    {"a..b", "!"},
+    {"a b", "!"},
+    {"a/b", "!"},
+    {" ", "!"},
+    {"\"a", "!"},
+    {"'a", "!"},
+    {"\"\\\"", "!"},
+    {"\"\\ud800\"", "!"},
+    {"\"\\U00110000\"", "!"},
+    {"\xc3\xa9", "!"},
+};
+
+static void look_at_paths(void) {
+    static char out[ROOM];
+    toml_span_fault fault;
+    for (size_t at = 0; at < sizeof paths / sizeof *paths; at++) {
+        const toml_span_change two[] = {{TOML_SPAN_SET, paths[at].path, "a.b"}, {TOML_SPAN_MOVE, "a", paths[at].path}};
+        size_t needed = 0, refused = 7, wanted = strlen(paths[at].wanted);
+        if (!strcmp(paths[at].wanted, "=1")) wanted = 3;
+        uint32_t status = toml_span_edit(text, length, two, 2, out, ROOM, &needed, &refused, &fault);
+        int is_path = *paths[at].wanted == '=', is_root = wanted == 1 && is_path;
+        char other[64], *end = other + sprintf(other, is_path ? is_root ? "=1a" : "=1a>" : "!");
+        memcpy(end, paths[at].wanted + 1, wanted - 1);
+        end += wanted - 1;
+        tell(status == 0 && needed == wanted + (size_t)(end - other) && !memcmp(out, paths[at].wanted, wanted) &&
+                 !memcmp(out + wanted, other, (size_t)(end - other)),
+             paths[at].path, "path", at);
+    }
+}
+
 /* A text, an offset, and its line and column. */
 static const struct {
     const char *text;
@@ -162,6 +257,7 @@ int main(int argc, char **argv) {
     const char *const names[] = {"", "string", "integer", "float", "boolean", "datetime", "array", "table", ""};
     for (uint32_t kind = 0; kind < 9; kind++)
         tell(!strcmp(toml_span_kind_name(kind), names[kind]), "kind", "name", kind);
+    look_at_paths();
     printf("walk: %ld of %ld right\n", rows - wrong, rows);
     return wrong != 0 || documents == 0;
 }

@@ -166,7 +166,7 @@ fn keywords(alloc: Global, package: &Value, list: &mut Vec<Finding>) -> Result<(
     let mut seen = BTreeMap::new(alloc);
     for word in words {
         if let Some(before) = seen.insert(word.as_str(), word.span)? {
-            let message = "a keyword stands twice";
+            let message = "a keyword occurs twice";
             list.push(Finding {
                 other: Some((before, "also here")),
                 ..new_finding(Warning, "keyword-twice", message, (word.span, ""))

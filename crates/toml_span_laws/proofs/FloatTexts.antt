@@ -64,7 +64,7 @@ mutual
     members-texts ms once.2 (others name at n ms once.0 h),
   )
 
--- ---- what is spelled has its text
+-- ---- a spelled value has its text
 
 scalar-text : (t : List ℕ) (limit : ℕ) (s : Scalar) (span : Span) → HasScalar t limit s span → IsScalarText s
 scalar-text t limit s span h = grind (arith, nat_tests, common_steps, cleaned_spells)

@@ -55,7 +55,7 @@ one-output bytes limit status other text last a b = elim (cases_lt bound (length
   | inr short ↦ short-output bytes limit status other text last (is_utf8 bytes) refl short a b
 ]
 
--- what is read from a known input, up to n bytes, is its first bytes
+-- the first n bytes are read from a known input
 first-read : (n : ℕ) (input bytes : List ℕ) (left : Option (List ℕ)) → Consumes (Some input) left bytes → length bytes ≤ n → (length bytes ≡ n) ⊎ IsAtEnd left → bytes ≡ take n input
 first-read n input bytes None h l e = absurd h
 first-read n input bytes (Some rest) h l (inl full) = sym (ap (λ xs. take n xs) h ∙ take_at bytes rest n full)

@@ -129,7 +129,7 @@ peaceful-two l c d h g first last = grind (arith, nat_tests, common_steps, peace
 
 -- ---- on the path of a value, and below it, there is nothing else of its scope
 
--- each claim of the list fits the scope, and none clashes with a later one
+-- each claim of the list fits the scope, and does not clash with a later one
 abbrev pub Calm : Path → List Claim → Type 0
 Calm base l = ((c : Claim) → IsIn c l → Fits base l c) × Peaceful l
 

@@ -1,4 +1,4 @@
--- At most one form is spelled at an offset, and there is no fault then: what is spelled is read, and reading has one
+-- At most one form is spelled at an offset, and then reading has no fault: a spelled form is read, and reading has one
 -- result.
 use Rattle.toml_span_lex.proofs.Common.{◌≡◌, ℕ, zero, ◌+◌, ◌-◌, Bool, false, List, [], length, arith, refl, sym, ap, map, Result, Ok, Err, Vec, Global}
 use Rattle.toml_span_lex.specs.declared.stop.Stop.{Stop}
@@ -62,7 +62,7 @@ header_excluded text limit i j ps b e x h = not_told (read.header text limit i) 
 pub document_excluded : (text : List ℕ) (limit : ℕ) (bs : List Block) (e : Fault) → SpellsDocument bs text limit → read.document text limit (Err e) → ⊥
 document_excluded text limit bs e x h = not_told (read.document text limit) bs e (document_one text limit) (document_complete bs text limit x) h
 
--- what is spelled is read
+-- a spelled document is read
 pub document_read : (text : List ℕ) (limit : ℕ) (r : Result (Vec Section Global) (Stop Error)) (bs : List Block) → ReadsDocument text limit r → SpellsDocument bs text limit → AreRead bs r
 document_read text limit (Ok found) bs h x =
     same_read (read.document text limit) (map block found.items) bs (document_one text limit) h (document_complete bs text limit x)

@@ -34,7 +34,7 @@ each-before a b (member c at n ms) h each = (before-all a b c h each.0, each-bef
 
 -- ---- entries
 
--- a name that is before all others is none of them
+-- a name that is before all others differs from each of them
 pub not-again : (a : List ℕ) (at : Span) (n : Node) (ms : Members) → MembersOrdered (member a at n ms) → entry_at a ms ≡ None
 not-again a at n ms h = (one-each (node (table (member a at n ms)) at) h).0
 

@@ -30,12 +30,12 @@ use Rattle.toml_span_laws.proofs.EarlierLaws.{every_key}
 
 -- ---- there is a result
 
--- P holds for what is read
+-- P holds for the value that is read
 abbrev pub Holds : {A : Type 0} → (A → Type 0) → Result A Fault → Type 0
 Holds P (Ok a) = P a
 Holds P (Err e) = Unit {0}
 
--- reading has a result, and P holds for what is read
+-- reading has a result, and P holds for the value that is read
 abbrev pub Sure : {A : Type 0} → (A → Type 0) → Reading A → Type 0
 Sure {A = A} P m = (r : Result A Fault) × m r × Holds P r
 
@@ -84,7 +84,7 @@ AllJudged text = IsUtf8 text × ((i : ℕ) → IsCharBoundary text i → Judged 
 
 -- ---- places
 
--- what is read ends there
+-- the form that is read ends there
 abbrev pub Ends : {A : Type 0} → List ℕ → ℕ → A × ℕ → Type 0
 Ends text i f = Onto text i f.1
 

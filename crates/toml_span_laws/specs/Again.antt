@@ -92,7 +92,7 @@ abbrev pub BlocksReadAgain : List ℕ → ℕ → List Block → Type 0
 BlocksReadAgain t limit [] = Unit {0}
 BlocksReadAgain t limit (b ∷ bs) = KeyValuesReadAgain t limit b.key_values × BlocksReadAgain t limit bs
 
--- ---- what is spelled
+-- ---- forms that are spelled
 
 -- The text is a document of one assignment, whose key is one part with this name, and whose value is this one.
 abbrev pub SpellsAssignment : List ℕ → Node → List ℕ → ℕ → Type 0

@@ -118,9 +118,9 @@ pub fn scalars_read_again()
         → ScalarReadsAgain text limit s place.span }
 {}
 
-/// The span of each string of a document, and of a text's tree, is everything between its quotes, and its value is what
-/// that denotes; the span of two quotes with nothing between them is the first one. If the span contains neither a
-/// backslash nor a carriage return, the value is empty or the text at the span.
+/// In a document, and in the tree of a text, the span of each string is the text between its quotes, and its value is
+/// what that text denotes. An empty string on one line differs: its span is the first quote. If the text at the span has
+/// neither backslashes nor carriage returns, the value is that text, or is empty.
 pub fn strings_show_the_text()
     ensures flat { (text : List ℕ) (limit n : ℕ) (blocks : List Block) (path : Path) (place : Place) (value : List ℕ)
         → SpellsDocument blocks text limit → flat n (claims blocks) path ≡ Some place

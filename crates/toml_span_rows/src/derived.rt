@@ -39,7 +39,7 @@ pub fn answer(alloc: Global, row: Row<'_>, out: &mut Out) -> bool {
     true
 }
 
-/// Adds what a text is read as.
+/// Reads a text as a type, and adds the answer.
 fn push_read<'de, T: Deserialize<'de> + Debug + Drop>(
     alloc: Global,
     text: &'de str,
@@ -62,7 +62,7 @@ fn limits_of(alloc: Global, text: &str) -> Result<Limits, Stop<Error<'_>>> {
     }
 }
 
-/// Adds what was read, or why nothing was. Returns whether there was memory for it.
+/// Adds the value that was read, or the error. Returns whether memory sufficed.
 fn push_answer<T: Debug + Drop>(
     alloc: Global,
     read: Result<T, Stop<Error<'_>>>,

@@ -24,7 +24,7 @@ fn escaped(piece: &str) -> Option<(char, &str)> {
     }
 }
 
-/// Repeats the end of a text, which is there once already.
+/// Repeats the end of a text, of which the text has one copy already.
 fn repeat(alloc: Global, times: usize, start: usize, text: &mut String) -> Result<(), AllocError> {
     let part = String::from_str(alloc, text.as_str().get(start..).unwrap_or(""))?;
     if times == 0 {
@@ -70,7 +70,8 @@ pub fn push_text(alloc: Global, source: &str, text: &mut String) -> Result<bool,
     Ok(behind)
 }
 
-/// Adds the words that a space parts, without escapes. `""` is the empty word. Whether each can be read.
+/// Adds the words of a row, which spaces separate, without escapes. `""` is the empty word. Returns whether each can be
+/// read.
 pub fn push_words(alloc: Global, words: &str, found: &mut Vec<String>) -> Result<bool, AllocError> {
     if words.is_empty() {
         return Ok(true);

@@ -1,4 +1,4 @@
-//! What errors print.
+//! The texts of errors.
 //!
 //! - `diagnostic KIND`: an error of a kind that typed reads make, at 4..6 in line 2, whose names are those of the text.
 //! - `diagnostics` of a text, and of a typed read: what its error prints, and the diagnostic.
@@ -23,7 +23,7 @@ fn push_error(alloc: Global, error: &Error<'_>, out: &mut Out) {
     out.told(error.to_diagnostic(alloc, FILE));
 }
 
-/// Adds what an error prints, and a further line if its clone prints another thing.
+/// Adds the code, the place and the texts of an error, and one more line if those of its clone differ.
 pub fn push_twice(alloc: Global, error: &Error<'_>, out: &mut Out) {
     push_error(alloc, error, out);
     let Some(copy) = out.kept(error.clone(alloc)) else {

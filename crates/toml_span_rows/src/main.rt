@@ -4,7 +4,7 @@
 //! answer, each line of it after four spaces. Empty lines and lines that begin with `#` are titles. A row that can't be
 //! read answers `no such row`, and the status is then 1.
 //!
-//! - `cuts`: see `cuts`. `span_at POINTER`, `port_of`, `port_told`: what these callers of `uses` return.
+//! - `cuts`: see `cuts`. `span_at POINTER`, `port_of`, `describe_port`: what these callers of `uses` return.
 //! - `holders`: the document as `Holders` of `typed::structs`. `warned TYPE`: see `typed::warned`.
 //! - `span START END`: whether a span is empty, what it becomes, and where it starts in a text that has it.
 //! - `copies START END`: clones of a key with that name and of the text at the span, each made twice.
@@ -35,7 +35,7 @@ use toml_span::from_str;
 use typed::owned::push_file;
 use typed::structs::Holders;
 use typed::warned::push_warned;
-use uses::first::port_told;
+use uses::first::describe_port;
 use uses::{port_of, span_at};
 
 /// The answer to a row that can't be read.
@@ -76,7 +76,7 @@ fn push_caller(alloc: Global, row: Row<'_>, out: &mut Out) -> bool {
         "cuts" => cuts::push_cuts(alloc, text, out),
         "span_at" => out.told(span_at(alloc, text, row.word(0))),
         "port_of" => out.told(port_of(alloc, text)),
-        "port_told" => out.made(port_told(alloc, text)),
+        "describe_port" => out.made(describe_port(alloc, text)),
         "holders" => out.told(from_str::<Holders>(alloc, text)),
         "warned" => return push_warned(alloc, row.word(0), text, out),
         _ => return false,

@@ -1,15 +1,15 @@
 //! The run of `toml_span_show` over a reader and a writer in memory.
 //!
-//! `run LIMIT WORD ..` is `run` for the limit 128, else `run_with_limit`: the status, and what was written. If the last
+//! `run LIMIT WORD ..` is `run` for the limit 128, otherwise `run_with_limit`: the status, and the output. If the last
 //! word ends in `each`, a line follows for each call that can fail, and one for a call that is not made: the status,
 //! how many bytes were read in how many calls, and how many of the whole output written in how many.
 //!
-//! | Word | What it says |
+//! | Word | Meaning |
 //! |---|---|
-//! | `read=N`, `write=N` | how many bytes a read gives, or a write takes, at most |
-//! | `fail_read=K`, `fail_write=K` | which call answers an error, from 1 |
-//! | `take_nothing=K` | which write takes nothing |
-//! | `again=each` | the text begins again whenever it ends; one such line follows |
+//! | `read=N`, `write=N` | how many bytes a read returns, or a write accepts, at most |
+//! | `fail_read=K`, `fail_write=K` | which call fails, counted from 1 |
+//! | `take_nothing=K` | which write accepts no bytes |
+//! | `again=each` | at its end, the text begins again; one line follows |
 ghost use Rattle.std.specs.Prelude.{◌≤◌};
 
 use crate::Row;
@@ -21,7 +21,7 @@ use std::io::{ErrorKind, Read, Write};
 use toml_span_lines::run::{run, run_with_limit};
 use toml_span_lines::told::Told;
 
-/// The behavior of a reader and a writer that words ask for. Calls are counted from 1; 0 is no call.
+/// How the reader and the writer of a run behave. Calls are counted from 1, and 0 stands for none.
 #[derive(Clone, Copy)]
 struct Ends {
     read: usize,
@@ -33,7 +33,7 @@ struct Ends {
 }
 
 impl Ends {
-    /// Sets what one word asks for, with a number for `each`.
+    /// Sets the field that a word names, with `each` as its number if the word ends in `each`.
     fn set(&mut self, word: &str, each: usize) -> Option<()> {
         let (name, number) = word.split_once('=')?;
         let number = match number {
@@ -53,7 +53,7 @@ impl Ends {
     }
 }
 
-/// Returns what words say of the ends, with a number for `each`.
+/// Returns the behavior that words describe, with a number for `each`.
 fn ends_of(words: &[String], each: usize) -> Option<Ends> {
     let mut ends = Ends {
         read: usize::MAX,
@@ -96,7 +96,7 @@ impl Read for Given<'_> {
     }
 }
 
-/// A writer that keeps what it takes.
+/// A writer that keeps the bytes that it accepts.
 #[derive(Drop)]
 struct Taken {
     bytes: Vec<u8>,

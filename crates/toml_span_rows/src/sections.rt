@@ -37,7 +37,7 @@ fn push_assignment(assignment: &Assignment<'_>, out: &mut Out) {
     push_place(assignment.extent, out);
 }
 
-/// Appends a line for each section, or that there is no section.
+/// Appends a line for each section, or `no sections`.
 fn push_sections(sections: &[Section<'_>], out: &mut Out) {
     if sections.is_empty() {
         out.push_str("no sections");

@@ -122,7 +122,7 @@ impl<'t> Tokenizers<'t> {
         true
     }
 
-    /// Makes the call of a name, and adds its answer. Returns whether there is such a call.
+    /// Makes the call with this name and appends its answer. Returns whether there is such a call.
     fn push_call(&mut self, alloc: Global, name: &str, out: &mut Out) -> bool {
         match name {
             "step" => push_step(out, self.used.step(alloc), false),

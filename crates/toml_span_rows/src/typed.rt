@@ -85,7 +85,7 @@ fn push_errors<'de>(alloc: Global, row: Row<'de>, root: &mut Value<'de>, out: &m
     true
 }
 
-/// Puts errors after others, and adds the answer. Without memory it is done again with what came back.
+/// Appends errors to others, and adds the answer. If memory runs out, does it again with the errors that came back.
 fn push_merge<'de>(
     alloc: Global,
     errors: &mut DeserError<'de>,

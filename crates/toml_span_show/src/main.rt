@@ -1,4 +1,4 @@
-//! Shows the tree of a TOML document: one line for each node, with the bytes at which it stands.
+//! Shows the tree of a TOML document: one line for each node, with its span.
 #![tactic(auto)]
 
 use std::process::ExitCode;

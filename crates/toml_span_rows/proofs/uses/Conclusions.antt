@@ -62,7 +62,7 @@ reads-value s pointer root m o P tree is reads =
         let (k, w, found, holds) = stands-pointed pointer (view root) (length s) bs (P x) shows h in
         (reads k x).1 (subst (λ (w : Node). P x (place_of (k, w))) (same_Some w m (sym found ∙ is)) holds)
 
--- Where the pointer names nothing, there is no value.
+-- If the pointer names nothing, no value is read.
 pub reads-nothing : {X : Type 0} (s pointer : List ℕ) (root : Value) (P : X → Place → Type 0) → IsTree s 128 root → pointed pointer (view root) ≡ None
     → IsDocument s (λ places. (x : X) → (None ≡ Some x) ↔ StandsAt pointer places (P x))
 reads-nothing s pointer root P tree is =

@@ -31,7 +31,7 @@ read_or otherwise read (Some x) = read (face x)
 abbrev pub lacks : List ℕ → Span → ErrorContent
 lacks name span = record { kind = missing_field name; span = span; line_info = None }
 
--- the value read at a key of the root, whose span this is; `MissingField` if there is none
+-- the value read at a key of the root, which has this span; `MissingField` if the key is absent
 abbrev pub required_field : {T : Type 0} → (Node → Result T Errors) → List ℕ → Span → (Path → Option Place)
     → Result T Errors
 required_field read name span places = read_or (Err (one (lacks name span))) read (places (key name ∷ []))

@@ -12,7 +12,7 @@ use toml_span_load::{LoadError, TextFile};
 #[derive(Debug, Drop)]
 pub struct Name(String);
 
-/// The name that a text is.
+/// Reads a text as a name.
 fn name_of(alloc: Global, text: &str) -> Result<Name, Stop<&'static str>> {
     if text.is_empty() {
         return Err(Stop::Fault("a name is not empty"));
@@ -26,7 +26,7 @@ impl<'de> Deserialize<'de> for Name {
     }
 }
 
-/// Who listens, and how much it bears.
+/// A listener: its name and its load.
 #[derive(Debug, Drop)]
 pub struct Listener {
     pub host: Name,

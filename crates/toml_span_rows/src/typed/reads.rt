@@ -11,8 +11,8 @@ use std::fmt::Debug;
 use toml_span::value::{DateText, FloatText, Value};
 use toml_span::{DeserError, Deserialize, Parsed, Spanned, Stop};
 
-/// Reads a value as a type, if the value is whole, and adds the answer. Without memory it is read again, if it still is
-/// whole. Returns whether it was whole.
+/// Reads a value as a type, if the value is whole, and adds the answer. If memory runs out, reads it again, if it is
+/// still whole. Returns whether it was whole.
 fn push_as<'de, T: Deserialize<'de> + Debug>(
     alloc: Global,
     value: &mut Value<'de>,

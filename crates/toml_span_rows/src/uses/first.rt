@@ -3,8 +3,8 @@ use std::alloc::{AllocError, Global};
 use toml_span::parse;
 use toml_span_report::{Style, render_stop};
 
-/// The bytes of the port of a server, or what is wrong with the text.
-pub fn port_told(alloc: Global, text: &str) -> Result<String, AllocError> {
+/// Describes where the port of a server is, or what is wrong with the text.
+pub fn describe_port(alloc: Global, text: &str) -> Result<String, AllocError> {
     match parse(alloc, text) {
         Ok(root) => match root.pointer("/server/port") {
             Some(port) => format!(in alloc;
