@@ -8,6 +8,8 @@ use Rattle.toml_span_tree.proofs.Values.{Entry}
 use Rattle.toml_span_serde.specs.declared.pieces.Task.{Task}
 use Rattle.toml_span_serde.specs.Pieces.{Piece, piece, pieces, key, items_pieces, members_pieces}
 use Rattle.toml_span_serde.specs.Tasks.{piece_of, task_pieces, all_pieces}
+use Rattle.toml_span_serde.specs.TextOrder.{in_text_order, items_in_order}
+use Rattle.toml_span_serde.proofs.Orders.{entries_pieces}
 use Rattle.toml_span_serde.specs.Ahead.{ahead}
 use Rattle.toml_span_serde.specs.declared.reader.Reader.{Reader}
 
@@ -28,19 +30,19 @@ carried_out ts us t made after all last step before =
 -- the pieces of the elements, beginning at one
 pub items_pieces-next : (i : ℕ) (es : List Value) (e : Value) (out after all : List Piece) →
     i < length es → get_or es i e ≡ e →
-    out ++ items_pieces (items_view (drop i es)) ≡ all →
-    after ≡ out ++ pieces (view e) →
-    after ++ items_pieces (items_view (drop (i + 1) es)) ≡ all
+    out ++ items_pieces (items_in_order (items_view (drop i es))) ≡ all →
+    after ≡ out ++ pieces (in_text_order (view e)) →
+    after ++ items_pieces (items_in_order (items_view (drop (i + 1) es))) ≡ all
 items_pieces-next i es e out after all below here before step = grind (arith, nat_tests, common_steps)
 
 -- the pieces of the entries, beginning at one
-pub members_pieces-next : (es rest : List Entry) (k : Key) (v : Value) (out mid after all : List Piece) →
-    es ≡ (k, v) ∷ rest →
-    out ++ members_pieces (members_view es) ≡ all →
-    mid ≡ out ++ (piece (key (cow_str_bytes k.name)) k.span ∷ []) →
-    after ≡ mid ++ pieces (view v) →
-    after ++ members_pieces (members_view rest) ≡ all
-members_pieces-next es rest k v out mid after all split before first second = grind (arith, nat_tests, common_steps)
+pub entries_pieces-next : (i : ℕ) (es : List Entry) (e : Entry) (out mid after all : List Piece) →
+    i < length es → get_or es i e ≡ e →
+    out ++ entries_pieces (drop i es) ≡ all →
+    mid ≡ out ++ (piece (key (cow_str_bytes e.0.name)) e.0.span ∷ []) →
+    after ≡ mid ++ pieces (in_text_order (view e.1)) →
+    after ++ entries_pieces (drop (i + 1) es) ≡ all
+entries_pieces-next i es e out mid after all below here before first second = grind (arith, nat_tests, common_steps)
 
 -- a reader that has only looked ahead
 pub ahead-same : (old new : Reader) → new.next ≡ old.next → new.pieces ≡ old.pieces → ahead new ≡ ahead old

@@ -4,6 +4,7 @@ use Rattle.std.specs.Prelude.{ℕ, ◌+◌, ◌-◌, List, [], ◌∷◌, ◌++�
 use Rattle.toml_span_tree.specs.Node.{text, integer, float, boolean, datetime}
 use Rattle.toml_span_tree.specs.Value.{view, float_value}
 use Rattle.toml_span_serde.specs.Pieces as spec
+use Rattle.toml_span_serde.specs.TextOrder.{in_text_order}
 use Rattle.toml_span_serde.specs.declared.pieces.Content.{Content}
 use Rattle.toml_span_serde.specs.declared.pieces.Content.TheVariants as is
 use Rattle.toml_span_serde.specs.declared.pieces.Piece.{Piece}
@@ -27,7 +28,7 @@ abbrev pub piece_of : Piece → spec.Piece
 piece_of p = spec.piece (piece_content p.content) p.span
 
 abbrev pub task_pieces : Task → List spec.Piece
-task_pieces (task.Value v) = spec.pieces (view v.now)
+task_pieces (task.Value v) = spec.pieces (in_text_order (view v.now))
 task_pieces (task.Piece p) = piece_of p ∷ []
 
 abbrev pub all_pieces : List Task → List spec.Piece

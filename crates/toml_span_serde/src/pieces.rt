@@ -1,17 +1,18 @@
-//! A tree as a row of pieces, in the order in which a reader goes through it.
+//! A tree as a row of pieces, in the order in which a reader goes through it: that of the text.
 ghost use Rattle.std.specs.Prelude.{◌≡◌, ◌<◌, ◌≤◌, ◌-◌, ◌^◌, ◌++◌, ◌∷◌, IfOk, IfSome, List, OnOk, Some, length, map};
 ghost use Rattle.toml_span_tree.specs.Node.{Node};
 ghost use Rattle.toml_span_tree.specs.Value.{items_view, members_view, view};
 ghost use Rattle.toml_span_serde.specs.Misreads.{IsOpening, found_of, kind_ahead, refusal, told_text};
 ghost use Rattle.toml_span_serde.specs.Pieces.{Piece as Laid, array_begins, items_pieces, members_pieces, piece};
 ghost use Rattle.toml_span_serde.specs.Pieces.{pieces, table_begins};
+ghost use Rattle.toml_span_serde.specs.TextOrder.{in_text_order, items_in_order, members_in_order};
 ghost use Rattle.toml_span_serde.specs.Tasks.{all_pieces, depth_behind, piece_content, piece_of, task_pieces, turned};
 
 use crate::misfit::{Found, Reason};
 use serde::Kind;
 use std::alloc::{AllocError, Global};
 use toml_span_lex::span::Span;
-use toml_span_tree::{Array, FloatText, Table, Value, ValueInner};
+use toml_span_tree::{Array, FloatText, Table, Value, ValueInner, in_text_order};
 
 /// A scalar, a key, or the beginning or end of an array or table.
 #[derive(Clone, Copy, Drop)]
@@ -134,7 +135,7 @@ pub(crate) fn pieces_of<'v>(
     alloc: Global,
     root: &'v Value<'_>,
 ) -> Result<Vec<Piece<'v>>, AllocError>
-    ensures { IfOk result (λ made. map piece_of made.items ≡ pieces (view root.now)) }
+    ensures { IfOk result (λ made. map piece_of made.items ≡ pieces (in_text_order (view root.now))) }
 {
     let mut tasks = Vec::new(alloc);
     let mut turned = Vec::new(alloc);
@@ -144,13 +145,14 @@ pub(crate) fn pieces_of<'v>(
             turned.reverse();
             return Ok(turned);
         };
-        carry_out(task, &mut tasks, &mut turned)?;
+        carry_out(alloc, task, &mut tasks, &mut turned)?;
     }
     Err(AllocError)
 }
 
 /// Converts one part: adds its last piece to `made`, and its other parts to `tasks`.
 fn carry_out<'v, 'de>(
+    alloc: Global,
     task: Task<'v, 'de>,
     tasks: &mut Vec<Task<'v, 'de>>,
     made: &mut Vec<Piece<'v>>,
@@ -159,7 +161,7 @@ fn carry_out<'v, 'de>(
         ++ (task_pieces task.entry ++ turned made.old.items)) }
 {
     match task {
-        Task::Value(value) => take_apart(value, tasks, made),
+        Task::Value(value) => take_apart(alloc, value, tasks, made),
         Task::Piece(piece) => {
             made.push(piece)?;
             Ok(())
@@ -169,12 +171,13 @@ fn carry_out<'v, 'de>(
 
 /// Adds the last piece of a value to `made`, and its other parts to `tasks`.
 fn take_apart<'v, 'de>(
+    alloc: Global,
     value: &'v Value<'de>,
     tasks: &mut Vec<Task<'v, 'de>>,
     made: &mut Vec<Piece<'v>>,
 ) -> Result<(), AllocError>
     ensures { OnOk result (all_pieces tasks.new.items ++ turned made.new.items ≡ all_pieces tasks.old.items
-        ++ (pieces (view value.now) ++ turned made.old.items)) }
+        ++ (pieces (in_text_order (view value.now)) ++ turned made.old.items)) }
 {
     let span = value.span;
     if value.is_taken() {
@@ -195,7 +198,7 @@ fn take_apart<'v, 'de>(
             Content::ArrayEnds
         }
         ValueInner::Table(table) => {
-            push_entries(table, span, tasks)?;
+            push_entries(alloc, table, span, tasks)?;
             Content::TableEnds
         }
     };
@@ -210,7 +213,7 @@ fn push_elements<'v, 'de>(
     tasks: &mut Vec<Task<'v, 'de>>,
 ) -> Result<(), AllocError>
     ensures { OnOk result (all_pieces tasks.new.items ≡ all_pieces tasks.old.items
-        ++ (piece array_begins span ∷ items_pieces (items_view array.now.items))) }
+        ++ (piece array_begins span ∷ items_pieces (items_in_order (items_view array.now.items)))) }
 {
     tasks.push(Task::Piece(Piece {
         content: Content::ArrayBegins,
@@ -222,25 +225,27 @@ fn push_elements<'v, 'de>(
     Ok(())
 }
 
-/// Adds the beginning of a table and its entries to `tasks`.
+/// Adds the beginning of a table and its entries, in the order of the text, to `tasks`.
 fn push_entries<'v, 'de>(
+    alloc: Global,
     table: &'v Table<'de>,
     span: Span,
     tasks: &mut Vec<Task<'v, 'de>>,
 ) -> Result<(), AllocError>
     ensures { OnOk result (all_pieces tasks.new.items ≡ all_pieces tasks.old.items
-        ++ (piece table_begins span ∷ members_pieces (members_view table.now.entries))) }
+        ++ (piece table_begins span ∷ members_pieces (members_in_order (members_view table.now.entries)))) }
 {
     tasks.push(Task::Piece(Piece {
         content: Content::TableBegins,
         span,
     }))?;
-    for (key, element) in table.iter() {
+    let entries = in_text_order(alloc, table)?;
+    for entry in &entries {
         tasks.push(Task::Piece(Piece {
-            content: Content::Key(key.name.as_ref()),
-            span: key.span,
+            content: Content::Key(entry.0.name.as_ref()),
+            span: entry.0.span,
         }))?;
-        tasks.push(Task::Value(element))?;
+        tasks.push(Task::Value(entry.1))?;
     }
     Ok(())
 }

@@ -54,6 +54,7 @@ pub fn from_value<T: DeserializeOwned>(alloc: Global, value: &Value<'_>) -> Resu
 }
 
 /// Reads the tree of the text as a type that may borrow from the text.
+#[tactic(auto, using(crate::proofs::Orders::stopped_in_order))]
 fn read_lent<'de, T: Deserialize<'de>>(
     alloc: Global,
     text: &'de str,

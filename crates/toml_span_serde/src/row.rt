@@ -6,6 +6,7 @@ ghost use Rattle.toml_span_tree.specs.Value.{view};
 ghost use Rattle.toml_span_serde.specs.Ahead.{ahead, pieces_in};
 ghost use Rattle.toml_span_serde.specs.Misfits.{IsAt, Names, path_of};
 ghost use Rattle.toml_span_serde.specs.Pieces.{pieces};
+ghost use Rattle.toml_span_serde.specs.TextOrder.{in_text_order};
 ghost use Rattle.toml_span_serde.specs.Stops.{IsOf, IsTold, spots};
 
 use crate::misfit::{Misfit, Reason};
@@ -23,9 +24,10 @@ pub struct Row<'v> {
 }
 
 impl<'v> Row<'v> {
-    /// Lists the pieces of a tree, each array and table before its parts. Fails if an allocation fails.
+    /// Lists the pieces of a tree, each array and table before its parts, and the entries of a table in the order of the
+    /// text. Fails if an allocation fails.
     pub fn new(alloc: Global, root: &'v Value<'_>) -> Result<Row<'v>, AllocError>
-        ensures { IfOk result (λ row. pieces_in row ≡ pieces (view root.now)) }
+        ensures { IfOk result (λ row. pieces_in row ≡ pieces (in_text_order (view root.now))) }
     {
         Ok(Row {
             pieces: pieces_of(alloc, root)?,

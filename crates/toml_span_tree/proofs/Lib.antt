@@ -10,6 +10,7 @@ pub mod Pointers
 pub mod Positions
 pub mod Puts
 pub mod Sizes
+pub mod Sorts
 pub mod Texts
 pub mod Values
 pub mod Walks

@@ -1,7 +1,7 @@
 //! A table's entries in the order of the text.
 ghost use Rattle.std.specs.Prelude.{◌≡◌, IfOk, map};
 ghost use Rattle.std.specs.List.Sorted.{IsNonDecreasingBy, IsPermutation};
-ghost use Rattle.toml_span_tree.specs.Order.{entry_of, start_of};
+ghost use Rattle.toml_span_tree.specs.Order.{by_start, entry_of, start_of};
 
 use crate::value::{Table, Value};
 use std::alloc::{AllocError, Global};
@@ -15,6 +15,7 @@ pub fn in_text_order<'t, 'de>(
 ) -> Result<Vec<(&'t Key<'de>, &'t Value<'de>)>, AllocError>
     ensures all { IfOk result (λ entries. IsPermutation table.now.entries (map entry_of entries.items)) }
     ensures ordered { IfOk result (λ entries. IsNonDecreasingBy start_of entries.items) }
+    ensures exact { IfOk result (λ entries. map entry_of entries.items ≡ by_start table.now.entries) }
 {
     let mut entries = listed(alloc, table)?;
     entries.sort_by_key(|entry| entry.0.span.start)?;
