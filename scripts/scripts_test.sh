@@ -150,7 +150,6 @@ all that load, serde and places need|0||bash "$top/scripts/vendor.sh" all load s
 the hook of docs/CI.md passes files without errors|0||committed 'a = 1'
 and refuses others|1|^./a b/c.toml:2:1: duplicate-key|committed $'a = 1\na = 2'
 the command for CI|123|^a b/c.toml:2:1: duplicate-key|committed $'a = 1\na = 2'; page xargs | sh
-the function for editors counts characters|0|^\[('duplicate key: `é`', 9, 10)\]$|PATH=$work/real:$PATH; (page 'import json'; echo "print(list(errors('\"é\" = 1\n\"é\" = 2')))") | python3 -
 the toolchain that is here builds|7||fresh; PATH=$real_path; printf '#![tactic(auto)]\nuse std::process::ExitCode;\n\nfn main(rt: HostRuntime) -> ExitCode {\n    let _host = rt;\n    ExitCode::from(7)\n}\n' >"$crate/src/main.rt"; cli
 CASES
 echo "scripts: $((count - wrong)) of $count right"
