@@ -169,7 +169,8 @@ uint32_t toml_span_edit(const char *text, size_t length, const toml_span_change 
                         size_t room, size_t *needed, size_t *refused, toml_span_fault *fault);
 
 /* Formats a text: an array is on one line if that has at most `width` columns (usually 80); otherwise its elements are
- * on lines of their own, indented by `indent` spaces (usually 4; more than 64 count as 64). UNMADE would be a bug. */
+ * on lines of their own, indented by `indent` spaces (usually 4; more than 64 count as 64) for each level, but never by
+ * more than `width`. UNMADE would be a bug. */
 uint32_t toml_span_format(const char *text, size_t length, size_t width, size_t indent, char *out, size_t room,
                           size_t *needed, toml_span_fault *fault);
 

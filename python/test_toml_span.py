@@ -537,7 +537,7 @@ class Edits(unittest.TestCase):
         # (much longer than the text)
         deep = f"a = {'[' * 100}#\n{']' * 100}"
         self.assertEqual(toml_span.loads(toml_span.format(deep)), toml_span.loads(deep))
-        self.assertGreater(len(toml_span.format(deep)), 100 * len(deep))
+        self.assertGreater(len(toml_span.format(deep)), 50 * len(deep))
 
 
 class Command(unittest.TestCase):

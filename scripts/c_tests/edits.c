@@ -197,8 +197,8 @@ static void look_at_layouts(void) {
                                            &fault);
         tell(status == TOML_SPAN_READ && is_out(layouts[at].wanted), layouts[at].text, "layout", at);
     }
-    take("a = [1]\n");
-    uint32_t status = toml_span_format(text, length, 0, SIZE_MAX, out, ROOM, &needed, &fault);
+    take("a = [1,]\n");
+    uint32_t status = toml_span_format(text, length, 100, SIZE_MAX, out, ROOM, &needed, &fault);
     tell(status == TOML_SPAN_READ && needed == 8 + 64 + 2 + 1, "an indent", "of at most", 64);
 }
 
