@@ -346,7 +346,7 @@ toml_span_cli() {
         arguments_of
         refused 4 20 0
     done
-    # (a request after the file was replaced, to sync its folder, or to remove the new file, may fail)
+    # (one request that is refused is made once more: the run is then as usual, with the same calls of the system)
     for name in runs/{set_odd,rename_quoted,remove_dotted,remove_inline,add_to_empty,set_in_invalid}; do
         arguments_of
         refused 4 20 1
