@@ -33,7 +33,7 @@ typedef struct {
     char *bytes;
 } pen;
 
-/* Writes the bytes that a step stands for; returns 0 if it is not valid. */
+/* Writes the bytes of the name that a step has; returns 0 if it is not valid. */
 static int put_step(path_step step, pen *at) {
     segment *written = at->next++;
     written->bytes = at->bytes;
@@ -79,7 +79,7 @@ uint32_t toml_span_edit(const char *text, size_t length, const toml_span_change 
     at.bytes = (char *)(at.next + bytes);
     for (size_t number = 0; number < count; number++) {
         const char *value = or_empty(changes[number].value);
-        /* (0 is for a path that is not one) */
+        /* (0 is for a path that is not valid) */
         uint32_t change = changes[number].change ? changes[number].change : UINT32_MAX;
         change_record record = {change, {at.next, 0}, {at.next, 0}, value, strlen(value)};
         int is_read = read_path(or_empty(changes[number].path), &at, &record.path);

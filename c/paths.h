@@ -13,7 +13,7 @@ typedef struct {
     char written;
 } path_step;
 
-/* Writes a character as UTF-8; returns how many bytes it has, or 0 if there is no such character. */
+/* Writes a character as UTF-8; returns how many bytes it has, or 0 if it is not a character. */
 static size_t encode(unsigned long code, char bytes[4]) {
     if (code > 0x10FFFF || (code >= 0xD800 && code < 0xE000)) return 0;
     size_t length = code < 0x80 ? 1 : code < 0x800 ? 2 : code < 0x10000 ? 3 : 4;
@@ -22,7 +22,7 @@ static size_t encode(unsigned long code, char bytes[4]) {
     return length;
 }
 
-/* Reads the bytes that an escape of TOML stands for, after its backslash; returns how many, or 0 if it is not valid. */
+/* Reads an escape of TOML after its backslash, and writes its bytes; returns how many, or 0 if it is not valid. */
 static size_t unescape(path_step *step, char bytes[4]) {
     static const char letters[] = "btnfre\"\\", meant[] = "\b\t\n\f\r\033\"\\";
     char letter = step->at < step->end ? *step->at++ : 'u';
@@ -49,7 +49,7 @@ static size_t next_bytes(path_step *step, char bytes[4]) {
     return 1;
 }
 
-/* The position that a step has: decimal digits without a leading zero; TOML_SPAN_NONE of any other step. */
+/* Returns the position that a step has: decimal digits without a leading zero; for any other step TOML_SPAN_NONE. */
 static size_t position_of(path_step step) {
     size_t position = 0;
     if (step.written != '/' && step.written != '[') return TOML_SPAN_NONE;
@@ -62,7 +62,7 @@ static size_t position_of(path_step step) {
     return position;
 }
 
-/* Where a string ends whose opening quote is at `at`: its closing quote, or NULL. */
+/* Returns the closing quote of the string whose opening quote is at `at`, or NULL. */
 static const char *closing(const char *at) {
     char quote = *at++;
     for (; *at != quote; at++) {
@@ -93,7 +93,7 @@ static const char *dotted_step(const char *path, int is_first, path_step *step) 
     return path + strspn(path, blanks);
 }
 
-/* Takes the first step of a path; returns what follows, or NULL if there is none. */
+/* Takes the first step off a path; returns what follows, or NULL if the path has no valid first step. */
 static const char *take_step(const char *path, int is_pointer, int is_first, path_step *step) {
     if (!is_pointer) return dotted_step(path, is_first, step);
     step->written = '/';

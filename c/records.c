@@ -1,4 +1,4 @@
-/* What is computed from the records of a document alone: part of libtoml_span, without allocation, and not proved. */
+/* The calls that need only the records of a document: part of libtoml_span, without allocation, and not proved. */
 #include "paths.h"
 
 const char *toml_span_kind_name(uint32_t kind) {
@@ -15,7 +15,7 @@ toml_span_place toml_span_line_column(const char *text, size_t length, size_t of
     return place;
 }
 
-/* Whether a name is the one that a step has. */
+/* Returns whether a name is the one in a step. */
 static int is_named(const char *name, size_t length, path_step step) {
     while (step.at < step.end) {
         char bytes[4];
@@ -112,7 +112,7 @@ void toml_span_sort(const toml_span_node *nodes, size_t count, toml_span_node *s
     sorted[0].position = 0;
     sorted[0].parent = 0;
     for (size_t at = 0; at < count; at++) number_children(nodes, at, sorted);
-    /* the old number and the new place of a record go into the other fields of its place */
+    /* the old number and the new place of a record go into the other fields of the record at its new place */
     for (size_t at = 0; at < count; at++) {
         toml_span_node *place = &sorted[sorted[at].position];
         place->children = at;
@@ -128,7 +128,7 @@ void toml_span_sort(const toml_span_node *nodes, size_t count, toml_span_node *s
     }
 }
 
-/* Bytes that are written as far as there is room, and counted. */
+/* Bytes that are written as far as there is room, and counted in full. */
 typedef struct {
     char *bytes;
     size_t room, length;
@@ -194,7 +194,7 @@ void toml_span_pickle(const toml_span_node *nodes, size_t from, const char *cons
         if (at > from && nodes[holder].kind == TOML_SPAN_TABLE) put_text(&pickle, &nodes[at].key, sources);
         put_value(&pickle, nodes, at, sources, floats);
         if (nodes[at].children > 0) holder = at;
-        /* the end of what holds this value, and of what holds that */
+        /* closes each table and array that ends with this value */
         while (holder != outermost && nodes[holder].next == at + 1) {
             put(&pickle, nodes[holder].kind == TOML_SPAN_TABLE ? "u" : "e", 1);
             holder = nodes[holder].parent;

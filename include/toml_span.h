@@ -1,18 +1,18 @@
-/* toml_span: parses, edits and formats TOML 1.1, and keeps the byte range of each value and each key.
+/* toml_span: parses, edits and formats TOML 1.1. A parse returns the byte range of each value and each key.
  *
  *     toml_span_counts counts;
  *     toml_span_fault fault;
  *     uint32_t status = toml_span_parse(text, length, nodes, room, strings, strings_room, &counts, &fault);
  *
- * The caller owns all memory: a call fills the caller's arrays, keeps nothing, and returns nothing that must be freed.
- * What it allocates with malloc, it frees before it returns. So any number of threads may call it at once, and the
+ * The caller owns all memory: a call fills the caller's arrays, keeps no state, and returns nothing that must be freed.
+ * It frees what it allocates with malloc before it returns. So any number of threads may call it at once, and the
  * records stay valid as long as the arrays and the text do.
  *
- * - No pointer may be null, even where its length or room is 0, except in a toml_span_change. The arrays must not
+ * - No pointer may be null, even if its length or room is 0, except in a toml_span_change. The arrays must not
  *   overlap.
  * - The text needs no zero byte at its end.
- * - Offsets are in bytes of the text and count from 0; an end is exclusive. Lines and columns count from 0, and columns
- *   are in bytes.
+ * - Offsets are bytes of the text, counted from 0; an end is exclusive. Lines and columns are counted from 0, columns
+ *   in bytes.
  * - A call takes less than TOML_SPAN_STACK bytes of stack. Do not call it from a signal handler.
  * - The library is for 64-bit Linux on x86-64 processors of level x86-64-v2 or above (any since about 2009).
  *
@@ -37,15 +37,15 @@ enum {
     TOML_SPAN_READ = 0,    /* the text is valid TOML */
     TOML_SPAN_REFUSED = 1, /* it is not */
     TOML_SPAN_UNREAD = 2,  /* it is not UTF-8, or longer than TOML_SPAN_LONGEST */
-    TOML_SPAN_UNMADE = 3,  /* toml_span_edit: a change is refused */
+    TOML_SPAN_UNMADE = 3,  /* toml_span_edit: a change was refused */
     TOML_SPAN_MEMORY = 4   /* out of memory: malloc failed */
 };
 
-/* The most bytes that a document may have: 16 MiB. */
+/* The maximum length of a document in bytes: 16 MiB. */
 #define TOML_SPAN_LONGEST 16777216
 
-/* More stack than any document takes: at most 405 KB were measured, in the
-   build without proofs, so 43 KB are left. */
+/* Stack that is enough for any document, in bytes. At most 405 KB were
+   measured, in the build without proofs. */
 #define TOML_SPAN_STACK 458752
 
 /* The kinds of values. A datetime is a date, a time or both, with or without an offset. */
@@ -59,7 +59,8 @@ enum {
     TOML_SPAN_TABLE = 7
 };
 
-/* The number of no record: the parent of the root, and what toml_span_find returns if it finds nothing. */
+/* Stands for the index of a record where there is none: the parent of the root, and the result of toml_span_find if it
+ * finds nothing. */
 #define TOML_SPAN_NONE SIZE_MAX
 
 /* Bytes of the text, from `start` to before `end`. */
@@ -67,33 +68,33 @@ typedef struct {
     size_t start, end;
 } toml_span_range;
 
-/* The bytes of a name or of a value's text: with `const char *sources[] = {text, strings};` they begin at
- * `sources[source] + at`, and no zero byte ends them. They are in the document (source 0) if it has them at the span as
- * they are. Otherwise they are in `strings` (source 1): a string with escapes, and a float with `+`, `_` or `E`, whose
- * text here has none of the first two and `e` for the third. */
+/* The bytes of a name or of a value's text. With `const char *sources[] = {text, strings};` they begin at
+ * `sources[source] + at`, and no zero byte follows them. They are in the document (source 0) if it has them unchanged
+ * at the span. Otherwise they are in `strings` (source 1): a string with escapes, or a float with `+`, `_` or `e`,
+ * whose text here has neither of the first two, and `E` instead of `e`. */
 typedef struct {
     size_t source, at, length;
 } toml_span_text;
 
-/* A value. Records are in the order of a walk: the root first, each value before those that it holds, the elements of
- * an array in order, the entries of a table by the bytes of their names (toml_span_sort changes that). */
+/* A value. The root comes first, each value before those inside it, the elements of an array in order, and the entries
+ * of a table in the order of their names, by bytes (toml_span_sort changes that). */
 typedef struct {
     uint32_t kind;            /* TOML_SPAN_STRING and so on */
     uint32_t truth;           /* 1 for `true`; otherwise 0 */
-    toml_span_range span;     /* the bytes of the value; of a string those between its quotes */
+    toml_span_range span;     /* the bytes of the value; for a string, those between its quotes */
     toml_span_range key_span; /* the bytes of its key; 0..0 for elements and the root */
     toml_span_text key;       /* its name in the table; empty (source 0, at 0) for elements and the root */
     toml_span_text text;      /* the text of a string, a float or a datetime; otherwise empty (source 0, at 0) */
-    size_t parent;            /* the number of the record of what holds it; TOML_SPAN_NONE for the root */
-    size_t position;          /* its position among the values of its parent, counted from 0 */
-    size_t children;          /* how many values an array or a table holds; otherwise 0 */
-    size_t next;              /* the number of the first record after all that it holds, which is its next sibling if it
-                                 has one. Its first child, if it has one, has the number after its own. */
+    size_t parent;            /* the index of its parent's record; TOML_SPAN_NONE for the root */
+    size_t position;          /* its position among its parent's children, counted from 0 */
+    size_t children;          /* the number of elements or entries; otherwise 0 */
+    size_t next;              /* the index of the first record after those inside it: its next sibling, if it has one.
+                                 Its first child, if it has one, is the record right after it. */
     int64_t integer;          /* the value of an integer; otherwise 0 */
     double number;            /* the value of a float, the double nearest to its text; otherwise 0.0 */
 } toml_span_node;
 
-/* How many records a document has, and how many bytes of strings. */
+/* The number of records of a document, and of bytes in its strings. */
 typedef struct {
     size_t nodes, strings;
 } toml_span_counts;
@@ -101,9 +102,9 @@ typedef struct {
 /* Why a text is not valid TOML. */
 typedef struct {
     uint32_t code;         /* the kind of error, from 1 on: toml_span_code returns its name */
-    uint32_t has_first;    /* 1 if there is a second place: the earlier key, table or value; otherwise 0 */
+    uint32_t has_first;    /* 1 if `first` is set: the error is about an earlier key, table or value; otherwise 0 */
     toml_span_range span;  /* the bytes that are wrong */
-    toml_span_range first; /* the second place; otherwise 0..0 */
+    toml_span_range first; /* the bytes of the earlier key, table or value; otherwise 0..0 */
     size_t line, column;   /* those of span.start */
 } toml_span_fault;
 
@@ -112,69 +113,68 @@ typedef struct {
     size_t line, column;
 } toml_span_place;
 
-/* Parses a text. As snprintf does, it fills `nodes` and `strings` as far as there is room, and sets `counts` to the
- * whole numbers. If counts->nodes <= room and counts->strings <= strings_room, all is there; otherwise a second call
- * with room for the counts has all. One call is enough with room for 2 * length + 1 records and `length` bytes of
- * strings.
+/* Parses a text. Like snprintf, it writes as many records and bytes of strings as fit, and sets `counts` to the numbers
+ * of all. If counts->nodes <= room and counts->strings <= strings_room, everything was written; otherwise call it again
+ * with room for the counts. With room for 2 * length + 1 records and `length` bytes of strings, one call is enough.
  *
- * READ writes nodes, strings and counts; REFUSED writes the fault. Nothing else is written, also not the rest of the
- * arrays. */
+ * With READ it writes the records, the strings and the counts, with REFUSED the fault, and nothing else. The rest of
+ * the arrays is unchanged. */
 uint32_t toml_span_parse(const char *text, size_t length, toml_span_node *nodes, size_t room, char *strings,
                          size_t strings_room, toml_span_counts *counts, toml_span_fault *fault);
 
-/* Checks a text: returns the status of toml_span_parse. */
+/* Parses a text, and returns only the status, as toml_span_parse does. */
 uint32_t toml_span_check(const char *text, size_t length);
 
-/* Writes the name of a fault's code, such as `duplicate-key`; nothing for any other number. It fills `out` as far as
- * there is room, without a zero byte at the end, and sets `needed` to the whole length. */
+/* Writes the name of a fault's code, such as `duplicate-key`, or nothing if there is no such code. It writes as much as
+ * fits, without a zero byte at the end, and sets `needed` to the length of the whole name. */
 void toml_span_code(uint32_t code, char *out, size_t room, size_t *needed);
 
-/* Writes the message of a text's fault, such as "duplicate key: `port`", in the same way. It parses the text again and
- * returns the status; `out` and `needed` are written only if that is REFUSED. */
+/* Writes the message of a text's fault, such as "duplicate key: `port`", in the same way. It parses the text again, and
+ * returns the status; it writes `out` and `needed` only if that is REFUSED. */
 uint32_t toml_span_message(const char *text, size_t length, char *out, size_t room, size_t *needed);
 
-/* Writes the report of a text's fault in the same way: its lines, with marks under them, and the name of the file. Also
- * UNREAD if the name is not UTF-8. */
+/* Writes the report of a text's fault in the same way: source lines with marks, and the name of the file. The status is
+ * UNREAD also if the name is not UTF-8. */
 uint32_t toml_span_report(const char *text, size_t length, const char *name, size_t name_length, char *out, size_t room,
                           size_t *needed);
 
-/* ---- The calls that write a new text. READ sets `needed` to its length, and writes it into `out` if there is room for
- * all of it; otherwise `out` is unchanged, and a second call with that much room has it. REFUSED writes the fault.
- * Nothing else is written unless it says so below. */
+/* ---- The calls that write a new text. With READ, they set `needed` to its length, and write it to `out` if it fits;
+ * otherwise call again with that much room. With REFUSED, they write the fault. They write nothing else, except as said
+ * below. */
 
-/* What a change does at its path. A value is TOML, such as 8080, "text" with its quotes, or [1, 2]. */
+/* What a change does at its path. A value is written as TOML, such as 8080, "text" with its quotes, or [1, 2]. */
 enum {
-    TOML_SPAN_SET = 1,        /* writes the value over one, but not over a table that headers or dotted keys define */
-    TOML_SPAN_REPLACE = 2,    /* the same, also over these */
-    TOML_SPAN_SET_OR_ADD = 3, /* sets the value, or adds it with the tables that are missing on the way */
-    TOML_SPAN_RENAME = 4,     /* gives the key another name, which is `value`, without quotes */
+    TOML_SPAN_SET = 1,        /* replaces the value, unless it is a table that headers or dotted keys define */
+    TOML_SPAN_REPLACE = 2,    /* replaces the value, even such a table */
+    TOML_SPAN_SET_OR_ADD = 3, /* replaces the value, or adds it with the missing tables on the way */
+    TOML_SPAN_RENAME = 4,     /* renames the key to `value`, which has no quotes */
     TOML_SPAN_REMOVE = 5,     /* removes the value with its key, or the element */
-    TOML_SPAN_ADD = 6,        /* adds the value under a new key, the last of the path, to a table that is there */
+    TOML_SPAN_ADD = 6,        /* adds the value to an existing table, under a new key, the last of the path */
     TOML_SPAN_ADD_TABLE = 7,  /* adds an empty table */
-    TOML_SPAN_APPEND = 8,     /* adds the value to an array as its last element, or a new array with it */
-    TOML_SPAN_INSERT = 9,     /* adds the value before the element at the path, or after the last one */
-    TOML_SPAN_MOVE = 10       /* moves the value to another path, which is `value`, where there is none */
+    TOML_SPAN_APPEND = 8,     /* adds the value at the end of an array, or adds an array with it */
+    TOML_SPAN_INSERT = 9,     /* adds the value before the element at the path, or at the end of the array */
+    TOML_SPAN_MOVE = 10       /* moves the value to the path `value`, where there is none */
 };
 
-/* A change. Both texts end with a zero byte. The path is as toml_span_find takes it; `[0]` is the same as `.0`. The
- * value may be null for REMOVE and ADD_TABLE. */
+/* A change. Both strings end with a zero byte. The path is written as for toml_span_find; `[0]` is the same as `.0`.
+ * The value may be null for REMOVE and ADD_TABLE. */
 typedef struct {
     uint32_t change;
     const char *path, *value;
 } toml_span_change;
 
-/* Makes changes, one after the other, and leaves all other bytes as they are. UNMADE means that a change is refused: it
- * sets `refused` to its number, counted from 0, and writes the reason in words as toml_span_message does. */
+/* Makes changes, one after the other, and leaves all other bytes as they are. UNMADE means that a change was refused:
+ * then `refused` is its index, counted from 0, and the reason is written as toml_span_message writes its text. */
 uint32_t toml_span_edit(const char *text, size_t length, const toml_span_change *changes, size_t count, char *out,
                         size_t room, size_t *needed, size_t *refused, toml_span_fault *fault);
 
-/* Formats a text: an array is on one line if that has at most `width` columns (usually 80); otherwise its elements are
- * on lines of their own, indented by `indent` spaces (usually 4; more than 64 count as 64) for each level, but never by
+/* Formats a text. An array is written on one line if the line then has at most `width` columns (usually 80). Otherwise
+ * each element is on a line of its own, indented by `indent` spaces (usually 4, at most 64) per level, but never by
  * more than `width`. UNMADE would be a bug. */
 uint32_t toml_span_format(const char *text, size_t length, size_t width, size_t indent, char *out, size_t room,
                           size_t *needed, toml_span_fault *fault);
 
-/* ---- The calls below look only at the records. */
+/* ---- The calls below use only the records. */
 
 /* Visits the children of a record: TOML_SPAN_EACH(nodes, 0, child) printf("%zu\n", nodes[child].span.start); */
 #define TOML_SPAN_EACH(nodes, parent, child) \
@@ -182,23 +182,23 @@ uint32_t toml_span_format(const char *text, size_t length, size_t width, size_t 
 
 /* Finds a value by its path from the record `from` on, which is 0 for the root. A path that begins with a slash is a
  * JSON Pointer (RFC 6901), such as "/server/ports/0"; any other is a dotted key with positions in brackets, such as
- * "server.ports[0]" or "dependencies.\"a/b\"". Returns the number of the record, or TOML_SPAN_NONE. `sources` is
- * {text, strings}, and `count` says how many records the array has: those that had no room in it are not found. */
+ * "server.ports[0]" or "dependencies.\"a/b\"". Returns the index of the record, or TOML_SPAN_NONE. `sources` is
+ * {text, strings}, and `count` the number of records in the array: those that did not fit are not found. */
 size_t toml_span_find(const toml_span_node *nodes, size_t count, const char *const sources[2], size_t from,
                       const char *path);
 
-/* Copies the records of a document to `sorted`, with the entries of each table in the order in which the text names
- * them. The fields `parent`, `position` and `next` are those of the new order. The array must have all records: `count`
- * is counts.nodes. */
+/* Copies the records of a document to `sorted`, with the entries of each table in the order in which the text first
+ * names them. The fields `parent`, `position` and `next` are adapted to the new order. The array must have all records:
+ * `count` is counts.nodes. */
 void toml_span_sort(const toml_span_node *nodes, size_t count, toml_span_node *sorted);
 
-/* Writes the value of the record `from`, with all that it holds, as a pickle of Python's (protocol 4): tables as dicts,
- * arrays as lists. A datetime, and if `floats` is not 0 a float, is a persistent id: the number of its record. It fills
- * `out` as toml_span_code does. The arrays must have all records and strings. */
+/* Writes the value of the record `from`, with all values inside it, as a Python pickle (protocol 4): tables as dicts,
+ * arrays as lists. A datetime and, if `floats` is not 0, a float is a persistent id: the index of its record. It writes
+ * to `out` as toml_span_code does. The arrays must have all records and strings. */
 void toml_span_pickle(const toml_span_node *nodes, size_t from, const char *const sources[2], int floats, char *out,
                       size_t room, size_t *needed);
 
-/* Returns the name of a kind, such as "integer"; "" for any other number. */
+/* Returns the name of a kind, such as "integer", or "" if there is no such kind. */
 const char *toml_span_kind_name(uint32_t kind);
 
 /* Returns the line and the column of an offset, in time linear in the offset. */

@@ -5,8 +5,8 @@
  *     for (toml_span::value package : document["package"])
  *         if (auto name = package["name"].as_string()) std::cout << *name << '\n';
  *
- * A value that is not there converts to false, and what is looked up in it is not there either, so steps can be
- * chained. `edit` and `format` return a new text:
+ * A missing value converts to false, and so does anything that is looked up in it, so look-ups can be chained. `edit`
+ * and `format` return a new text:
  *
  *     std::string why;
  *     auto edited = toml_span::edit(text, {{TOML_SPAN_SET, "server.port", "8080"}}, &why);
@@ -30,7 +30,7 @@ namespace toml_span {
 
 namespace detail {
 
-/* The text that a call writes, which is called once more if there was too little room. */
+/* Returns the text that a call writes. If it does not fit into `room` bytes, the call is made again. */
 template <typename Write> std::string written(size_t room, Write write) {
     std::string out(room, '\0');
     size_t needed = 0;
@@ -40,7 +40,7 @@ template <typename Write> std::string written(size_t room, Write write) {
     return out;
 }
 
-/* The new text that a call makes of one, or else nothing, and `why`. */
+/* Returns the new text that a call makes from one, or nothing, and then sets `why` to the reason. */
 template <typename Write>
 std::optional<std::string> made(std::string_view text, std::string *why, Write write) {
     const char *from = text.data() ? text.data() : "";
@@ -61,7 +61,8 @@ std::optional<std::string> made(std::string_view text, std::string *why, Write w
 
 } // namespace detail
 
-/* Makes changes of a text, one after the other, and leaves all other bytes as they are. */
+/* Makes changes, one after the other, and leaves all other bytes as they are. Returns the new text, or nothing, and
+ * then sets `why` to the reason, if it is not null. */
 inline std::optional<std::string> edit(std::string_view text, const std::vector<toml_span_change> &changes,
                                        std::string *why = nullptr) {
     toml_span_change none = {0, nullptr, nullptr};
@@ -73,7 +74,8 @@ inline std::optional<std::string> edit(std::string_view text, const std::vector<
     });
 }
 
-/* Formats a text. */
+/* Formats a text, as toml_span_format does. Returns the new text, or nothing, and then sets `why` to the reason, if it
+ * is not null. */
 inline std::optional<std::string> format(std::string_view text, size_t width = 80, size_t indent = 4,
                                          std::string *why = nullptr) {
     return detail::made(text, why, [&](const char *from, char *out, size_t room, size_t *needed) {
@@ -112,7 +114,7 @@ public:
     std::string_view text(const toml_span_text &part) const { return {sources_[part.source] + part.at, part.length}; }
     toml_span_place place(size_t offset) const { return toml_span_line_column(sources_[0], length_, offset); }
 
-    /* The fault: the name of its kind, its message, and its report, which has the lines with marks. */
+    /* If the text is not valid: the name of the fault's kind, its message, and its report with source lines. */
     std::string code() const {
         return detail::written(512, [this](char *out, size_t room, size_t *needed) {
             toml_span_code(fault_.code, out, room, needed);
@@ -142,7 +144,7 @@ private:
     std::vector<toml_span_node> nodes_;
 };
 
-/* A value of a document, or none. */
+/* A value of a document, or a missing one. */
 class value {
 public:
     class iterator {
@@ -170,7 +172,7 @@ public:
 
     explicit operator bool() const { return number_ != TOML_SPAN_NONE; }
     const toml_span_node &node() const { return *this ? of_->nodes()[number_] : none(); }
-    uint32_t kind() const { return node().kind; } /* TOML_SPAN_STRING and so on; 0 for none */
+    uint32_t kind() const { return node().kind; } /* TOML_SPAN_STRING and so on; 0 if it is missing */
     std::string_view kind_name() const { return toml_span_kind_name(kind()); }
     toml_span_range span() const { return node().span; }
     toml_span_range key_span() const { return node().key_span; }
@@ -184,7 +186,7 @@ public:
     std::optional<double> as_float() const { return as(TOML_SPAN_FLOAT, node().number); }
     std::optional<bool> as_boolean() const { return as(TOML_SPAN_BOOLEAN, node().truth == 1); }
 
-    /* What a table or an array holds, in the order of the text. */
+    /* The entries of a table or the elements of an array, in the order of the text. */
     size_t size() const { return node().children; }
     iterator begin() const { return {of_, *this ? number_ + 1 : 0}; }
     iterator end() const { return {of_, *this ? node().next : 0}; }

@@ -1,7 +1,8 @@
 """Builds the package: the hooks that `pip wheel python` and `python -m build python` call. It needs no other package.
 
-The wheel carries the library: the one that TOML_SPAN_LIBRARY names, or that of the source distribution, or the one that
-scripts/c_library.sh of the repository makes. Its tag says which glibc that needs (readelf, of binutils).
+The wheel contains the library: the one that TOML_SPAN_LIBRARY names, that of the source distribution, or the one that
+scripts/c_library.sh of the repository makes. The tag of the wheel says which glibc the library needs, according to
+readelf (of binutils).
 """
 
 import base64
@@ -23,7 +24,7 @@ MOMENT = (1980, 1, 1, 0, 0, 0)
 
 
 def library():
-    """The path of the library."""
+    """Returns the path of the library."""
     script = os.path.join(HERE, "..", "scripts", "c_library.sh")
     path = os.environ.get("TOML_SPAN_LIBRARY") or os.path.join(PACKAGE, LIBRARY)
     if not os.path.exists(path) and os.path.exists(script):
@@ -35,7 +36,7 @@ def library():
 
 
 def platform():
-    """The platforms of the wheel, by the versions of glibc's symbols."""
+    """Returns the platforms of the wheel, by the versions of glibc's symbols."""
     said = subprocess.run(["readelf", "-W", "-d", "-V", library()], check=True, stdout=subprocess.PIPE).stdout.decode()
     needed = re.findall(r"\(NEEDED\).*\[(.*)\]", said)
     if needed != ["libc.so.6"]:
@@ -50,7 +51,7 @@ def read(*names):
 
 
 def field(name):
-    """A text of pyproject.toml."""
+    """Returns a text of pyproject.toml."""
     return re.search(rf'^{name} = "(.*)"$', read("pyproject.toml").decode(), re.M)[1]
 
 

@@ -1,11 +1,11 @@
 #!/usr/bin/env bash
-# The library for C, C++ and Python: bash scripts/c_test.sh [--unproved] [--times]
+# Tests the library for C, C++ and Python: bash scripts/c_test.sh [--unproved] [--times]
 #
-# It installs the library (scripts/c_library.sh), the proved one if that is there, into a folder of its own, and tries:
+# It installs the library (scripts/c_library.sh), the proved one if there is one, into a folder of its own, and tests:
 # the examples with gcc and clang, pkg-config, CMake and meson; the exports and the layout of the records (abi.txt); the
-# calls under sanitizers (walk.c, edits.c), with each request for memory refused (hold.c), between guard pages (fuzz.c), in
-# threads and with little stack (threads.c); the wheel, installed without network into a fresh environment. Times are
-# shown, and count only with --times, since a machine that others share shakes them. The last line counts.
+# calls under sanitizers (walk.c, edits.c), with each request for memory refused (hold.c), between guard pages (fuzz.c),
+# in threads and with a small stack (threads.c); the wheel, installed without network in a fresh environment. Times are
+# printed, and can fail a check only with --times: on a shared machine they vary. The last line has the counts.
 source "$(dirname -- "$(readlink -f -- "$0")")/common.sh"
 set +e
 cd -- "$top" || exit
@@ -17,7 +17,7 @@ times=shown
 words=()
 for word; do if [ "$word" = --times ]; then times=told; else words+=("$word"); fi; done
 
-# told NAME COMMAND..: counts a check that passes or fails as a whole
+# told NAME COMMAND..: runs a command as one check, and counts whether it passes or fails
 told() {
     if "${@:2}" >"$work/said" 2>&1; then
         passed=$((passed + 1))
@@ -29,16 +29,16 @@ told() {
     fi
 }
 
-# shown NAME COMMAND..: what a check says, which does not count
+# shown NAME COMMAND..: prints what a command writes, without counting it as a check
 shown() {
     "${@:2}" 2>&1 | grep -E '^(speed|times):'
 }
 
-# has TOOL: whether a tool is there; says so if not
+# has TOOL: whether a tool is installed; prints a line if not
 has() { command -v "$1" >/dev/null || { echo "c_test: there is no $1" && false; }; }
 
 for tool in gcc g++ clang clang++ python3; do has "$tool" || failed=$((failed + 1)); done
-# (by a link to the script, to a folder with a blank that is relative to the caller's, with a CDPATH that misleads)
+# (by a link to the script, in a folder with a blank, relative to the caller's folder, with a misleading CDPATH)
 ln -s "$top/scripts/c_library.sh" "$work/install"
 if ! (cd "$work" && CDPATH=$top bash ./install "${words[@]}" --prefix "the library") >"$work/said"; then
     cat "$work/said"
@@ -57,14 +57,14 @@ tests=scripts/c_tests
 runs=crates/toml_span_cli/runs
 documents=("$runs"/data/*.toml "$runs"/tagged_*/stdin)
 
-# exits STATUS COMMAND..: whether a command ends so
+# exits STATUS COMMAND..: whether a command ends with this status
 exits() { "${@:2}"; [ $? -eq "$1" ]; }
 
-# keys PROGRAM: the example writes what it should, and values PROGRAM: so does the one for C++
+# keys PROGRAM, values PROGRAM: the example for C, and the one for C++, writes the expected text
 keys() { "$1" examples/c/example.toml | diff - examples/c/example.keys; }
 values() { "$1" examples/c/example.toml | diff - examples/c/example.values; }
 
-# edited PROGRAM: it writes the edited and formatted document, and says why there is none
+# edited PROGRAM: the example writes the edited and formatted document, or says why the edit failed
 edited() {
     "$1" examples/c/example.toml server.ports '[80,443]' | diff - examples/c/example.edited &&
         exits 13 "$1" examples/c/example.toml title.no 1 2>"$work/said.edit" &&
@@ -73,13 +73,13 @@ edited() {
         diff - "$work/said.edit"
 }
 
-# refused PROGRAM: for a document that is refused it ends with status 1 and the report
+# refused PROGRAM: for an invalid document, the example ends with status 1 and writes the report
 refused() {
     exits 1 "$1" "$runs/data/settings.toml" >"$work/out" 2>"$work/report" &&
         [ ! -s "$work/out" ] && grep -q '^error\[duplicate-key\]' "$work/report"
 }
 
-# example CHECK PROGRAM COMPILE..: compiles an example, and checks what it writes of a document and of an error
+# example CHECK PROGRAM COMPILE..: compiles an example, and checks what it writes for a document and for an error
 example() {
     told "the example ${2##*/}" "${@:3}" -o "$2"
     told "what ${2##*/} writes" "$1" "$2"
@@ -89,8 +89,8 @@ example() {
 # exports FILE WORD..: the names that nm shows
 exports() { nm -g --defined-only "${@:2}" "$1" | awk '$2 ~ /[A-Z]/ && $3 != "" { print $2, $3 }' | sort; }
 
-# abi: the soname, the exports of both libraries and the layout of the records are those that are kept. What is new may
-# be added under the same soname
+# abi: the soname, the exports of both libraries and the layout of the records are those of abi.txt. New ones may be
+# added under the same soname
 abi() {
     gcc "${strict[@]}" "$tests/abi.c" -o "$work/abi" && diff <(exports "$archive") <(exports "$shared" -D) &&
         {
@@ -128,7 +128,7 @@ for language in c:gcc c:clang c++:g++ c++:clang++; do
     told "edits in C++ with $compiler" "$work/edits.$compiler"
 done
 
-# packaged, cmade, mesoned: programs that are linked as docs/C.md says start by themselves
+# packaged, cmade, mesoned: programs that are linked as docs/C.md says start without further settings
 packaged() {
     eval "gcc examples/c/keys.c $(pkg-config --cflags --libs toml_span) -o '$work/keys.packaged'" &&
         keys "$work/keys.packaged"
@@ -164,7 +164,7 @@ build threads "$archive"
 told "threads and stack" "$work/threads" "${documents[@]}"
 build speed "$archive"
 
-# install_wheel: builds the wheel and installs it, with no network and nothing but what Python brings
+# install_wheel: builds the wheel and installs it, without network and with only the packages that come with Python
 install_wheel() {
     python3 -m venv "$work/venv" &&
         TOML_SPAN_LIBRARY=$shared "$work/venv/bin/pip" wheel --no-index --no-deps -w "$work/wheel" ./python &&

@@ -1,11 +1,11 @@
 #!/usr/bin/env python3
-"""Compares the checker's formats that other programs read: formats.py PROGRAM [ARGUMENT..]
+"""Tests the checker's formats that other programs read: formats.py PROGRAM [ARGUMENT..]
 
 The checker (PROGRAM with the arguments that come before an option) runs on files with awkward names and contents. The
-lines of `--format github` and the document of `--format sarif` must be those that this script makes of `--format json`,
-with lines and columns that it counts itself: a line escaped as GitHub's runner takes it apart, a document with the
-members of the SARIF 2.1.0 schema. The rules of the document are the codes of all errors that a row of toml_span_rows
-reports, and the two of files that are not text. No line of `--format short` may be a command.
+script derives what `--format github` and `--format sarif` must write from `--format json`, with lines and columns that
+it counts itself: lines that are escaped in the way that GitHub's runner undoes, and a document with the members of the
+SARIF 2.1.0 schema. The rules of the document must be the codes of all errors that a row of toml_span_rows reports, and
+the two of files that are not text. No line of `--format short` may be a command.
 """
 import json
 import os
@@ -37,19 +37,19 @@ TEXTS = {os.path.basename(name).decode(): text for name, text in FILES.items()}
 
 
 def expect(what, wanted, told):
-    """Ends where something is wrong."""
+    """Prints a message and ends with status 1."""
     if wanted != told:
         sys.exit(f"formats: {what}\nexpected: {wanted}\nis:       {told}")
 
 
 def position(text, at):
-    """The line and the column of the character at an offset, counted from 1; a byte order mark has no column."""
+    """Returns the line and column of the character at an offset, counted from 1; a byte order mark has no column."""
     line = text[text[:at].rfind(b"\n") + 1 : at].decode(errors="ignore")
     return text[:at].count(b"\n") + 1, len(line.removeprefix("\ufeff")) + 1
 
 
 def label_of(fault):
-    """The label at which an error is reported, if it has one."""
+    """Returns the label at which an error is reported, or None."""
     return next((label for label in fault["labels"] if label["primary"]), None)
 
 
@@ -58,17 +58,17 @@ def escaped(text, chars):
 
 
 def visible(text):
-    """A text with the numbers of hidden characters that do not end a line."""
+    """Returns a text in which each hidden character is replaced by its number, except those that end a line."""
     is_hidden = lambda it: it in HIDDEN or it not in "\r\n" and (ord(it) < 32 or 127 <= ord(it) < 160)
     return "".join(f"\\u{ord(it):04x}" if is_hidden(it) else it for it in text)
 
 
 def annotation(fault, text):
-    """The line for GitHub."""
+    """Returns the line for GitHub of an error."""
     properties, label = {"file": visible(fault["file"])}, label_of(fault)
     if label:
         start, end = label["start"], label["end"]
-        # (an annotation does not end in the line after it)
+        # # (an annotation does not end in the line after it)
         end -= start < end and text[end - 1 : end] == b"\n"
         (line, column), (last, after) = position(text, start), position(text, end)
         properties |= {"line": line, "endLine": last}
@@ -79,12 +79,12 @@ def annotation(fault, text):
 
 
 def artifact(name):
-    """The location of a file."""
+    """Returns the location of a file."""
     return {"uri": f"{'file://' if name.startswith('/') else ''}{urllib.parse.quote(name)}"}
 
 
 def region(span, text):
-    """A region, which ends no later than the source."""
+    """Returns the region of a span. It ends at the end of the source at the latest."""
     start, end = (min(span[it], len(text)) for it in ("start", "end"))
     (line, column), (last, after) = position(text, start), position(text, end)
     found = {"startLine": line, "startColumn": column, "endLine": last, "endColumn": after}
@@ -92,7 +92,7 @@ def region(span, text):
 
 
 def location(name, label, text):
-    """A location of SARIF."""
+    """Returns a location of SARIF."""
     physical = {"artifactLocation": artifact(name)}
     if not label:
         return {"physicalLocation": physical}
@@ -100,7 +100,7 @@ def location(name, label, text):
 
 
 def result(fault, text):
-    """A result of SARIF."""
+    """Returns a result of SARIF."""
     others = [label for label in fault["labels"] if not label["primary"]]
     changes = [
         {"deletedRegion": region(fix, text), "insertedContent": {"text": fix["text"]}} for fix in fault["fixes"]
@@ -116,14 +116,14 @@ def result(fault, text):
 
 
 def all_codes():
-    """The codes of the errors that a row reports, and of whole files."""
+    """Returns the codes of all errors that a row reports, and those of whole files."""
     with open(f"{TOP}/crates/toml_span_rows/stdout", encoding="utf-8") as rows:
         told = re.findall(r"(?m)^parse .*\n    error ([a-z-]+) ", rows.read())
     return sorted({*told, "too-many-errors", "newer-toml", "not-utf-8", "too-long"})
 
 
 def check(program, names):
-    """Compares what the checker writes of some files."""
+    """Compares the output of the checker for some files."""
     made = {}
     for form in ("json", "short", "github", "sarif"):
         ran = subprocess.run([*program, "--format", form, "--", *names], stdout=subprocess.PIPE, check=False)

@@ -2,9 +2,9 @@
 """Formats many documents with `toml-span fmt` and compares: formatting.py [PROGRAM [COUNT [SEED]]]
 
 They are COUNT random ones (100,000), those of the suite toml-test if it can be fetched, and those of this repository.
-Each result has the words and comments of its document and, where tomllib reads that, the same keys and values in the
-same order. A second run changes nothing. With --sort-keys they may be in another order, and the keys of a document
-without blank lines and headers are sorted. PROGRAM is a native build unless it is given. Status: 1 if one is wrong.
+Each result must have the words and comments of its document and, where tomllib reads that, the same keys and values in
+the same order. A second run must change nothing. With --sort-keys the order may differ, and the keys of a document
+without blank lines and headers must be sorted. PROGRAM is by default a native build. Status: 1 if a check fails.
 """
 import random
 import re
@@ -55,14 +55,14 @@ def document():
 
 
 def plain(value):
-    """A value in which the order of keys is forgotten and NaN is equal to itself."""
+    """Returns a value that compares equal for every order of keys, and for every NaN."""
     if isinstance(value, list):
         return [plain(it) for it in value]
     return {key: plain(it) for key, it in value.items()} if isinstance(value, dict) else repr(value)
 
 
 def content(text, is_sorted, is_read=True):
-    """The words of a document without spaces and commas, its comments, and its values if tomllib reads it."""
+    """Returns the words of a document without spaces and commas, its comments, and its values if tomllib reads it."""
     words = WORD.findall(text := text.decode().removeprefix("\ufeff"))
     try:
         values = tomllib.loads(text) if is_read else None
@@ -75,7 +75,7 @@ def content(text, is_sorted, is_read=True):
 
 
 def is_ordered(new):
-    """Whether keys are sorted, if the document has neither blank lines nor headers and tomllib reads it."""
+    """Returns whether keys are sorted, if the document has neither blank lines nor headers and tomllib reads it."""
     text = new.decode().removeprefix("\ufeff").replace("\r\n", "\n")
     try:
         keys = [it.encode() for it in tomllib.loads(text)]
@@ -85,7 +85,7 @@ def is_ordered(new):
 
 
 def wrong_ones(program, texts, option="--width=80"):
-    """Formats documents. Those of which something does not hold, or what the program wrote."""
+    """Formats documents. Returns those for which a check fails, or what the program complained of."""
     is_sorted = option == "--sort-keys"
     with tempfile.TemporaryDirectory() as folder:
         paths = [Path(folder, f"{n}.toml") for n in range(len(texts))]

@@ -2,12 +2,12 @@
 # Installs toml-span: bash scripts/install.sh [--uninstall] [PREFIX]
 #
 # PREFIX, by default ~/.local, gets bin/toml-span, man pages (toml-span.1, and one for each command), and completions
-# for bash, zsh and fish. The program is statically linked, and the proved build if that is no older than the sources,
-# else one without proofs (scripts/native.sh). The man pages and completions are made from the help that it prints. What
-# was installed is listed.
+# for bash, zsh and fish. The program is statically linked. It is the proved build unless the sources are newer,
+# otherwise one without proofs (scripts/native.sh). The man pages and completions are made from the help that it prints.
+# The installed files are listed.
 #
-# All files are made first, in a folder below PREFIX, and the program is tried there. Then each is moved to its place.
-# So if something fails, each file is the one from before or the new one. --uninstall removes these files.
+# All files are made first, in a folder below PREFIX, and the program is tested there. Then each is moved to its place:
+# if something fails, each file is either the old or the new one. --uninstall removes these files.
 #
 # Status: 0 done, 2 wrong arguments, 3 PREFIX can't be written or has nothing to uninstall, 5 the program can't be
 # built, 130 interrupted.
@@ -94,7 +94,7 @@ class Help:
                 self.blocks.append(("example" if first.startswith("  ") else "text", [first, *rest]))
         self.summary = self.blocks.pop(0)[1][0]
         self.arguments = [it for it in self.usage[0].split()[2:] if "OPTION" not in it]
-        # an option: its names, the name of its value if it has one, what is known of the values, and what it does
+        # an option: its names, the name of its value if it has one, what is known about its values, and what it does
         for term, text, below in dict(self.blocks).get("Options", []):
             names, value = re.findall("--?[A-Za-z][a-z-]*", term), re.search("[A-Z]+$", term)
             listed = re.search(r"((?:\w+, )+)(\w+) or (\w+)", text)

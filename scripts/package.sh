@@ -1,10 +1,10 @@
 #!/usr/bin/env bash
 # Makes packages of toml-span: bash scripts/package.sh [DEST]
 #
-# DEST, by default the folder out of the repository, gets toml-span-VERSION-x86_64-linux.tar.gz and the Debian package
+# DEST, by default the folder `out` of the repository, gets toml-span-VERSION-x86_64-linux.tar.gz and the Debian package
 # toml-span_VERSION_amd64.deb. Both have what scripts/install.sh installs, and the licenses. The program is statically
-# linked, so neither needs anything else. Packages of one commit that one toolchain makes are equal byte for byte: their
-# files have the time of the last commit, or SOURCE_DATE_EPOCH. The packages are listed with their SHA-256.
+# linked, so neither needs anything else. Packages that one toolchain makes of one commit are equal byte for byte: the
+# time of their files is that of the last commit, or SOURCE_DATE_EPOCH. The packages are listed with their SHA-256.
 #
 # Status: 0 done, 2 wrong arguments, 3 DEST can't be written, 5 a package can't be made.
 source "$(dirname -- "$(readlink -f -- "$0")")/common.sh"

@@ -1,28 +1,28 @@
 #!/usr/bin/env python3
-"""Checks that the pages say what the sources say, that each edit applies, and that nothing is cited that is not here:
+"""Checks that the pages agree with the sources, that each edit applies, and that everything that is cited exists:
 pages.py [--items] [PAGE..] (README.md and docs/*.md). With --items it writes docs/public_items.txt: what callers can
-name in each library, an item a line.
+name in each library, one item per line.
 
 A mark says what a block, a list or a table quotes:
 
     ```rust             code: the parts between lines `// ..` follow each other in one file of crates/*/src
-    ```text clause FILE paragraphs of crates/FILE, or of any source without FILE, white space aside
+    ```text clause FILE paragraphs of crates/FILE, or of any source without FILE, ignoring white space
     ```text rows        answers of toml_span_rows
     ```text in FILE     lines of this file
     ```toml data NAME   the file crates/*/data/NAME
     ```console run NAME `$ PROGRAM ARGUMENT..` of crates/*/runs/NAME.args, and its output (NAME.stdout, NAME.stderr)
     ```sh               names files that exist
-    (indented by four)  is as `sh`, a line of crates.txt, or lines of a stored output
+    (indented by four)  the same as `sh`, a line of crates.txt, or lines of a stored output
     <!-- rows: CALL --> a table or a list whose lines begin with the text of a row of this call (`parse 128` without
-                        CALL); whatever else they have in code is in the row's answer: words of one of its lines, or the
+                        CALL); all other code in a line is in the row's answer: words of one of its lines, or the
                         field that the column or the word before it names (FIELDS). An error has its code and its span
     <!-- rules -->      a list of `WORDS. DEFINITIONS; FUNCTIONS; ROWS`: `Module.{A, B}` are in a file Module.antt of
                         specs/, `module::{a, b}` in a file module.rt of src/, and a row is the only one with this text,
-                        in which `..` stands for anything and `parse 128: ` may be left out; or `none` and a reason
+                        in which `..` matches anything and `parse 128: ` may be left out; or `none` and a reason
     <!-- calls -->      a list of CALLS: WORDS: CLAUSES: the names in CLAUSES occur in the contracts of the calls
 
-Everywhere, paths in code and links lead somewhere, names in code occur in the sources or among FOREIGN, and a clause
-that is named belongs to its function. docs/LANGUAGE.md has an example of each error that a row of `parse` reports.
+In all text, paths in code and links must exist, names in code must occur in the sources or in FOREIGN, and a clause
+that is named must belong to its function. docs/LANGUAGE.md has an example of each error that a row of `parse` reports.
 """
 
 import difflib
@@ -37,10 +37,10 @@ TOP = os.path.dirname(os.path.dirname(os.path.abspath(__file__)))
 ROWS = "crates/toml_span_rows"
 FIELDS = ("first", "expected", "found", "key", "name")
 # names of the toolchain, of the C library and of other crates
-FOREIGN = """AsRef BuiltModule Comparable From Given Goals IsSortedBy IsStableBy Lts MALLOC_MMAP_THRESHOLD_
+FOREIGN = """AsRef BuiltModule Comparable DeTable From Given Goals IsSortedBy IsStableBy Lts MALLOC_MMAP_THRESHOLD_
 MALLOC_TRIM_THRESHOLD_ ParsesChar Serialize Tie as_ codespan_reporting deny_unknown_fields from_iter reorder_keys
 table_from_str the_lemmas write_all""".split()
-# what only a reader of other papers could look up: their names, and their rules by number
+# names that only a reader of other papers could look up, and rules cited by their numbers
 THINGS = r"(?:rule|row|rung|table|paper|section|request) (?:\d+|[A-F])"
 CITED = [
     re.compile(r"(?i)(?:^|[^0-9a-z])0[1-9]-[a-z]{4,}"),
@@ -62,12 +62,12 @@ def codes_in(text):
 
 
 def squeezed(text):
-    """A text with one space for each run of white space, and one at each end."""
+    """Returns a text with each run of white space replaced by one space, and with one space at each end."""
     return f" {' '.join(text.split())} "
 
 
 def position_of(lines, part, start=0):
-    """Where these lines follow each other, or None."""
+    """Returns the index at which these lines follow each other, or None."""
     fits = (at for at in range(start, len(lines) - len(part) + 1) if lines[at : at + len(part)] == part)
     return next(fits, None)
 
@@ -83,7 +83,7 @@ def split_outside_code(text, mark):
 
 
 def answers():
-    """The lines that answer each row of toml_span_rows."""
+    """Returns the lines of the answer of each row of toml_span_rows."""
     told, row = {}, None
     for line in text_of(f"{ROWS}/stdout").split("\n"):
         if line.startswith("    ") and row:
@@ -95,7 +95,7 @@ def answers():
 
 
 class Sources:
-    """What pages quote, read once."""
+    """The sources that pages quote, read once."""
 
     def __init__(self):
         code = {path: text_of(path) for path in found("crates/*/src/**/*.rt")}
@@ -141,12 +141,12 @@ class Sources:
                 self.heads.setdefault(name, set()).update(re.findall(r"\w+", ghosts))
 
     def contracts_of(self, names):
-        """The words of the contracts of these functions, types and traits."""
+        """Returns the words of the contracts of these functions, types and traits."""
         return {word for name in names for part in name.split("::") for word in self.heads.get(part, ())}
 
 
 class Page:
-    """A page, the sources that it quotes, and what is wrong with it."""
+    """A page, the sources that it quotes, and the faults found in it."""
 
     def __init__(self, path, sources):
         self.path, self.sources, self.lines = path, sources, text_of(path).split("\n")
@@ -157,7 +157,7 @@ class Page:
         self.faults.append(f"{self.path}:{at + 1}: {what}")
 
     def until(self, at, is_end):
-        """The first line from here on that is one, or the end of the page."""
+        """Returns the first line from here on that satisfies the condition, or the end of the page."""
         return next((k for k in range(at, len(self.lines)) if is_end(self.lines[k])), len(self.lines))
 
     def look(self):
@@ -185,7 +185,7 @@ class Page:
             at = end
 
     def names(self, at, text):
-        """The paths, links, clauses and names of some lines."""
+        """Checks the paths, links, clauses and names of some lines."""
         folders = r"crates|docs|scripts|toml_span\w*|src|specs|proofs|must-fail|mistakes"
         for code in re.findall(rf"`(?:bash |python3 )?((?:{folders})/[^` ]*)", text):
             is_open = re.search(r"\b(NAME|CRATE|FILE|X|m|out)\b", code)
@@ -235,7 +235,7 @@ class Page:
             self.fault(at, f"{path} does not have these lines")
 
     def rust(self, at, lines):
-        """The parts between lines `// ..` follow each other in one file."""
+        """Checks that the parts between lines `// ..` follow each other in one file."""
         parts = [[]]
         for line in map(str.strip, lines):
             parts = [*parts, []] if line.startswith("// ..") else [*parts[:-1], [*parts[-1], line]]
@@ -306,7 +306,7 @@ class Page:
                 self.example(k, of or "parse 128", row.strip(), said)
 
     def example(self, at, call, text, told):
-        """A row, and what is said of its answer: words of one of its lines, or a field."""
+        """Checks a row and what the page says about its answer: words of one of its lines, or a field."""
         code = re.match(r"`([^`]*)`", text)
         row = f"{call}: {code[1]}" if code else f"{call}:"
         answer = self.sources.answers.get(row)
@@ -331,7 +331,7 @@ class Page:
                 self.fault(at, f"no contract of {', '.join(names)} has `{name}`")
 
     def rule(self, at, line):
-        """A line of a list names definitions, functions and rows that exist."""
+        """Checks that the definitions, functions and rows of a line of a list exist."""
         *words, code, rows = split_outside_code(f"; ; {line}", "; ")
         words = split_outside_code("; ".join(words), ". ")
         for told in (words[-1] if len(words) > 1 else "", code, rows):
@@ -350,7 +350,7 @@ class Page:
 
 
 def edits(sources):
-    """What is wrong with the edits: text that is not in its file once, or a clause that does not exist."""
+    """Returns the faults of the edits: text that is not in its file exactly once, or a clause that does not exist."""
     for path in found("crates/*/must-fail/*.edit") + found("crates/*/mistakes/*.edit"):
         first, words, *lines = text_of(path).split("\n")
         if not first.startswith("clause: ") or not words.endswith("."):
@@ -370,7 +370,7 @@ def edits(sources):
 
 
 def citations():
-    """The lines that cite something that the repository does not have."""
+    """Returns the lines that cite something that the repository does not have."""
     kinds = ["*.rt", "*.antt", "*.md", "*.edit", "*.sh", ".ci/run"]
     listed = subprocess.run(["git", "ls-files", "--", *kinds], cwd=TOP, stdout=subprocess.PIPE, text=True, check=True)
     for path in filter(lambda it: os.path.isfile(f"{TOP}/{it}"), listed.stdout.split("\n")):
@@ -387,7 +387,7 @@ TYPES = ("struct", "enum", "trait")
 
 
 def code_of(path):
-    """A file of src/ without its comments."""
+    """Returns a file of src/ without its comments."""
     return re.sub(r"(?m)^\s*//.*\n", "", text_of(path))
 
 
@@ -406,18 +406,18 @@ def body_of(item):
 
 
 def items_of(text):
-    """The attributes of each item of a text, and the item."""
+    """Returns each item of a text, with its attributes before it."""
     return re.findall(r"(?ms)^((?:#!?\[(?:[^\n]|\n[ )])*\]\n)*)(\w.*?)(?=^[#\w]|\Z)", text)
 
 
 def calls_of(name, item, kinds):
-    """The lines of the calls in an impl or a trait."""
+    """Returns the lines of the functions in an impl or a trait."""
     calls = [it for _, it in items_of(body_of(item)) if re.match(kinds, it)]
     return [f"{name}::{head_of(re.sub(r'^(pub )?(const )?(fn |type )?', '', it))}" for it in calls]
 
 
 def lines_of(kind, name, item, held):
-    """The lines of a public item, whose attributes are `held`."""
+    """Yields the lines for a public item, whose attributes are `held`."""
     own = re.sub(r"(?m)^ *#\[.*\n", "", item)[len("pub ") :]
     derived = ", ".join(re.findall(r"derive(?:_where)?\(([^);]*)", held))
     if kind in (*TYPES, "fn", "type"):
@@ -438,7 +438,7 @@ def lines_of(kind, name, item, held):
 
 
 def module(path, text, folder, is_open):
-    """The items of a module and of those in it: where each is, whether callers reach that, its attributes and text."""
+    """Yields each item of a module and of those in it: its path, whether callers reach it, its attributes and text."""
     for held, item in items_of(text):
         is_public, kind, name = HEADED.match(item).groups()
         if kind == "mod" and name != "laws":
@@ -449,7 +449,7 @@ def module(path, text, folder, is_open):
 
 
 def public_lines(crate):
-    """The public items of a library, each as a line with the module that it is in."""
+    """Yields the public items of a library, each as a line with the module that it is in."""
     texts = "".join(code_of(it) for it in found(f"crates/{crate}/src/**/*.rt"))
     handed_on = {*re.findall(r"\w+", " ".join(re.findall(r"(?ms)^ *pub use ([^;]*);", texts)))}
     private, impls = {"Model"}, []
@@ -470,7 +470,7 @@ def public_lines(crate):
 
 
 def public_items(words):
-    """Compares docs/public_items.txt with the libraries, except those of laws alone, or writes it."""
+    """Compares docs/public_items.txt with the libraries, except those for laws alone, or writes it."""
     libraries = re.findall(r"(?m)^(\w+)(?: \w+)*:", text_of("crates.txt"))
     libraries = [it for it in libraries if found(f"crates/{it}/src/lib.rt") and not it.endswith("_laws")]
     items = sorted(line for library in libraries for line in public_lines(library))

@@ -1,21 +1,21 @@
 #!/usr/bin/env bash
-# Runs all programs on their stored inputs without any proof, for whoever changes something:
+# Runs all programs on their stored inputs without any proof, for a first check after a change:
 # bash scripts/quick.sh [CRATE..]
 #
 # Each program is built without proofs (scripts/native.sh, which keeps the build while the sources stay the same), or is
-# the proved build if that is up to date. scripts/runs.sh tries it. What passed is not run again while the program and
-# its runs stay the same.
+# the proved build if that is up to date. scripts/runs.sh tests it. What passed is not run again until the program or
+# its runs change.
 #
 # The builds stop at an index out of range, an overflow or a failed unwrap (status 132; `rt try` says where), so this
-# finds those on these inputs, and wrong output; what holds for all inputs is proved by scripts/test.sh. QUICK_JOBS
-# programs run side by side, by default one for each processor. The last line counts. Status 5: the toolchain's command
-# rt is missing.
+# finds those faults for the stored inputs, and wrong output; what holds for all inputs is proved by scripts/test.sh.
+# QUICK_JOBS programs run at a time, by default one for each processor. The last line has the counts. Status 5: the
+# toolchain's command rt is missing.
 source "$(dirname -- "$(readlink -f -- "$0")")/common.sh"
 set +e
 cd -- "$top" || exit
 command -v rt >/dev/null || fail 5 "the toolchain's command rt is not here: put it on PATH"
 
-# sum_of_runs CRATE PROGRAM: the checksum of a program, of its runs and of what compares them
+# sum_of_runs CRATE PROGRAM: the checksum of a program, of its runs and of the scripts that compare them
 sum_of_runs() {
     {
         sha256sum <"$2"
@@ -24,7 +24,7 @@ sum_of_runs() {
     } | sha256sum
 }
 
-# try CRATE: builds a program and tries its runs, and says how that ends
+# try CRATE: builds a program, tests its runs, and prints the result
 try() {
     local said program sum passed=crates/$1/out/passed
     SECONDS=0
@@ -44,7 +44,7 @@ try() {
     [ -n "${sum-}" ]
 }
 
-# the crates that are built on most come first, since they take longest
+# the crates that most others use come first, since they take longest
 crates=("$@")
 if [ $# -eq 0 ]; then mapfile -t crates < <(sed -n 's/^\([a-z][a-z0-9_]*\).*:.*/\1/p' crates.txt | tac); fi
 programs=()

@@ -1,12 +1,12 @@
 #!/usr/bin/env bash
-# Runs a program on its stored runs: bash scripts/runs.sh CRATE [PROGRAM]
+# Tests a program with its stored runs: bash scripts/runs.sh CRATE [PROGRAM]
 #
-# A run is the folder crates/CRATE or a folder crates/CRATE/runs/NAME. Its file `args` has the arguments, one a line,
-# `stdin` is standard input, and `stdout`, `stderr` and `status` are what the program must write and end with: nothing
-# and 0 where there is no such file, except that then any `stderr` is fine. It runs in a folder with the files of
-# runs/data and of its own `data`. These must be as before afterwards, with their permissions, except for the files of
-# its folder `after`, and no other file may be there. Further checks of some programs follow, such as runs with each
-# request for memory refused in turn. PROGRAM is the proved build by default.
+# A run is the folder crates/CRATE or a folder crates/CRATE/runs/NAME. Its file `args` has the arguments, one per line,
+# `stdin` is standard input, and `stdout`, `stderr` and `status` are the expected output and exit status. Where a file is
+# missing, the output must be empty and the status 0, but any `stderr` is accepted. The program runs in a folder with the
+# files of runs/data and of the run's own `data`. Afterwards these must be as before, with their permissions, except for
+# the files of its folder `after`, and there may be no other file. Some programs have further checks, such as runs with
+# each request for memory refused in turn. PROGRAM is the proved build by default.
 source "$(dirname -- "$(readlink -f -- "$0")")/common.sh"
 set +e
 unset NO_COLOR CLICOLOR_FORCE
@@ -22,7 +22,7 @@ input=/dev/null
 out=$work/stdout
 err=$work/stderr
 
-# holds COMMAND..: counts a check, which a command makes
+# holds COMMAND..: runs a command as a check, and counts it
 holds() {
     count=$((count + 1))
     if ! "$@" >"$work/differs"; then
@@ -44,7 +44,7 @@ fresh() {
     cp -rp "$work/before" "$work/folder"
 }
 
-# go ARGUMENT..: runs the program there, on the file $input and with the words $with before its name
+# go ARGUMENT..: runs the program there, with the file $input as its input, and with the words $with before its name
 go() {
     status=0
     (cd "$work/folder" && timeout 120 env "${with[@]}" "$program" "$@" <"$input" >"$out" 2>"$err" 9>"$work/made") ||
@@ -57,19 +57,19 @@ same() {
         diff <(cd "$1" && find . -printf '%m %p\n' | sort) <(cd "$work/folder" && find . -printf '%m %p\n' | sort)
 }
 
-# ends STATUS ARGUMENT..: checks with which status the program ends
+# ends STATUS ARGUMENT..: checks the status with which the program ends
 ends() {
     go "${@:2}"
     holds test "$status" -eq "$1"
 }
 
-# writes STATUS TEXT ARGUMENT..: checks the status, and what is written: standard output and then standard error
+# writes STATUS TEXT ARGUMENT..: checks the status and the output: standard output followed by standard error
 writes() {
     ends "$1" "${@:3}"
     holds diff - <(cat "$work/stdout" "$work/stderr") <<<"$2"
 }
 
-# arguments_of: gets the arguments and the input of the run $name
+# arguments_of: reads the arguments and the input of the run $name
 arguments_of() {
     words=()
     if [ -f "$name/args" ]; then mapfile -t words <"$name/args"; fi
@@ -77,7 +77,7 @@ arguments_of() {
     if [ -f "$name/stdin" ]; then input=$PWD/$name/stdin; fi
 }
 
-# stored: the stored run $name
+# stored: checks the stored run $name
 stored() {
     local wanted=0 output=/dev/null
     arguments_of
@@ -91,14 +91,14 @@ stored() {
     holds same "$work/before"
 }
 
-# silent STATUS: whether the program ended so for want of memory, wrote nothing, and with status 1 complained
+# silent STATUS: whether the program ended with this status out of memory, wrote nothing, and with status 1 complained
 silent() {
     [ "$status" -eq "$1" ] && [ ! -s "$work/stdout" ] && same "$work/before" >"$work/differs" &&
         if [ "$1" -eq 1 ]; then grep -q OutOfMemory "$work/stderr"; else [ ! -s "$work/stderr" ]; fi
 }
 
-# refused STATUS REQUESTS GUESSES: the run of $words and $input with each of its requests for memory refused in turn, at
-# least this many. Each ends the program with this status, except for this many guesses, which cost nothing.
+# refused STATUS REQUESTS GUESSES: the run of $words and $input with each of its requests for memory refused in turn. It
+# makes at least this many, and each ends the program with this status, except for this many guesses, which cost nothing.
 refused() {
     local usual request with made=1 spared=0
     for ((request = 0; request <= made; request++)); do
@@ -125,8 +125,9 @@ refused() {
 
 toml_span_example() { refused 1 20 27; }
 
-# row ROW: prints a row of calls that allocate, its answer and, after each refused request that a call reports
-# (`AllocError`, or the text of it), the answer from then on as a diff, with the number of requests that lead to it
+# row ROW: prints a row of calls that allocate and its answer. For each refused request that a call reports
+# (`AllocError`, or the text of it), the rest of the answer follows as a diff, with the number of the requests that have
+# this effect
 row() {
     local request made=1 usual with answer answers=()
     local -A times=()
@@ -154,8 +155,8 @@ row() {
     done
 }
 
-# The rows of the file `refused` must have the answers that it has: so a refusal that is not reported, a request more or
-# less, and another state after a refusal are seen. A row without `refused:` makes no request.
+# The rows of the file `refused` must have the answers that are stored there. So a refusal that is not reported, one
+# request more or less, or another state after a refusal fails. A row without `refused:` makes no request.
 toml_span_rows() {
     local calls='key_places|section_places|table_forms a|insertion_point bin|node_at 1[0-5]'
     local line reported=0
@@ -192,7 +193,7 @@ toml_span_show() {
     ends 3
 }
 
-# cuts: no prefix of a document is too much for any format
+# cuts: no prefix of a document exhausts any format
 cuts() {
     local document at format
     mkdir "$work/folder/cuts"
@@ -204,7 +205,7 @@ cuts() {
     for format in text short json github sarif; do ends 1 check --format "$format" cuts; done
 }
 
-# colored YES WORD..: whether a report has colors, with these words before the program's name
+# colored YES WORD..: checks whether a report has colors, with these words before the program's name
 colored() {
     local with=("${@:2}")
     ends 1 check settings.toml
@@ -249,7 +250,7 @@ error: cannot read \`no\\u000a::error file=x\`: no such file" --format short \
     cd - >/dev/null || return
 }
 
-# prefixes: what is shown is written as it is made, so a write that fails leaves a prefix
+# prefixes: output is written while it is made, so a write that fails leaves a prefix of it
 prefixes() {
     local at least=-1 with
     python3 -c 'print("\n".join(f"k{n} = {n}" for n in range(50000)))' >"$work/folder/many.toml"
@@ -346,14 +347,14 @@ toml_span_cli() {
         arguments_of
         refused 4 20 0
     done
-    # (one request that is refused is made once more: the run is then as usual, with the same calls of the system)
+    # (one refused request is made again: the run is then as usual, with the same system calls)
     for name in runs/{set_odd,rename_quoted,remove_dotted,remove_inline,add_to_empty,set_in_invalid}; do
         arguments_of
         refused 4 20 1
     done
 }
 
-# $work/faults.so, made with the kit's clang, for LD_PRELOAD: the request for memory number $REFUSED is refused; the
+# $work/faults.so, made with the toolchain's clang, for LD_PRELOAD: the request for memory number $REFUSED is refused. The
 # number of requests, counted before the C library sees them, is written to file descriptor 9. The write number $FAILED
 # and all later ones fail as if a disk were full. With $INTERRUPTED, every other read and write fails as if a signal came.
 kit=$(dirname "$(rt doc)")/toolchain/bin

@@ -1,10 +1,10 @@
 #!/usr/bin/env bash
-# Tests what people start (toml-span.sh, native.sh, install.sh, package.sh, vendor.sh): bash scripts/scripts_test.sh
+# Tests the scripts for users: toml-span.sh, native.sh, install.sh, package.sh, vendor.sh: bash scripts/scripts_test.sh
 #
-# A row of the table is a case: its name, the expected status, what its output must have (an expression of grep; with !,
-# must not have), and a command. The commands run in order in one folder. `fresh` makes a new repository in a folder with
-# a blank in its name. The toolchain is a stand-in, whose `rt try` compiles C, and FAULT names a step of it that fails; so
-# a case takes milliseconds. The last cases try docs/CI.md with the program itself, and the toolchain that is here.
+# A row of the table is a case: its name, the expected status, what its output must match (an expression of grep; with !,
+# must not match), and a command. The commands run in order in one folder. `fresh` makes a new repository in a folder
+# with a blank in its name. The toolchain is a fake whose `rt try` compiles C, and FAULT names a step of it that fails;
+# so a case takes milliseconds. The last cases try docs/CI.md with the program and the toolchain that are installed here.
 source "$(dirname -- "$(readlink -f -- "$0")")/common.sh"
 set +e
 unset TMPDIR XDG_CACHE_HOME SOURCE_DATE_EPOCH
@@ -15,7 +15,7 @@ repository="$work/a folder"
 crate=$repository/crates/toml_span_cli
 count=0 wrong=0
 
-# the stand-in, and all commands but rt
+# the fake toolchain, and all commands except rt
 mkdir -p "$work"/kit/{bin,c,toolchain/bin} "$work/bare"
 find /bin/ /usr/bin/ -mindepth 1 -maxdepth 1 ! -name rt -exec ln -sf -t "$work/bare" {} +
 echo "kit 1" >"$work/kit/KIT-ID"

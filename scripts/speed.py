@@ -1,17 +1,20 @@
 #!/usr/bin/env python3
 """Measures how fast documents are parsed, or how much stack and memory that takes:
-speed.py [--bytes N,..] [--instructions] [--crate FOLDER] [KIND|FILE..]
+speed.py [--bytes N,..] [--instructions] [--peers] [KIND|FILE..]
 speed.py --limits [PROGRAM..]
 
 A document of each kind, of about N bytes (1,000,000), or a file, is parsed by toml_span_bench: the proved build if it
-is no older than the sources, else a native build (scripts/native.sh). With --crate, an unpacked copy of the Rust crate
-toml-span is measured beside it, by a small program that cargo builds.
+is no older than the sources, else a native build (scripts/native.sh). With --peers others are measured beside it, by
+small programs that cargo and c++ build: the Rust crate toml-span, `DeTable` and `Table` of the Rust crate toml, and
+toml++, from packages of Debian's sid, which apt fetches into a temporary folder, and the crate toml of the toolchain.
+Without documents they are measured on manifests in those packages, too.
 
 A line has, for each byte of the text, the nanoseconds of processor time of a parse and the drop of its tree: `user` is
 the program's own time, `all` includes the system's. It is the difference between a run of one parse and a run of ten
 more (or of a megabyte each, for a shorter text), the best of three rounds. `peak` is the most memory of one parse in MB
-(some 20 MB are this script's own). A ratio says how many times as long the Rust crate took. With --instructions a line
-has the instructions of a parse for each byte (valgrind): other load of the machine does not change them.
+(some 20 MB are this script's own). Of a peer it says how many times as long it took, and its peak. With --instructions
+a line has the instructions of a parse for each byte (valgrind): other load of the machine does not change them. A peer
+that refuses the document has `-`.
 
 --limits runs programs that read standard input (native builds of toml-span and toml_span_show unless they are given) on
 the worst documents at the limit of 128 nested levels, for some minutes. Stack: the least `ulimit -s`, in KB and to
@@ -29,23 +32,64 @@ import sys
 import tempfile
 from pathlib import Path
 
+import toml_test
+
 TOP = os.path.dirname(os.path.dirname(os.path.abspath(__file__)))
 
-# a program that does what toml_span_bench does, over the Rust crate
-CARGO = """package = { name = "measured", version = "0.0.0", edition = "2021" }
-dependencies = { toml-span = { path = "%s" } }
+# programs that do what toml_span_bench does: over Rust's crates, and over toml++
+CARGO = """package = { name = "peers", version = "0.0.0", edition = "2021" }
+dependencies = { toml = "1", toml-span = "0.7" }
 """
+CONFIG = """source.crates-io.replace-with = "debian"
+source.debian.directory = "%s"
+"""
+RUST = {"toml-span": "toml_span::parse", "detable": "toml::de::DeTable::parse", "toml": "toml::from_str::<toml::Table>"}
 MAIN = """fn main() {
     let words: Vec<String> = std::env::args().collect();
     let text = std::fs::read_to_string(&words[1]).expect("a file");
     let mut is_read = true;
     for _ in 0..words[2].parse().expect("a number") {
-        is_read = std::hint::black_box(toml_span::parse(&text)).is_ok();
+        is_read = std::hint::black_box(%s(&text)).is_ok();
     }
     println!("{}", if is_read { "ok" } else { "error" });
 }
 """
+CPP = """#define TOML_EXCEPTIONS 0
+#include <fstream>
+#include <iostream>
+#include <sstream>
+#include <toml++/toml.hpp>
+int main(int, char **words) {
+    std::stringstream text;
+    text << std::ifstream(words[1]).rdbuf();
+    const std::string all = text.str();
+    bool is_read = true;
+    for (long left = std::stol(words[2]); left > 0; left--) is_read = static_cast<bool>(toml::parse(all));
+    std::cout << (is_read ? "ok" : "error") << "\\n";
+}
+"""
 PASSES, ROUNDS = 10, 3
+KIT = """#![tactic(auto)]
+
+use std::{env, fs, io};
+use toml::table_from_str;
+
+fn main(rt: HostRuntime) -> io::Result<()> {
+    let words: Vec<String> = env::args(&rt)?.skip(1).collect(rt.alloc())?;
+    let [file, count] = words.as_slice() else {
+        return Ok(());
+    };
+    let text = fs::read_to_string(&rt, file.as_str())?;
+    let mut outcome = "ok";
+    for _ in 0..count.as_str().parse::<u64>().unwrap_or(0) {
+        if table_from_str(rt.alloc(), text.as_str()).is_err() {
+            outcome = "error";
+        }
+    }
+    println!(rt; "{outcome}")
+}
+"""
+MANIFESTS = ["hashbrown", "indexmap", "serde", "toml", "winnow"]
 WORDS = "amber basil cedar delta ember flint grove heron iris juniper karst lumen maple north onyx pearl".split()
 
 
@@ -119,6 +163,9 @@ def documents(given, work):
             path = Path(f"{work}/{kind}.toml")
             path.write_text(document(kind, int(size)))
             yield kind, path
+    if given.peers and not given.documents:
+        for name in MANIFESTS:
+            yield name, next(Path(work).glob(f"usr/share/cargo/registry/{name}-[0-9]*/Cargo.toml"))
 
 
 # ---- runs
@@ -133,7 +180,7 @@ def native(crate):
 
 
 def ended(command, **how):
-    """What a command writes, its status, and what it used."""
+    """Returns what a command writes, its status, and its use of resources."""
     with subprocess.Popen(command, **how) as ran:
         said = ran.stdout.read() if ran.stdout else None
         _, status, used = os.wait4(ran.pid, 0)
@@ -142,54 +189,79 @@ def ended(command, **how):
 
 
 def run(program, path, passes):
-    """The seconds of a run, the program's own and all of them, and the most memory that it held in MB."""
+    """The seconds of a run, the program's own and all of them, and the most memory that it held in MB; or None if it
+    refuses the document."""
     said, status, used = ended([program, path, str(passes)], stdout=subprocess.PIPE, text=True)
-    if status != 0 or "ok" not in said.split():
+    if status != 0:
         sys.exit(f"speed: {program} ended with status {status} on {path} and said: {said.strip()}")
-    return used.ru_utime, used.ru_utime + used.ru_stime, used.ru_maxrss / 1000
+    return [used.ru_utime, used.ru_utime + used.ru_stime, used.ru_maxrss / 1000] if "ok" in said.split() else None
 
 
 def timed(programs, path):
-    """The cells of a line on time: user, all and peak of each program, which run in turn, and the ratios."""
+    """Of each program the nanoseconds a byte, its own and all, and the peak. The programs run in turn."""
     best = [[float("inf"), float("inf"), 0.0] for _ in programs]
     size = os.path.getsize(path)
     passes = max(PASSES, PASSES * 1_000_000 // size)
     for at, program in [*enumerate(programs)] * ROUNDS:
-        *few, peak = run(program, path, 1)
-        *many, _ = run(program, path, 1 + passes)
-        spent = [(more - less) / passes / size * 1e9 for less, more in zip(few, many)]
-        best[at] = [*map(min, best[at], spent), max(best[at][2], peak)]
-    ratios = [f"{theirs / ours:.1f}" for theirs, ours in zip(best[-1][:2], best[0])] if len(programs) > 1 else []
-    return [cell for *spent, peak in best for cell in [*(f"{it:.1f}" for it in spent), f"{peak:.0f}"]] + ratios
+        few, many = run(program, path, 1), best[at] and run(program, path, 1 + passes)
+        spent = [(more - less) / passes / size * 1e9 for less, more in zip(few or [], many or [])]
+        best[at] = [*map(min, best[at], spent[:2]), max(best[at][2], few[2])] if few and many else None
+    return best
 
 
 def counted(program, path, passes):
-    """The instructions of a run."""
+    """The instructions of a run, or None if it refuses the document."""
     command = ["valgrind", "--tool=callgrind", "--callgrind-out-file=/dev/null", program, path, str(passes)]
     ran = subprocess.run(command, capture_output=True, text=True, check=False)
     found = re.search(r"Collected : (\d+)", ran.stderr)
-    if ran.returncode or not found or "ok" not in ran.stdout.split():
+    if ran.returncode or not found:
         sys.exit(f"speed: valgrind could not count {program} on {path}: {ran.stderr.strip()[-300:]}")
-    return int(found[1])
+    return int(found[1]) if "ok" in ran.stdout.split() else None
 
 
 def instructions(programs, path):
-    """The cells of a line on instructions: those of a further parse for each byte, and the ratio."""
+    """Of each program the instructions of a further parse for each byte."""
     size = os.path.getsize(path)
     more = max(1, 100_000 // size)
-    found = [(counted(it, path, 1 + more) - counted(it, path, 1)) / more / size for it in programs]
-    return [f"{it:.1f}" for it in found] + [f"{it / found[0]:.1f}" for it in found[1:]]
+    pairs = [(counted(it, path, 1), counted(it, path, 1 + more)) for it in programs]
+    return [[(many - few) / more / size] if few else None for few, many in pairs]
 
 
-def built_over(crate, work):
-    """The program over the Rust crate."""
-    folder = Path(work) / "measured"
-    (folder / "src").mkdir(parents=True)
-    (folder / "Cargo.toml").write_text(CARGO % os.path.abspath(crate))
-    (folder / "src/main.rs").write_text(MAIN)
-    if subprocess.run(["cargo", "build", "--release", "--quiet"], cwd=folder, check=False).returncode:
-        sys.exit(f"speed: cargo could not build a program over {crate}")
-    return folder / "target/release/measured"
+def cells_of(own, theirs):
+    """The cells of what was measured of a peer: how many times as much as of the own program, and the peak."""
+    ratios = [f"{more / less:.2f}" for less, more in zip(own, theirs)] if theirs else ["-"] * len(own)
+    return ratios[:2] + ([f"{theirs[2]:.0f}"] if theirs and len(own) > 2 else ratios[2:])
+
+
+def peers(work):
+    """Programs over other parsers, by their names, from the packages of Debian's sid."""
+    try:
+        apt = toml_test.apt_of(work, "deb")
+    except toml_test.Unreachable as why:
+        sys.exit(f"speed: the peers cannot be fetched: {why}")
+    names = ["librust-toml-dev", "librust-toml-span-dev", "libtomlplusplus-dev"]
+    toml_test.called(*apt, "-y", "--download-only", "--no-install-recommends", "install", *names)
+    for package in work.glob("cache/archives/*.deb"):
+        if re.match("librust|libtoml", package.name):
+            subprocess.run(["dpkg-deb", "-x", package, work], check=True)
+    (work / "src/bin").mkdir(parents=True)
+    (work / ".cargo").mkdir()
+    (work / "Cargo.toml").write_text(CARGO)
+    (work / ".cargo/config.toml").write_text(CONFIG % (work / "usr/share/cargo/registry"))
+    for name, call in RUST.items():
+        (work / f"src/bin/{name}.rs").write_text(MAIN % call)
+    (work / "peer.cpp").write_text(CPP)
+    (work / "crates/kit/src").mkdir(parents=True)
+    (work / "crates.txt").write_text("kit: toml\n")
+    (work / "HANDLES").write_text("Handles allowed: none.\n")
+    (work / "crates/kit/src/main.rt").write_text(KIT)
+    build = ["cargo", "build", "--release", "--quiet", "--offline"]
+    compiled = ["c++", "-std=c++17", "-O3", "-DNDEBUG", "-I", "usr/include", "-o", "toml++", "peer.cpp"]
+    for command, folder in ((build, work), (compiled, work), (["rt", "run"], work / "crates/kit")):
+        if subprocess.run(command, cwd=folder, capture_output=True, check=False).returncode:
+            sys.exit(f"speed: the peers cannot be built: {command[0]} failed")
+    made = {name: work / f"target/release/{name}" for name in RUST}
+    return made | {"the toolchain's toml": work / "crates/kit/out/kit", "toml++": work / "toml++"}
 
 
 # ---- stack and memory
@@ -200,7 +272,7 @@ def keys(count, name="k"):
 
 
 def filled(line, size=1_000_000):
-    """As many lines, each with another number, as fit."""
+    """Returns as many lines as fit, each with another number."""
     return "".join(f"{line % at}\n" for at in range(size // (len(line % 10**5) + 1)))
 
 
@@ -279,7 +351,7 @@ def asked():
     parser.formatter_class = argparse.RawTextHelpFormatter
     parser.add_argument("--bytes", default="1000000")
     parser.add_argument("--instructions", action="store_true")
-    parser.add_argument("--crate")
+    parser.add_argument("--peers", action="store_true")
     parser.add_argument("--limits", action="store_true")
     parser.add_argument("documents", nargs="*", metavar="KIND|FILE", help=", ".join(KINDS))
     given = parser.parse_args()
@@ -293,20 +365,22 @@ def main():
     given = asked()
     if given.limits:
         return limits(given.documents)
-    programs = [native("toml_span_bench")]
-    if "/unproved-" in programs[0]:
+    programs = {"": native("toml_span_bench")}
+    if "/unproved-" in programs[""]:
         print("speed: this is a build without the proofs, not the one that the gate makes", file=sys.stderr)
-    cells, heads = timed, ["user ns/byte", "all ns/byte", "peak MB"]
-    theirs = ["the crate: user", "all", "peak MB", "ratio user", "ratio all"]
+    measured, units = timed, ["user ns/byte", "all ns/byte", "peak MB"]
     if given.instructions:
-        cells, heads, theirs = instructions, ["instructions/byte"], ["the crate", "ratio"]
-    heads = ["document", "KB", *heads, *(theirs if given.crate else [])]
+        measured, units = instructions, ["instructions/byte"]
     with tempfile.TemporaryDirectory() as work:
-        if given.crate:
-            programs.append(built_over(given.crate, work))
+        programs |= peers(Path(work)) if given.peers else {}
+        heads = ["document", "KB", *(f"{name} {unit}".strip() for name in programs for unit in units)]
         print("| " + " | ".join(heads) + " |\n|" + "---|" * len(heads), flush=True)
         for name, path in documents(given, work):
-            row = [name, f"{os.path.getsize(path) / 1e3:.1f}", *cells(programs, path)]
+            own, *others = measured([*programs.values()], path)
+            if own is None:
+                sys.exit(f"speed: {path} is no document")
+            row = [name, f"{os.path.getsize(path) / 1e3:.1f}", *(f"{it:.1f}" for it in own)]
+            row += [cell for theirs in others for cell in cells_of(own, theirs)]
             print("| " + " | ".join(row) + " |", flush=True)
 
 

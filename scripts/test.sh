@@ -1,7 +1,7 @@
 #!/usr/bin/env bash
-# Tests everything: the gate over all crates, which proves what it has not proved on this machine, stored runs of the
-# programs that it built, each request for memory refused in turn, and rules that no prover checks. Lines `time:` say
-# what each part took. The last line counts.
+# Tests everything: the gate over all crates, which proves what has not yet been proved on this machine; the stored runs
+# of the programs that it built; each request for memory refused in turn; and rules that no prover checks. Lines `time:`
+# say how long each part took. The last line has the counts.
 set -uo pipefail
 cd "$(dirname "$0")/.." || exit
 work=$(mktemp -d)
@@ -9,7 +9,7 @@ trap 'rm -rf "$work"' EXIT
 passed=0
 failed=0
 
-# start NAME COMMAND..: begins a check beside those that have begun already
+# start NAME COMMAND..: starts a check, which runs alongside those that have started already
 names=()
 begun=()
 start() {
@@ -21,7 +21,7 @@ start() {
     names+=("$1")
 }
 
-# ended: waits for the checks that have begun, counts each, and prints what it wrote
+# ended: waits for the checks that have started, counts each, and prints what it wrote
 ended() {
     local index
     for index in "${!names[@]}"; do

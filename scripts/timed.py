@@ -1,12 +1,12 @@
 #!/usr/bin/env python3
-"""Runs a command, and then prints what its proofs, tests and must-fail edits took: timed.py COMMAND ARGUMENT..
+"""Runs a command, and then prints how long its proofs, tests and must-fail edits took: timed.py COMMAND ARGUMENT..
 
-Once a second the prover's processes below the command are looked at: which crate each works on, whether it has --test
+Once a second it looks at the prover's processes below the command: which crate each works on, whether it has --test
 or is in the folder of an edit, and its processor time. So up to a second of each process is missing, except in the
-total, which is the system's own. The status is the command's.
+total, which the system counts. The status is that of the command.
 
-Processors differ, and one that others share differs from hour to hour: the proof of toml_span_lex took from 129 to 283
-processor seconds. So each figure is also a multiple of that proof in the same run, if it was part of it.
+Processors differ in speed, and a shared one varies from hour to hour: the proof of toml_span_lex took from 129 to 283
+processor seconds. So each figure is also given as a multiple of that proof in the same run, if it was part of it.
 """
 import os
 import resource
@@ -21,7 +21,7 @@ UNIT = "proofs", "toml_span_lex"
 
 
 def processes():
-    """Each process, by its id: its parent, when it started, and its processor seconds, those of ended children too."""
+    """Returns for each process its parent, its start time and its processor seconds, with those of ended children."""
     found = {}
     for name in filter(str.isdigit, os.listdir("/proc")):
         try:
@@ -34,7 +34,7 @@ def processes():
 
 
 def task(process):
-    """What a process proves: the part and the crate, or None."""
+    """Returns what a process proves, as the part and the crate, or None."""
     try:
         with open(f"/proc/{process}/cmdline", "rb") as it:
             words = it.read().decode(errors="replace").split("\0")
@@ -48,7 +48,7 @@ def task(process):
 
 
 def look(top, seen):
-    """Adds what is seen now: the processor seconds of each process at a task."""
+    """Adds the current state: the processor seconds of each process, for its task."""
     found, below, more = processes(), set(), {top}
     while more:
         below |= more
@@ -57,7 +57,7 @@ def look(top, seen):
     for process, at in known.items():
         parent, started, spent = found[process]
         if at:
-            # a copy that the prover forks counts until it ends, and from then on with its parent, who waited for it
+            # a copy that the prover forks counts until it ends; from then on its time is part of its parent's
             seen[at, process, started] = spent, known.get(parent) == at and parent
     live = {process for _, process, _ in seen if process in known}
     for key in [it for it, (_, parent) in seen.items() if parent in live and it[1] not in live]:

@@ -19,7 +19,7 @@ TOP = Path(__file__).resolve().parent.parent
 
 
 def moment(text):
-    """A date or a time in one spelling: with `T` and `Z`, and no zeros at the end of a fraction."""
+    """Returns a date or time in one spelling: with `T` and `Z`, and no zeros at the end of a fraction."""
     text = re.sub(r"[+-]00:00$", "Z", text.upper().replace(" ", "T"))
     return re.sub(r"\.(\d*?)0*(?=[Z+-]|$)", lambda it: it[1] and f".{it[1]}", text)
 
@@ -31,7 +31,7 @@ for kind in ("datetime", "datetime-local", "date-local", "time-local"):
 
 
 def same(wanted, written):
-    """Whether two answers are the same by value."""
+    """Returns whether two answers have the same values."""
     if isinstance(wanted, list):
         return isinstance(written, list) and len(wanted) == len(written) and all(map(same, wanted, written))
     if not isinstance(written, dict) or wanted.keys() != written.keys():
@@ -70,28 +70,43 @@ def passes_all(program, folder):
 
 
 def called(*words, **named):
-    """The output of a command, or None if it fails or is not there."""
+    """Returns the output of a command, or None if it fails or does not exist."""
     try:
         return subprocess.run(words, check=True, timeout=900, stdout=subprocess.PIPE, text=True, **named).stdout
     except (OSError, subprocess.SubprocessError):
         return None
 
 
-def fetch(work):
-    """Fetches the packages into a folder and unpacks them. Returns why that fails, if it does."""
+class Unreachable(Exception):
+    """Why packages cannot be fetched."""
+
+
+def apt_of(work, kind="deb-src"):
+    """The words of an apt-get that knows the packages of Debian's sid alone (`deb` or `deb-src`), in a folder."""
     targets = called("apt-get", "indextargets", "--format", "$(ORIGIN) $(RELEASE) $(REPO_URI)") or ""
     hosts = re.findall(r"(?m)^Debian \w+ (\S+)$", targets)
     if not hosts:
-        return "apt knows no Debian archive: run apt-get update"
+        raise Unreachable("apt knows no Debian archive: run apt-get update")
     for folder in ("lists/partial", "cache/archives/partial", "sources"):
         (work / folder).mkdir(parents=True)
-    (work / "sources.list").write_text(f"deb-src {hosts[0]} sid main\n")
+    (work / "status").touch()
+    (work / "sources.list").write_text(f"{kind} {hosts[0]} sid main\n")
     options = {"Dir::Etc::SourceList": work / "sources.list", "Dir::Etc::SourceParts": "/dev/null"}
     options |= {"Dir::State::Lists": work / "lists", "Dir::Cache": work / "cache", "Acquire::Retries": 1}
-    options |= {"APT::Sandbox::User": called("id", "-un").strip(), "Acquire::http::Timeout": 30}
+    options |= {"Dir::State::status": work / "status", "Debug::NoLocking": 1, "Acquire::http::Timeout": 30}
+    options |= {"APT::Sandbox::User": called("id", "-un").strip()}
     apt = ["apt-get", "-qq", *(part for name, value in options.items() for part in ("-o", f"{name}={value}"))]
     if called(*apt, "update") is None:
-        return "apt reaches no list of sources (is there a network?)"
+        raise Unreachable("apt reaches no list of packages (is there a network?)")
+    return apt
+
+
+def fetch(work):
+    """Fetches the suite into a folder and unpacks it. Returns why that fails, if it does."""
+    try:
+        apt = apt_of(work)
+    except Unreachable as why:
+        return why
     if called(*apt, "source", "--download-only", "--tar-only", "golang-toml", cwd=work) is None:
         return "apt cannot fetch golang-toml"
     for packed in work.glob("*.orig.tar.*"):

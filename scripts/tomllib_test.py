@@ -1,12 +1,12 @@
 #!/usr/bin/env python3
 """Compares `toml-span check --toml 1.0` with Python's tomllib, which reads TOML 1.0: tomllib_test.py [COUNT [SEED]]
 
-Both must accept a text or both refuse it: the documents of toml-test (fetched as scripts/toml_test.py says, and left
-out if that fails) and COUNT generated ones, a million by default, many of which use what TOML 1.1 added. Differences
-are counted by what one of the two says, with the shortest text of each kind. Expected are integers over 64 bits, and
-what the datetimes of Python lack: the year 0 and the second 60.
+Both must accept a text, or both refuse it. The texts are the documents of toml-test (fetched as by
+scripts/toml_test.py, and left out if that fails) and COUNT generated ones, by default a million, many of which use what
+TOML 1.1 added. Differences are counted by what one of the two reports, with the shortest text of each kind. Some are
+expected: integers over 64 bits, and what Python's datetimes do not have, the year 0 and the second 60.
 
-Status: 0 if there are no others, 1 if there are, 2 if there is no program.
+Status: 0 if there are no other differences, 1 if there are, 2 if there is no program.
 """
 import random
 import re
@@ -119,7 +119,7 @@ class Writer:
 
 
 def fault_of_python(text):
-    """Why tomllib refuses a text in bytes, or None."""
+    """Returns why tomllib refuses a text in bytes, or None."""
     try:
         tomllib.loads(text.decode())
     except (ValueError, RecursionError) as error:
@@ -128,7 +128,7 @@ def fault_of_python(text):
 
 
 def faults_of_program(program, texts):
-    """The code and the message of the first error of each text that has one, by its index."""
+    """Returns the code and the message of the first error of each text that has one, by the index of the text."""
     with tempfile.TemporaryDirectory() as folder:
         for i, text in enumerate(texts):
             Path(folder, f"{i}.toml").write_bytes(text)
@@ -143,7 +143,7 @@ def faults_of_program(program, texts):
 
 
 def kind_of(text, python, own):
-    """What kind of difference it is, by what tomllib and the program say about a text."""
+    """Returns the kind of a difference, from what tomllib and the program say about a text."""
     if own and own.startswith("invalid-number") and re.search(rb"\d{19}", text):
         return NUMBER
     if python and not own and not fault_of_python(text.replace(b":60", b":59").replace(b"0000-", b"0004-")):
@@ -167,7 +167,7 @@ def compare(program, texts, count, shortest):
 
 
 def show(name, count, shortest):
-    """Prints the counts of a comparison. Whether all differences are expected."""
+    """Prints the counts of a comparison. Returns whether all differences are expected."""
     print(f"tomllib: {name}: both accept {count['both accept']}, both refuse {count['both refuse']},", end=" ")
     print(f"of which newer-toml {count['newer']}; different {sum(count[kind] for kind in shortest)}")
     for kind, text in shortest.items():
@@ -176,7 +176,7 @@ def show(name, count, shortest):
 
 
 def suite():
-    """The documents of toml-test, or none if they can't be fetched."""
+    """Returns the documents of toml-test, or none if they can't be fetched."""
     with tempfile.TemporaryDirectory() as work:
         if why := toml_test.fetch(Path(work)):
             print(f"tomllib: toml-test cannot be fetched: {why}", file=sys.stderr)

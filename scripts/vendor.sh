@@ -2,18 +2,18 @@
 # Copies the crates that a caller of the library needs: bash scripts/vendor.sh [--replace] DEST [NAME]..
 #
 # NAME is a library of this repository, in full or without `toml_span_` (report, serde, load, places); the default is
-# toml_span. Each is copied with the libraries of this repository below it, as their sources, definitions, proofs and
-# licenses, to DEST/crates, or to DEST if the crates there are in no folder crates. Their lines are added to
-# DEST/crates.txt. What was copied is printed, and then what to write in the caller's own line of crates.txt.
+# toml_span. Each is copied, together with the libraries of this repository that it uses, as sources, definitions, proofs
+# and licenses, to DEST/crates, or to DEST if the crates there are not in a folder `crates`. Their lines are added to
+# DEST/crates.txt. The script prints what it copied, and then what to write in the caller's own line of crates.txt.
 #
-# A crate that is there already in another version is an error, and nothing is copied. With --replace it is replaced
+# If another version of a crate is there already, that is an error, and nothing is copied. With --replace it is replaced
 # (its out/ stays). `vendor.sh --list CRATE..` copies nothing: it prints the lines of crates.txt for these crates and
-# those below them, and `vendor.sh --folders CRATE..` their folders src and specs.
+# those that they use, and `vendor.sh --folders CRATE..` prints their folders src and specs.
 #
 # Status: 0 copied, 1 DEST has another version of a crate, 2 wrong arguments, 3 DEST can't be written.
 source "$(dirname -- "$(readlink -f -- "$0")")/common.sh"
 
-# lines_of CRATE..: the lines of crates.txt for these crates and those below them
+# lines_of CRATE..: prints the lines of crates.txt for these crates and those that they use
 lines_of() {
     awk -v names="$*" '
         /^[a-z]/ { name = $1; sub(":", "", name); line[name] = $0 }
@@ -53,7 +53,7 @@ for name in "${@:2}"; do
 done
 if [ ${#names[@]} -eq 0 ]; then names=(toml_span); fi
 
-# cannot FILE: ends where a file or folder of DEST can't be written
+# cannot FILE: ends because a file or folder of DEST can't be written
 cannot() { fail 3 "${1@Q} can't be written"; }
 mkdir -p -- "$destination" || cannot "$destination"
 destination=$(cd -- "$destination" && pwd -P)
@@ -64,7 +64,7 @@ mkdir -p -- "$crates" || cannot "$crates"
 work=$(mktemp -d -- "$crates/.vendor-XXXXXX") || cannot "$crates"
 trap 'rm -rf -- "$work"' EXIT
 
-# all is prepared in $work, and only then moved
+# everything is prepared in $work, and moved only then
 touch -- "$destination/crates.txt" || cannot "$destination/crates.txt"
 cp -- "$destination/crates.txt" "$work/crates.txt" || cannot "$work"
 copied=()

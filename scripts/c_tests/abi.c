@@ -1,4 +1,4 @@
-/* Prints the layout of the records and the constants, which abi.txt keeps. */
+/* Prints the layout of the records and the constants; abi.txt has the expected output. */
 #include "toml_span.h"
 
 #include <stdio.h>

@@ -5,7 +5,7 @@ import sys
 
 
 def lock(size):
-    """Packages with their checksums and dependencies, as a lock file has them."""
+    """Returns packages with their checksums and dependencies, as in a lock file."""
     text, at = ["version = 3\n"], 0
     while len(text) * 215 < size:
         names = ", ".join(f'"part-{(at * 7 + step) % 501} 1.{step}.0"' for step in range(at % 5))
@@ -19,7 +19,7 @@ def lock(size):
 
 
 def mixed(size):
-    """Tables with values of each kind."""
+    """Returns tables with values of each kind."""
     text, at = ['title = "mixed"\n'], 0
     while len(text) * 345 < size:
         text.append(

@@ -1,8 +1,8 @@
-/* edits FILE..: toml_span_edit and toml_span_format on rows of data and on documents.
+/* edits FILE..: tests toml_span_edit and toml_span_format with rows of data and with documents.
  *
- * Of each document: no change leaves it as it is; a value that
- * is set, is found; what is formatted has the same number of values, and formatting it again changes nothing. With each
- * length of `out` all is written, or, if that is too short, nothing. */
+ * For each document: no change leaves it as it is; a value that is set is then found; the formatted text has the same
+ * number of values, and formatting it again changes nothing. For each length of `out`, either everything is written or,
+ * if it is too short, nothing. */
 #include "toml_span.h"
 
 #include <stdio.h>
@@ -34,7 +34,7 @@ static uint32_t edit(uint32_t change, const char *path, const char *value) {
 
 static int is_out(const char *words) { return needed == strlen(words) && !memcmp(out, words, needed); }
 
-/* A document, a change, and the new document; or, after a `!`, why there is none. */
+/* Each row: a document, a change, and the new document, or the reason of the failure after a `!`. */
 static const struct {
     const char *text;
     toml_span_change change;
@@ -91,7 +91,7 @@ static void look_at_changes(void) {
     }
 }
 
-/* Several changes are made one after the other, and the first one that is refused is named. */
+/* Checks that several changes are made one after the other, and that the first one that fails is named. */
 static void look_at_several(void) {
     const toml_span_change several[] = {{TOML_SPAN_ADD, "b", "2"}, {TOML_SPAN_SET, "b", "[3]"},
                                         {TOML_SPAN_APPEND, "b", "4"}, {TOML_SPAN_REMOVE, "a", NULL},
@@ -111,7 +111,7 @@ static void look_at_several(void) {
     tell(status == TOML_SPAN_READ && is_out("a = 7"), "several", "many", 1000);
 }
 
-/* A call of toml_span_edit or, without changes, of toml_span_format, with this room. */
+/* A call of toml_span_edit or, without changes, of toml_span_format, with an array of this length. */
 static uint32_t call(const toml_span_change *which, size_t count, char *to, size_t room) {
     if (which) return toml_span_edit(text, length, which, count, to, room, &needed, &refused, &fault);
     return toml_span_format(text, length, 80, 4, to, room, &needed, &fault);
@@ -123,7 +123,7 @@ static int is_blank(const char *bytes, size_t count) {
     return 1;
 }
 
-/* With each room all is written, or nothing; of a reason the part that there is room for. */
+/* Checks that each array gets all or nothing, and as much of a reason as it has room for. */
 static void look_at_rooms(const char *name, const toml_span_change *which, size_t count) {
     uint32_t status = call(which, count, out, ROOM);
     size_t whole = needed, most = whole < 300 ? whole + 2 : 300;
@@ -139,7 +139,7 @@ static void look_at_rooms(const char *name, const toml_span_change *which, size_
     }
 }
 
-/* A call with other texts writes what it should, and nothing else. */
+/* Checks that a call with other texts writes the expected text, and nothing else. */
 static void look_at_faults(void) {
     const toml_span_change one = {TOML_SPAN_SET, "a", "1"};
     static const struct {
@@ -175,7 +175,7 @@ static void look_at_faults(void) {
     free(large);
 }
 
-/* Texts, the width and the indent, and what is formatted. */
+/* Each row: a text, the width and the indent, and the formatted text. */
 static const struct {
     const char *text;
     size_t width, indent;

@@ -1,4 +1,4 @@
-// The wrappers `edit` and `format` of the header for C++: prints what is wrong.
+// The wrappers `edit` and `format` of the header for C++: prints each failed check.
 #include <iostream>
 #include <toml_span.hpp>
 

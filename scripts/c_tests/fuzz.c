@@ -1,8 +1,8 @@
-/* fuzz COUNT FILE..: texts that are changed at random, with pages around each array that may not be touched.
+/* fuzz COUNT FILE..: texts that are changed at random, in arrays between pages that may not be touched.
  *
- * Some lines of the documents with some bytes written over, left out or doubled, and arrays of a random length, each of
- * which begins or ends at such a page. Of a text that is read with room enough the records hang together: see `hangs`.
- * One of eight texts is edited or formatted, too: see `is_rewritten`. The numbers are those of a fixed seed. */
+ * Each text is some lines of the documents, with some bytes overwritten, left out or doubled. The arrays have random
+ * lengths, and each begins or ends at such a page. The records of a text that is read with enough room must be
+ * consistent: see `hangs`. One text of eight is edited or formatted, too: see `is_rewritten`. The seed is fixed. */
 #define _DEFAULT_SOURCE
 #include "toml_span.h"
 
@@ -36,7 +36,7 @@ static guarded guard(size_t size) {
     return (guarded){all + page, pages};
 }
 
-/* So many bytes of it, at its front or at its end. */
+/* Returns this many of these bytes, at the front or at the end. */
 static char *part(guarded block, size_t size) { return pick(2) ? block.start : block.start + block.size - size; }
 
 static char documents[1 << 20];
@@ -64,7 +64,7 @@ static size_t change(char *text) {
     return length;
 }
 
-/* Whether the records hang together: numbers, places, texts and bounds. */
+/* Returns whether the records are consistent: numbers, places, texts and bounds. */
 static int hangs(const toml_span_node *nodes, toml_span_counts counts, size_t length) {
     if (nodes[0].parent != TOML_SPAN_NONE || nodes[0].kind != TOML_SPAN_TABLE) return 0;
     if (nodes[0].next != counts.nodes) return 0;
@@ -90,8 +90,8 @@ static int hangs(const toml_span_node *nodes, toml_span_counts counts, size_t le
     return aside == counts.strings && counts.strings <= length && counts.nodes <= length / 2 + 1 + length % 2;
 }
 
-/* Whether random changes, or the formatter, of a text with this status return the same status, or a change is refused;
- * and whether what they make is a document. */
+/* Returns whether random changes, or the formatter, return the status that a parse of this text has, or a change fails,
+ * and whether the result is a document. */
 static int is_rewritten(const char *text, size_t length, guarded block, uint32_t status) {
     static const char *const paths[] = {"",      "a",     "/a/0",      "a[1]",  "b.c",
                                         "/a/b",  "x.y.z", "\"a b\"",   "/a~1b", "arr[0].b"};

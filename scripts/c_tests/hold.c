@@ -1,9 +1,9 @@
-/* hold FILE..: each request for memory refused in turn, and every length of the caller's arrays.
+/* hold FILE..: tests calls with each request for memory refused in turn, and with every length of the caller's arrays.
  *
- * Linked with -Wl,--wrap=malloc,--wrap=realloc. For each document: with any one request refused a call answers 4 and
- * writes nothing; with any room the arrays have a prefix of the records and of the strings, nothing behind it is
- * touched, and the counts are the same. A document that is refused fills the fault alone. An edit and the formatter write
- * nothing, too, with any one request refused. */
+ * Linked with -Wl,--wrap=malloc,--wrap=realloc. For each document: with any one request refused, a call returns 4 and
+ * writes nothing; with arrays of any length, they get a prefix of the records and of the strings, nothing after it is
+ * touched, and the counts are the same. For an invalid document only the fault is written. An edit and the formatter
+ * write nothing, too, with any one request refused. */
 #include "toml_span.h"
 
 #include <stdio.h>
@@ -20,7 +20,7 @@ void *__wrap_realloc(void *block, size_t size) { return asked++ == refused ? NUL
 static char text[1 << 16];
 static size_t length;
 
-/* What a call writes, in blocks whose bytes are known before it. */
+/* The arrays that a call fills, in blocks whose bytes are known before the call. */
 typedef struct {
     toml_span_node *nodes;
     char *strings;
@@ -47,7 +47,7 @@ static int is_blank(const void *block, size_t size) {
 
 static size_t least(size_t a, size_t b) { return a < b ? a : b; }
 
-/* Whether what was written is the front of the whole, and nothing behind it. */
+/* Returns whether a prefix of the whole was written, and nothing after it. */
 static int is_front(const outcome *part, const outcome *whole) {
     size_t nodes = least(part->room, whole->counts.nodes), bytes = least(part->strings_room, whole->counts.strings);
     return !memcmp(&part->counts, &whole->counts, sizeof part->counts) &&
@@ -58,7 +58,7 @@ static int is_front(const outcome *part, const outcome *whole) {
            is_blank(&part->fault, sizeof part->fault);
 }
 
-/* Whether nothing was written but, with `fault`, the fault. */
+/* Returns whether nothing was written except, with `fault`, the fault. */
 static int is_kept(const outcome *out, int fault) {
     return is_blank(out->nodes, (out->room + 1) * sizeof *out->nodes) &&
            is_blank(out->strings, out->strings_room + 1) &&
@@ -112,14 +112,14 @@ static void hold(const char *name) {
     free(part.strings);
 }
 
-/* What toml_span_edit or toml_span_format writes. */
+/* The arrays that toml_span_edit or toml_span_format fills. */
 typedef struct {
     char out[1 << 17];
     size_t needed, refused;
     toml_span_fault fault;
 } writing;
 
-/* So many changes, or the formatter. */
+/* Makes this many changes, or calls the formatter. */
 static uint32_t write_new(size_t count, writing *to) {
     static const toml_span_change changes[] = {{TOML_SPAN_SET_OR_ADD, "new.'a b'", "[1, {b = 2}]"},
                                                {TOML_SPAN_APPEND, "/new/a b", "\"x\""},

@@ -1,4 +1,4 @@
-/* speed ROUNDS FILE..: processor time of a call that fills the arrays, beside one that parses and fills none. */
+/* speed ROUNDS FILE..: processor time of a call that fills the arrays, and of one that parses and fills none. */
 #define _POSIX_C_SOURCE 200809L
 #include "toml_span.h"
 

@@ -1,5 +1,5 @@
-/* threads FILE..: eight threads that parse, edit and format at once have what one has, and how much stack the deepest
- * documents take. */
+/* threads FILE..: tests that eight threads that parse, edit and format at once get the same results as one thread, and
+ * how much stack the deepest documents take. */
 #define _GNU_SOURCE
 #include "toml_span.h"
 
@@ -18,7 +18,7 @@ typedef struct {
     toml_span_counts counts;
     toml_span_fault fault;
     uint32_t status;
-    /* a change and its path in place of a parse; or with the path "*" the formatter */
+    /* the change that is made instead of a parse; the path "*" means the formatter */
     toml_span_change change;
     char out[4 * ROOM];
     size_t needed, refused;
@@ -70,7 +70,7 @@ static void *deep(void *given) {
     return NULL;
 }
 
-/* How much of a thread's stack a call writes over. */
+/* Returns how much of a thread's stack a call overwrites. */
 static size_t stack_of_call(const char *text, toml_span_change change) {
     static job one;
     static unsigned char *stack;
@@ -92,7 +92,7 @@ static size_t stack_of_call(const char *text, toml_span_change change) {
     return one.status == TOML_SPAN_READ || one.status == TOML_SPAN_UNMADE ? STACK - low : STACK;
 }
 
-/* The most that any call takes: a parse, the formatter, and each change, also of the deepest value by a deep one. */
+/* Returns the most stack that any call takes: a parse, the formatter, and changes, also of the deepest value. */
 static size_t stack_of(const char *text, const char *deepest) {
     static const toml_span_change whats[] = {{0, NULL, NULL}, {0, "*", NULL}};
     static char value[4 * LEVELS];
@@ -118,7 +118,7 @@ static char *repeat(char *end, const char *words, int times) {
     return end;
 }
 
-/* Writes a header of so many parts. */
+/* Writes a header with a key of this many segments. */
 static char *header(char *end, int parts, const char *open, const char *close) {
     end = repeat(end + sprintf(end, "%s", open), "a.", parts - 1);
     return end + sprintf(end, "a%s\n", close);
@@ -134,8 +134,8 @@ int main(int argc, char **argv) {
         fclose(file);
         right += same_everywhere(text, length);
     }
-    /* as deep as may be: arrays in an array; below a header inline tables, or a dotted key; below arrays of tables in
-     * one another such a key, which takes the most */
+    /* the deepest documents: arrays in arrays; below a header, inline tables or a dotted key; below nested arrays of
+     * tables, a dotted key, which takes the most stack */
     size_t most[4];
     char *end = repeat(text, "a=", 1);
     repeat(repeat(end, "[", LEVELS - 2), "]", LEVELS - 2);

@@ -1,4 +1,4 @@
-/* walk FILE..: the calls that look only at the records, and the paths of edits, on rows of data and on documents.
+/* walk FILE..: tests the calls that read only the records, and the paths of edits, with rows of data and documents.
  *
  * It is compiled with c/records.c, c/edit.c and sanitizers. */
 #include "toml_span.h"
@@ -27,7 +27,7 @@ static int is_read(void) {
     return toml_span_parse(text, length, nodes, ROOM, strings, ROOM, &counts, &fault) == TOML_SPAN_READ;
 }
 
-/* Whether a record of a sorted document is at its place, after its siblings and all that they hold. */
+/* Returns whether a record of a sorted document is in its place, after its siblings and everything in them. */
 static int is_in_place(size_t at) {
     const toml_span_node *node = &sorted[at], *parent = &sorted[node->parent];
     size_t before = node->parent + 1, position = 0;
@@ -36,7 +36,7 @@ static int is_in_place(size_t at) {
            node->next <= parent->next;
 }
 
-/* Whether the sorted records have one with the same bytes for each of the document's. */
+/* Returns whether the sorted records include each of the document's records with the same bytes. */
 static int has_all(void) {
     static unsigned char seen[ROOM];
     memset(seen, 0, sizeof seen);
@@ -52,7 +52,7 @@ static int has_all(void) {
     return 1;
 }
 
-/* Each room for a pickle has its front, and nothing else is written. */
+/* Checks that an array of each length gets a prefix of the pickle, and that nothing else is written. */
 static int has_fronts(void) {
     static char whole[ROOM], part[ROOM + 1];
     size_t needed = 0, again = 0;
@@ -60,7 +60,7 @@ static int has_fronts(void) {
     for (size_t room = 0; room < needed; room++) {
         memset(part, 0x5A, room + 1);
         toml_span_pickle(sorted, 0, sources, 1, part, room, &again);
-        /* (the length that the head has is written last, so a head that is cut off has none) */
+        /* (the length in the head is written last, so a head that is cut off has none) */
         if (again != needed || part[room] != 0x5A || (room > 11 && memcmp(part, whole, room) != 0)) return 0;
     }
     return needed < ROOM && whole[needed - 1] == '.';
@@ -75,7 +75,7 @@ static void look(const char *name) {
     tell(has_fronts(), name, "pickle", 0);
 }
 
-/* A document, a path in it, and the bytes of the value there; -1 if there is none. */
+/* Each row: a document, a path in it, and the bytes of the value there, or -1 if no value is there. */
 static const struct {
     const char *text, *path;
     int start, end;
@@ -119,7 +119,7 @@ static const struct {
     {"'\"' = 5", "\"\\\"\"", 6, 7},
 };
 
-/* What toml_span_edit passes on. Here it is written down: each segment after its length, and a `>` before a target. */
+/* In place of the proved call: writes down each segment after its length, and a `>` before a target. */
 typedef struct {
     const char *bytes;
     size_t length;
@@ -161,7 +161,7 @@ uint32_t toml_span_edit_paths(const char *of, size_t size, const change_record *
     return of != text || size != length || room != ROOM || *refused != 7 || fault == NULL;
 }
 
-/* A path, and its segments; a `!` if it is not a path. */
+/* Each row: a path and its segments, or a `!` if it is not a path. */
 static const struct {
     const char *path, *wanted;
 } paths[] = {
@@ -214,7 +214,7 @@ static void look_at_paths(void) {
     }
 }
 
-/* A text, an offset, and its line and column. */
+/* Each row: a text, an offset, and its line and column. */
 static const struct {
     const char *text;
     size_t offset, line, column;

@@ -1,12 +1,12 @@
 -- The claims seen from the root are those with absolute paths.
 use Rattle.toml_span_lex.proofs.Common.{◌≡◌, ℕ, zero, suc, false, cond, List, [], ◌∷◌, ◌++◌, refl, sym, ap, ◌∙◌, inl, inr, if◌then◌else◌, append_assoc, cases_Bool, arith, nat_tests, common_steps}
 use Rattle.toml_span_tree.specs.Path.{Path, Step, key, position}
-use Rattle.toml_span_read.specs.Data.{ParsedValue as Read, parsed, ParsedInner, scalar, array, inline, ParsedItems, no_items, item, ParsedPairs, no_pairs, pair, KeyValue, pairs_onto, Block, SimpleKey}
-use Rattle.toml_span.specs.declared.claims.Sort.{Sort}
-use Rattle.toml_span.specs.declared.claims.Sort.TheVariants.{Passed, StandardTable, ArrayOfTables, TableElement}
-use Rattle.toml_span.specs.declared.claims.Head.{Head}
+use Rattle.toml_span_read.specs.Data.{ParsedValue as Read, parsed, ParsedInner, scalar, array, inline, ParsedItems, no_items, item, ParsedPairs, no_pairs, pair, ParsedAssignment, pairs_onto, ParsedSection, SimpleKey}
+use Rattle.toml_span.specs.declared.claims.ClaimKind.{ClaimKind}
+use Rattle.toml_span.specs.declared.claims.ClaimKind.TheVariants.{Passed, StandardTable, ArrayOfTables, TableElement}
+use Rattle.toml_span.specs.declared.claims.HeaderInfo.{HeaderInfo}
 use Rattle.toml_span.specs.Paths.{same_path, with_key, with_position, enter, target, elements_added, opened_by}
-use Rattle.toml_span.specs.Claims.{Claims, no_claims, claimed, scope, followed, key_claims, value_claims, inner_claims, item_claims, pair_claims, key_value_claims, section_claims, assignment_claims, element, assigned, dotted, head_of, header_claim, array_claims, end_claims, header_claims}
+use Rattle.toml_span.specs.Claims.{Claims, no_claims, claimed, scope, followed, key_claims, value_claims, inner_claims, item_claims, pair_claims, assignments_claims, section_claims, assignment_claims, element, assigned, dotted, header_info, header_claim, array_claims, end_claims, header_claims}
 use Rattle.toml_span.specs.code.Machine.{graft}
 use Rattle.toml_span.specs.code.Relative.{under, pair_at, passing, opening, adding, ending, entered, through, section_at, counts_after_adding, counts_after_end, counts_after_entered, counts_after_through, counts_after}
 use Rattle.toml_span.proofs.Grafts.{fun_ext, graft-is, graft-itself, path_ext, same_step-self, under-followed}
@@ -53,13 +53,13 @@ mutual
       followed-under s (key_claims (s ∷ p) parts v (value_claims v)) (pair_claims rest (s ∷ p)) (key_claims p parts v (value_claims v)) (pair_claims rest p)
       (key_claims-under s p parts v (value_claims v) (λ t q. value_claims-under v t q)) (pair_claims-under rest s p)
 
-pub assignment_claims-under : (e : KeyValue) (s : Step) (p : Path) → assignment_claims e (s ∷ p) ≡ under s (assignment_claims e p)
+pub assignment_claims-under : (e : ParsedAssignment) (s : Step) (p : Path) → assignment_claims e (s ∷ p) ≡ under s (assignment_claims e p)
 assignment_claims-under e s p = key_claims-under s p e.parts e.value (value_claims e.value) (value_claims-under e.value)
 
-pub key_value_claims-under : (es : List KeyValue) (s : Step) (p : Path) → key_value_claims es (s ∷ p) ≡ under s (key_value_claims es p)
-unfolding key_value_claims under
-key_value_claims-under [] s p = refl
-key_value_claims-under (e ∷ es) s p = grind (arith, nat_tests, common_steps, assignment_claims-under, followed-under, key_value_claims-under es s p)
+pub assignments_claims-under : (es : List ParsedAssignment) (s : Step) (p : Path) → assignments_claims es (s ∷ p) ≡ under s (assignments_claims es p)
+unfolding assignments_claims under
+assignments_claims-under [] s p = refl
+assignments_claims-under (e ∷ es) s p = grind (arith, nat_tests, common_steps, assignment_claims-under, followed-under, assignments_claims-under es s p)
 
 -- an inner part of a key, and those after it
 pub key_claims-more : (p : Path) (k : SimpleKey) (inner : List SimpleKey) (last : SimpleKey) (v : Read) (inside : Path → Claims)
@@ -74,10 +74,10 @@ pair_at-is [] last v = ap (claimed (assigned (key last.name ∷ []) last v)) (sy
 pair_at-is (k ∷ inner) last v = grind (arith, nat_tests, common_steps, key_claims-more, key_claims-under, value_claims-under, pair_at-is inner last v)
 
 -- the pairs of an inline table have the same claims as assignments
-pub pairs-key_values : (es : List KeyValue) (p : Path) → pair_claims (pairs_onto es no_pairs) p ≡ key_value_claims es p
-unfolding pair_claims key_value_claims
-pairs-key_values [] p = refl
-pairs-key_values (e ∷ es) p = ap (followed (assignment_claims e p)) (pairs-key_values es p)
+pub pairs-assignments : (es : List ParsedAssignment) (p : Path) → pair_claims (pairs_onto es no_pairs) p ≡ assignments_claims es p
+unfolding pair_claims assignments_claims
+pairs-assignments [] p = refl
+pairs-assignments (e ∷ es) p = ap (followed (assignment_claims e p)) (pairs-assignments es p)
 
 -- ---- claims below a path
 
@@ -97,29 +97,29 @@ onward e p s = fun_ext (λ q. ap e (sym (append_assoc p (s ∷ []) q)))
 -- ---- sections
 
 -- the part k of a header, and those after it
-pub section_at-through : (e : Path → ℕ) (h : Head) (k : SimpleKey) (rest : List SimpleKey) (tail : Claims)
+pub section_at-through : (e : Path → ℕ) (h : HeaderInfo) (k : SimpleKey) (rest : List SimpleKey) (tail : Claims)
     → section_at e h (k ∷ rest) tail ≡ under (key k.name) (through (λ q. e (key k.name ∷ q)) h k rest tail)
 unfolding section_at
 section_at-through e h k rest tail = grind (arith, nat_tests, common_steps)
 
 -- the path below which a section assigns, beginning at the path p
-abbrev path_from : (Path → ℕ) → Head → Path → List SimpleKey → Path
+abbrev path_from : (Path → ℕ) → HeaderInfo → Path → List SimpleKey → Path
 path_from e h p parts = if h.array then with_position (target e p parts) (e (target e p parts)) else target e p parts
 
-module _ (h : Head) (tail : Path → Claims) (moves : Moves tail) (e : Path → ℕ) where
+module _ (h : HeaderInfo) (tail : Path → Claims) (moves : Moves tail) (e : Path → ℕ) where
   below-tail : (p : Path) → below p (tail []) ≡ tail p
   unfolding below
   below-tail [] = refl
   below-tail (s ∷ p) = ap (under s) (below-tail p) ∙ sym (moves s p)
 
-  below-opening : (p : Path) (sort : Sort) (k : SimpleKey) (cs : Claims) → below p (opening h sort k cs) ≡ claimed (header_claim h sort p k) (below p cs)
+  below-opening : (p : Path) (kind : ClaimKind) (k : SimpleKey) (cs : Claims) → below p (opening h kind k cs) ≡ claimed (header_claim h kind p k) (below p cs)
   unfolding below under
-  below-opening [] sort k cs = refl
-  below-opening (s ∷ p) sort k cs = ap (under s) (below-opening p sort k cs)
+  below-opening [] kind k cs = refl
+  below-opening (s ∷ p) kind k cs = ap (under s) (below-opening p kind k cs)
 
   -- the table that a header opens
-  below-opened : (p : Path) (sort : Sort) (k : SimpleKey) → below p (opening h sort k (tail [])) ≡ claimed (header_claim h sort p k) (tail p)
-  below-opened p sort k = below-opening p sort k (tail []) ∙ ap (claimed (header_claim h sort p k)) (below-tail p)
+  below-opened : (p : Path) (kind : ClaimKind) (k : SimpleKey) → below p (opening h kind k (tail [])) ≡ claimed (header_claim h kind p k) (tail p)
+  below-opened p kind k = below-opening p kind k (tail []) ∙ ap (claimed (header_claim h kind p k)) (below-tail p)
 
   -- at the last part of a header
   below-ending : (p : Path) (k : SimpleKey) (n : ℕ) → below p (ending h k (tail []) n) ≡ followed (end_claims h p k n) (tail (if h.array then with_position p n else p))
@@ -167,15 +167,15 @@ module _ (h : Head) (tail : Path → Claims) (moves : Moves tail) (e : Path → 
   section_at-from (k ∷ rest) header = section_more k rest []
 
 -- the claims of a section, seen from the root
-pub section_at-is : (e : Path → ℕ) (b : Block) → (b.header ≡ [] → b.array ≡ false)
-    → section_at e (head_of b) b.header (key_value_claims b.key_values []) ≡ section_claims e b
+pub section_at-is : (e : Path → ℕ) (b : ParsedSection) → (b.header ≡ [] → b.array ≡ false)
+    → section_at e (header_info b) b.header (assignments_claims b.assignments []) ≡ section_claims e b
 unfolding section_claims
-section_at-is e b header = section_at-from (head_of b) (key_value_claims b.key_values) (key_value_claims-under b.key_values) e b.header header
+section_at-is e b header = section_at-from (header_info b) (assignments_claims b.assignments) (assignments_claims-under b.assignments) e b.header header
 
 -- ---- the number of entries afterwards
 
 -- the number below the part k and after it
-pub counts_after-through : (e : Path → ℕ) (h : Head) (k : SimpleKey) (rest : List SimpleKey)
+pub counts_after-through : (e : Path → ℕ) (h : HeaderInfo) (k : SimpleKey) (rest : List SimpleKey)
     → counts_after e h (k ∷ rest) ≡ graft (key k.name) e (counts_after_through (λ q. e (key k.name ∷ q)) h rest)
 unfolding counts_after
 counts_after-through e h k rest = grind (arith, nat_tests, common_steps)
@@ -206,10 +206,10 @@ grafted-more (s ∷ p) e =
     ap (graft s e) (grafted-more p (λ q. e (s ∷ q)))
     ∙ sym (graft-is s e (bump p (λ q. e (s ∷ q))) (bump (s ∷ p) e) refl (fun_ext (λ q. rw (same_step-self s))) (λ t q off. rw off))
 
-module _ (h : Head) (e : Path → ℕ) where
+module _ (h : HeaderInfo) (e : Path → ℕ) where
   -- how a header changes the counts
-  abbrev grows : Path → List SimpleKey → Path → ℕ
-  grows p parts = cond h.array (bump (target e p parts) e) e
+  abbrev assembles : Path → List SimpleKey → Path → ℕ
+  assembles p parts = cond h.array (bump (target e p parts) e) e
 
   grafted-here : (p : Path) → grafted p e (counts_after_end (λ q. e (p ++ q)) h) ≡ cond h.array (bump p e) e
   grafted-here p =
@@ -219,13 +219,13 @@ module _ (h : Head) (e : Path → ℕ) where
       ]
 
   -- through the latest of n entries
-  grafted-below : (p : Path) (ps : List SimpleKey) (n : ℕ) → ((q : Path) → grafted q e (counts_after (λ r. e (q ++ r)) h ps) ≡ grows q ps)
-      → grafted p e (counts_after_entered n (λ r. e (p ++ r)) (λ f. counts_after f h ps)) ≡ grows (enter n p) ps
+  grafted-below : (p : Path) (ps : List SimpleKey) (n : ℕ) → ((q : Path) → grafted q e (counts_after (λ r. e (q ++ r)) h ps) ≡ assembles q ps)
+      → grafted p e (counts_after_entered n (λ r. e (p ++ r)) (λ f. counts_after f h ps)) ≡ assembles (enter n p) ps
   unfolding enter
   grafted-below p ps zero ih = ih p
   grafted-below p ps (suc n) ih = grind (arith, nat_tests, common_steps, grafted-graft, onward)
 
-  counts_after-more : (k : SimpleKey) (rest : List SimpleKey) (p : Path) → grafted p e (counts_after (λ q. e (p ++ q)) h (k ∷ rest)) ≡ grows p (k ∷ rest)
+  counts_after-more : (k : SimpleKey) (rest : List SimpleKey) (p : Path) → grafted p e (counts_after (λ q. e (p ++ q)) h (k ∷ rest)) ≡ assembles p (k ∷ rest)
   unfolding counts_after target
   counts_after-more k [] p =
       grafted-graft p (key k.name) e (counts_after_end (λ r. e (p ++ (key k.name ∷ r))) h)
@@ -236,17 +236,17 @@ module _ (h : Head) (e : Path → ℕ) where
       ∙ ap (λ f. grafted q e (counts_after_entered (e q) f (λ g. counts_after g h (l ∷ more)))) (onward e p (key k.name))
       ∙ grafted-below q (l ∷ more) (e q) (λ r. counts_after-more l more r)
 
-  counts_after-grows : (parts : List SimpleKey) → (parts ≡ [] → h.array ≡ false) → counts_after e h parts ≡ grows [] parts
+  counts_after-assembles : (parts : List SimpleKey) → (parts ≡ [] → h.array ≡ false) → counts_after e h parts ≡ assembles [] parts
   unfolding counts_after grafted
-  counts_after-grows [] header = rw (header refl)
-  counts_after-grows (k ∷ rest) header = counts_after-more k rest []
+  counts_after-assembles [] header = rw (header refl)
+  counts_after-assembles (k ∷ rest) header = counts_after-more k rest []
 
 -- one more path among the opened ones
 bump-entries : (t : Path) (before : List Path) → bump t (elements_added before) ≡ elements_added (t ∷ before)
 bump-entries t before = fun_ext (λ p. elim (cases_Bool (same_path t p)) [ inl here ↦ rw here | inr off ↦ rw off ])
 
 -- the number of entries after a section
-pub counts_after-is : (earlier : List Block) (b : Block) → (b.header ≡ [] → b.array ≡ false)
-    → counts_after (elements_added (opened_by earlier)) (head_of b) b.header ≡ elements_added (opened_by (b ∷ earlier))
+pub counts_after-is : (earlier : List ParsedSection) (b : ParsedSection) → (b.header ≡ [] → b.array ≡ false)
+    → counts_after (elements_added (opened_by earlier)) (header_info b) b.header ≡ elements_added (opened_by (b ∷ earlier))
 unfolding opened_by
-counts_after-is earlier b header = grind (arith, nat_tests, common_steps, bump-entries, counts_after-grows)
+counts_after-is earlier b header = grind (arith, nat_tests, common_steps, bump-entries, counts_after-assembles)

@@ -2,9 +2,9 @@
 use Rattle.toml_span_lex.proofs.Common.{◌≡◌, ℕ, suc, true, List, [], ◌∷◌, Option, Some, option_map, refl, ⊤, IfSome, false≢true, and_parts, AllByRecursion, arith, nat_tests, common_steps}
 use Rattle.toml_span_tree.specs.Path.{Path, Step, Place}
 use Rattle.toml_span_read.proofs.BorrowLemmas.{all_append}
-use Rattle.toml_span_read.specs.Data.{ParsedValue as Read, parsed, ParsedInner, scalar, array, inline, ParsedItems, no_items, item, ParsedPairs, no_pairs, pair, KeyValue, SimpleKey}
-use Rattle.toml_span.specs.Claims.{Claim, Claims, no_claims, claimed, scope, followed, dotted, assigned, element, key_claims, value_claims, inner_claims, item_claims, pair_claims, key_value_claims}
-use Rattle.toml_span.specs.Clashes.{or_else}
+use Rattle.toml_span_read.specs.Data.{ParsedValue as Read, parsed, ParsedInner, scalar, array, inline, ParsedItems, no_items, item, ParsedPairs, no_pairs, pair, ParsedAssignment, SimpleKey}
+use Rattle.toml_span.specs.Claims.{Claim, Claims, no_claims, claimed, scope, followed, dotted, assigned, element, key_claims, value_claims, inner_claims, item_claims, pair_claims, assignments_claims}
+use Rattle.toml_span.specs.Clashes.{first_some}
 use Rattle.toml_span.specs.Flat.{flat, all_claims, claims_at, first_claim_by_header, deciding_claim}
 use Rattle.toml_span.specs.Paths.{same_path, same_step, with_key, with_position}
 use Rattle.toml_span.proofs.Grafts.{same_step-eq}
@@ -60,11 +60,11 @@ module _ (P : Claim → Type 0) (of_inner : (p : Path) (k : SimpleKey) (v : Read
     pairs-each (pair parts v extent rest) p =
         each-followed P (key_claims p parts v (value_claims v)) (pair_claims rest p) (key-each p parts v (value_claims v) (value-each v)) (pairs-each rest p)
 
-  pub key_values-each : (es : List KeyValue) (p : Path) → Each P (key_value_claims es p)
-  unfolding key_value_claims
-  key_values-each [] p = tt
-  key_values-each (e ∷ es) p =
-      each-followed P (key_claims p e.parts e.value (value_claims e.value)) (key_value_claims es p) (key-each p e.parts e.value (value_claims e.value) (value-each e.value)) (key_values-each es p)
+  pub assignments-each : (es : List ParsedAssignment) (p : Path) → Each P (assignments_claims es p)
+  unfolding assignments_claims
+  assignments-each [] p = tt
+  assignments-each (e ∷ es) p =
+      each-followed P (key_claims p e.parts e.value (value_claims e.value)) (assignments_claims es p) (key-each p e.parts e.value (value_claims e.value) (value-each e.value)) (assignments-each es p)
 
 -- and for each claim of a list
 pub each-all : (P : Claim → Type 0) (cs : Claims) → Each P cs → AllByRecursion P (all_claims cs)
@@ -87,7 +87,7 @@ unfolding first_claim_by_header
 by_header-one P [] h = tt
 by_header-one P (c ∷ cs) h = grind (arith, nat_tests, common_steps, by_header-one P cs)
 
-pub either-one : {A : Type 0} (P : A → Type 0) (o p : Option A) → IfSome o P → IfSome p P → IfSome (or_else o p) P
+pub either-one : {A : Type 0} (P : A → Type 0) (o p : Option A) → IfSome o P → IfSome p P → IfSome (first_some o p) P
 either-one P o p h g = grind (arith, nat_tests, common_steps)
 
 deciding-one : (P : Claim → Type 0) (cs : List Claim) → AllByRecursion P cs → IfSome (deciding_claim cs) P

@@ -4,8 +4,8 @@ use Rattle.std.proofs.lemmas.Bool.{eqb-true, eq-eqb}
 use Rattle.toml_span_tree.specs.Path.{Path, Step}
 use Rattle.toml_span.specs.Paths.{same_step, same_path}
 use Rattle.toml_span.specs.Claims.{Claims, no_claims, claimed, scope, followed}
-use Rattle.toml_span.specs.Clashes.{or_else}
-use Rattle.toml_span.specs.code.Machine.{Cell, State, nothing, change, with_claim, with_inner, show_all, put_all, clash_met, graft}
+use Rattle.toml_span.specs.Clashes.{first_some}
+use Rattle.toml_span.specs.code.Machine.{Cell, CellMap, no_cells, change, with_claim, with_inner, show_all, put_all, clash_met, graft}
 use Rattle.toml_span.specs.code.Relative.{step_down, under}
 
 pub fun_ext : {A B : Type 0} {f g : A → B} → ((x : A) → f x ≡ g x) → f ≡ g
@@ -53,20 +53,20 @@ graft-graft s f a b = graft-is s f b (graft s (graft s f a) b) refl (sub-graft s
 -- ---- claims below a step
 
 -- a change below a step is the same change, seen from there
-sub-change-under : (s : Step) (st : State) (p : Path) (f : Cell → Cell) → (λ q. change st (s ∷ p) f (s ∷ q)) ≡ change (λ q. st (s ∷ q)) p f
+sub-change-under : (s : Step) (st : CellMap) (p : Path) (f : Cell → Cell) → (λ q. change st (s ∷ p) f (s ∷ q)) ≡ change (λ q. st (s ∷ q)) p f
 unfolding change same_path
 sub-change-under s st p f = fun_ext (λ q. rw (same_step-self s))
 
-change-under : (s : Step) (st : State) (p : Path) (f : Cell → Cell) → change st (s ∷ p) f ≡ graft s st (change (λ q. st (s ∷ q)) p f)
+change-under : (s : Step) (st : CellMap) (p : Path) (f : Cell → Cell) → change st (s ∷ p) f ≡ graft s st (change (λ q. st (s ∷ q)) p f)
 unfolding change same_path
 change-under s st p f = graft-is s st (change (λ q. st (s ∷ q)) p f) (change st (s ∷ p) f) refl (sub-change-under s st p f) (λ t q off. rw off)
 
 -- further claims below the step
-more-under : (run : State → Claims → State) (s : Step) (st sub : State) (cs : Claims) → ((f : State) → run f (under s cs) ≡ graft s f (run (λ q. f (s ∷ q)) cs))
+more-under : (run : CellMap → Claims → CellMap) (s : Step) (st sub : CellMap) (cs : Claims) → ((f : CellMap) → run f (under s cs) ≡ graft s f (run (λ q. f (s ∷ q)) cs))
     → run (graft s st sub) (under s cs) ≡ graft s st (run sub cs)
 more-under run s st sub cs h = h (graft s st sub) ∙ ap (λ f. graft s (graft s st sub) (run f cs)) (sub-graft s st sub) ∙ graft-graft s st sub (run sub cs)
 
-pub show_all-under : (s : Step) (st : State) (cs : Claims) → show_all st (under s cs) ≡ graft s st (show_all (λ q. st (s ∷ q)) cs)
+pub show_all-under : (s : Step) (st : CellMap) (cs : Claims) → show_all st (under s cs) ≡ graft s st (show_all (λ q. st (s ∷ q)) cs)
 unfolding show_all under
 show_all-under s st no_claims = sym (graft-itself s st)
 show_all-under s st (claimed c cs) =
@@ -75,7 +75,7 @@ show_all-under s st (claimed c cs) =
 show_all-under s st (scope inner cs) =
     ap (λ f. show_all f (under s cs)) (show_all-under s st inner) ∙ more-under show_all s st (show_all (λ q. st (s ∷ q)) inner) cs (λ f. show_all-under s f cs)
 
-pub put_all-under : (s : Step) (st : State) (cs : Claims) → put_all st (under s cs) ≡ graft s st (put_all (λ q. st (s ∷ q)) cs)
+pub put_all-under : (s : Step) (st : CellMap) (cs : Claims) → put_all st (under s cs) ≡ graft s st (put_all (λ q. st (s ∷ q)) cs)
 unfolding put_all under
 put_all-under s st no_claims = sym (graft-itself s st)
 put_all-under s st (claimed c cs) =
@@ -83,14 +83,14 @@ put_all-under s st (claimed c cs) =
 put_all-under s st (scope inner cs) =
     ap (λ f. put_all f (under s cs)) (show_all-under s st inner) ∙ more-under put_all s st (show_all (λ q. st (s ∷ q)) inner) cs (λ f. put_all-under s f cs)
 
-pub told-under : (s : Step) (st : State) (cs : Claims) → clash_met st (under s cs) ≡ clash_met (λ q. st (s ∷ q)) cs
+pub reported-under : (s : Step) (st : CellMap) (cs : Claims) → clash_met st (under s cs) ≡ clash_met (λ q. st (s ∷ q)) cs
 unfolding clash_met under
-told-under s st no_claims = refl
-told-under s st (claimed c cs) = grind (arith, nat_tests, common_steps, sub-change-under, told-under s (change st (s ∷ c.path) (with_claim c)) cs)
-told-under s st (scope inner cs) =
-    ap (λ o. or_else o (clash_met (show_all st (under s inner)) (under s cs))) (told-under s nothing inner)
-    ∙ ap (or_else (clash_met nothing inner))
-    (told-under s (show_all st (under s inner)) cs ∙ ap (λ f. clash_met f cs) (ap (λ f q. f (s ∷ q)) (show_all-under s st inner) ∙ sub-graft s st (show_all (λ q. st (s ∷ q)) inner)))
+reported-under s st no_claims = refl
+reported-under s st (claimed c cs) = grind (arith, nat_tests, common_steps, sub-change-under, reported-under s (change st (s ∷ c.path) (with_claim c)) cs)
+reported-under s st (scope inner cs) =
+    ap (λ o. first_some o (clash_met (show_all st (under s inner)) (under s cs))) (reported-under s no_cells inner)
+    ∙ ap (first_some (clash_met no_cells inner))
+    (reported-under s (show_all st (under s inner)) cs ∙ ap (λ f. clash_met f cs) (ap (λ f q. f (s ∷ q)) (show_all-under s st inner) ∙ sub-graft s st (show_all (λ q. st (s ∷ q)) inner)))
 
 pub under-followed : (s : Step) (xs ys : Claims) → under s (followed xs ys) ≡ followed (under s xs) (under s ys)
 unfolding under followed
@@ -112,26 +112,26 @@ followed-none no_claims = refl
 followed-none (claimed c cs) = ap (claimed c) (followed-none cs)
 followed-none (scope inner cs) = ap (scope inner) (followed-none cs)
 
-pub show_all-followed : (st : State) (xs ys : Claims) → show_all st (followed xs ys) ≡ show_all (show_all st xs) ys
+pub show_all-followed : (st : CellMap) (xs ys : Claims) → show_all st (followed xs ys) ≡ show_all (show_all st xs) ys
 unfolding show_all followed
 show_all-followed st no_claims ys = refl
 show_all-followed st (claimed c cs) ys = show_all-followed (change st c.path (with_inner c)) cs ys
 show_all-followed st (scope inner cs) ys = show_all-followed (show_all st inner) cs ys
 
-pub put_all-followed : (st : State) (xs ys : Claims) → put_all st (followed xs ys) ≡ put_all (put_all st xs) ys
+pub put_all-followed : (st : CellMap) (xs ys : Claims) → put_all st (followed xs ys) ≡ put_all (put_all st xs) ys
 unfolding put_all followed
 put_all-followed st no_claims ys = refl
 put_all-followed st (claimed c cs) ys = put_all-followed (change st c.path (with_claim c)) cs ys
 put_all-followed st (scope inner cs) ys = put_all-followed (show_all st inner) cs ys
 
-pub or_else-assoc : {A : Type 0} (x y z : Option A) → or_else (or_else x y) z ≡ or_else x (or_else y z)
+pub or_else-assoc : {A : Type 0} (x y z : Option A) → first_some (first_some x y) z ≡ first_some x (first_some y z)
 or_else-assoc x y z = grind (arith, nat_tests, common_steps)
 
-pub or_else-none : {A : Type 0} (x : Option A) → or_else x None ≡ x
+pub or_else-none : {A : Type 0} (x : Option A) → first_some x None ≡ x
 or_else-none x = grind (arith, nat_tests, common_steps)
 
-pub told-followed : (st : State) (xs ys : Claims) → clash_met st (followed xs ys) ≡ or_else (clash_met st xs) (clash_met (put_all st xs) ys)
+pub reported-followed : (st : CellMap) (xs ys : Claims) → clash_met st (followed xs ys) ≡ first_some (clash_met st xs) (clash_met (put_all st xs) ys)
 unfolding clash_met put_all followed
-told-followed st no_claims ys = refl
-told-followed st (claimed c cs) ys = grind (arith, nat_tests, common_steps, or_else-assoc, told-followed (change st c.path (with_claim c)) cs ys)
-told-followed st (scope inner cs) ys = grind (arith, nat_tests, common_steps, or_else-assoc, told-followed (show_all st inner) cs ys)
+reported-followed st no_claims ys = refl
+reported-followed st (claimed c cs) ys = grind (arith, nat_tests, common_steps, or_else-assoc, reported-followed (change st c.path (with_claim c)) cs ys)
+reported-followed st (scope inner cs) ys = grind (arith, nat_tests, common_steps, or_else-assoc, reported-followed (show_all st inner) cs ys)

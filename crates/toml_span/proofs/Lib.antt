@@ -19,5 +19,5 @@ pub mod EachClaim
 pub mod ShownWhole
 pub mod Borrowing
 pub mod HeldValues
-pub mod Growth
+pub mod AssemblyLemmas
 pub mod Memory

@@ -3,15 +3,15 @@ use Rattle.toml_span_lex.proofs.Common.{◌≡◌, ℕ, ◌<◌, ◌≤◌, Bool
 use Rattle.toml_span_lex.specs.declared.stop.Stop.{Stop}
 use Rattle.toml_span_lex.specs.declared.stop.Stop.TheVariants as stops
 use Rattle.toml_span_lex.specs.Text.{FirstPlace}
-use Rattle.toml_span.specs.declared.sections.Grown.{Grown}
+use Rattle.toml_span.specs.declared.sections.Assembly.{Assembly}
 use Rattle.toml_span_read.specs.declared.fault.Fault.{Fault}
 use Rattle.toml_span_tree.specs.declared.error.Error.{Error}
 use Rattle.toml_span_tree.specs.declared.value.Value.{Value}
 use Rattle.toml_span_read.specs.declared.section.Section.{Section}
-use Rattle.toml_span_read.specs.Data.{KeyValue, Block, block, first_block, SimpleKey}
+use Rattle.toml_span_read.specs.Data.{ParsedAssignment, ParsedSection, parsed_section, headerless_section, SimpleKey}
 use Rattle.toml_span_read.specs.Gaps.{MaximalGap}
 use Rattle.toml_span_read.specs.Keys.{SpellsKey}
-use Rattle.toml_span_read.specs.Grammar.{OpensHeader, SpellsSection, KeyValuesWith, SectionsWith, SpellsScalar}
+use Rattle.toml_span_read.specs.Grammar.{OpensHeader, SpellsSection, AssignmentsWith, SectionsWith, SpellsScalar}
 use Rattle.toml_span_read.specs.Read as read
 use Rattle.toml_span_read.proofs.ReadSound.{document_sound}
 use Rattle.toml_span_read.specs.Reading.{HoldsForm, OnlyFormsTakeMemory}
@@ -26,30 +26,30 @@ key-before (p ∷ ps) text i j h = grind (arith, nat_tests, common_steps, ascend
 opens-forward : (array : Bool) (text : List ℕ) (i j : ℕ) → OpensHeader array text i j → i ≤ j
 opens-forward array text i j h = grind (arith, nat_tests, common_steps)
 
-section-before : (b : Block) (text : List ℕ) (limit i j : ℕ) → SpellsSection b text limit i j → i < length text
+section-before : (b : ParsedSection) (text : List ℕ) (limit i j : ℕ) → SpellsSection b text limit i j → i < length text
 section-before b text limit i j h = grind (arith, nat_tests, common_steps, key-before, opens-forward)
 
 -- where a section is spelled, there is more than blank lines
-sections-hold : (es : List KeyValue) (bs : List Block) (text : List ℕ) (limit start k j : ℕ) → MaximalGap text start k → KeyValuesWith SpellsScalar es [] text limit k j → SectionsWith SpellsScalar bs text limit j
-    → (first_block es ++ bs ≡ [] → ⊥) → HoldsForm text start
+sections-hold : (es : List ParsedAssignment) (bs : List ParsedSection) (text : List ℕ) (limit start k j : ℕ) → MaximalGap text start k → AssignmentsWith SpellsScalar es [] text limit k j → SectionsWith SpellsScalar bs text limit j
+    → (headerless_section es ++ bs ≡ [] → ⊥) → HoldsForm text start
 sections-hold [] [] text limit start k j gap h rest some = absurd (some refl)
 sections-hold [] (b ∷ bs) text limit start k j gap h (e, here, rest) some = (k, gap, omega (arith, section-before b text limit j e here, h))
 sections-hold (ev ∷ es) bs text limit start k j gap (m, n, q, h, t, c, g, r) rest some = (k, gap, key-before ev.parts text k h.key_end h.key)
 
-no-blocks : (ss : List Section) → map block ss ≡ [] → ss ≡ []
-no-blocks [] none = refl
-no-blocks (s ∷ ss) none = cc
+no-sections : (ss : List Section) → map parsed_section ss ≡ [] → ss ≡ []
+no-sections [] none = refl
+no-sections (s ∷ ss) none = cc
 
 -- a tree for which nothing is allocated if there are no sections
-pub keeps-placed : (ss : List Section) (text : List ℕ) (limit : ℕ) (r : Result Value (Stop Error)) → read.document text limit (Ok (map block ss)) → (ss ≡ [] → IsOk r)
+pub keeps-placed : (ss : List Section) (text : List ℕ) (limit : ℕ) (r : Result Value (Stop Error)) → read.document text limit (Ok (map parsed_section ss)) → (ss ≡ [] → IsOk r)
     → (start : ℕ) × FirstPlace text start × OnlyFormsTakeMemory text start r
-keeps-placed ss text limit (Ok root) given bare = let h = document_sound (map block ss) text limit given in (h.start, h.begins, tt)
-keeps-placed ss text limit (Err (stops.Fault error)) given bare = let h = document_sound (map block ss) text limit given in (h.start, h.begins, tt)
+keeps-placed ss text limit (Ok root) given bare = let h = document_sound (map parsed_section ss) text limit given in (h.start, h.begins, tt)
+keeps-placed ss text limit (Err (stops.Fault error)) given bare = let h = document_sound (map parsed_section ss) text limit given in (h.start, h.begins, tt)
 keeps-placed ss text limit (Err (stops.Memory e)) given bare =
-    let h = document_sound (map block ss) text limit given in
-    (h.start, h.begins, sections-hold h.first h.rest text limit h.start h.lines.0 h.end h.lines.1 h.lines.2 h.sections (λ none. false≢true (bare (no-blocks ss (h.all ∙ none)))))
+    let h = document_sound (map parsed_section ss) text limit given in
+    (h.start, h.begins, sections-hold h.first h.rest text limit h.start h.lines.0 h.end h.lines.1 h.lines.2 h.sections (λ none. false≢true (bare (no-sections ss (h.all ∙ none)))))
 
 -- a failed allocation is passed on
-pub keeps-on : (text : List ℕ) (stop : Stop Fault) (e : AllocError) → stop ≡ stops.Memory e → ((start : ℕ) × FirstPlace text start × OnlyFormsTakeMemory {A = Grown} text start (Err stop))
+pub keeps-on : (text : List ℕ) (stop : Stop Fault) (e : AllocError) → stop ≡ stops.Memory e → ((start : ℕ) × FirstPlace text start × OnlyFormsTakeMemory {A = Assembly} text start (Err stop))
     → (start : ℕ) × FirstPlace text start × OnlyFormsTakeMemory {A = Value} {E = Error} text start (Err (stops.Memory e))
 keeps-on text stop e is h = rw is at h

@@ -10,8 +10,8 @@ use Rattle.toml_span.specs.declared.branch.Branch.TheOpen.{Branch-F}
 use Rattle.toml_span.specs.declared.branch.Branch.TheViews.{roll-Branch, out-Branch}
 use Rattle.toml_span.specs.Ordered.{IsOrdered}
 use Rattle.toml_span.specs.Paths.{same_step}
-use Rattle.toml_span.specs.code.Machine.{Cell, State, no_cell, nothing, graft}
-use Rattle.toml_span.specs.code.Tree.{IsEntry, IsFresh, IsNamed, IsOpen, IsScope, IsTableOrArray, NoArray, Sound, sound, cell_at, cells, child, child_in, closed, closed_in, closed_cell, count_at, counts, entries, is_named, item, marks, or_closed, or_nothing, or_zero, own_cell}
+use Rattle.toml_span.specs.code.Machine.{Cell, CellMap, no_cell, no_cells, graft}
+use Rattle.toml_span.specs.code.Tree.{IsEntry, IsFresh, IsNamed, IsOpen, IsScope, IsTableOrArray, NoArray, Sound, sound, cell_at, cells, child, child_in, closed, closed_in, closed_cell, count_at, counts, entries, is_named, item, infos, or_closed, or_nothing, or_zero, own_cell}
 use Rattle.toml_span.proofs.Grafts.{fun_ext, graft-is, path_ext, same_step-eq, same_step-self}
 
 pub roll-out : (n : Branch) → roll-Branch (out-Branch n) ≡ n
@@ -33,7 +33,7 @@ slot_in (position i) n = (item i n.entries.items, None)
 abbrev pub slot : Step → Branch → Slot
 slot s n = slot_in s (out-Branch n)
 
-abbrev pub slot_cell : Slot → State
+abbrev pub slot_cell : Slot → CellMap
 slot_cell x p = or_closed (option_map (cell_at p) x.0) (closed_cell x.1 p)
 
 abbrev pub slot_count : Slot → Path → ℕ
@@ -79,8 +79,8 @@ some-entries n h none = eqb-false (vec_len (out-Branch n).entries) 0 h (omega (a
 abbrev pub IsGood : Option Branch → Option (Key × Value) → Step → Type 0
 IsGood None None s = ⊤
 IsGood None (Some e) s = IsOrdered (view e.1)
-IsGood (Some c) o (key k) = (o ≡ None) × IsNamed (marks c) × Sound c
-IsGood (Some c) o (position i) = (entries c ≡ []) × IsEntry (marks c) × Sound c
+IsGood (Some c) o (key k) = (o ≡ None) × IsNamed (infos c) × Sound c
+IsGood (Some c) o (position i) = (entries c ≡ []) × IsEntry (infos c) × Sound c
 
 abbrev pub GoodAt : Branch → Step → Type 0
 GoodAt n s = IsGood (slot s n).0 (slot s n).1 s
@@ -91,10 +91,10 @@ sound-shape n (sound m shape named added ordered below inside) = shape
 pub sound-good : (n : Branch) → Sound n → (s : Step) → GoodAt n s
 sound-good n v1 s = grind (arith, nat_tests, common_steps)
 
-pub good-child : (n : Branch) (k : List ℕ) (c : Branch) → GoodAt n (key k) → child k n ≡ Some c → (closed k n ≡ None) × IsNamed (marks c) × Sound c
+pub good-child : (n : Branch) (k : List ℕ) (c : Branch) → GoodAt n (key k) → child k n ≡ Some c → (closed k n ≡ None) × IsNamed (infos c) × Sound c
 good-child n k c good is = subst (λ o. IsGood o (closed k n) (key k)) is good
 
-pub good-entry : (n : Branch) (i : ℕ) (c : Branch) → GoodAt n (position i) → item i (entries n) ≡ Some c → (entries c ≡ []) × IsEntry (marks c) × Sound c
+pub good-entry : (n : Branch) (i : ℕ) (c : Branch) → GoodAt n (position i) → item i (entries n) ≡ Some c → (entries c ≡ []) × IsEntry (infos c) × Sound c
 good-entry n i c good is = subst (λ o. IsGood o None (position i)) is good
 
 pub good-value : (n : Branch) (k : List ℕ) (e : Key × Value) → GoodAt n (key k) → closed k n ≡ Some e → IsOrdered (view e.1)
@@ -106,10 +106,10 @@ sound-from n shape good =
     (λ k e is. good-value n k e (good (key k)) is) (λ k c is. (good-child n k c (good (key k)) is).2) (λ i c is. (good-entry n i c (good (position i)) is).2)
 
 -- a table is not claimed as an array
-pub scope-marks : (n : Branch) → IsScope n → NoArray (marks n)
-scope-marks n h = subst (IsTableOrArray n) h.1 (sound-shape n h.0)
+pub scope-infos : (n : Branch) → IsScope n → NoArray (infos n)
+scope-infos n h = subst (IsTableOrArray n) h.1 (sound-shape n h.0)
 
-pub scope-from : (n : Branch) → NoArray (marks n) → entries n ≡ [] → ((s : Step) → GoodAt n s) → IsScope n
+pub scope-from : (n : Branch) → NoArray (infos n) → entries n ≡ [] → ((s : Step) → GoodAt n s) → IsScope n
 scope-from n plain none good = (sound-from n (subst (IsTableOrArray n) (sym none) plain) good, none)
 
 -- ---- fresh branches, and arrays of tables
@@ -120,16 +120,16 @@ bare-slot n tables values k = λ i. (option_map box_value (lookup (is_named k) (
 fresh-slot : (n : Branch) → IsFresh n → (s : Step) → slot s n ≡ (None, None)
 fresh-slot n h s = grind (arith, nat_tests, common_steps, bare-slot)
 
-pub cells-fresh : (n : Branch) → IsFresh n → cells n ≡ nothing
+pub cells-fresh : (n : Branch) → IsFresh n → cells n ≡ no_cells
 unfolding cell_at
-cells-fresh n h = path_ext (ap own_cell h.no_marks) (λ s p. cells-step n s p ∙ ap (λ x. slot_cell x p) (fresh-slot n h s))
+cells-fresh n h = path_ext (ap own_cell h.no_infos) (λ s p. cells-step n s p ∙ ap (λ x. slot_cell x p) (fresh-slot n h s))
 
 pub counts-fresh : (n : Branch) → IsFresh n → counts n ≡ (λ p. 0)
 unfolding count_at
 counts-fresh n h = path_ext (ap length h.no_entries) (λ s p. counts-step n s p ∙ ap (λ x. slot_count x p) (fresh-slot n h s))
 
 pub scope-fresh : (n : Branch) → IsFresh n → IsScope n
-scope-fresh n h = scope-from n (rw h.no_marks tt) h.no_entries (λ s. rw (fresh-slot n h s) tt)
+scope-fresh n h = scope-from n (rw h.no_infos tt) h.no_entries (λ s. rw (fresh-slot n h s) tt)
 
 pub open-good : (n : Branch) → IsOpen n → (s : Step) → GoodAt n s
 open-good n h s = grind (arith, nat_tests, common_steps, bare-slot)
@@ -138,11 +138,11 @@ open-good n h s = grind (arith, nat_tests, common_steps, bare-slot)
 
 -- the same branch, except at one step
 pub record Sets (s : Step) (x : Slot) (n new : Branch) : Type 0 where
-  pub claims : marks new ≡ marks n
+  pub claims : infos new ≡ infos n
   pub stands : (t : Step) → slot t new ≡ cond (same_step s t) x (slot t n)
 
-pub sets-roll : (s : Step) (x : Slot) (n : Branch) (b : Branch-F Branch) → b.marks.items ≡ marks n → ((t : Step) → slot_in t b ≡ cond (same_step s t) x (slot t n)) → Sets s x n (roll-Branch b)
-sets-roll s x n b claims stands = record { claims = ap (λ (m : Branch-F Branch). m.marks.items) (out-roll b) ∙ claims; stands = λ t. ap (slot_in t) (out-roll b) ∙ stands t }
+pub sets-roll : (s : Step) (x : Slot) (n : Branch) (b : Branch-F Branch) → b.infos.items ≡ infos n → ((t : Step) → slot_in t b ≡ cond (same_step s t) x (slot t n)) → Sets s x n (roll-Branch b)
+sets-roll s x n b claims stands = record { claims = ap (λ (m : Branch-F Branch). m.infos.items) (out-roll b) ∙ claims; stands = λ t. ap (slot_in t) (out-roll b) ∙ stands t }
 
 sets-here : (s : Step) (x : Slot) (n new : Branch) → Sets s x n new → slot s new ≡ x
 sets-here s x n new sets = sets.stands s ∙ ap (λ b. cond b x (slot s n)) (same_step-self s)
@@ -179,6 +179,6 @@ pub counts-named : (k : List ℕ) (x : Slot) (n new : Branch) → Sets (key k) x
 unfolding count_at
 counts-named k x n new sets before = counts-sets (key k) x n new (counts n) sets (ap length (sets-none k x n new sets before.1 ∙ sym before.1)) (λ t p. refl)
 
-pub scope-named : (k : List ℕ) (x : Slot) (n new : Branch) → Sets (key k) x n new → IsGood x.0 x.1 (key k) → IsScope n → IsScope new × (marks new ≡ marks n)
+pub scope-named : (k : List ℕ) (x : Slot) (n new : Branch) → Sets (key k) x n new → IsGood x.0 x.1 (key k) → IsScope n → IsScope new × (infos new ≡ infos n)
 scope-named k x n new sets good before =
-    (scope-from new (subst NoArray (sym sets.claims) (scope-marks n before)) (sets-none k x n new sets before.1) (good-sets (key k) x n new sets good (sound-good n before.0)), sets.claims)
+    (scope-from new (subst NoArray (sym sets.claims) (scope-infos n before)) (sets-none k x n new sets before.1) (good-sets (key k) x n new sets good (sound-good n before.0)), sets.claims)

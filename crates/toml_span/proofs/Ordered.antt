@@ -37,9 +37,9 @@ name-before (x ∷ xs) [] h = absurd (false≢true (ap is_lt h))
 name-before (x ∷ xs) (y ∷ ys) h = before-then x y xs ys (nat_cmp x y) (slice_cmp nat_cmp xs ys) (ranked x y (nat_cmp x y) refl) (name-before xs ys) h
 
 -- a key is before all later ones
-names-behind : (k : Key) (es : List (Key × Value)) → AllByRecursion (λ l. key_cmp k l ≡ Less) (keys_of es) → EachName (IsNameBefore (cow_str_bytes k.name)) (members_view es)
-names-behind k [] h = tt
-names-behind k (e ∷ es) h = (name-before (cow_str_bytes k.name) (cow_str_bytes e.0.name) h.0, names-behind k es h.1)
+names-after : (k : Key) (es : List (Key × Value)) → AllByRecursion (λ l. key_cmp k l ≡ Less) (keys_of es) → EachName (IsNameBefore (cow_str_bytes k.name)) (members_view es)
+names-after k [] h = tt
+names-after k (e ∷ es) h = (name-before (cow_str_bytes k.name) (cow_str_bytes e.0.name) h.0, names-after k es h.1)
 
 -- a key is of its own name
 named-itself : (k : Key) → is_named (cow_str_bytes k.name) k ≡ true
@@ -68,7 +68,7 @@ each-named P (e ∷ es) sorted each = (each e (rw (named-itself e.0)), each-name
 pub members-ordered : (es : List (Key × Value)) → IsStrictlySortedBy key_cmp (keys_of es) → AllByRecursion (λ e. IsOrdered (view e.1)) es → MembersOrdered (members_view es)
 members-ordered [] sorted each = tt
 members-ordered (e ∷ es) sorted each =
-    (names-behind e.0 es (sorted_head key_cmp e.0 (keys_of es) sorted), each.0, members-ordered es (sorted_tail key_cmp e.0 (keys_of es) sorted) each.1)
+    (names-after e.0 es (sorted_head key_cmp e.0 (keys_of es) sorted), each.0, members-ordered es (sorted_tail key_cmp e.0 (keys_of es) sorted) each.1)
 
 -- ---- each name once
 

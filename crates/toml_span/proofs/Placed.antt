@@ -5,36 +5,36 @@ use Rattle.toml_span_tree.specs.Value.{span_of}
 use Rattle.toml_span_tree.proofs.Values.{view_is}
 use Rattle.toml_span_tree.specs.declared.value.Value.{Value}
 use Rattle.toml_span_lex.specs.declared.key.Key.{Key}
-use Rattle.toml_span.specs.declared.claims.Mark.{Mark}
-use Rattle.toml_span.specs.declared.claims.Sort.{Sort}
-use Rattle.toml_span.specs.declared.claims.Sort.TheVariants.{ArrayOfTables, Assigned}
-use Rattle.toml_span.specs.code.Marks.{Halt}
+use Rattle.toml_span.specs.declared.claims.ClaimInfo.{ClaimInfo}
+use Rattle.toml_span.specs.declared.claims.ClaimKind.{ClaimKind}
+use Rattle.toml_span.specs.declared.claims.ClaimKind.TheVariants.{ArrayOfTables, Assigned}
+use Rattle.toml_span.specs.code.ClaimInfos.{PlaceError}
 use Rattle.toml_span_lex.specs.declared.stop.Stop.TheVariants.{Memory, Fault}
 use Rattle.toml_span.specs.declared.branch.Branch.{Branch}
 use Rattle.toml_span.specs.declared.branch.Branch.TheViews.{roll-Branch, out-Branch}
 use Rattle.toml_span_read.proofs.EarlierTree.{key_cmp}
-use Rattle.toml_span.specs.Claims.{Claim, Claims, claimed, followed, pair_mark}
-use Rattle.toml_span.specs.Clashes.{NamedClash, blame, named}
-use Rattle.toml_span.specs.code.Machine.{Gives, earliest_clash, clash_met, put_all, graft}
+use Rattle.toml_span.specs.Claims.{Claim, Claims, claimed, followed, pair_info}
+use Rattle.toml_span.specs.Clashes.{NamedClash, clash_kind, with_name}
+use Rattle.toml_span.specs.code.Machine.{OkOrClash, earliest_clash, clash_met, put_all, graft}
 use Rattle.toml_span.specs.code.Placing.{Reaches, Places, Passes}
 use Rattle.toml_span.specs.code.Relative.{under}
 use Rattle.toml_span.specs.Paths.{same_step}
-use Rattle.toml_span.specs.code.Tree.{is_named, marks, entries, child, child_in, closed, closed_marks, cells, counts, is_array_sort, is_entry_sort, IsChild, IsFresh, IsHeld, IsNamed, IsScope, Sound}
-use Rattle.toml_span.proofs.Grafts.{told-followed, put_all-followed, told-under, put_all-under}
+use Rattle.toml_span.specs.code.Tree.{is_named, infos, entries, child, child_in, closed, closed_infos, cells, counts, is_array_kind, is_entry_kind, IsChild, IsFresh, IsHeld, IsNamed, IsScope, Sound}
+use Rattle.toml_span.proofs.Grafts.{reported-followed, put_all-followed, reported-under, put_all-under}
 use Rattle.toml_span.proofs.KeyMaps.{puts-insert}
 use Rattle.toml_span.proofs.Nodes.{Slot, Sets, cells-at, cells-slot, cells-sets, counts-at, counts-named, cells-fresh, counts-fresh, good-child, scope-fresh, scope-named, sets-roll, slot, slot_in, sound-good, sound-shape}
 
 -- ---- results
 
-pub gives-map : {A : Type 0} (r : Result A Halt) (o p : Option NamedClash) (P Q : A → Type 0) → p ≡ o → ((x : A) → P x → Q x) → Gives r o P → Gives r p Q
+pub gives-map : {A : Type 0} (r : Result A PlaceError) (o p : Option NamedClash) (P Q : A → Type 0) → p ≡ o → ((x : A) → P x → Q x) → OkOrClash r o P → OkOrClash r p Q
 gives-map r o p P Q same more h = grind (arith, nat_tests, common_steps)
 
-pub gives-err : {A B : Type 0} (r : Result B Halt) (e : Halt) (o p : Option NamedClash) (P : A → Type 0) (Q : B → Type 0)
-    → r ≡ Err e → ((t : NamedClash) → o ≡ Some t → p ≡ Some t) → Gives {A = A} (Err e) o P → Gives r p Q
+pub gives-err : {A B : Type 0} (r : Result B PlaceError) (e : PlaceError) (o p : Option NamedClash) (P : A → Type 0) (Q : B → Type 0)
+    → r ≡ Err e → ((t : NamedClash) → o ≡ Some t → p ≡ Some t) → OkOrClash {A = A} (Err e) o P → OkOrClash r p Q
 gives-err r e o p P Q is more h = grind (arith, nat_tests, common_steps)
 
 -- the error that `?` returns
-pub err-of : {A : Type 0} (r : Result A Halt) (e : Halt) (Q : Halt → Type 0) → IsErrAnd r Q → ((y : Halt) → Q y → y ≡ e) → r ≡ Err e
+pub err-of : {A : Type 0} (r : Result A PlaceError) (e : PlaceError) (Q : PlaceError → Type 0) → IsErrAnd r Q → ((y : PlaceError) → Q y → y ≡ e) → r ≡ Err e
 err-of r e Q h k = grind (arith, nat_tests, common_steps)
 
 pub on_ok : {A E : Type 0} (r : Result A E) (P : Type 0) → P → OnOk r P
@@ -42,25 +42,25 @@ on_ok r P h = grind (arith, nat_tests, common_steps)
 
 -- ---- one after another
 
-pub reaches-then : (A B C : Branch → Type 0) (old mid new : Branch) (r : Result (Unit {0}) Halt) (xs ys : Claims) (c d : Path → ℕ)
+pub reaches-then : (A B C : Branch → Type 0) (old mid new : Branch) (r : Result (Unit {0}) PlaceError) (xs ys : Claims) (c d : Path → ℕ)
     → Reaches A B old mid (Ok tt) xs c → Reaches B C mid new r ys d → Reaches A C old new r (followed xs ys) d
-reaches-then A B C old mid new r xs ys c d h g before = grind (arith, nat_tests, common_steps, gives-map, put_all-followed, told-followed)
+reaches-then A B C old mid new r xs ys c d h g before = grind (arith, nat_tests, common_steps, gives-map, put_all-followed, reported-followed)
 
 -- what is placed below a step, beginning at a branch x, which becomes w
-pub reaches-below : (A B C D : Branch → Type 0) (s : Step) (n new x w : Branch) (r : Result (Unit {0}) Halt) (cs : Claims) (c d : Path → ℕ)
+pub reaches-below : (A B C D : Branch → Type 0) (s : Step) (n new x w : Branch) (r : Result (Unit {0}) PlaceError) (cs : Claims) (c d : Path → ℕ)
     → (λ p. cells n (s ∷ p)) ≡ cells x → (A n → C x) → OnOk r (A n → D w → (cells new ≡ graft s (cells n) (cells w)) × (counts w ≡ c → counts new ≡ d) × B new)
     → Reaches C D x w r cs c → Reaches A B n new r (under s cs) d
 reaches-below A B C D s n new x w (Ok u) cs c d at start set h before =
     let g = h (start before) in
     let now = set before g.1.2 in (
-      told-under s (cells n) cs ∙ ap (λ f. clash_met f cs) at ∙ g.0,
+      reported-under s (cells n) cs ∙ ap (λ f. clash_met f cs) at ∙ g.0,
       (now.0 ∙ ap (graft s (cells n)) (g.1.0 ∙ ap (λ f. put_all f cs) (sym at)) ∙ sym (put_all-under s (cells n) cs), now.1 g.1.1, now.2),
     )
-reaches-below A B C D s n new x w (Err (Fault t)) cs c d at start set h before = told-under s (cells n) cs ∙ ap (λ f. clash_met f cs) at ∙ h (start before)
+reaches-below A B C D s n new x w (Err (Fault t)) cs c d at start set h before = reported-under s (cells n) cs ∙ ap (λ f. clash_met f cs) at ∙ h (start before)
 reaches-below A B C D s n new x w (Err (Memory e)) cs c d at start set h before = tt
 
 -- after an error nothing is stated about the branch and its entries
-pub reaches-stops : (A B : Branch → Type 0) (n new other : Branch) (e : Halt) (cs : Claims) (c d : Path → ℕ) → Reaches A B n other (Err e) cs c → Reaches A B n new (Err e) cs d
+pub reaches-stops : (A B : Branch → Type 0) (n new other : Branch) (e : PlaceError) (cs : Claims) (c d : Path → ℕ) → Reaches A B n other (Err e) cs c → Reaches A B n new (Err e) cs d
 reaches-stops A B n new other e cs c d h = grind (arith, nat_tests, common_steps)
 
 -- ---- below a name
@@ -74,22 +74,22 @@ cond-slot b x y = grind (arith, nat_tests, common_steps)
 
 -- the branch, with other branches by name
 abbrev pub with_tables : Branch → BTreeMap Key (Box Branch) → Branch
-with_tables n tables = roll-Branch (record { marks = (out-Branch n).marks; values = (out-Branch n).values; tables = tables; entries = (out-Branch n).entries })
+with_tables n tables = roll-Branch (record { infos = (out-Branch n).infos; values = (out-Branch n).values; tables = tables; entries = (out-Branch n).entries })
 
 -- inserted into the map, which may have the name
 pub sets-entry : (n : Branch) (tables made : BTreeMap Key (Box Branch)) (k : List ℕ) (name : Key) (w : Box Branch) → cow_str_bytes name.name ≡ k
     → made.entries ≡ insert_entry key_cmp (out-Branch n).tables.entries name w → tables ≡ made → Sets (key k) (Some (box_value w), closed k n) n (with_tables n tables)
-sets-entry n tables made k name w is written same = sets-roll (key k) (Some (box_value w), closed k n) n (record { marks = (out-Branch n).marks; values = (out-Branch n).values; tables = tables; entries = (out-Branch n).entries }) refl at
+sets-entry n tables made k name w is written same = sets-roll (key k) (Some (box_value w), closed k n) n (record { infos = (out-Branch n).infos; values = (out-Branch n).values; tables = tables; entries = (out-Branch n).entries }) refl at
   where
     named_now : (l : List ℕ) → child_in l tables ≡ cond (bytes_eq k l) (Some (box_value w)) (child l n)
     named_now l = grind (arith, nat_tests, common_steps, puts-insert)
 
-    at : (t : Step) → slot_in t (record { marks = (out-Branch n).marks; values = (out-Branch n).values; tables = tables; entries = (out-Branch n).entries }) ≡ cond (same_step (key k) t) (Some (box_value w), closed k n) (slot t n)
+    at : (t : Step) → slot_in t (record { infos = (out-Branch n).infos; values = (out-Branch n).values; tables = tables; entries = (out-Branch n).entries }) ≡ cond (same_step (key k) t) (Some (box_value w), closed k n) (slot t n)
     at (key l) = (λ i. (named_now l i, cond-same k l (λ l. closed l n) i)) ∙ cond-slot (bytes_eq k l) (Some (box_value w), closed k n) (slot (key l) n)
     at (position i) = refl
 
 -- the branch with a name in a scope
-pub held-child : (n x : Branch) (k : List ℕ) → child k n ≡ Some x → IsScope n → (closed k n ≡ None) × IsNamed (marks x) × Sound x
+pub held-child : (n x : Branch) (k : List ℕ) → child k n ≡ Some x → IsScope n → (closed k n ≡ None) × IsNamed (infos x) × Sound x
 held-child n x k found before = good-child n k x (sound-good n before.0 (key k)) found
 
 -- x is the branch at the name k, or a fresh one if there is none
@@ -113,12 +113,12 @@ starts-new n x k missing free fresh = record {
 }
 
 -- what is placed in the branch at a name
-pub places-below : (n new x w : Branch) (k : List ℕ) (r : Result (Unit {0}) Halt) (cs : (Path → ℕ) → Claims) (c : (Path → ℕ) → Path → ℕ)
+pub places-below : (n new x w : Branch) (k : List ℕ) (r : Result (Unit {0}) PlaceError) (cs : (Path → ℕ) → Claims) (c : (Path → ℕ) → Path → ℕ)
     → Starts n x k → Sets (key k) (Some w, closed k n) n new → Passes x w r (cs (counts x)) (c (counts x))
     → Places n new r (under (key k) (cs (λ p. counts n (key k ∷ p)))) (graft (key k) (counts n) (c (λ p. counts n (key k ∷ p))))
 places-below n new x w k r cs c start sets h =
     subst (λ f. Places n new r (under (key k) (cs f)) (graft (key k) (counts n) (c f))) (sym start.counted)
-    (reaches-below IsScope (λ m. IsScope m × (marks m ≡ marks n)) IsChild IsHeld (key k) n new x w r (cs (counts x)) (c (counts x))
+    (reaches-below IsScope (λ m. IsScope m × (infos m ≡ infos n)) IsChild IsHeld (key k) n new x w r (cs (counts x)) (c (counts x))
     (graft (key k) (counts n) (c (counts x))) start.shown (λ before. (start.is_open before).1)
     (on_ok r _ (λ before held. (
       cells-sets (key k) (Some w, closed k n) n new sets,
@@ -128,47 +128,47 @@ places-below n new x w k r cs c start sets h =
 
 -- ---- a claim that clashes at a name
 
-pub places-refused : (n new : Branch) (k : List ℕ) (r : Result (Unit {0}) Halt) (c : Claim) (cs : Claims) (P : Unit {0} → Type 0) (d : Path → ℕ)
-    → c.path ≡ [] → (IsScope n → OnOk r ⊥ × Gives r (earliest_clash (cells n (key k ∷ [])).marks c.mark c.name) P) → Places n new r (under (key k) (claimed c cs)) d
+pub places-refused : (n new : Branch) (k : List ℕ) (r : Result (Unit {0}) PlaceError) (c : Claim) (cs : Claims) (P : Unit {0} → Type 0) (d : Path → ℕ)
+    → c.path ≡ [] → (IsScope n → OnOk r ⊥ × OkOrClash r (earliest_clash (cells n (key k ∷ [])).infos c.info c.name) P) → Places n new r (under (key k) (claimed c cs)) d
 unfolding clash_met
 places-refused n new k (Ok u) c cs P d here h before = absurd (h before).0
-places-refused n new k (Err (Fault t)) c cs P d here h before = grind (arith, nat_tests, common_steps, told-under)
+places-refused n new k (Err (Fault t)) c cs P d here h before = grind (arith, nat_tests, common_steps, reported-under)
 places-refused n new k (Err (Memory e)) c cs P d here h before = tt
 
 -- with a value of this name
-pub places-beside : (n new : Branch) (k : List ℕ) (q : Result (Unit {0}) Halt) (e : Halt) (c : Claim) (cs : Claims) (P : Unit {0} → Type 0) (d : Path → ℕ)
-    → child k n ≡ None → c.path ≡ [] → q ≡ Err e → Gives (Err e) (earliest_clash (closed_marks (closed k n)) c.mark c.name) P
+pub places-beside : (n new : Branch) (k : List ℕ) (q : Result (Unit {0}) PlaceError) (e : PlaceError) (c : Claim) (cs : Claims) (P : Unit {0} → Type 0) (d : Path → ℕ)
+    → child k n ≡ None → c.path ≡ [] → q ≡ Err e → OkOrClash (Err e) (earliest_clash (closed_infos (closed k n)) c.info c.name) P
     → Places n new q (under (key k) (claimed c cs)) d
 places-beside n new k q e c cs P d missing here same h =
-    rw same (places-refused n new k (Err e) c cs P d here (λ before. (tt, rw (ap (λ f. (f []).marks) (cells-at n (key k) None missing)) h)))
+    rw same (places-refused n new k (Err e) c cs P d here (λ before. (tt, rw (ap (λ f. (f []).infos) (cells-at n (key k) None missing)) h)))
 
 -- ---- what clashes
 
 -- any claim at a name with a value, and that of a table with an array
-pub named-clashes : (s : Sort) → is_entry_sort s ≡ false → (blame s Assigned ≡ None → ⊥) × (blame Assigned s ≡ None → ⊥) × (is_array_sort s ≡ false → blame s ArrayOfTables ≡ None → ⊥)
+pub named-clashes : (s : ClaimKind) → is_entry_kind s ≡ false → (clash_kind s Assigned ≡ None → ⊥) × (clash_kind Assigned s ≡ None → ⊥) × (is_array_kind s ≡ false → clash_kind s ArrayOfTables ≡ None → ⊥)
 named-clashes s e = grind (arith, nat_tests, common_steps)
 
 -- what clashes with no claim does not clash with the first one
-pub met-first : (x m : Mark) (ms : List Mark) (name : List ℕ) → earliest_clash (x ∷ ms) m name ≡ None → blame x.sort m.sort ≡ None
+pub met-first : (x m : ClaimInfo) (ms : List ClaimInfo) (name : List ℕ) → earliest_clash (x ∷ ms) m name ≡ None → clash_kind x.kind m.kind ≡ None
 met-first x m ms name h = grind (arith, nat_tests, common_steps)
 
 -- what clashes with any array of tables is a claim on a table
-pub not-array : (n : Branch) (m : Mark) (name : List ℕ) → (blame ArrayOfTables m.sort ≡ None → ⊥) → earliest_clash (marks n) m name ≡ None → Sound n → entries n ≡ []
+pub not-array : (n : Branch) (m : ClaimInfo) (name : List ℕ) → (clash_kind ArrayOfTables m.kind ≡ None → ⊥) → earliest_clash (infos n) m name ≡ None → Sound n → entries n ≡ []
 not-array n m name clashes free h = grind (arith, nat_tests, common_steps, met-first, sound-shape)
 
 -- if nothing clashes with it, there is none
-pub unclosed : (o : Option (Key × Value)) (m : Mark) (name : List ℕ) → earliest_clash (closed_marks o) m name ≡ None → is_entry_sort m.sort ≡ false → o ≡ None
-unclosed o m name h named = grind (arith, nat_tests, common_steps, met-first, named-clashes)
+pub unclosed : (o : Option (Key × Value)) (m : ClaimInfo) (name : List ℕ) → earliest_clash (closed_infos o) m name ≡ None → is_entry_kind m.kind ≡ false → o ≡ None
+unclosed o m name h with_name = grind (arith, nat_tests, common_steps, met-first, named-clashes)
 
 -- two values that are assigned to one name clash
-pub assigned_twice : (r : Result (Unit {0}) Halt) (a b : Mark) (name : List ℕ) (Q : Unit {0} → Type 0) (P : Type 0) → a.sort ≡ Assigned → b.sort ≡ Assigned → Gives r (earliest_clash (a ∷ []) b name) Q → OnOk r P
+pub assigned_twice : (r : Result (Unit {0}) PlaceError) (a b : ClaimInfo) (name : List ℕ) (Q : Unit {0} → Type 0) (P : Type 0) → a.kind ≡ Assigned → b.kind ≡ Assigned → OkOrClash r (earliest_clash (a ∷ []) b name) Q → OnOk r P
 assigned_twice r a b name Q P d e h = grind (arith, nat_tests, common_steps)
 
 -- ---- maps by name
 
 -- the claim of the value at a name
-pub marks-found : (o : Option (Key × Value)) (k : Key) (v : Value) (m : Mark) → o ≡ Some (k, v) → m ≡ pair_mark Assigned k.span v.span → closed_marks o ≡ m ∷ []
-marks-found o k v m is mark = ap closed_marks is ∙ ap (λ s. pair_mark Assigned k.span s ∷ []) (ap span_of (view_is v)) ∙ ap (λ x. x ∷ []) (sym mark)
+pub infos-found : (o : Option (Key × Value)) (k : Key) (v : Value) (m : ClaimInfo) → o ≡ Some (k, v) → m ≡ pair_info Assigned k.span v.span → closed_infos o ≡ m ∷ []
+infos-found o k v m is info = ap closed_infos is ∙ ap (λ s. pair_info Assigned k.span s ∷ []) (ap span_of (view_is v)) ∙ ap (λ x. x ∷ []) (sym info)
 
 -- what looking up a key with the name k says about the branch at k
 pub looked : (k : List ℕ) (name : Key) (m : BTreeMap Key (Box Branch)) (o : Option (Box Branch)) → cow_str_bytes name.name ≡ k
@@ -176,5 +176,5 @@ pub looked : (k : List ℕ) (name : Key) (m : BTreeMap Key (Box Branch)) (o : Op
 looked k name m o same is = ap (λ l. option_map box_value (lookup (is_named l) m.entries)) (sym same) ∙ ap (option_map box_value) is
 
 -- the clash is the same, whatever the type of the result
-pub told : {A B : Type 0} (e : Halt) (o : Option NamedClash) (P : A → Type 0) (Q : B → Type 0) → Gives {A = A} (Err e) o P → Gives {A = B} (Err e) o Q
-told e o P Q h = gives-err (Err e) e o o P Q refl (λ t k. k) h
+pub reported : {A B : Type 0} (e : PlaceError) (o : Option NamedClash) (P : A → Type 0) (Q : B → Type 0) → OkOrClash {A = A} (Err e) o P → OkOrClash {A = B} (Err e) o Q
+reported e o P Q h = gives-err (Err e) e o o P Q refl (λ t k. k) h

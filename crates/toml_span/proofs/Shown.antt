@@ -2,15 +2,15 @@
 use Rattle.toml_span_lex.proofs.Common.{◌≡◌, ℕ, Bool, true, false, List, [], ◌∷◌, ◌++◌, Option, Some, None, option_map, refl, sym, ap, ◌∙◌, inl, inr, if◌then◌else◌, ⊤, cases_Bool, arith, nat_tests, common_steps}
 use Rattle.toml_span_lex.specs.declared.span.Span.{Span}
 use Rattle.toml_span_tree.specs.Path.{Path, Step, Place}
-use Rattle.toml_span_read.specs.Data.{KeyValue}
-use Rattle.toml_span.specs.Claims.{Claim, Claims, no_claims, claimed, scope, key_value_claims}
-use Rattle.toml_span.specs.Clashes.{or_else}
+use Rattle.toml_span_read.specs.Data.{ParsedAssignment}
+use Rattle.toml_span.specs.Claims.{Claim, Claims, no_claims, claimed, scope, assignments_claims}
+use Rattle.toml_span.specs.Clashes.{first_some}
 use Rattle.toml_span.specs.Flat.{all_claims, claims_at, first_claim, first_claim_by_header, deciding_claim, flat}
 use Rattle.toml_span.specs.Borrowed.{first_key}
-use Rattle.toml_span.specs.code.Machine.{Cell, State, Decided, nothing, decide, decided, key_spans, with_span, with_claim, with_inner, change, show_all, put_all}
+use Rattle.toml_span.specs.code.Machine.{Cell, CellMap, Decided, no_cells, decide, decided, key_spans, with_span, with_claim, with_inner, change, show_all, put_all}
 use Rattle.toml_span.specs.code.Placing.{place_shown}
 use Rattle.toml_span.specs.code.Tree.{plain}
-use Rattle.toml_span.proofs.EachClaim.{Each, key_values-each}
+use Rattle.toml_span.proofs.EachClaim.{Each, assignments-each}
 use Rattle.toml_span.proofs.Grafts.{fun_ext}
 
 -- ---- one after another
@@ -18,7 +18,7 @@ use Rattle.toml_span.proofs.Grafts.{fun_ext}
 abbrev by_some : Bool → Place → Span → Option Decided
 by_some header place span = Some (record { header = header; place = place; key = span })
 
--- what claims, or marks, decide, where `by` is the first one of a header
+-- what claims, or claims, decide, where `by` is the first one of a header
 module _ (A : Type 0) (d : A → Decided) (by : List A → Option A) where
   unfoldable pub shown_by : Option Decided → List A → Option Decided
   shown_by o [] = o
@@ -37,13 +37,13 @@ module _ (A : Type 0) (d : A → Decided) (by : List A → Option A) where
     shown_by-header place span (x ∷ xs) = shown_by-header place span xs
 
     -- after an assignment the first header still decides
-    shown_by-plain : (place : Place) (span : Span) (xs : List A) → shown_by (by_some false place span) xs ≡ or_else (option_map (λ y. with_span span (d y)) (by xs)) (by_some false place span)
+    shown_by-plain : (place : Place) (span : Span) (xs : List A) → shown_by (by_some false place span) xs ≡ first_some (option_map (λ y. with_span span (d y)) (by xs)) (by_some false place span)
     unfolding shown_by
     shown_by-plain place span [] = rw none refl
     shown_by-plain place span (x ∷ xs) = grind (arith, nat_tests, common_steps, some x xs, shown_by-header (d x).place span xs, shown_by-plain place span xs)
 
     -- the first header decides, or else the first of them, which has the key
-    pub shown_by-none : (x : A) (xs : List A) → shown_by None (x ∷ xs) ≡ option_map (λ y. with_span (d x).key (d y)) (or_else (by (x ∷ xs)) (Some x))
+    pub shown_by-none : (x : A) (xs : List A) → shown_by None (x ∷ xs) ≡ option_map (λ y. with_span (d x).key (d y)) (first_some (by (x ∷ xs)) (Some x))
     unfolding shown_by
     shown_by-none x xs =
         elim (cases_Bool (d x).header) [
@@ -52,7 +52,7 @@ module _ (A : Type 0) (d : A → Decided) (by : List A → Option A) where
         ]
       where
         first_or : (o : Option A) → (d x).header ≡ false
-            → or_else (option_map (λ y. with_span (d x).key (d y)) o) (by_some false (d x).place (d x).key) ≡ option_map (λ y. with_span (d x).key (d y)) (or_else o (Some x))
+            → first_some (option_map (λ y. with_span (d x).key (d y)) o) (by_some false (d x).place (d x).key) ≡ option_map (λ y. with_span (d x).key (d y)) (first_some o (Some x))
         first_or None h = rw h
         first_or (Some y) h = refl
 
@@ -77,33 +77,33 @@ unfolding all_claims
 on_path-scope p o inner cs = grind (arith, nat_tests, common_steps, claims_at-append, shown_by-append)
 
 -- a claim decides at its own path, whether it is of the scope or of one inside
-on_path-claimed : (p : Path) (st : State) (c : Claim) (cs : Claims) (f : Cell → Cell) → ((x : Cell) → (f x).shown ≡ decide x.shown (decided c))
+on_path-claimed : (p : Path) (st : CellMap) (c : Claim) (cs : Claims) (f : Cell → Cell) → ((x : Cell) → (f x).shown ≡ decide x.shown (decided c))
     → claims_show (change st c.path f p).shown (on_path p cs) ≡ claims_show (st p).shown (on_path p (claimed c cs))
 unfolding all_claims claims_at change shown_by
 on_path-claimed p st c cs f h = grind (arith, nat_tests, common_steps)
 
-show_all-is : (st : State) (cs : Claims) (p : Path) → (show_all st cs p).shown ≡ claims_show (st p).shown (on_path p cs)
+show_all-is : (st : CellMap) (cs : Claims) (p : Path) → (show_all st cs p).shown ≡ claims_show (st p).shown (on_path p cs)
 unfolding show_all all_claims claims_at shown_by
 show_all-is st no_claims p = refl
 show_all-is st (claimed c cs) p = show_all-is (change st c.path (with_inner c)) cs p ∙ on_path-claimed p st c cs (with_inner c) (λ x. refl)
 show_all-is st (scope inner cs) p = grind (arith, nat_tests, common_steps, on_path-scope, show_all-is (show_all st inner) cs p, show_all-is st inner p)
 
-put_all-is : (st : State) (cs : Claims) (p : Path) → (put_all st cs p).shown ≡ claims_show (st p).shown (on_path p cs)
+put_all-is : (st : CellMap) (cs : Claims) (p : Path) → (put_all st cs p).shown ≡ claims_show (st p).shown (on_path p cs)
 unfolding put_all all_claims claims_at shown_by
 put_all-is st no_claims p = refl
 put_all-is st (claimed c cs) p = put_all-is (change st c.path (with_claim c)) cs p ∙ on_path-claimed p st c cs (with_claim c) (λ x. refl)
 put_all-is st (scope inner cs) p = grind (arith, nat_tests, common_steps, on_path-scope, put_all-is (show_all st inner) cs p, show_all-is st inner p)
 
 -- a scope shows the same from inside and from outside
-pub put_all-shown : (cs : Claims) (p : Path) → (put_all nothing cs p).shown ≡ (show_all nothing cs p).shown
-put_all-shown cs p = put_all-is nothing cs p ∙ sym (show_all-is nothing cs p)
+pub put_all-shown : (cs : Claims) (p : Path) → (put_all no_cells cs p).shown ≡ (show_all no_cells cs p).shown
+put_all-shown cs p = put_all-is no_cells cs p ∙ sym (show_all-is no_cells cs p)
 
--- claims of scopes inside keep no marks
-pub show_all-marks : (st : State) (cs : Claims) (p : Path) → (show_all st cs p).marks ≡ (st p).marks
+-- claims of scopes inside keep no claims
+pub show_all-infos : (st : CellMap) (cs : Claims) (p : Path) → (show_all st cs p).infos ≡ (st p).infos
 unfolding show_all change
-show_all-marks st no_claims p = refl
-show_all-marks st (claimed c cs) p = grind (arith, nat_tests, common_steps, show_all-marks (change st c.path (with_inner c)) cs p)
-show_all-marks st (scope inner cs) p = show_all-marks (show_all st inner) cs p ∙ show_all-marks st inner p
+show_all-infos st no_claims p = refl
+show_all-infos st (claimed c cs) p = grind (arith, nat_tests, common_steps, show_all-infos (change st c.path (with_inner c)) cs p)
+show_all-infos st (scope inner cs) p = show_all-infos (show_all st inner) cs p ∙ show_all-infos st inner p
 
 -- ---- values and assignments
 
@@ -111,8 +111,8 @@ show_all-marks st (scope inner cs) p = show_all-marks (show_all st inner) cs p �
 abbrev pub NoHeader : Claims → Type 0
 NoHeader cs = Each (λ c. decided c ≡ plain c.place) cs
 
-pub key_values-no_header : (es : List KeyValue) (p : Path) → NoHeader (key_value_claims es p)
-key_values-no_header = key_values-each (λ c. decided c ≡ plain c.place) (λ p k v. refl) (λ p k v. refl) (λ p i v. refl)
+pub assignments-no_header : (es : List ParsedAssignment) (p : Path) → NoHeader (assignments_claims es p)
+assignments-no_header = assignments-each (λ c. decided c ≡ plain c.place) (λ p k v. refl) (λ p k v. refl) (λ p i v. refl)
 
 abbrev IsPlain : Option Decided → Type 0
 IsPlain None = ⊤
@@ -122,7 +122,7 @@ plain-decide : (o : Option Decided) (c : Claim) → IsPlain o → decided c ≡ 
 plain-decide None c h k = k
 plain-decide (Some d) c h k = grind (arith, nat_tests, common_steps)
 
-plain-shown : (st : State) (cs : Claims) (p : Path) → NoHeader cs → IsPlain (st p).shown → IsPlain (show_all st cs p).shown
+plain-shown : (st : CellMap) (cs : Claims) (p : Path) → NoHeader cs → IsPlain (st p).shown → IsPlain (show_all st cs p).shown
 unfolding show_all change
 plain-shown st no_claims p h k = k
 plain-shown st (claimed c cs) p h k = grind (arith, nat_tests, common_steps, plain-decide, plain-shown (change st c.path (with_inner c)) cs p)
@@ -133,12 +133,12 @@ plain-place None h = refl
 plain-place (Some d) h = ap (λ d. Some d) h
 
 -- so no header decides
-pub shown-plain : (cs : Claims) (p : Path) → NoHeader cs → (show_all nothing cs p).shown ≡ option_map plain (place_shown (show_all nothing cs p))
-shown-plain cs p h = plain-place (show_all nothing cs p).shown (plain-shown nothing cs p h tt)
+pub shown-plain : (cs : Claims) (p : Path) → NoHeader cs → (show_all no_cells cs p).shown ≡ option_map plain (place_shown (show_all no_cells cs p))
+shown-plain cs p h = plain-place (show_all no_cells cs p).shown (plain-shown no_cells cs p h tt)
 
 -- ---- the flat document
 
-claims_show-none : (c : Claim) (cs : List Claim) → claims_show None (c ∷ cs) ≡ option_map (λ x. with_span c.mark.key (decided x)) (deciding_claim (c ∷ cs))
+claims_show-none : (c : Claim) (cs : List Claim) → claims_show None (c ∷ cs) ≡ option_map (λ x. with_span c.info.key (decided x)) (deciding_claim (c ∷ cs))
 unfolding first_claim_by_header
 claims_show-none c cs = shown_by-none Claim decided first_claim_by_header refl (λ x xs. refl) c cs
 
@@ -147,16 +147,16 @@ unfolding shown_by first_claim_by_header
 place-decided [] = refl
 place-decided (c ∷ cs) = grind (arith, nat_tests, common_steps, claims_show-none c cs)
 
-key-decided : (cs : List Claim) → option_map (λ d. d.key) (claims_show None cs) ≡ option_map (λ c. c.mark.key) (first_claim cs)
+key-decided : (cs : List Claim) → option_map (λ d. d.key) (claims_show None cs) ≡ option_map (λ c. c.info.key) (first_claim cs)
 unfolding shown_by
 key-decided [] = refl
 key-decided (c ∷ cs) = grind (arith, nat_tests, common_steps, claims_show-none c cs)
 
 -- what decides in the state decides in the flat document
-pub shown-flat : (length : ℕ) (cs : Claims) (s : Step) (p : Path) → place_shown (put_all nothing cs (s ∷ p)) ≡ flat length cs (s ∷ p)
+pub shown-flat : (length : ℕ) (cs : Claims) (s : Step) (p : Path) → place_shown (put_all no_cells cs (s ∷ p)) ≡ flat length cs (s ∷ p)
 unfolding flat
-shown-flat length cs s p = ap (option_map (λ d. d.place)) (put_all-is nothing cs (s ∷ p)) ∙ place-decided (on_path (s ∷ p) cs)
+shown-flat length cs s p = ap (option_map (λ d. d.place)) (put_all-is no_cells cs (s ∷ p)) ∙ place-decided (on_path (s ∷ p) cs)
 
 -- and the first claim has the key
-pub first_key-is : (cs : Claims) → key_spans (put_all nothing cs) ≡ first_key cs
-first_key-is cs = fun_ext (λ p. ap (option_map (λ d. d.key)) (put_all-is nothing cs p) ∙ key-decided (on_path p cs))
+pub first_key-is : (cs : Claims) → key_spans (put_all no_cells cs) ≡ first_key cs
+first_key-is cs = fun_ext (λ p. ap (option_map (λ d. d.key)) (put_all-is no_cells cs p) ∙ key-decided (on_path p cs))

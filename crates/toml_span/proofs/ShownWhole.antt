@@ -4,14 +4,14 @@ use Rattle.toml_span_lex.specs.declared.span.Span.{Span}
 use Rattle.toml_span_tree.specs.Node.{Node, node, Inner, taken, scalar, array, table, Items, no_items, item, Members, no_members, member, entry_at, element_at}
 use Rattle.toml_span_tree.specs.Path.{Path, key, position, Place, shape_of, reached, place_of, node_at, Shape, shape_taken, shape_scalar, shape_array, shape_table}
 use Rattle.toml_span_tree.specs.Value.{inner_of, holds_nothing, is_taken, is_whole, all_whole, all_members_whole}
-use Rattle.toml_span_read.specs.Data.{Block, ParsedInner, KeyValue, SimpleKey}
-use Rattle.toml_span.specs.Claims.{claims, Claim, value_shape, parsed_inner, key_value_claims, end_claims, header_claims, section_claims, claims_behind}
-use Rattle.toml_span.specs.Flat.{flat, Shows}
+use Rattle.toml_span_read.specs.Data.{ParsedSection, ParsedInner, ParsedAssignment, SimpleKey}
+use Rattle.toml_span.specs.Claims.{claims, Claim, value_shape, parsed_inner, assignments_claims, end_claims, header_claims, section_claims, claims_after}
+use Rattle.toml_span.specs.Flat.{flat, ShowsExactly}
 use Rattle.toml_span.specs.Ordered.{HasOneEach, ItemsHaveOneEach, MembersHaveOneEach}
-use Rattle.toml_span.proofs.EachClaim.{flat-decides, Each, each-followed, key_values-each}
+use Rattle.toml_span.proofs.EachClaim.{flat-decides, Each, each-followed, assignments-each}
 use Rattle.toml_span.proofs.Grafts.{same_step-self}
 use Rattle.toml_span.proofs.Ordered.{same-name}
-use Rattle.toml_span.specs.declared.claims.Head.{Head}
+use Rattle.toml_span.specs.declared.claims.HeaderInfo.{HeaderInfo}
 use Rattle.toml_span.specs.Paths.{enter, with_key}
 
 -- ---- what is claimed has not been taken
@@ -29,26 +29,26 @@ IsHeldAt c = is_held c.place.shape ≡ true
 value-held : (k : ParsedInner) → is_held (value_shape k) ≡ true
 value-held k = grind (arith, nat_tests, common_steps)
 
-key_values-held : (es : List KeyValue) (p : Path) → Each IsHeldAt (key_value_claims es p)
-key_values-held = key_values-each IsHeldAt (λ p k v. refl) (λ p k v. value-held (parsed_inner v)) (λ p i v. value-held (parsed_inner v))
+assignments-held : (es : List ParsedAssignment) (p : Path) → Each IsHeldAt (assignments_claims es p)
+assignments-held = assignments-each IsHeldAt (λ p k v. refl) (λ p k v. value-held (parsed_inner v)) (λ p i v. value-held (parsed_inner v))
 
-end-held : (h : Head) (p : Path) (k : SimpleKey) (n : ℕ) → Each IsHeldAt (end_claims h p k n)
+end-held : (h : HeaderInfo) (p : Path) (k : SimpleKey) (n : ℕ) → Each IsHeldAt (end_claims h p k n)
 unfolding end_claims
 end-held h p k n = grind (arith, nat_tests, common_steps)
 
-header-held : (e : Path → ℕ) (h : Head) (p : Path) (parts : List SimpleKey) → Each IsHeldAt (header_claims e h p parts)
+header-held : (e : Path → ℕ) (h : HeaderInfo) (p : Path) (parts : List SimpleKey) → Each IsHeldAt (header_claims e h p parts)
 unfolding header_claims
 header-held e h p [] = tt
 header-held e h p (k ∷ []) = end-held h (with_key p k) k (e (with_key p k))
 header-held e h p (k ∷ l ∷ more) = (refl, header-held e h (enter (e (with_key p k)) (with_key p k)) (l ∷ more))
 
-behind-held : (earlier bs : List Block) → Each IsHeldAt (claims_behind earlier bs)
-unfolding claims_behind section_claims
-behind-held earlier [] = tt
-behind-held earlier (b ∷ bs) = grind (arith, nat_tests, common_steps, each-followed, header-held, key_values-held, behind-held (b ∷ earlier) bs)
+after-held : (earlier bs : List ParsedSection) → Each IsHeldAt (claims_after earlier bs)
+unfolding claims_after section_claims
+after-held earlier [] = tt
+after-held earlier (b ∷ bs) = grind (arith, nat_tests, common_steps, each-followed, header-held, assignments-held, after-held (b ∷ earlier) bs)
 
-pub claims-held : (bs : List Block) → Each IsHeldAt (claims bs)
-claims-held bs = behind-held [] bs
+pub claims-held : (bs : List ParsedSection) → Each IsHeldAt (claims bs)
+claims-held bs = after-held [] bs
 
 -- ---- if no path finds a taken value, the tree is whole
 
@@ -103,7 +103,7 @@ held-filled (scalar s) h = refl
 held-filled (array ns) h = refl
 held-filled (table ms) h = refl
 
-flat-held : (length : ℕ) (bs : List Block) (p : Path) (x : Place) → flat length (claims bs) p ≡ Some x → is_held x.shape ≡ true
+flat-held : (length : ℕ) (bs : List ParsedSection) (p : Path) (x : Place) → flat length (claims bs) p ≡ Some x → is_held x.shape ≡ true
 unfolding flat
 flat-held length bs [] x is = ap (λ y. is_held y.shape) (sym (same_Some _ x is))
 flat-held length bs (s ∷ p) x is =
@@ -115,9 +115,9 @@ found-filled None m is h = absurd (none-some m is)
 found-filled (Some r) m is h =
     subst (λ n. is_taken n ≡ false) (same_Some r.1 m is) (held-filled (inner_of r.1) (h (place_of r) refl))
 
-pub shown-filled : (n : Node) (length : ℕ) (bs : List Block) → Shows n (flat length (claims bs)) → (p : Path) (m : Node) → node_at p n ≡ Some m → is_taken m ≡ false
+pub shown-filled : (n : Node) (length : ℕ) (bs : List ParsedSection) → ShowsExactly n (flat length (claims bs)) → (p : Path) (m : Node) → node_at p n ≡ Some m → is_taken m ≡ false
 shown-filled n length bs shows p m is =
     found-filled (reached p (None, n)) m is (λ x found. flat-held length bs p x (sym (shows p) ∙ found))
 
-pub shown-whole : (n : Node) (length : ℕ) (bs : List Block) → HasOneEach n → Shows n (flat length (claims bs)) → is_whole n ≡ true
+pub shown-whole : (n : Node) (length : ℕ) (bs : List ParsedSection) → HasOneEach n → ShowsExactly n (flat length (claims bs)) → is_whole n ≡ true
 shown-whole n length bs once shows = filled-whole n once (shown-filled n length bs shows)

@@ -9,25 +9,25 @@ use Rattle.toml_span_tree.specs.declared.value.Value.{Value}
 use Rattle.toml_span_tree.specs.declared.value.ValueInner.{ValueInner}
 use Rattle.toml_span_tree.specs.declared.value.ValueInner.TheVariants as inners
 use Rattle.toml_span_tree.proofs.Values.{inner_view-Array}
-use Rattle.toml_span_read.specs.Data.{ParsedValue as Read, parsed, ParsedInner, scalar, array, inline, parsed_span, ParsedItems, no_items, item, no_pairs, onto, pairs_onto, view as view_read, kind_view, key_value}
+use Rattle.toml_span_read.specs.Data.{ParsedValue as Read, parsed, ParsedInner, scalar, array, inline, parsed_span, ParsedItems, no_items, item, no_pairs, onto, pairs_onto, parsed_value as view_read, parsed_kind, parsed_assignment}
 use Rattle.toml_span_read.specs.declared.value.Assignment.{Assignment}
 use Rattle.toml_span_read.specs.declared.value.Val.{Val}
 use Rattle.toml_span_read.specs.declared.value.ValKind.{ValKind}
 use Rattle.toml_span_read.specs.declared.value.ValKind.TheVariants as kinds
 use Rattle.toml_span_read.proofs.Views.{view_is, kind_view-Array, kind_view-Inline}
-use Rattle.toml_span.specs.code.Marks.{Halt}
+use Rattle.toml_span.specs.code.ClaimInfos.{PlaceError}
 use Rattle.toml_span_lex.specs.declared.stop.Stop.TheVariants.{Memory, Fault}
 use Rattle.toml_span.specs.Paths.{same_step, same_path}
 use Rattle.toml_span_lex.specs.declared.span.Span.{Span}
-use Rattle.toml_span.specs.Claims.{Claim, Claims, no_claims, claimed, scope, followed, parsed_inner, value_claims, inner_claims, item_claims, key_value_claims, element, value_shape}
-use Rattle.toml_span.specs.Clashes.{or_else, NamedClash}
-use Rattle.toml_span.specs.code.Machine.{Cell, State, nothing, no_cell, change, with_claim, with_inner, show_all, put_all, clash_met, graft}
+use Rattle.toml_span.specs.Claims.{Claim, Claims, no_claims, claimed, scope, followed, parsed_inner, value_claims, inner_claims, item_claims, assignments_claims, element, value_shape}
+use Rattle.toml_span.specs.Clashes.{first_some, NamedClash}
+use Rattle.toml_span.specs.code.Machine.{Cell, CellMap, no_cells, no_cell, change, with_claim, with_inner, show_all, put_all, clash_met, graft}
 use Rattle.toml_span.specs.Ordered.{HoldsOrdered, AreOrdered}
 use Rattle.toml_span.specs.code.Placing.{IsFinished, ValueGives, ShowsPlain, ScopeGives}
 use Rattle.toml_span.specs.code.Relative.{under}
 use Rattle.toml_span.specs.code.Tree.{value_shows, plain}
-use Rattle.toml_span.proofs.Absolute.{item_claims-under, pairs-key_values, value_claims-under}
-use Rattle.toml_span.proofs.Grafts.{or_else-none, put_all-under, show_all-followed, show_all-under, sub-graft, told-followed, told-under}
+use Rattle.toml_span.proofs.Absolute.{item_claims-under, pairs-assignments, value_claims-under}
+use Rattle.toml_span.proofs.Grafts.{or_else-none, put_all-under, show_all-followed, show_all-under, sub-graft, reported-followed, reported-under}
 use Rattle.toml_span.proofs.EachClaim.{Each, value-each}
 
 -- ---- the claims of a value are on paths below it
@@ -43,14 +43,14 @@ not_here (t ∷ p) s = refl
 pub value_below : (v : Read) (p : Path) → Each IsBelow (value_claims v p)
 value_below = value-each IsBelow (λ p k v. not_here p (key k.name)) (λ p k v. not_here p (key k.name)) (λ p i v. not_here p (position i))
 
-pub show_all-here : (st : State) (cs : Claims) → Each IsBelow cs → show_all st cs [] ≡ st []
+pub show_all-here : (st : CellMap) (cs : Claims) → Each IsBelow cs → show_all st cs [] ≡ st []
 unfolding show_all change
 show_all-here st no_claims h = refl
 show_all-here st (claimed c cs) h = show_all-here (change st c.path (with_inner c)) cs h.1 ∙ rw h.0
 show_all-here st (scope inner cs) h = show_all-here (show_all st inner) cs h.1 ∙ show_all-here st inner h.0
 
 -- what a path shows depends on what that path showed before
-pub show_all-local : (f g : State) (cs : Claims) (p : Path) → f p ≡ g p → show_all f cs p ≡ show_all g cs p
+pub show_all-local : (f g : CellMap) (cs : Claims) (p : Path) → f p ≡ g p → show_all f cs p ≡ show_all g cs p
 unfolding show_all change
 show_all-local f g no_claims p same = same
 show_all-local f g (claimed c cs) p same = grind (arith, nat_tests, common_steps, show_all-local (change f c.path (with_inner c)) (change g c.path (with_inner c)) cs p)
@@ -58,13 +58,13 @@ show_all-local f g (scope inner cs) p same = grind (arith, nat_tests, common_ste
 
 -- ---- a value is a scope, or has no claims
 
-pub told-value : (st : State) (v : Read) (p : Path) → clash_met st (value_claims v p) ≡ clash_met nothing (value_claims v p)
+pub reported-value : (st : CellMap) (v : Read) (p : Path) → clash_met st (value_claims v p) ≡ clash_met no_cells (value_claims v p)
 unfolding clash_met value_claims inner_claims
-told-value st (parsed (scalar s) span) p = refl
-told-value st (parsed (array vs) span) p = refl
-told-value st (parsed (inline ps) span) p = refl
+reported-value st (parsed (scalar s) span) p = refl
+reported-value st (parsed (array vs) span) p = refl
+reported-value st (parsed (inline ps) span) p = refl
 
-pub put_all-value : (st : State) (v : Read) (p : Path) → put_all st (value_claims v p) ≡ show_all st (value_claims v p)
+pub put_all-value : (st : CellMap) (v : Read) (p : Path) → put_all st (value_claims v p) ≡ show_all st (value_claims v p)
 unfolding put_all show_all value_claims inner_claims
 put_all-value st (parsed (scalar s) span) p = refl
 put_all-value st (parsed (array vs) span) p = refl
@@ -113,81 +113,81 @@ apart i l h = ne_eqb i l (λ same. absurd (omega (arith, same)))
 
 unfoldable pub first_in : ParsedItems → Option NamedClash
 first_in no_items = None
-first_in (item v vs) = or_else (clash_met nothing (value_claims v [])) (first_in vs)
+first_in (item v vs) = first_some (clash_met no_cells (value_claims v [])) (first_in vs)
 
-told-items : (vs : ParsedItems) (i : ℕ) (st : State) → ((l : ℕ) → i ≤ l → (st (position l ∷ [])).marks ≡ []) → clash_met st (item_claims vs i []) ≡ first_in vs
+reported-items : (vs : ParsedItems) (i : ℕ) (st : CellMap) → ((l : ℕ) → i ≤ l → (st (position l ∷ [])).infos ≡ []) → clash_met st (item_claims vs i []) ≡ first_in vs
 unfolding clash_met item_claims first_in graft
-told-items no_items i st none = refl
-told-items (item v vs) i st none =
+reported-items no_items i st none = refl
+reported-items (item v vs) i st none =
     let rest = item_claims vs (suc i) [] in
     let below = λ (q : Path). st (position i ∷ q) in
     let next = put_all st (under (position i) (own v)) in
-    let here : clash_met below (own v) ≡ clash_met nothing (value_claims v []) = rw (none i (omega arith)) (told-value (change below [] (with_claim (element [] v))) v []) in
-    ap (clash_met st) (item-under v vs i) ∙ told-followed st (under (position i) (own v)) rest
-    ∙ ap (λ o. or_else o (clash_met next rest)) (told-under (position i) st (own v) ∙ here)
-    ∙ ap (or_else (clash_met nothing (value_claims v []))) (told-items vs (suc i) next
-    (λ l past. ap (λ f. (f (position l ∷ [])).marks) (put_all-under (position i) st (own v)) ∙ rw (apart i l (omega arith)) (none l (omega arith))))
+    let here : clash_met below (own v) ≡ clash_met no_cells (value_claims v []) = rw (none i (omega arith)) (reported-value (change below [] (with_claim (element [] v))) v []) in
+    ap (clash_met st) (item-under v vs i) ∙ reported-followed st (under (position i) (own v)) rest
+    ∙ ap (λ o. first_some o (clash_met next rest)) (reported-under (position i) st (own v) ∙ here)
+    ∙ ap (first_some (clash_met no_cells (value_claims v []))) (reported-items vs (suc i) next
+    (λ l past. ap (λ f. (f (position l ∷ [])).infos) (put_all-under (position i) st (own v)) ∙ rw (apart i l (omega arith)) (none l (omega arith))))
 
 -- at any path
-pub told-array : (vs : ParsedItems) (p : Path) → clash_met nothing (item_claims vs 0 p) ≡ first_in vs
-told-array vs [] = told-items vs 0 nothing (λ l past. refl)
-told-array vs (s ∷ p) = ap (clash_met nothing) (item_claims-under vs 0 s p) ∙ told-under s nothing (item_claims vs 0 p) ∙ told-array vs p
+pub reported-array : (vs : ParsedItems) (p : Path) → clash_met no_cells (item_claims vs 0 p) ≡ first_in vs
+reported-array vs [] = reported-items vs 0 no_cells (λ l past. refl)
+reported-array vs (s ∷ p) = ap (clash_met no_cells) (item_claims-under vs 0 s p) ∙ reported-under s no_cells (item_claims vs 0 p) ∙ reported-array vs p
 
-told-finished : (vs : List Val) (xs : List Value) → AllZip IsMade vs xs → first_in (onto (map view_read vs) no_items) ≡ None
+reported-finished : (vs : List Val) (xs : List Value) → AllZip IsMade vs xs → first_in (onto (map view_read vs) no_items) ≡ None
 unfolding first_in
-told-finished [] [] h = refl
-told-finished (v ∷ vs) (x ∷ xs) h = rw (h.0.0) (told-finished vs xs h.1)
-told-finished ns ms h = absurd h
+reported-finished [] [] h = refl
+reported-finished (v ∷ vs) (x ∷ xs) h = rw (h.0.0) (reported-finished vs xs h.1)
+reported-finished ns ms h = absurd h
 
 -- the first clash in an element after them
-told-element : (vs : List Val) (xs : List Value) (v : Val) (more : List Val) (t : NamedClash) → AllZip IsMade vs xs
-    → clash_met nothing (value_claims (view_read v) []) ≡ Some t → first_in (onto (map view_read (vs ++ (v ∷ more))) no_items) ≡ Some t
+reported-element : (vs : List Val) (xs : List Value) (v : Val) (more : List Val) (t : NamedClash) → AllZip IsMade vs xs
+    → clash_met no_cells (value_claims (view_read v) []) ≡ Some t → first_in (onto (map view_read (vs ++ (v ∷ more))) no_items) ≡ Some t
 unfolding first_in
-told-element [] [] v more t h is = rw is
-told-element (w ∷ vs) (x ∷ xs) v more t h is = rw (h.0.0) (told-element vs xs v more t h.1 is)
-told-element ns ms v more t h is = absurd h
+reported-element [] [] v more t h is = rw is
+reported-element (w ∷ vs) (x ∷ xs) v more t h is = rw (h.0.0) (reported-element vs xs v more t h.1 is)
+reported-element ns ms v more t h is = absurd h
 
 -- ---- what elements show
 
-abbrev behind : State → ℕ → Read → State
-behind st i v = graft (position i) st (show_all (λ q. st (position i ∷ q)) (own v))
+abbrev beyond : CellMap → ℕ → Read → CellMap
+beyond st i v = graft (position i) st (show_all (λ q. st (position i ∷ q)) (own v))
 
-show_all-item : (st : State) (i : ℕ) (v : Read) (vs : ParsedItems) → show_all st (item_claims (item v vs) i []) ≡ show_all (behind st i v) (item_claims vs (suc i) [])
+show_all-item : (st : CellMap) (i : ℕ) (v : Read) (vs : ParsedItems) → show_all st (item_claims (item v vs) i []) ≡ show_all (beyond st i v) (item_claims vs (suc i) [])
 show_all-item st i v vs = grind (arith, nat_tests, common_steps, item-under, show_all-followed, show_all-under)
 
 -- elements from i on change nothing elsewhere
-items-apart : (vs : ParsedItems) (i : ℕ) (st : State) (s : Step) (p : Path) → ((l : ℕ) → i ≤ l → same_step (position l) s ≡ false) → show_all st (item_claims vs i []) (s ∷ p) ≡ st (s ∷ p)
+items-apart : (vs : ParsedItems) (i : ℕ) (st : CellMap) (s : Step) (p : Path) → ((l : ℕ) → i ≤ l → same_step (position l) s ≡ false) → show_all st (item_claims vs i []) (s ∷ p) ≡ st (s ∷ p)
 unfolding show_all item_claims graft
 items-apart no_items i st s p other = refl
 items-apart (item v vs) i st s p other =
-    ap (λ f. f (s ∷ p)) (show_all-item st i v vs) ∙ items-apart vs (suc i) (behind st i v) s p (λ l past. other l (omega arith)) ∙ rw (other i (omega arith)) refl
+    ap (λ f. f (s ∷ p)) (show_all-item st i v vs) ∙ items-apart vs (suc i) (beyond st i v) s p (λ l past. other l (omega arith)) ∙ rw (other i (omega arith)) refl
 
 -- a value shows what was claimed, if there was nothing before
 pub value-shown : (v : Read) (x : Value) (at : Option Span) (f : Cell → Cell) → IsFinished v x → (f no_cell).shown ≡ Some (plain (record { shape = value_shape (parsed_inner v); key_span = at; span = parsed_span v }))
-    → (p : Path) → (show_all (change nothing [] f) (value_claims v []) p).shown ≡ value_shows at (view x) p
+    → (p : Path) → (show_all (change no_cells [] f) (value_claims v []) p).shown ≡ value_shows at (view x) p
 unfolding change same_path
-value-shown v x at f h is [] = ap (λ c. c.shown) (show_all-here (change nothing [] f) (value_claims v []) (value_below v [])) ∙ is ∙ ap (λ m. Some (plain m)) (sym (h.0 at))
-value-shown v x at f h is (s ∷ p) = ap (λ c. c.shown) (show_all-local (change nothing [] f) nothing (value_claims v []) (s ∷ p) refl) ∙ sym (h.1 s p)
+value-shown v x at f h is [] = ap (λ c. c.shown) (show_all-here (change no_cells [] f) (value_claims v []) (value_below v [])) ∙ is ∙ ap (λ m. Some (plain m)) (sym (h.0 at))
+value-shown v x at f h is (s ∷ p) = ap (λ c. c.shown) (show_all-local (change no_cells [] f) no_cells (value_claims v []) (s ∷ p) refl) ∙ sym (h.1 s p)
 
 -- below its position an element shows what the value shows
-element-shown : (st : State) (i : ℕ) (v : Read) (x : Value) (p : Path) → (λ q. st (position i ∷ q)) ≡ nothing → IsFinished v x → (behind st i v (position i ∷ p)).shown ≡ value_shows None (view x) p
+element-shown : (st : CellMap) (i : ℕ) (v : Read) (x : Value) (p : Path) → (λ q. st (position i ∷ q)) ≡ no_cells → IsFinished v x → (beyond st i v (position i ∷ p)).shown ≡ value_shows None (view x) p
 unfolding show_all
 element-shown st i v x p clear finished =
     ap (λ f. (f p).shown) (sub-graft (position i) st (show_all (λ q. st (position i ∷ q)) (own v)) ∙ ap (λ f. show_all f (own v)) clear)
     ∙ value-shown v x None (with_inner (element [] v)) finished refl p
 
-items-shown : (vs : List Val) (xs : List Value) (i j l : ℕ) (st : State) (p : Path) → AllZip IsMade vs xs → ((l : ℕ) (p : Path) → i ≤ l → st (position l ∷ p) ≡ no_cell) → l ≡ i + j
+items-shown : (vs : List Val) (xs : List Value) (i j l : ℕ) (st : CellMap) (p : Path) → AllZip IsMade vs xs → ((l : ℕ) (p : Path) → i ≤ l → st (position l ∷ p) ≡ no_cell) → l ≡ i + j
     → (show_all st (item_claims (onto (map view_read vs) no_items) i []) (position l ∷ p)).shown ≡ option_map (λ m. plain (tree_place m)) (option_and_then (reached p) (element_at j (items_view xs)))
 unfolding show_all item_claims graft
 items-shown [] [] i j l st p h clear is = ap (λ c. c.shown) (clear l p (omega arith))
 items-shown (v ∷ vs) (x ∷ xs) i zero l st p h clear is = grind (arith, nat_tests, common_steps, element-shown, items-apart, ne_eqb, show_all-item)
 items-shown (v ∷ vs) (x ∷ xs) i (suc j) l st p h clear is =
     ap (λ f. (f (position l ∷ p)).shown) (show_all-item st i (view_read v) (onto (map view_read vs) no_items))
-    ∙ items-shown vs xs (suc i) j l (behind st i (view_read v)) p h.1 (λ l p past. rw (apart i l (omega arith)) (clear l p (omega arith))) (omega arith)
+    ∙ items-shown vs xs (suc i) j l (beyond st i (view_read v)) p h.1 (λ l p past. rw (apart i l (omega arith)) (clear l p (omega arith))) (omega arith)
 items-shown ns ms i j l st p h clear is = absurd h
 
 -- the elements show what their claims show
-items-plain : (vs : List Val) (xs : List Value) → AllZip IsMade vs xs → ShowsPlain (tree.array (items_view xs)) (show_all nothing (item_claims (onto (map view_read vs) no_items) 0 []))
+items-plain : (vs : List Val) (xs : List Value) → AllZip IsMade vs xs → ShowsPlain (tree.array (items_view xs)) (show_all no_cells (item_claims (onto (map view_read vs) no_items) 0 []))
 items-plain vs xs h v3 p = grind (arith, nat_tests, common_steps, items-apart, items-shown)
 
 -- and each is in order
@@ -195,56 +195,56 @@ items-ordered : (vs : List Val) (xs : List Value) → AllZip IsMade vs xs → Ar
 items-ordered [] xs h = grind (arith, nat_tests, common_steps)
 items-ordered (v ∷ vs) xs h = grind (arith, nat_tests, common_steps, items-ordered vs)
 
-pub elements-err : {A : Type 0} (old later all : List Val) (v : Val) (xs : List Value) (seen : A → tree.Inner) (q : Result A Halt) (e : Halt) → old ≡ v ∷ later → Elements old all xs → q ≡ Err e
+pub elements-err : {A : Type 0} (old later all : List Val) (v : Val) (xs : List Value) (seen : A → tree.Inner) (q : Result A PlaceError) (e : PlaceError) → old ≡ v ∷ later → Elements old all xs → q ≡ Err e
     → ValueGives (Err e) (view_read v) → ScopeGives q seen (item_claims (onto (map view_read all) no_items) 0 [])
-elements-err old later all v xs seen q (Fault c) is inv same gives = grind (arith, nat_tests, common_steps, told-array, told-element)
+elements-err old later all v xs seen q (Fault c) is inv same gives = grind (arith, nat_tests, common_steps, reported-array, reported-element)
 elements-err old later all v xs seen q (Memory e) is inv same gives = rw same tt
 
 pub elements-none : (rest all : List Val) (xs : Vec Value Global) → rest ≡ [] → Elements rest all xs.items
     → ScopeGives (Ok xs) (λ xs. inner_view (inners.Array xs)) (item_claims (onto (map view_read all) no_items) 0 [])
-elements-none rest all xs none inv = grind (arith, nat_tests, common_steps, append-nil, inner_view-Array, items-ordered, items-plain, told-array, told-finished)
+elements-none rest all xs none inv = grind (arith, nat_tests, common_steps, append-nil, inner_view-Array, items-ordered, items-plain, reported-array, reported-finished)
 
 -- ---- what was read, by kind
 
-value-gives : (v : Val) (k : ParsedInner) (i : tree.Inner) (x : Value) → kind_view v.kind ≡ k → view x ≡ tree.node i v.span → tree_shape i ≡ value_shape k
-    → clash_met nothing (inner_claims k []) ≡ None → ShowsPlain i (show_all nothing (inner_claims k [])) → HoldsOrdered i → ValueGives (Ok x) (view_read v)
+value-gives : (v : Val) (k : ParsedInner) (i : tree.Inner) (x : Value) → parsed_kind v.kind ≡ k → view x ≡ tree.node i v.span → tree_shape i ≡ value_shape k
+    → clash_met no_cells (inner_claims k []) ≡ None → ShowsPlain i (show_all no_cells (inner_claims k [])) → HoldsOrdered i → ValueGives (Ok x) (view_read v)
 unfolding value_claims
 value-gives v k i x kind seen shape clear shows ordered = grind (arith, nat_tests, common_steps, view_is)
 
-scalar-shows : (x : Scalar) → ShowsPlain (tree.scalar x) nothing
+scalar-shows : (x : Scalar) → ShowsPlain (tree.scalar x) no_cells
 scalar-shows x v1 p = grind (arith, nat_tests, common_steps)
 
-pub scalar-gives : (v : Val) (inner i : ValueInner) (kind : ValKind) (x : Value) (s : Scalar) → v.kind ≡ kind → inner ≡ i → kind_view kind ≡ scalar s → inner_view i ≡ tree.scalar s → view x ≡ tree.node (inner_view inner) v.span
+pub scalar-gives : (v : Val) (inner i : ValueInner) (kind : ValKind) (x : Value) (s : Scalar) → v.kind ≡ kind → inner ≡ i → parsed_kind kind ≡ scalar s → inner_view i ≡ tree.scalar s → view x ≡ tree.node (inner_view inner) v.span
     → ValueGives (Ok x) (view_read v)
 unfolding clash_met show_all inner_claims
 scalar-gives v inner i kind x s is made read seen shown =
-    value-gives v (scalar s) (tree.scalar s) x (ap kind_view is ∙ read) (shown ∙ ap (λ i. tree.node (inner_view i) v.span) made ∙ ap (λ i. tree.node i v.span) seen) refl refl (scalar-shows s) tt
+    value-gives v (scalar s) (tree.scalar s) x (ap parsed_kind is ∙ read) (shown ∙ ap (λ i. tree.node (inner_view i) v.span) made ∙ ap (λ i. tree.node i v.span) seen) refl refl (scalar-shows s) tt
 
 -- ---- arrays and inline tables
 
 -- a value that was read is a scope of these claims
 abbrev pub ReadsScope : Val → ParsedInner → Claims → Type 0
-ReadsScope v k cs = (kind_view v.kind ≡ k) × (inner_claims k [] ≡ scope cs no_claims)
+ReadsScope v k cs = (parsed_kind v.kind ≡ k) × (inner_claims k [] ≡ scope cs no_claims)
 
 pub array-reads : (v : Val) (vs : Vec Val Global) → v.kind ≡ kinds.Array vs
     → ReadsScope v (array (onto (map view_read vs.items) no_items)) (item_claims (onto (map view_read vs.items) no_items) 0 [])
 unfolding inner_claims
-array-reads v vs is = (ap kind_view is ∙ kind_view-Array vs, refl)
+array-reads v vs is = (ap parsed_kind is ∙ kind_view-Array vs, refl)
 
 pub inline-reads : (v : Val) (ps : Vec Assignment Global) → v.kind ≡ kinds.Inline ps
-    → ReadsScope v (inline (pairs_onto (map key_value ps.items) no_pairs)) (key_value_claims (map key_value ps.items) [])
+    → ReadsScope v (inline (pairs_onto (map parsed_assignment ps.items) no_pairs)) (assignments_claims (map parsed_assignment ps.items) [])
 unfolding inner_claims
-inline-reads v ps is = (ap kind_view is ∙ kind_view-Inline ps, ap (λ cs. scope cs no_claims) (pairs-key_values (map key_value ps.items) []))
+inline-reads v ps is = (ap parsed_kind is ∙ kind_view-Inline ps, ap (λ cs. scope cs no_claims) (pairs-assignments (map parsed_assignment ps.items) []))
 
 pub scope-gives : (v : Val) (k : ParsedInner) (cs : Claims) (inner i : ValueInner) (x : Value) → ReadsScope v k cs → inner ≡ i
     → view x ≡ tree.node (inner_view inner) v.span → tree_shape (inner_view i) ≡ value_shape k
-    → (clash_met nothing cs ≡ None) × (ShowsPlain (inner_view i) (show_all nothing cs) × HoldsOrdered (inner_view i)) → ValueGives (Ok x) (view_read v)
+    → (clash_met no_cells cs ≡ None) × (ShowsPlain (inner_view i) (show_all no_cells cs) × HoldsOrdered (inner_view i)) → ValueGives (Ok x) (view_read v)
 unfolding clash_met show_all
 scope-gives v k cs inner i x reads is seen shape whole =
-    value-gives v k (inner_view i) x reads.0 (seen ∙ ap (λ i. tree.node (inner_view i) v.span) is) shape (ap (clash_met nothing) reads.1 ∙ or_else-none (clash_met nothing cs) ∙ whole.0)
-    (λ s p. whole.1.0 s p ∙ ap (λ f. (f (s ∷ p)).shown) (ap (show_all nothing) (sym reads.1))) whole.1.1
+    value-gives v k (inner_view i) x reads.0 (seen ∙ ap (λ i. tree.node (inner_view i) v.span) is) shape (ap (clash_met no_cells) reads.1 ∙ or_else-none (clash_met no_cells cs) ∙ whole.0)
+    (λ s p. whole.1.0 s p ∙ ap (λ f. (f (s ∷ p)).shown) (ap (show_all no_cells) (sym reads.1))) whole.1.1
 
-pub scope-err : {A : Type 0} (v : Val) (k : ParsedInner) (cs : Claims) (seen : A → tree.Inner) (q : Result Value Halt) (e : Halt) → ReadsScope v k cs → q ≡ Err e
+pub scope-err : {A : Type 0} (v : Val) (k : ParsedInner) (cs : Claims) (seen : A → tree.Inner) (q : Result Value PlaceError) (e : PlaceError) → ReadsScope v k cs → q ≡ Err e
     → ScopeGives (Err e) seen cs → ValueGives q (view_read v)
 unfolding value_claims clash_met
 scope-err v k cs seen q (Fault c) reads same gives = grind (arith, nat_tests, common_steps, or_else-none, view_is)

@@ -1,6 +1,6 @@
--- Which strings and keys of a tree are borrowed: exactly those that equal the text where they are written. For a string
--- that is its span. For a key it is the first key that claims the path: a table or an array keeps that name even if a
--- later claim decides and determines the span of its key.
+-- Which strings and keys of a tree are borrowed: those that equal the text where they are written, and no others. A
+-- string is written at its span. A key is written where its path is first claimed: a table or an array keeps that name,
+-- even if a later claim determines the span of its key.
 use Rattle.std.specs.Global.{Global}
 use Rattle.std.specs.declared.borrow.CowStr.{CowStr}
 use Rattle.std.specs.Prelude.{ℕ, suc, List, [], ◌∷◌, ◌++◌, Option, Some, None, option_map, IsSomeAnd}
@@ -18,7 +18,7 @@ use Rattle.toml_span.specs.Flat.{all_claims, claims_at, first_claim}
 
 -- ---- the strings and keys of a tree
 
--- a string value or a key, and the span where it is written, if that is known
+-- a string value or a key, with the span where it is written, if that is known
 abbrev pub StringOrKey : Type 0
 StringOrKey = CowStr Global × Option Span
 
@@ -26,45 +26,46 @@ StringOrKey = CowStr Global × Option Span
 abbrev pub KeySpans : Type 0
 KeySpans = Path → Option Span
 
--- the strings and keys of a value, given where the keys of the paths below it are written
-abbrev pub Held : Type 0
-Held = KeySpans → List StringOrKey
+-- the strings and keys in a value, given where the keys of the paths below it are written
+abbrev pub StringsAndKeys : Type 0
+StringsAndKeys = KeySpans → List StringOrKey
 
-abbrev pub elements_standing : ℕ → List Held → Held
-elements_standing i [] spans = []
-elements_standing i (x ∷ xs) spans = x (λ p. spans (position i ∷ p)) ++ elements_standing (suc i) xs spans
+abbrev pub elements_strings : ℕ → List StringsAndKeys → StringsAndKeys
+elements_strings i [] spans = []
+elements_strings i (x ∷ xs) spans = x (λ p. spans (position i ∷ p)) ++ elements_strings (suc i) xs spans
 
-abbrev pub entries_standing : List (Key × Held) → Held
-entries_standing [] spans = []
-entries_standing (e ∷ es) spans =
+abbrev pub entries_strings : List (Key × StringsAndKeys) → StringsAndKeys
+entries_strings [] spans = []
+entries_strings (e ∷ es) spans =
     let name = cow_str_bytes e.0.name in
-    (e.0.name, spans (key name ∷ [])) ∷ (e.1 (λ p. spans (key name ∷ p)) ++ entries_standing es spans)
+    (e.0.name, spans (key name ∷ [])) ∷ (e.1 (λ p. spans (key name ∷ p)) ++ entries_strings es spans)
 
--- one level of each type, with the values inside already converted; the span of a string is that of its value
-abbrev pub inner_step : ValueInner-F (Span → Held) Held → Span → Held
+-- one level of the value, in which the values inside are converted already; a string is written at the span of its
+-- value
+abbrev pub inner_step : ValueInner-F (Span → StringsAndKeys) StringsAndKeys → Span → StringsAndKeys
 inner_step (ValueInner-F.String s) span spans = (s, Some span) ∷ []
-inner_step (ValueInner-F.Array v) span spans = elements_standing 0 v.items spans
-inner_step (ValueInner-F.Table m) span spans = entries_standing m.entries spans
+inner_step (ValueInner-F.Array v) span spans = elements_strings 0 v.items spans
+inner_step (ValueInner-F.Table m) span spans = entries_strings m.entries spans
 inner_step _ span spans = []
 
-abbrev pub held_or_none : Option (Span → Held) → Span → Held
+abbrev pub held_or_none : Option (Span → StringsAndKeys) → Span → StringsAndKeys
 held_or_none None span spans = []
 held_or_none (Some i) span spans = i span spans
 
-abbrev pub value_step : Value-F (Span → Held) Held → Held
+abbrev pub value_step : Value-F (Span → StringsAndKeys) StringsAndKeys → StringsAndKeys
 value_step v = held_or_none v.value v.span
 
--- the strings and keys of a value
-abbrev pub held : Value → Held
-held = fold-Value (Span → Held) Held inner_step value_step
+-- the strings and keys in a value
+abbrev pub strings_and_keys : Value → StringsAndKeys
+strings_and_keys = fold-Value (Span → StringsAndKeys) StringsAndKeys inner_step value_step
 
 -- ---- what is borrowed
 
--- the span of the key with which each path is claimed first
+-- for each path, the span of the key in the first claim on it
 abbrev pub first_key : Claims → KeySpans
-first_key cs p = option_map (λ c. c.mark.key) (first_claim (claims_at p (all_claims cs)))
+first_key cs p = option_map (λ c. c.info.key) (first_claim (claims_at p (all_claims cs)))
 
--- It is known where the string or key is written, and it is borrowed exactly if it equals the text there.
+-- It is known where the string or key is written, and it is borrowed if and only if it equals the text there.
 abbrev pub IsBorrowedRight : List ℕ → StringOrKey → Type 0
 IsBorrowedRight text x = IsSomeAnd x.1 (λ span. BorrowsWhereSame text span x.0)
 

@@ -1,27 +1,28 @@
--- The claims of headers and assignments on paths.
+-- The claims that headers and assignments make on paths.
 use Rattle.std.specs.Prelude.{ℕ, zero, suc, if◌then◌else◌, List, [], ◌∷◌, Option, Some, None}
 use Rattle.toml_span_lex.specs.declared.span.Span.{Span}
 use Rattle.toml_span_tree.specs.Path.{Path, Place, Shape, shape_array, shape_table, shape_scalar}
 use Rattle.toml_span_read.specs.Data.{SimpleKey, ParsedInner, scalar, array, inline, ParsedValue, parsed, parsed_span}
-use Rattle.toml_span_read.specs.Data.{ParsedItems, no_items, item, ParsedPairs, no_pairs, pair, KeyValue, Block}
-use Rattle.toml_span.specs.declared.claims.Mark.{Mark}
-use Rattle.toml_span.specs.declared.claims.Sort.{Sort}
-use Rattle.toml_span.specs.declared.claims.Sort.TheVariants.{ArrayOfTables, TableElement, Dotted, Assigned}
-use Rattle.toml_span.specs.declared.claims.Sort.TheVariants.{StandardTable, Passed}
+use Rattle.toml_span_read.specs.Data.{ParsedItems, no_items, item, ParsedPairs, no_pairs, pair, ParsedAssignment}
+use Rattle.toml_span_read.specs.Data.{ParsedSection}
+use Rattle.toml_span.specs.declared.claims.ClaimInfo.{ClaimInfo}
+use Rattle.toml_span.specs.declared.claims.ClaimKind.{ClaimKind}
+use Rattle.toml_span.specs.declared.claims.ClaimKind.TheVariants.{ArrayOfTables, TableElement, Dotted, Assigned}
+use Rattle.toml_span.specs.declared.claims.ClaimKind.TheVariants.{StandardTable, Passed}
 use Rattle.toml_span.specs.Paths.{with_key, with_position, enter, section_path, elements_added, opened_by}
-use Rattle.toml_span.specs.declared.claims.Head.{Head}
+use Rattle.toml_span.specs.declared.claims.HeaderInfo.{HeaderInfo}
 
--- A claim on a path by a key with this name. The mark says in which way, and the place is what is at the path if this
--- claim decides. An element of an array in brackets has no key: its name is empty, and the key's span is that of its
--- value.
+-- A claim on a path, made by a key with this name. The info says what kind of claim it is, and the place is what the
+-- document has at the path if this claim determines it. An element of an array in brackets has no key: its claim has an
+-- empty name, and the span of the element as that of the key.
 pub record Claim : Type 0 where
   pub path : Path
   pub name : List ℕ
-  pub mark : Mark
+  pub info : ClaimInfo
   pub place : Place
 
--- The claims of a scope, in the order of the text, with the scopes inside it among them. An inline table is a scope. So
--- is an array, although no two of its elements claim the same path.
+-- The claims in a scope, in the order of the text, and the scopes inside it. An inline table is a scope. So is an array
+-- in brackets, although no two of its elements claim the same path.
 pub data Claims : Type 0 where
   no_claims : Claims
   claimed : Claim → Claims → Claims
@@ -35,23 +36,23 @@ followed (scope inner cs) rest = scope inner (followed cs rest)
 
 -- ---- tables
 
--- the shape of what headers and dotted keys create
-abbrev pub shape_claimed : Sort → Shape
+-- the shape of what a header or an inner part of a dotted key claims
+abbrev pub shape_claimed : ClaimKind → Shape
 shape_claimed ArrayOfTables = shape_array
 shape_claimed _ = shape_table
 
--- an element of an array of tables has no key
-abbrev pub key_span_of : Sort → Span → Option Span
+-- An element of an array of tables has no key.
+abbrev pub key_span_of : ClaimKind → Span → Option Span
 key_span_of TableElement key = None
 key_span_of _ key = Some key
 
--- The place at a path if a claim of a table or of an array of tables decides. A header's claim on an element through
--- which it passes never does, since the element's own claim is earlier.
-abbrev pub place_claimed : Mark → Place
-place_claimed m = record { shape = shape_claimed m.sort; key_span = key_span_of m.sort m.key; span = m.extent }
+-- The place at a path that is determined by a claim of a table or of an array of tables. A header that passes through
+-- an element never determines its place, because the element's own claim comes first.
+abbrev pub place_claimed : ClaimInfo → Place
+place_claimed m = record { shape = shape_claimed m.kind; key_span = key_span_of m.kind m.key; span = m.extent }
 
-abbrev pub table_claim : Path → SimpleKey → Mark → Claim
-table_claim p k m = record { path = p; name = k.name; mark = m; place = place_claimed m }
+abbrev pub table_claim : Path → SimpleKey → ClaimInfo → Claim
+table_claim p k m = record { path = p; name = k.name; info = m; place = place_claimed m }
 
 -- ---- assignments
 
@@ -63,19 +64,19 @@ value_shape (inline ps) = shape_table
 abbrev pub parsed_inner : ParsedValue → ParsedInner
 parsed_inner (parsed k span) = k
 
-abbrev pub pair_mark : Sort → Span → Span → Mark
-pair_mark sort key span = record { sort = sort; key = key; line = span; extent = span }
+abbrev pub pair_info : ClaimKind → Span → Span → ClaimInfo
+pair_info kind key span = record { kind = kind; key = key; line = span; extent = span }
 
--- An inner part of a dotted key claims a table, whose span is that of the value.
+-- An inner part of a dotted key claims a table, which has the span of the value.
 abbrev pub dotted : Path → SimpleKey → ParsedValue → Claim
-dotted p k v = table_claim p k (pair_mark Dotted k.span (parsed_span v))
+dotted p k v = table_claim p k (pair_info Dotted k.span (parsed_span v))
 
 -- The last part of a dotted key claims the value.
 abbrev pub assigned : Path → SimpleKey → ParsedValue → Claim
 assigned p k v = record {
   path = p;
   name = k.name;
-  mark = pair_mark Assigned k.span (parsed_span v);
+  info = pair_info Assigned k.span (parsed_span v);
   place = record { shape = value_shape (parsed_inner v); key_span = Some k.span; span = parsed_span v };
 }
 
@@ -84,11 +85,11 @@ abbrev pub element : Path → ParsedValue → Claim
 element p v = record {
   path = p;
   name = [];
-  mark = pair_mark Assigned (parsed_span v) (parsed_span v);
+  info = pair_info Assigned (parsed_span v) (parsed_span v);
   place = record { shape = value_shape (parsed_inner v); key_span = None; span = parsed_span v };
 }
 
--- The claims of a key below p, which has at least one part, followed by those inside the value.
+-- The claims of a key in the table at p, and those inside the value. The key has at least one part.
 unfoldable pub key_claims : Path → List SimpleKey → ParsedValue → (Path → Claims) → Claims
 key_claims p [] v inside = no_claims
 key_claims p (k ∷ []) v inside = claimed (assigned (with_key p k) k v) (inside (with_key p k))
@@ -97,7 +98,7 @@ key_claims p (k ∷ l ∷ more) v inside =
     claimed (dotted q k v) (key_claims q (l ∷ more) v inside)
 
 unfoldable mutual
-  -- the claims of a value at p on the paths below p
+  -- the claims that a value at p makes on the paths below p
   pub value_claims : ParsedValue → Path → Claims
   value_claims (parsed k span) p = inner_claims k p
 
@@ -115,57 +116,58 @@ unfoldable mutual
   pair_claims no_pairs p = no_claims
   pair_claims (pair parts v extent rest) p = followed (key_claims p parts v (value_claims v)) (pair_claims rest p)
 
--- the claims of an assignment below p, and those of several
-abbrev pub assignment_claims : KeyValue → Path → Claims
+-- the claims of an assignment in the table at p, and those of several
+abbrev pub assignment_claims : ParsedAssignment → Path → Claims
 assignment_claims e p = key_claims p e.parts e.value (value_claims e.value)
 
-unfoldable pub key_value_claims : List KeyValue → Path → Claims
-key_value_claims [] p = no_claims
-key_value_claims (e ∷ es) p = followed (assignment_claims e p) (key_value_claims es p)
+unfoldable pub assignments_claims : List ParsedAssignment → Path → Claims
+assignments_claims [] p = no_claims
+assignments_claims (e ∷ es) p = followed (assignment_claims e p) (assignments_claims es p)
 
 -- ---- sections
 
-abbrev pub head_of : Block → Head
-head_of b = record { array = b.array; line = b.header_span; extent = b.extent }
+abbrev pub header_info : ParsedSection → HeaderInfo
+header_info b = record { array = b.array; line = b.header_span; extent = b.extent }
 
-abbrev pub header_mark : Head → Sort → Span → Mark
-header_mark h sort key = record { sort = sort; key = key; line = h.line; extent = h.extent }
+abbrev pub part_info : HeaderInfo → ClaimKind → Span → ClaimInfo
+part_info h kind key = record { kind = kind; key = key; line = h.line; extent = h.extent }
 
-abbrev pub header_claim : Head → Sort → Path → SimpleKey → Claim
-header_claim h sort p k = table_claim p k (header_mark h sort k.span)
+abbrev pub header_claim : HeaderInfo → ClaimKind → Path → SimpleKey → Claim
+header_claim h kind p k = table_claim p k (part_info h kind k.span)
 
--- The array itself is claimed together with its first element.
-abbrev pub array_claims : Head → Path → SimpleKey → ℕ → Claims → Claims
+-- The array itself is claimed with its first element only.
+abbrev pub array_claims : HeaderInfo → Path → SimpleKey → ℕ → Claims → Claims
 array_claims h p k zero rest = claimed (header_claim h ArrayOfTables p k) rest
 array_claims h p k (suc n) rest = rest
 
--- The claims at the end of a header, if n elements have been added at p: a table, or the next element of an array of
--- tables.
-unfoldable pub end_claims : Head → Path → SimpleKey → ℕ → Claims
+-- The claims of the last part of a header, if the array of tables at p has n elements so far: the claim of a table, or
+-- that of the next element.
+unfoldable pub end_claims : HeaderInfo → Path → SimpleKey → ℕ → Claims
 end_claims h p k n =
     if h.array
     then array_claims h p k n (claimed (header_claim h TableElement (with_position p n) k) no_claims)
     else claimed (header_claim h StandardTable p k) no_claims
 
--- Each part but the last passes through a table, which is the latest element if there is an array of tables.
-unfoldable pub header_claims : (Path → ℕ) → Head → Path → List SimpleKey → Claims
+-- Each part except the last passes through a table or, in an array of tables, through its latest element.
+unfoldable pub header_claims : (Path → ℕ) → HeaderInfo → Path → List SimpleKey → Claims
 header_claims counts h p [] = no_claims
 header_claims counts h p (k ∷ []) = end_claims h (with_key p k) k (counts (with_key p k))
 header_claims counts h p (k ∷ l ∷ more) =
     let q = enter (counts (with_key p k)) (with_key p k) in
     claimed (header_claim h Passed q k) (header_claims counts h q (l ∷ more))
 
--- the claims of a section, where `counts` is the number of elements of each array of tables before it
-unfoldable pub section_claims : (Path → ℕ) → Block → Claims
+-- the claims of a section, where `counts` is the number of elements that each array of tables has before it
+unfoldable pub section_claims : (Path → ℕ) → ParsedSection → Claims
 section_claims counts b =
-    followed (header_claims counts (head_of b) [] b.header) (key_value_claims b.key_values (section_path counts b))
+    followed (header_claims counts (header_info b) [] b.header)
+    (assignments_claims b.assignments (section_path counts b))
 
--- the claims of sections that follow the earlier ones, which are listed with the nearest first
-unfoldable pub claims_behind : List Block → List Block → Claims
-claims_behind earlier [] = no_claims
-claims_behind earlier (b ∷ bs) =
-    followed (section_claims (elements_added (opened_by earlier)) b) (claims_behind (b ∷ earlier) bs)
+-- The claims of sections that follow others. The earlier ones are listed with the latest of them first.
+unfoldable pub claims_after : List ParsedSection → List ParsedSection → Claims
+claims_after earlier [] = no_claims
+claims_after earlier (b ∷ bs) =
+    followed (section_claims (elements_added (opened_by earlier)) b) (claims_after (b ∷ earlier) bs)
 
 -- the claims of a document
-abbrev pub claims : List Block → Claims
-claims bs = claims_behind [] bs
+abbrev pub claims : List ParsedSection → Claims
+claims bs = claims_after [] bs

@@ -5,9 +5,9 @@ use Rattle.toml_span_tree.specs.Path.{Path, shape_table, Place, place_at}
 use Rattle.toml_span_tree.specs.Node.{Node}
 use Rattle.toml_span.specs.Claims.{Claim, Claims, no_claims, claimed, scope}
 use Rattle.toml_span.specs.Paths.{same_path}
-use Rattle.toml_span.specs.declared.claims.Sort.{Sort}
-use Rattle.toml_span.specs.declared.claims.Sort.TheVariants.{Dotted, Assigned}
-use Rattle.toml_span.specs.Clashes.{or_else}
+use Rattle.toml_span.specs.declared.claims.ClaimKind.{ClaimKind}
+use Rattle.toml_span.specs.declared.claims.ClaimKind.TheVariants.{Dotted, Assigned}
+use Rattle.toml_span.specs.Clashes.{first_some}
 
 -- the claims of all scopes, in the order of the text
 unfoldable pub all_claims : Claims → List Claim
@@ -15,36 +15,36 @@ all_claims no_claims = []
 all_claims (claimed c cs) = c ∷ all_claims cs
 all_claims (scope inner cs) = all_claims inner ++ all_claims cs
 
--- the claims on one path
+-- of these claims, those on this path
 unfoldable pub claims_at : Path → List Claim → List Claim
 claims_at p [] = []
 claims_at p (c ∷ cs) = if same_path c.path p then c ∷ claims_at p cs else claims_at p cs
 
-abbrev pub by_header : Sort → Bool
+abbrev pub by_header : ClaimKind → Bool
 by_header Dotted = false
 by_header Assigned = false
 by_header _ = true
 
 unfoldable pub first_claim_by_header : List Claim → Option Claim
 first_claim_by_header [] = None
-first_claim_by_header (c ∷ cs) = if by_header c.mark.sort then Some c else first_claim_by_header cs
+first_claim_by_header (c ∷ cs) = if by_header c.info.kind then Some c else first_claim_by_header cs
 
 abbrev pub first_claim : List Claim → Option Claim
 first_claim [] = None
 first_claim (c ∷ cs) = Some c
 
--- The claim that decides: that of the first header which reaches or passes through the path, or else the first
--- assignment through it. If the claims resolve, those on one path belong to one scope.
+-- The claim that determines the place at a path: that of the first header that reaches or passes through it, or, if
+-- there is none, the first claim. If no claims clash, all claims on a path belong to one scope.
 abbrev pub deciding_claim : List Claim → Option Claim
-deciding_claim cs = or_else (first_claim_by_header cs) (first_claim cs)
+deciding_claim cs = first_some (first_claim_by_header cs) (first_claim cs)
 
--- The place at each path of a document that is `size` bytes long: the root at the empty path, and elsewhere what the
+-- The place at each path of a document that is `size` bytes long: at the empty path the root, elsewhere what the
 -- deciding claim says.
 unfoldable pub flat : ℕ → Claims → Path → Option Place
 flat size cs [] = Some (record { shape = shape_table; key_span = None; span = record { start = 0; end = size } })
 flat size cs (s ∷ p) = option_map (λ c. c.place) (deciding_claim (claims_at (s ∷ p) (all_claims cs)))
 
--- The tree has this place at each path, and nothing where the document has nothing. That no name occurs twice in a
--- table is part of `IsOrdered`.
-abbrev pub Shows : Node → (Path → Option Place) → Type 0
-Shows n places = (p : Path) → place_at p n ≡ places p
+-- The tree has this place at each path, and nothing where there is no place. That no name occurs twice in a table is
+-- part of `IsOrdered`.
+abbrev pub ShowsExactly : Node → (Path → Option Place) → Type 0
+ShowsExactly n places = (p : Path) → place_at p n ≡ places p

@@ -1,4 +1,4 @@
--- The results of reading a document as a type.
+-- What reading a document as a type returns.
 use Rattle.std.specs.Prelude.{◌≡◌, ⊤, ℕ, ◌⊎◌, List, Result, Err}
 use Rattle.toml_span_lex.specs.declared.stop.Stop.{Stop}
 use Rattle.toml_span_lex.specs.declared.stop.Stop.TheVariants as stops
@@ -11,20 +11,20 @@ use Rattle.toml_span_typed.specs.Errors.{Errors, one}
 use Rattle.toml_span.specs.Parsing.{IsTree, IsRefusal}
 use Rattle.toml_span_read.specs.Data.{depth_limit}
 
--- The text has a tree, and reading the type from it may have this result.
-abbrev pub IsRead : {T : Type 0} → (Node → Result T Errors → Node → Type 0) → List ℕ → Result T Errors → Type 0
-IsRead reads text answer =
+-- The text has a tree, and this may be the result of reading it as the type.
+abbrev pub IsReadAs : {T : Type 0} → (Node → Result T Errors → Node → Type 0) → List ℕ → Result T Errors → Type 0
+IsReadAs reads text answer =
     (root : Value) × (left : Node) × IsTree text depth_limit root × reads (view root) answer left
 
--- The text is refused, and there is one error, which says why; or it has a tree, and these are the errors of reading
--- the type.
+-- The text has no tree, and the only error says why; or it has a tree, and these are the errors of reading it as the
+-- type.
 abbrev pub NotRead : {T : Type 0} → (Node → Result T Errors → Node → Type 0) → List ℕ → Stop Errors → Type 0
 NotRead reads text (stops.Memory e) = ⊤
 NotRead reads text (stops.Fault faults) =
     ((error : Error) × IsRefusal text depth_limit (stops.Fault error) × (faults ≡ one (content_of error)))
-    ⊎ IsRead reads text (Err faults)
+    ⊎ IsReadAs reads text (Err faults)
 
--- the same for a type that warns, with the warnings before and after
+-- the same for a type that warns, with the list of warnings before and after
 abbrev pub IsReadWithWarnings : {T : Type 0}
     → (Node → Result T Errors → List ErrorContent → List ErrorContent → Type 0) → List ℕ → Result T Errors
     → List ErrorContent → List ErrorContent → Type 0

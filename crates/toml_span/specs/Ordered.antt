@@ -1,10 +1,10 @@
--- Trees whose tables have their entries in the order of the names, each name once.
+-- Trees in which the names in each table ascend, so that none occurs twice.
 use Rattle.std.specs.Prelude.{◌≡◌, ⊤, ℕ, ◌<◌, ◌⊎◌, List, [], ◌∷◌, None}
 use Rattle.toml_span_tree.specs.Node.{Members, no_members, member, Node, node, Inner, taken, scalar, array, table}
 use Rattle.toml_span_tree.specs.Node.{Items, no_items, item, entry_at}
 
--- The order of lists: a list is before a longer one that begins with it; otherwise the first two elements that differ
--- decide.
+-- The lexicographic order of lists: the first two elements that differ decide, and a list comes before a longer one
+-- that begins with it.
 abbrev pub IsBefore : {A : Type 0} → (A → A → Type 0) → List A → List A → Type 0
 IsBefore less xs [] = ⊥
 IsBefore less [] (y ∷ ys) = ⊤
@@ -19,7 +19,7 @@ abbrev pub EachName : (List ℕ → Type 0) → Members → Type 0
 EachName P no_members = ⊤
 EachName P (member name at n ms) = P name × EachName P ms
 
--- In each table every name is before all later ones.
+-- In each table, each name comes before all later ones.
 abbrev mutual
   pub IsOrdered : Node → Type 0
   IsOrdered (node i span) = HoldsOrdered i

@@ -7,77 +7,78 @@ use Rattle.toml_span_tree.specs.Value.{view}
 use Rattle.toml_span_tree.specs.Node.{Members, node, table}
 use Rattle.toml_span_tree.specs.declared.error.Error.{Error}
 use Rattle.toml_span_tree.specs.Error.{content_of}
-use Rattle.toml_span_read.specs.Data.{Block}
+use Rattle.toml_span_read.specs.Data.{ParsedSection}
 use Rattle.toml_span_read.specs.declared.fault.Fault.{Fault}
 use Rattle.toml_span_lex.specs.Lines.{IsLineInfo}
-use Rattle.toml_span_read.specs.Faults.{StartsInside, Tells}
+use Rattle.toml_span_read.specs.Faults.{StartsInside, ReportsFault}
 use Rattle.toml_span_read.specs.Read.{document}
 use Rattle.toml_span.specs.Claims.{claims}
 use Rattle.toml_span.specs.Clashes.{Resolves, NamedClash, first_clash, content_of_clash}
-use Rattle.toml_span.specs.Flat.{flat, Shows}
+use Rattle.toml_span.specs.Flat.{flat, ShowsExactly}
 use Rattle.toml_span.specs.Ordered.{IsOrdered}
-use Rattle.toml_span.specs.Borrowed.{AreBorrowedRight, first_key, held}
+use Rattle.toml_span.specs.Borrowed.{AreBorrowedRight, first_key, strings_and_keys}
 
--- ---- the outcome of a text
+-- ---- the outcome for a text
 
--- its sections; its sections and their first clash; or the fault at which reading it stopped
+-- its sections; its sections and their first clash; or its first fault
 pub data Outcome : Type 0 where
-  resolved : List Block → Outcome
-  clashed : List Block → NamedClash → Outcome
+  resolved : List ParsedSection → Outcome
+  clashed : List ParsedSection → NamedClash → Outcome
   refused_at : Fault → Outcome
 
--- Reading the document within the limit results in these sections, and no two of their claims clash; or in these
--- sections, and this is their first clash; or in this fault.
+-- The text is read within the limit as these sections, which do not clash; or as these sections, and this is their
+-- first clash; or it has this fault.
 abbrev pub HasOutcome : List ℕ → ℕ → Outcome → Type 0
-HasOutcome text limit (resolved blocks) = document text limit (Ok blocks) × Resolves (claims blocks)
-HasOutcome text limit (clashed blocks clash) =
-    document text limit (Ok blocks) × (first_clash (claims blocks) ≡ Some clash)
+HasOutcome text limit (resolved sections) = document text limit (Ok sections) × Resolves (claims sections)
+HasOutcome text limit (clashed sections clash) =
+    document text limit (Ok sections) × (first_clash (claims sections) ≡ Some clash)
 HasOutcome text limit (refused_at fault) = document text limit (Err fault)
 
 -- ---- the answer
 
--- The tree shows the flat document of these sections, which is `size` bytes long. In each table the names ascend, so
+-- The tree shows the flat document of these sections, which is `size` bytes long. The names in each table ascend, so
 -- none occurs twice.
-pub record IsTreeOf (blocks : List Block) (size : ℕ) (root : Value) : Type 0 where
-  pub shows : Shows (view root) (flat size (claims blocks))
+pub record IsTreeOf (sections : List ParsedSection) (size : ℕ) (root : Value) : Type 0 where
+  pub shows : ShowsExactly (view root) (flat size (claims sections))
   pub ordered : IsOrdered (view root)
 
--- The error reports this clash, with a span that starts within the text, and the line and column of that start.
-pub record TellsClash (text : List ℕ) (clash : NamedClash) (error : Error) : Type 0 where
+-- The error reports this clash. Its span starts inside the text, and it has the line and column of that start.
+pub record ReportsClash (text : List ℕ) (clash : NamedClash) (error : Error) : Type 0 where
   pub line : ℕ
   pub column : ℕ
-  pub tells : content_of error ≡ content_of_clash clash.meeting clash.name (line, column)
-  pub within : clash.meeting.span.start ≤ length text
-  pub forward : clash.meeting.span.start ≤ clash.meeting.span.end
-  pub place : IsLineInfo text clash.meeting.span.start line column
+  pub reports : content_of error ≡ content_of_clash clash.info clash.name (line, column)
+  pub within : clash.info.span.start ≤ length text
+  pub forward : clash.info.span.start ≤ clash.info.span.end
+  pub place : IsLineInfo text clash.info.span.start line column
 
--- The answer to an outcome: the tree of these sections; an error that reports this clash; or an error that reports this
--- fault, whose span starts within the text. A failed allocation is an answer to any outcome.
+-- The answer for an outcome: the tree of these sections; an error that reports this clash; or an error that reports
+-- this fault, with a span that starts inside the text. A failed allocation is an answer for any outcome.
 abbrev pub IsAnswerOf : List ℕ → Outcome → Result Value (Stop Error) → Type 0
-IsAnswerOf text (resolved blocks) (Ok root) = IsTreeOf blocks (length text) root
-IsAnswerOf text (clashed blocks clash) (Err (stops.Fault error)) = TellsClash text clash error
+IsAnswerOf text (resolved sections) (Ok root) = IsTreeOf sections (length text) root
+IsAnswerOf text (clashed sections clash) (Err (stops.Fault error)) = ReportsClash text clash error
 IsAnswerOf text (refused_at fault) (Err (stops.Fault error)) =
-    StartsInside text fault × Tells text fault (content_of error)
+    StartsInside text fault × ReportsFault text fault (content_of error)
 IsAnswerOf text outcome (Err (stops.Memory e)) = ⊤
 IsAnswerOf text outcome result = ⊥
 
--- The result is the answer to the outcome of the text within the limit, or a failed allocation.
-abbrev pub Answers : List ℕ → ℕ → Result Value (Stop Error) → Type 0
-Answers text limit (Ok root) =
-    (blocks : List Block) × HasOutcome text limit (resolved blocks) × IsAnswerOf text (resolved blocks) (Ok root)
-Answers text limit (Err (stops.Memory e)) = ⊤
-Answers text limit (Err (stops.Fault error)) =
+-- The result is the answer for the outcome of the text within the limit, or a failed allocation.
+abbrev pub IsParseResult : List ℕ → ℕ → Result Value (Stop Error) → Type 0
+IsParseResult text limit (Ok root) =
+    (sections : List ParsedSection) × HasOutcome text limit (resolved sections)
+    × IsAnswerOf text (resolved sections) (Ok root)
+IsParseResult text limit (Err (stops.Memory e)) = ⊤
+IsParseResult text limit (Err (stops.Fault error)) =
     ((fault : Fault) × HasOutcome text limit (refused_at fault)
     × IsAnswerOf text (refused_at fault) (Err (stops.Fault error)))
-    ⊎ ((blocks : List Block) × (clash : NamedClash) × HasOutcome text limit (clashed blocks clash)
-    × IsAnswerOf text (clashed blocks clash) (Err (stops.Fault error)))
+    ⊎ ((sections : List ParsedSection) × (clash : NamedClash) × HasOutcome text limit (clashed sections clash)
+    × IsAnswerOf text (clashed sections clash) (Err (stops.Fault error)))
 
 -- The same for a result that is a tree, and for one that is an error.
 abbrev pub IsTree : List ℕ → ℕ → Value → Type 0
-IsTree text limit root = Answers text limit (Ok root)
+IsTree text limit root = IsParseResult text limit (Ok root)
 
 abbrev pub IsRefusal : List ℕ → ℕ → Stop Error → Type 0
-IsRefusal text limit stop = Answers text limit (Err stop)
+IsRefusal text limit stop = IsParseResult text limit (Err stop)
 
 -- ---- properties of the tree
 
@@ -85,9 +86,9 @@ IsRefusal text limit stop = Answers text limit (Err stop)
 abbrev pub IsRoot : ℕ → Value → Type 0
 IsRoot size root = (members : Members) × (view root ≡ node (table members) (record { start = 0; end = size }))
 
--- Each string value of the tree is borrowed exactly if it equals the text at its span, and each key exactly if it
--- equals the text of the first key that claims its path. An empty single-line string is borrowed.
+-- Each string in the tree is borrowed if and only if it equals the text at its span or is empty on a single line. Each
+-- key is borrowed if and only if it equals the text of the first key that claims its path.
 abbrev pub IsBorrowedTree : List ℕ → ℕ → Value → Type 0
 IsBorrowedTree text limit root =
-    (blocks : List Block) × document text limit (Ok blocks)
-    × AreBorrowedRight text (held root (first_key (claims blocks)))
+    (sections : List ParsedSection) × document text limit (Ok sections)
+    × AreBorrowedRight text (strings_and_keys root (first_key (claims sections)))

@@ -3,7 +3,7 @@ use Rattle.std.specs.Prelude.{ℕ, zero, suc, Bool, true, false, ◌&&◌, nat_e
 use Rattle.std.specs.Prelude.{length}
 use Rattle.std.specs.Str.{bytes_eq}
 use Rattle.toml_span_tree.specs.Path.{Step, key, position, Path}
-use Rattle.toml_span_read.specs.Data.{SimpleKey, Block}
+use Rattle.toml_span_read.specs.Data.{SimpleKey, ParsedSection}
 
 abbrev pub same_step : Step → Step → Bool
 same_step (key name) (key other) = bytes_eq name other
@@ -17,40 +17,40 @@ same_path [] (t ∷ q) = false
 same_path (s ∷ p) [] = false
 same_path (s ∷ p) (t ∷ q) = same_step s t && same_path p q
 
--- the path followed by a key
+-- a path with a key at its end
 abbrev pub with_key : Path → SimpleKey → Path
 with_key p k = p ++ (key k.name ∷ [])
 
--- the path followed by a position
+-- a path with a position at its end
 abbrev pub with_position : Path → ℕ → Path
 with_position p i = p ++ (position i ∷ [])
 
--- the number of elements added so far to the array of tables at p
+-- how often the path p occurs in the list: the number of elements added to the array of tables at p
 abbrev pub elements_added : List Path → Path → ℕ
 elements_added opened p = length (filter (λ q. same_path q p) opened)
 
--- enters the latest of this many elements, if there are any
+-- the path of the latest of n elements, or the path itself if there are none
 unfoldable pub enter : ℕ → Path → Path
 enter zero p = p
 enter (suc latest) p = with_position p latest
 
--- The path of a header, beginning at p, without the position of the element that it adds itself. `counts` is the number
--- of elements of each array of tables so far.
+-- The path of a header, which begins at p. The position of an element that the header adds is not part of it. `counts`
+-- is the number of elements that each array of tables has so far.
 unfoldable pub target : (Path → ℕ) → Path → List SimpleKey → Path
 target counts p [] = p
 target counts p (k ∷ []) = with_key p k
 target counts p (k ∷ l ∷ more) = target counts (enter (counts (with_key p k)) (with_key p k)) (l ∷ more)
 
--- the arrays to which these sections each added an element, the nearest first
-unfoldable pub opened_by : List Block → List Path
+-- for each section with double brackets, the path of the array to which it adds an element, the latest first
+unfoldable pub opened_by : List ParsedSection → List Path
 opened_by [] = []
 opened_by (b ∷ earlier) =
     let before = opened_by earlier in
     if b.array then target (elements_added before) [] b.header ∷ before else before
 
--- The path below which a section assigns: that of its header and, with double brackets, the position of its own
+-- The path of the table that a section fills: that of its header and, with double brackets, the position of its own
 -- element.
-abbrev pub section_path : (Path → ℕ) → Block → Path
+abbrev pub section_path : (Path → ℕ) → ParsedSection → Path
 section_path counts b =
     let p = target counts [] b.header in
     if b.array then with_position p (counts p) else p

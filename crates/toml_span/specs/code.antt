@@ -1,8 +1,8 @@
--- How the functions share the work. No clause of a public result depends on it.
-pub mod Marks
+-- How the functions share the work. Nothing else in `specs/` cites it.
+pub mod ClaimInfos
 pub mod Machine
 pub mod Tree
 pub mod Relative
 pub mod Placing
 pub mod Borrowed
-pub mod Growing
+pub mod Assembling

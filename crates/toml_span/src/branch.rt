@@ -1,11 +1,11 @@
 //! The tree under construction.
 ghost use Rattle.std.specs.Prelude.{◌≡◌, [], IfSome, IsOk};
 ghost use Rattle.toml_span.specs.Flat as kept;
-ghost use Rattle.toml_span.specs.code.Marks as code;
+ghost use Rattle.toml_span.specs.code.ClaimInfos as code;
 ghost use Rattle.toml_span.specs.code.Tree.{IsFresh};
 ghost use Rattle.toml_span.specs.code.Placing.{Becomes, EachBecomes, Finishes, NamesAscend};
 
-use crate::claims::{Mark, Marks, Sort};
+use crate::claims::{ClaimInfo, ClaimInfos, ClaimKind};
 use smallvec::SmallVec;
 use std::alloc::{AllocError, Global};
 use std::collections::BTreeMap;
@@ -14,17 +14,17 @@ use toml_span_lex::key::Key;
 use toml_span_lex::span::Span;
 use toml_span_tree::{Array, Table, Value, ValueInner};
 
-/// Branches by name. Each is boxed, since a leaf of the map has room for fifteen entries.
+/// Branches by name. Each is boxed because a leaf of the map has room for fifteen entries.
 pub type Branches<'de> = BTreeMap<Key<'de>, Box<Branch<'de>>>;
 
 /// A table or an array of tables under construction.
 ///
-/// An assigned value is final: `values` has it as the tree will have it, and only the span of its key is kept of its
-/// claim. No name is in both `values` and `tables`.
+/// Assigned values are final: `values` has them in the form that they have in the tree, and of their claims only the
+/// spans of the keys are kept. No name is in both `values` and `tables`.
 #[derive(Drop)]
 pub struct Branch<'de> {
     /// The claims on this branch.
-    pub marks: Marks,
+    pub infos: ClaimInfos,
     /// The assigned values.
     pub values: Table<'de>,
     /// The tables and arrays of tables that headers and dotted keys created.
@@ -39,7 +39,7 @@ impl<'de> Branch<'de> {
         ensures { IsFresh result }
     {
         Self {
-            marks: SmallVec::new(alloc),
+            infos: SmallVec::new(alloc),
             values: BTreeMap::new(alloc),
             tables: BTreeMap::new(alloc),
             entries: Vec::new(alloc),
@@ -47,52 +47,53 @@ impl<'de> Branch<'de> {
     }
 }
 
-/// Returns whether a header makes claims of this sort.
-fn by_header(sort: Sort) -> bool
-    ensures { result ≡ kept.by_header sort }
+/// Returns whether a header makes claims of this kind.
+fn by_header(kind: ClaimKind) -> bool
+    ensures { result ≡ kept.by_header kind }
 {
-    !matches!(sort, Sort::Dotted | Sort::Assigned)
+    !matches!(kind, ClaimKind::Dotted | ClaimKind::Assigned)
 }
 
-/// Returns the claim that decides for a branch: that of the first header, or else the first one.
-fn deciding(marks: &[Mark]) -> Option<Mark>
-    ensures { result ≡ code.deciding marks.now }
+/// Returns the claim that determines the spans of a branch: that of the first header or, if no header claims it, the
+/// first claim.
+fn deciding(infos: &[ClaimInfo]) -> Option<ClaimInfo>
+    ensures { result ≡ code.deciding infos.now }
 {
-    for mark in marks {
-        if by_header(mark.sort) {
-            return Some(*mark);
+    for info in infos {
+        if by_header(info.kind) {
+            return Some(*info);
         }
     }
-    marks.first().copied()
+    infos.first().copied()
 }
 
-/// Returns the span of the key, and the span of the branch with these claims.
-fn spans(marks: &[Mark]) -> (Span, Span)
-    ensures { IfSome (code.deciding marks.now) (λ m. result ≡ (m.key, m.extent)) }
+/// Returns the span of the key and the span of the branch, given the claims on it. Both are 0..0 if there are none.
+fn spans(infos: &[ClaimInfo]) -> (Span, Span)
+    ensures { IfSome (code.deciding infos.now) (λ m. result ≡ (m.key, m.extent)) }
 {
-    match deciding(marks) {
-        Some(mark) => (mark.key, mark.extent),
+    match deciding(infos) {
+        Some(info) => (info.key, info.extent),
         None => (Span::default(), Span::default()),
     }
 }
 
-/// Shows that the names of a table are in order, and that none occurs twice.
+/// Proves that the names in a table ascend, so that none occurs twice. Does nothing at run time.
 fn in_order(table: &Table<'_>)
     ensures { NamesAscend table.now }
 {
-    // The contract of a map's length says that its keys are in order.
+    // The contract of the map's `len` says that its keys ascend.
     let _ = table.len();
 }
 
-/// Returns the table of these values and of those made from these branches. Fails if an allocation fails; without
-/// branches nothing is allocated.
+/// Returns a finished table: `values`, and the values that the branches in `tables` become. Fails if an allocation
+/// fails, which can only happen if there are branches.
 #[cycle(finish)]
 pub fn into_table<'de>(
     tables: Branches<'de>,
     mut values: Table<'de>,
 ) -> Result<Table<'de>, AllocError>
     ensures finishes { Finishes tables.entry values.entry result }
-    // Without branches nothing is allocated.
+    // Nothing is allocated without branches.
     ensures bare { tables.entry.entries ≡ [] → IsOk result }
 {
     if tables.is_empty() {
@@ -112,13 +113,13 @@ pub fn into_table<'de>(
     Ok(values)
 }
 
-/// Takes the contents of a branch, and returns the span of its key with the value made from it. Fails if an allocation
+/// Turns a branch, which is left empty, into a value. Returns it with the span of its key. Fails if an allocation
 /// fails.
 #[cycle(finish)]
 fn into_value<'de>(node: &mut Branch<'de>) -> Result<(Span, Value<'de>), AllocError>
     ensures { Becomes node.old result }
 {
-    let (key_span, span) = spans(node.marks.as_slice());
+    let (key_span, span) = spans(node.infos.as_slice());
     let alloc = *node.entries.allocator();
     if node.entries.is_empty() {
         let tables = replace(&mut node.tables, BTreeMap::new(alloc));
@@ -130,7 +131,7 @@ fn into_value<'de>(node: &mut Branch<'de>) -> Result<(Span, Value<'de>), AllocEr
     Ok((key_span, Value::with_span(ValueInner::Array(array), span)))
 }
 
-/// Returns the elements of an array of tables as finished values. Fails if an allocation fails.
+/// Turns the elements of an array of tables into values. Fails if an allocation fails.
 #[cycle(finish)]
 #[inline(never)]
 fn into_array<'de>(entries: Vec<Branch<'de>>) -> Result<Array<'de>, AllocError>

@@ -1,10 +1,10 @@
-//! The claims of headers and assignments on paths, and which of them clash.
+//! The claims that headers and assignments make on paths, and which of them clash.
 ghost use Rattle.std.specs.Prelude.{◌≡◌, ⊤, string_bytes, IfOk};
 ghost use Rattle.std.specs.Cow.{cow_str_bytes};
 ghost use Rattle.toml_span_tree.specs.Error.{content_of};
 ghost use Rattle.toml_span.specs.Clashes as clashes;
-ghost use Rattle.toml_span.specs.code.Machine.{Gives, earliest_clash};
-ghost use Rattle.toml_span.specs.code.Marks as kept;
+ghost use Rattle.toml_span.specs.code.Machine.{OkOrClash, earliest_clash};
+ghost use Rattle.toml_span.specs.code.ClaimInfos as kept;
 
 use smallvec::SmallVec;
 use std::alloc::{AllocError, Global};
@@ -13,11 +13,11 @@ use toml_span_lex::span::Span;
 use toml_span_lex::stop::Stop;
 use toml_span_tree::{Error, ErrorKind};
 
-// Toolchain: `SmallVec` fills unused places ("the trait bound `Key: Default` is not satisfied"), so `Key`, `Mark` and
-// `Sort` have a default.
-/// The ways in which a path is claimed.
+// Toolchain: `SmallVec` fills unused places ("the trait bound `Key: Default` is not satisfied"), so `Key`, `ClaimInfo`
+// and `ClaimKind` have a default.
+/// The kind of a claim: what a header or key says a path is.
 #[derive(Clone, Copy, Default)]
-pub enum Sort {
+pub enum ClaimKind {
     /// A table through which a header passes: `a` in `[a.b]`.
     #[default]
     Passed,
@@ -33,91 +33,99 @@ pub enum Sort {
     Assigned,
 }
 
-/// What a branch keeps of a claim on it.
+/// A claim on a branch, as the branch keeps it.
 #[derive(Clone, Copy, Default)]
-pub struct Mark {
-    pub sort: Sort,
-    /// The part of the header or dotted key that names the path.
+pub struct ClaimInfo {
+    pub kind: ClaimKind,
+    /// The span of the part of the header or dotted key that names the path.
     pub key: Span,
-    /// The header's line, from its first bracket to the end of the line, line end included. For an assignment and the
-    /// parts of its key, the value, which no clash reports.
+    /// The line of the header, from its first bracket to the end of the line, including the line end. For the parts of
+    /// an assignment's key, the span of the value; no clash reports it.
     pub line: Span,
-    /// The span of the branch if this claim decides: the header's section, or the assigned value.
+    /// The span of the branch if this claim determines it: the section of the header, or the assigned value.
     pub extent: Span,
 }
 
-/// A header without its parts.
+/// What the claims of all parts of a header share.
 #[derive(Clone, Copy)]
-pub struct Head {
+pub struct HeaderInfo {
     /// Whether the header has double brackets.
     pub array: bool,
-    /// The header's line.
+    /// The span of the header's line, including the line end.
     pub line: Span,
-    /// The header's section.
+    /// The span of the header's section.
     pub extent: Span,
 }
 
 /// The kinds of clashes.
 #[derive(Clone, Copy)]
-pub enum Blame {
-    /// A table is defined again.
+pub enum ClashKind {
+    /// A table is defined twice.
     DuplicateTable,
-    /// A key is assigned again, or is already something else.
+    /// A key is assigned twice, or assigned and defined as a table.
     DuplicateKey,
-    /// A table through which a header has passed is defined as an array of tables.
+    /// A table that an earlier header passes through is defined as an array of tables.
     RedefineAsArray,
 }
 
-/// Returns the kind of clash of an earlier and a later claim on the same path, or `None` if they do not clash.
-fn blame_of(earlier: Sort, later: Sort) -> Option<Blame>
-    ensures { result ≡ clashes.blame earlier later }
+/// Returns how two claims on the same path clash, or `None` if they do not.
+fn clash_kind(earlier: ClaimKind, later: ClaimKind) -> Option<ClashKind>
+    ensures { result ≡ clashes.clash_kind earlier later }
 {
     match (earlier, later) {
-        (Sort::Passed, Sort::ArrayOfTables) => Some(Blame::RedefineAsArray),
-        (Sort::StandardTable, Sort::StandardTable | Sort::ArrayOfTables) => Some(
-            Blame::DuplicateTable,
+        (ClaimKind::Passed, ClaimKind::ArrayOfTables) => Some(ClashKind::RedefineAsArray),
+        (ClaimKind::StandardTable, ClaimKind::StandardTable | ClaimKind::ArrayOfTables) => Some(
+            ClashKind::DuplicateTable,
         ),
-        (Sort::ArrayOfTables, Sort::StandardTable) => Some(Blame::DuplicateTable),
-        (Sort::Dotted, Sort::StandardTable | Sort::ArrayOfTables) => Some(Blame::DuplicateKey),
-        (Sort::StandardTable | Sort::ArrayOfTables, Sort::Dotted) => Some(Blame::DuplicateKey),
-        (Sort::Assigned, Sort::TableElement) | (Sort::TableElement, Sort::Assigned) => None,
-        (Sort::Assigned, _) | (_, Sort::Assigned) => Some(Blame::DuplicateKey),
+        (ClaimKind::ArrayOfTables, ClaimKind::StandardTable) => Some(ClashKind::DuplicateTable),
+        (ClaimKind::Dotted, ClaimKind::StandardTable | ClaimKind::ArrayOfTables) => Some(
+            ClashKind::DuplicateKey,
+        ),
+        (ClaimKind::StandardTable | ClaimKind::ArrayOfTables, ClaimKind::Dotted) => Some(
+            ClashKind::DuplicateKey,
+        ),
+        (ClaimKind::Assigned, ClaimKind::TableElement)
+        | (ClaimKind::TableElement, ClaimKind::Assigned) => None,
+        (ClaimKind::Assigned, _) | (_, ClaimKind::Assigned) => Some(ClashKind::DuplicateKey),
         _ => None,
     }
 }
 
-/// A clash without the name of the key.
+/// A clash, without the name of the key.
 #[derive(Clone, Copy)]
-pub struct Meeting {
-    pub blame: Blame,
-    /// The header or key of the earlier claim.
+pub struct ClashInfo {
+    pub kind: ClashKind,
+    /// The span of the earlier header or key.
     pub first: Span,
-    /// The header or key of the later claim.
+    /// The span of the later header or key, where the error is reported.
     pub span: Span,
 }
 
-fn meeting_of(earlier: Mark, later: Mark, blame: Blame) -> Meeting
-    ensures { result ≡ clashes.meeting earlier later blame }
+/// Returns the spans of a clash of this kind: those of the keys for a duplicate key, otherwise those of the headers'
+/// lines.
+fn clash_info_of(earlier: ClaimInfo, later: ClaimInfo, kind: ClashKind) -> ClashInfo
+    ensures { result ≡ clashes.clash_info earlier later kind }
 {
-    match blame {
-        Blame::DuplicateKey => Meeting {
-            blame,
+    match kind {
+        ClashKind::DuplicateKey => ClashInfo {
+            kind,
             first: earlier.key,
             span: later.key,
         },
-        Blame::DuplicateTable | Blame::RedefineAsArray => Meeting {
-            blame,
+        ClashKind::DuplicateTable | ClashKind::RedefineAsArray => ClashInfo {
+            kind,
             first: earlier.line,
             span: later.line,
         },
     }
 }
 
-fn meeting_between(earlier: Mark, later: Mark) -> Option<Meeting>
-    ensures { result ≡ clashes.meeting_between earlier later }
+/// Returns the clash of two claims on the same path, or `None` if they do not clash.
+fn clash_info_between(earlier: ClaimInfo, later: ClaimInfo) -> Option<ClashInfo>
+    ensures { result ≡ clashes.clash_info_between earlier later }
 {
-    match blame_of(earlier.sort, later.sort) {
-        Some(blame) => Some(meeting_of(earlier, later, blame)),
+    match clash_kind(earlier.kind, later.kind) {
+        Some(kind) => Some(clash_info_of(earlier, later, kind)),
         None => None,
     }
 }
@@ -125,113 +133,134 @@ fn meeting_between(earlier: Mark, later: Mark) -> Option<Meeting>
 /// A clash of two claims on the same path.
 #[derive(Drop)]
 pub struct Clash {
-    pub meeting: Meeting,
-    /// The name of the key that both claim.
+    pub info: ClashInfo,
+    /// The name of the key in both claims.
     pub name: String,
 }
 
 impl Clash {
-    /// Converts the clash into an error. `line_info` is the line and column of its span in the text.
+    /// Converts the clash into an error. `line_info` is the line and the column of `span.start`, both from 0, the
+    /// column in bytes.
     pub fn into_error<'s>(self, line_info: (usize, usize)) -> Error<'s>
-        ensures { content_of result ≡ clashes.content_of_clash self.meeting (string_bytes self.name) line_info }
+        ensures { content_of result ≡ clashes.content_of_clash self.info (string_bytes self.name) line_info }
     {
-        let Clash { meeting, name } = self;
-        let kind = match meeting.blame {
-            Blame::DuplicateTable => ErrorKind::DuplicateTable {
+        let Clash { info, name } = self;
+        let kind = match info.kind {
+            ClashKind::DuplicateTable => ErrorKind::DuplicateTable {
                 name,
-                first: meeting.first,
+                first: info.first,
             },
-            Blame::DuplicateKey => ErrorKind::DuplicateKey {
+            ClashKind::DuplicateKey => ErrorKind::DuplicateKey {
                 key: name,
-                first: meeting.first,
+                first: info.first,
             },
-            Blame::RedefineAsArray => ErrorKind::RedefineAsArray,
+            ClashKind::RedefineAsArray => ErrorKind::RedefineAsArray,
         };
         Error {
             kind,
-            span: meeting.span,
+            span: info.span,
             line_info: Some(line_info),
         }
     }
 }
 
-/// Why no tree was built: an allocation failed, or two claims clash. The clash is boxed to keep results small.
-pub type Halt = Stop<Box<Clash>>;
+/// Why a section could not be placed: an allocation failed, or two claims clash. The clash is boxed to keep results
+/// small.
+pub type PlaceError = Stop<Box<Clash>>;
 
-/// The first claim of each sort on a branch, in the order of the text. Whether two claims clash depends only on their
-/// sorts.
-pub type Marks = SmallVec<Mark, 1>;
+/// The first claim of each kind on a branch, in the order of the text. The others are not needed, since whether two
+/// claims clash depends only on their kinds.
+pub type ClaimInfos = SmallVec<ClaimInfo, 1>;
 
-fn same_sort(a: Sort, b: Sort) -> bool
-    ensures { result ≡ kept.same_sort a b }
+/// Returns whether the two kinds are equal.
+fn same_kind(a: ClaimKind, b: ClaimKind) -> bool
+    ensures { result ≡ kept.same_kind a b }
 {
     a as u8 == b as u8
 }
 
-/// Returns the clash of a claim with the earliest of those with which it clashes.
-fn earliest_meeting(marks: &[Mark], later: Mark) -> Option<Meeting>
-    ensures { result ≡ kept.earliest_meeting marks.now later }
+/// Returns the clash of the claim `later` with the first of `infos` that it clashes with, or `None` if there is none.
+fn earliest_clash_info(infos: &[ClaimInfo], later: ClaimInfo) -> Option<ClashInfo>
+    ensures { result ≡ kept.earliest_clash_info infos.now later }
 {
-    for earlier in marks {
-        if let Some(meeting) = meeting_between(*earlier, later) {
-            return Some(meeting);
+    for earlier in infos {
+        if let Some(clash_info) = clash_info_between(*earlier, later) {
+            return Some(clash_info);
         }
     }
     None
 }
 
-/// Returns whether one of these claims has this sort.
-fn has_sort(marks: &[Mark], sort: Sort) -> bool
-    ensures { result ≡ kept.has_sort marks.now sort }
+/// Returns whether one of the claims has this kind.
+fn has_kind(infos: &[ClaimInfo], kind: ClaimKind) -> bool
+    ensures { result ≡ kept.has_kind infos.now kind }
 {
-    for mark in marks {
-        if same_sort(mark.sort, sort) {
+    for info in infos {
+        if same_kind(info.kind, kind) {
             return true;
         }
     }
     false
 }
 
-/// Returns a clash over a key. Fails if an allocation fails.
-fn clash_of(alloc: Global, meeting: Meeting, key: &Key<'_>) -> Result<Box<Clash>, AllocError>
-    ensures { IfOk result (λ clash. kept.IsClashOver clash.value meeting (cow_str_bytes key.now.name)) }
+/// Returns the clash described by `clash_info`, with a copy of the key's name. Fails if an allocation fails.
+fn clash_of(alloc: Global, clash_info: ClashInfo, key: &Key<'_>) -> Result<Box<Clash>, AllocError>
+    ensures { IfOk result (λ clash. kept.IsClashOver clash.value clash_info (cow_str_bytes key.now.name)) }
 {
     let name = String::from_str(alloc, key.name.as_ref())?;
-    Ok(Box::new(alloc, Clash { meeting, name })?)
+    Ok(Box::new(
+        alloc,
+        Clash {
+            info: clash_info,
+            name,
+        },
+    )?)
 }
 
-/// Returns the `Halt` of a clash over a key, or of a failed allocation for its name.
+/// Returns the clash described by `clash_info` as an error, or `Stop::Memory` if its copy of the key's name can't be
+/// allocated.
 #[cold]
-fn halted(alloc: Global, meeting: Meeting, key: &Key<'_>) -> Halt
-    ensures { kept.Halts result meeting (cow_str_bytes key.now.name) }
+fn place_error(alloc: Global, clash_info: ClashInfo, key: &Key<'_>) -> PlaceError
+    ensures { kept.IsErrorOver result clash_info (cow_str_bytes key.now.name) }
 {
-    match clash_of(alloc, meeting, key) {
+    match clash_of(alloc, clash_info, key) {
         Ok(clash) => Stop::Fault(clash),
         Err(error) => Stop::Memory(error),
     }
 }
 
-/// Fails with the clash of a claim with the earliest of those with which it clashes, or if an allocation fails for the
-/// key's name.
+/// Fails with the clash of the claim `info` with the first of `infos` that it clashes with, or if an allocation for
+/// that error fails.
 #[inline(always)]
-pub fn check_clash(alloc: Global, marks: &[Mark], mark: Mark, key: &Key<'_>) -> Result<(), Halt>
-    ensures { Gives result (earliest_clash marks.now mark (cow_str_bytes key.now.name)) (λ _. ⊤) }
+pub fn check_clash(
+    alloc: Global,
+    infos: &[ClaimInfo],
+    info: ClaimInfo,
+    key: &Key<'_>,
+) -> Result<(), PlaceError>
+    ensures { OkOrClash result (earliest_clash infos.now info (cow_str_bytes key.now.name)) (λ _. ⊤) }
 {
-    match earliest_meeting(marks, mark) {
+    match earliest_clash_info(infos, info) {
         None => Ok(()),
-        Some(meeting) => Err(halted(alloc, meeting, key)),
+        Some(clash_info) => Err(place_error(alloc, clash_info, key)),
     }
 }
 
-/// Records a claim on a branch, if it is the first of its sort. Fails like `check_clash`, or if an allocation fails.
+/// Adds a claim to those on a branch, unless one of its kind is there. Fails with a clash like `check_clash`, or if an
+/// allocation fails.
 #[inline(never)]
-pub fn record_claim(alloc: Global, marks: &mut Marks, mark: Mark, key: &Key<'_>) -> Result<(), Halt>
-    ensures { Gives result (earliest_clash marks.old.items mark (cow_str_bytes key.now.name))
-        (λ _. marks.new.items ≡ kept.remember marks.old.items mark) }
+pub fn record_claim(
+    alloc: Global,
+    infos: &mut ClaimInfos,
+    info: ClaimInfo,
+    key: &Key<'_>,
+) -> Result<(), PlaceError>
+    ensures { OkOrClash result (earliest_clash infos.old.items info (cow_str_bytes key.now.name))
+        (λ _. infos.new.items ≡ kept.remember infos.old.items info) }
 {
-    check_clash(alloc, marks.as_slice(), mark, key)?;
-    if !has_sort(marks.as_slice(), mark.sort) {
-        marks.push(mark)?;
+    check_clash(alloc, infos.as_slice(), info, key)?;
+    if !has_kind(infos.as_slice(), info.kind) {
+        infos.push(info)?;
     }
     Ok(())
 }

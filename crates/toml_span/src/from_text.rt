@@ -1,8 +1,8 @@
-//! Reads a document as a type.
+//! Parses a document and reads it as a type.
 ghost use Rattle.std.specs.Prelude.{IfOk, IfErr, Ok, map};
 ghost use Rattle.toml_span_tree.specs.Error.{content_of};
 ghost use Rattle.toml_span_typed.specs.WithWarnings.{Extends};
-ghost use Rattle.toml_span.specs.FromText.{IsRead, IsReadWithWarnings, NotRead, NotReadWithWarnings};
+ghost use Rattle.toml_span.specs.FromText.{IsReadAs, IsReadWithWarnings, NotRead, NotReadWithWarnings};
 
 use crate::de::parse;
 use std::alloc::Global;
@@ -10,15 +10,15 @@ use toml_span_lex::stop::Stop;
 use toml_span_tree::Error;
 use toml_span_typed::{DeserError, Deserialize, DeserializeWithWarnings};
 
-/// Reads a document as a type: parses it, and calls `deserialize` of the root.
+/// Parses a document and reads its root as a `T`.
 ///
-/// Fails with the error for which the text is refused, with all errors of reading the type, or with `Stop::Memory` if
-/// an allocation fails.
+/// Fails with the error of `parse`, with all errors of `T::deserialize`, or with `Stop::Memory` if an allocation fails.
+/// The spans of all errors are byte offsets in `text`.
 pub fn from_str<'de, T: Deserialize<'de>>(
     alloc: Global,
     text: &'de str,
 ) -> Result<T, Stop<DeserError<'de>>>
-    ensures read { IfOk result (λ x. IsRead T.reads text.now (Ok x)) }
+    ensures read { IfOk result (λ x. IsReadAs T.reads text.now (Ok x)) }
     ensures refused { IfErr result (NotRead T.reads text.now) }
 {
     let mut root = match parse(alloc, text) {
@@ -29,8 +29,8 @@ pub fn from_str<'de, T: Deserialize<'de>>(
     T::deserialize(alloc, &mut root)
 }
 
-/// Reads a document as a type that warns, like `from_str`. Warnings are appended to `warnings`, even if the type cannot
-/// be read. A text that is refused has none.
+/// Does the same as `from_str` for a type that warns, and appends its warnings to `warnings`, even if the read fails.
+/// If the text can't be parsed, `warnings` is unchanged.
 pub fn from_str_with_warnings<'de, T: DeserializeWithWarnings<'de>>(
     alloc: Global,
     text: &'de str,

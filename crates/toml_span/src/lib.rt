@@ -21,26 +21,26 @@ pub use toml_span_typed::{
     read_name, read_table, read_tagged,
 };
 
-/// Typed reads of the fields of a table.
+/// Helpers that read the fields of a table as values of Rust types.
 pub mod de_helpers {
     pub use toml_span_typed::de_helpers::{
         TableHelper, Unfinished, expected, name_of, parse, parse_with, parsed,
     };
 }
 
-/// Spans in a text.
+/// Spans: ranges of bytes in a text.
 pub mod span {
     pub use toml_span_lex::span::Span;
     pub use toml_span_lex::spanned::Spanned;
 }
 
-/// The tokens of a text.
+/// Splits a text into tokens.
 pub mod tokens {
     pub use toml_span_lex::tokenizer::Tokenizer;
     pub use toml_span_lex::tokens::{Error, Token};
 }
 
-/// The tree of values.
+/// The values of a tree, and their errors.
 pub mod value {
     pub use toml_span_lex::key::Key;
     pub use toml_span_tree::nodes::{Step, Visited, nodes};

@@ -1,4 +1,4 @@
-//! Places assignments below a branch: those of a section, or of an inline table.
+//! Places assignments below a branch: those of a section or of an inline table.
 ghost use Rattle.std.specs.Prelude.{◌≡◌, ⊤, ℕ, List, map, [], IfOk, Some};
 ghost use Rattle.std.specs.Cow.{cow_str_bytes};
 ghost use Rattle.toml_span_tree.specs.Value.{inner_view};
@@ -6,19 +6,20 @@ ghost use Rattle.toml_span_tree.specs.Node as tree;
 ghost use Rattle.toml_span_tree.specs.declared.value.ValueInner.TheVariants as inners;
 ghost use Rattle.toml_span_read.specs.Borrowed.{assignment_written, assignments_written, joined, key_written};
 ghost use Rattle.toml_span_read.specs.Borrowed.{written, AreWrittenRight, IsWrittenRight};
-ghost use Rattle.toml_span_read.specs.Data.{key_value, view, onto, no_items, ParsedValue as Read, parsed_span};
-ghost use Rattle.toml_span_read.specs.Data.{simple_key as part_of};
-ghost use Rattle.toml_span.specs.code.Borrowed.{IfPairRight, Keeps, KeepsName, ValueRight, own_elements, own_table};
+ghost use Rattle.toml_span_read.specs.Data.{parsed_assignment, parsed_value, onto, no_items, ParsedValue as Read};
+ghost use Rattle.toml_span_read.specs.Data.{parsed_span, simple_key as part_of};
+ghost use Rattle.toml_span.specs.code.Borrowed.{IfPairRight, KeepsBorrows, KeepsName, ValueRight, own_elements};
+ghost use Rattle.toml_span.specs.code.Borrowed.{own_table};
 ghost use Rattle.toml_span.specs.Borrowed.{AreBorrowedRight};
 ghost use Rattle.toml_span.specs.Claims.{assignment_claims, item_claims};
-ghost use Rattle.toml_span.specs.code.Machine.{Gives, earliest_clash};
+ghost use Rattle.toml_span.specs.code.Machine.{OkOrClash, earliest_clash};
 ghost use Rattle.toml_span.specs.code.Placing.{claims_of, PassesPair, Places, ValueGives, ScopeGives};
 ghost use Rattle.toml_span.specs.code.Relative.{pair_at};
-ghost use Rattle.toml_span.specs.code.Tree.{child_in, closed_in, closed_marks, counts, held_marks, IsFresh};
+ghost use Rattle.toml_span.specs.code.Tree.{child_in, closed_in, closed_infos, counts, child_infos, IsFresh};
 ghost use Rattle.toml_span.specs.declared.scopes.Pending.{Pending};
 
 use crate::branch::{Branch, Branches, into_table};
-use crate::claims::{Halt, Mark, Sort, check_clash, record_claim};
+use crate::claims::{ClaimInfo, ClaimKind, PlaceError, check_clash, record_claim};
 use crate::rest::Rest;
 use std::alloc::Global;
 use std::collections::btree_map::Entry;
@@ -27,100 +28,104 @@ use toml_span_lex::span::Span;
 use toml_span_read::{Assignment, DottedKey, Val, ValKind};
 use toml_span_tree::{Array, Table, Value, ValueInner};
 
-/// A list of at most this many assignments keeps its buffer until all are placed. Freeing it earlier takes time, since
-/// the system clears memory before it hands it out again.
+/// A list of at most this many assignments keeps its buffer until all are placed. Freeing it earlier would cost time,
+/// because the system clears memory before it hands it out again.
 const SHORT_LIST: usize = 65_536;
 
-/// Returns the claim of a part of an assignment's key.
-fn pair_mark(sort: Sort, key: &Key<'_>, span: Span) -> Mark
-    ensures { result ≡ record { sort = sort; key = key.now.span; line = span; extent = span } }
+/// Returns the claim of a part of an assignment's key. `span` is that of the value.
+fn pair_info(kind: ClaimKind, key: &Key<'_>, span: Span) -> ClaimInfo
+    ensures { result ≡ record { kind = kind; key = key.now.span; line = span; extent = span } }
 {
-    Mark {
-        sort,
+    ClaimInfo {
+        kind,
         key: key.span,
         line: span,
         extent: span,
     }
 }
 
-/// Fails if a claim on a name clashes with a value assigned to that name.
+/// Fails with the clash of the claim `info` with the value in `values` that `key` names, if there is one and they
+/// clash, or if an allocation fails.
 fn check_beside_value<'de>(
     alloc: Global,
     values: &Table<'de>,
-    mark: Mark,
+    info: ClaimInfo,
     key: &Key<'de>,
-) -> Result<(), Halt>
-    ensures { Gives result (earliest_clash (closed_marks (closed_in (cow_str_bytes key.now.name) values.now)) mark
+) -> Result<(), PlaceError>
+    ensures { OkOrClash result (earliest_clash (closed_infos (closed_in (cow_str_bytes key.now.name) values.now)) info
         (cow_str_bytes key.now.name)) (λ _. ⊤) }
 {
     match values.get_key_value(key) {
         Some((earlier, value)) => check_clash(
             alloc,
-            &[pair_mark(Sort::Assigned, earlier, value.span)],
-            mark,
+            &[pair_info(ClaimKind::Assigned, earlier, value.span)],
+            info,
             key,
         ),
         None => Ok(()),
     }
 }
 
-/// Returns a branch for a name, without claims. Fails if a claim on the name clashes with a value assigned to it.
+/// Returns a new branch for `key`, without claims. Fails with the clash of the claim `info` with a value of that name,
+/// as `check_beside_value` does, or if an allocation fails.
 #[inline(never)]
 pub(crate) fn fresh_child<'de>(
     alloc: Global,
     values: &Table<'de>,
-    mark: Mark,
+    info: ClaimInfo,
     key: &Key<'de>,
-) -> Result<Box<Branch<'de>>, Halt>
-    ensures { Gives result (earliest_clash (closed_marks (closed_in (cow_str_bytes key.now.name) values.now)) mark
+) -> Result<Box<Branch<'de>>, PlaceError>
+    ensures { OkOrClash result (earliest_clash (closed_infos (closed_in (cow_str_bytes key.now.name) values.now)) info
         (cow_str_bytes key.now.name)) (λ child. IsFresh child.value) }
 {
-    check_beside_value(alloc, values, mark, key)?;
+    check_beside_value(alloc, values, info, key)?;
     let child = Box::new(alloc, Branch::new(alloc))?;
     Ok(child)
 }
 
-/// Fails if a claim on a name clashes with what headers and dotted keys created there.
+/// Fails with the clash of the claim `info` with the branch in `tables` that `key` names, if there is one and they
+/// clash, or if an allocation fails.
 #[inline(always)]
 fn check_beside_table<'de>(
     alloc: Global,
     tables: &Branches<'de>,
-    mark: Mark,
+    info: ClaimInfo,
     key: &Key<'de>,
-) -> Result<(), Halt>
-    ensures { Gives result (earliest_clash (held_marks (child_in (cow_str_bytes key.now.name) tables.now)) mark
+) -> Result<(), PlaceError>
+    ensures { OkOrClash result (earliest_clash (child_infos (child_in (cow_str_bytes key.now.name) tables.now)) info
         (cow_str_bytes key.now.name)) (λ _. ⊤) }
 {
     match tables.get(key) {
-        Some(child) => check_clash(alloc, child.marks.as_slice(), mark, key),
+        Some(child) => check_clash(alloc, child.infos.as_slice(), info, key),
         None => Ok(()),
     }
 }
 
-/// Assigns a value to a name of a branch. Fails with the first clash, or if an allocation fails.
+/// Assigns a value to the name `key` in a branch. `span` is that of the value. Fails with the clash of the key, if any,
+/// otherwise with the clash inside the value, or if an allocation fails.
 #[inline(never)]
 fn assign<'de>(
     alloc: Global,
     node: &mut Branch<'de>,
     key: Key<'de>,
-    value: Result<Value<'de>, Halt>,
+    value: Result<Value<'de>, PlaceError>,
     span: Span,
-) -> Result<(), Halt>
+) -> Result<(), PlaceError>
     ensures places { (v : Read) → ValueGives value.entry v → span ≡ parsed_span v
         → Places node.old node.new result (pair_at [] (part_of key.entry) v) (counts node.old) }
     ensures borrows { (text : List ℕ) → IsWrittenRight text (key_written key.entry)
-        → ValueRight text value.entry → Keeps text node.old node.new result }
+        → ValueRight text value.entry → KeepsBorrows text node.old node.new result }
 {
-    let mark = pair_mark(Sort::Assigned, &key, span);
-    check_beside_table(alloc, &node.tables, mark, &key)?;
+    let info = pair_info(ClaimKind::Assigned, &key, span);
+    check_beside_table(alloc, &node.tables, info, &key)?;
     match node.values.entry(key)? {
         Entry::Occupied(entry) => {
             drop(value);
             let earlier = entry.key();
             check_clash(
                 alloc,
-                &[pair_mark(Sort::Assigned, earlier, entry.get().span)],
-                mark,
+                &[pair_info(ClaimKind::Assigned, earlier, entry.get().span)],
+                info,
                 earlier,
             )
         }
@@ -131,27 +136,29 @@ fn assign<'de>(
     }
 }
 
-/// An assignment in progress. Functions that call each other along a path take it by reference, so that it needs no
-/// room on their stack.
+/// A value that is about to be assigned. The functions that recurse along a path pass it by reference, so that it takes
+/// no room on their stack frames.
 #[derive(Drop)]
 struct Pending<'de> {
     /// The last part of the key.
     last: Key<'de>,
-    value: Result<Value<'de>, Halt>,
+    value: Result<Value<'de>, PlaceError>,
 }
 
-/// Assigns the pending value to a name of a branch. Fails with the first clash, or if an allocation fails.
+/// Assigns the pending value in this branch, which its key has led to. Fails with the first clash, or if an allocation
+/// fails.
 #[inline(never)]
 fn assign_pending<'de>(
     alloc: Global,
     node: &mut Branch<'de>,
     pending: &mut Option<Pending<'de>>,
     span: Span,
-) -> Result<(), Halt>
+) -> Result<(), PlaceError>
     ensures places { (d : Pending) (v : Read) → pending.old ≡ Some d → ValueGives d.value v → span ≡ parsed_span v
         → Places node.old node.new result (pair_at [] (part_of d.last) v) (counts node.old) }
     ensures borrows { (text : List ℕ) → (d : Pending) → pending.old ≡ Some d
-        → IsWrittenRight text (key_written d.last) → ValueRight text d.value → Keeps text node.old node.new result }
+        → IsWrittenRight text (key_written d.last) → ValueRight text d.value
+        → KeepsBorrows text node.old node.new result }
 {
     match pending.take() {
         Some(next) => assign(alloc, node, next.last, next.value, span),
@@ -159,11 +166,11 @@ fn assign_pending<'de>(
     }
 }
 
-/// Places the pending value below a branch, one inner part after another. `span` is that of the value. Fails with the
-/// first clash, or if an allocation fails.
+/// Places the pending value at the end of the path of `inner`, the parts of its key before the last, which begins at
+/// this branch. `span` is that of the value. Fails with the first clash, or if an allocation fails.
 ///
-/// An inline table is a scope of its own. Its clashes are reported after those of the key to which it is assigned,
-/// since it comes after that key.
+/// An inline table is a scope of its own. Its clashes come after those of the key to which it is assigned, as in the
+/// text.
 #[cycle(place_pair)]
 #[inline(always)]
 fn place_pair<'de>(
@@ -172,11 +179,11 @@ fn place_pair<'de>(
     inner: &[Key<'de>],
     pending: &mut Option<Pending<'de>>,
     span: Span,
-) -> Result<(), Halt>
+) -> Result<(), PlaceError>
     ensures places { (d : Pending) (v : Read) → pending.old ≡ Some d → ValueGives d.value v → span ≡ parsed_span v
         → Places node.old node.new result (pair_at (map part_of inner.now) (part_of d.last) v) (counts node.old) }
     ensures borrows { (text : List ℕ) → (d : Pending) → pending.old ≡ Some d → IfPairRight text inner.now d
-        (Keeps text node.old node.new result) }
+        (KeepsBorrows text node.old node.new result) }
 {
     let [part, rest @ ..] = inner else {
         return assign_pending(alloc, node, pending, span);
@@ -184,14 +191,14 @@ fn place_pair<'de>(
     match node.tables.entry(part.clone(alloc)?)? {
         Entry::Occupied(entry) => pass_child(alloc, entry.into_mut(), part, rest, pending, span),
         Entry::Vacant(entry) => {
-            let mark = pair_mark(Sort::Dotted, part, span);
-            let child = fresh_child(alloc, &node.values, mark, part)?;
+            let info = pair_info(ClaimKind::Dotted, part, span);
+            let child = fresh_child(alloc, &node.values, info, part)?;
             pass_child(alloc, entry.insert(child), part, rest, pending, span)
         }
     }
 }
 
-/// Places the pending value, beginning at the branch of an inner part.
+/// Calls `pass_pair` for a branch that was found in the map or added to it.
 #[cycle(place_pair)]
 fn pass_child<'de>(
     alloc: Global,
@@ -200,17 +207,18 @@ fn pass_child<'de>(
     rest: &[Key<'de>],
     pending: &mut Option<Pending<'de>>,
     span: Span,
-) -> Result<(), Halt>
+) -> Result<(), PlaceError>
     ensures places { (d : Pending) (v : Read) → pending.old ≡ Some d → ValueGives d.value v → span ≡ parsed_span v
         → PassesPair child.old.value child.new.value result part.now rest.now d v }
     ensures borrows { (text : List ℕ) → (d : Pending) → pending.old ≡ Some d → IfPairRight text rest.now d
         (KeepsName text part.now.span child.old.value child.new.value result) }
 {
-    // Toolchain: nothing is known of what `as_mut` leaves in a box that a map's entry lends. Of a parameter it is.
+    // Toolchain: the contract of `as_mut` says what it leaves in the box only if the box is a parameter, not if it is
+    // lent by an entry of a map.
     pass_pair(alloc, child.as_mut(), part, rest, pending, span)
 }
 
-/// Claims the branch of an inner part, and places the pending value below it.
+/// Claims the branch that the inner part `part` names, and places the pending value below it. Fails like `place_pair`.
 #[cycle(place_pair)]
 #[inline(always)]
 fn pass_pair<'de>(
@@ -220,7 +228,7 @@ fn pass_pair<'de>(
     rest: &[Key<'de>],
     pending: &mut Option<Pending<'de>>,
     span: Span,
-) -> Result<(), Halt>
+) -> Result<(), PlaceError>
     ensures places { (d : Pending) (v : Read) → pending.old ≡ Some d → ValueGives d.value v → span ≡ parsed_span v
         → PassesPair node.old node.new result part.now rest.now d v }
     ensures borrows { (text : List ℕ) → (d : Pending) → pending.old ≡ Some d → IfPairRight text rest.now d
@@ -228,20 +236,25 @@ fn pass_pair<'de>(
 {
     record_claim(
         alloc,
-        &mut node.marks,
-        pair_mark(Sort::Dotted, part, span),
+        &mut node.infos,
+        pair_info(ClaimKind::Dotted, part, span),
         part,
     )?;
     place_pair(alloc, node, rest, pending, span)
 }
 
-/// Places an assignment below a branch. Fails with the first clash, or if an allocation fails.
+/// Places one assignment below a branch. Fails with the first clash, or if an allocation fails.
 #[cycle(value_of)]
 #[inline(always)]
-fn place_one<'de>(alloc: Global, pair: Assignment<'de>, node: &mut Branch<'de>) -> Result<(), Halt>
-    ensures places { Places node.old node.new result (assignment_claims (key_value pair.entry) []) (counts node.old) }
+fn place_one<'de>(
+    alloc: Global,
+    pair: Assignment<'de>,
+    node: &mut Branch<'de>,
+) -> Result<(), PlaceError>
+    ensures places { Places node.old node.new result (assignment_claims (parsed_assignment pair.entry) [])
+        (counts node.old) }
     ensures borrows { (text : List ℕ) → AreWrittenRight text (assignment_written pair.entry)
-        → Keeps text node.old node.new result }
+        → KeepsBorrows text node.old node.new result }
 {
     let Assignment {
         parts: DottedKey { inner, last },
@@ -257,16 +270,16 @@ fn place_one<'de>(alloc: Global, pair: Assignment<'de>, node: &mut Branch<'de>) 
     place_pair(alloc, node, inner.as_slice(), &mut pending, span)
 }
 
-/// Places assignments below a branch. Fails with the first clash, or if an allocation fails.
+/// Places assignments below a branch, in order. Fails with the first clash, or if an allocation fails.
 #[cycle(value_of)]
 fn place_pairs<'de>(
     alloc: Global,
     pairs: Vec<Assignment<'de>>,
     node: &mut Branch<'de>,
-) -> Result<(), Halt>
+) -> Result<(), PlaceError>
     ensures places { Places node.old node.new result (claims_of pairs.entry.items) (counts node.old) }
     ensures borrows { (text : List ℕ) → AreWrittenRight text (assignments_written pairs.entry.items)
-        → Keeps text node.old node.new result }
+        → KeepsBorrows text node.old node.new result }
 {
     for pair in pairs {
         place_one(alloc, pair, node)?;
@@ -274,15 +287,16 @@ fn place_pairs<'de>(
     Ok(())
 }
 
-/// Places the assignments of a section below its branch. Fails with the first clash, or if an allocation fails.
+/// Places the assignments of a section below its branch, in order, and frees long lists on the way. Fails with the
+/// first clash, or if an allocation fails.
 pub(crate) fn place_all<'de>(
     alloc: Global,
     pairs: Vec<Assignment<'de>>,
     node: &mut Branch<'de>,
-) -> Result<(), Halt>
+) -> Result<(), PlaceError>
     ensures places { Places node.old node.new result (claims_of pairs.entry.items) (counts node.old) }
     ensures borrows { (text : List ℕ) → AreWrittenRight text (assignments_written pairs.entry.items)
-        → Keeps text node.old node.new result }
+        → KeepsBorrows text node.old node.new result }
 {
     if pairs.len() <= SHORT_LIST {
         return place_pairs(alloc, pairs, node);
@@ -293,9 +307,10 @@ pub(crate) fn place_all<'de>(
     Ok(())
 }
 
-/// Returns the table of an inline table's pairs. Fails with the first clash, or if an allocation fails.
+/// Returns the table that an inline table with these pairs defines. Fails with the first clash, or if an allocation
+/// fails.
 #[cycle(value_of)]
-fn table_of<'de>(alloc: Global, pairs: Vec<Assignment<'de>>) -> Result<Table<'de>, Halt>
+fn table_of<'de>(alloc: Global, pairs: Vec<Assignment<'de>>) -> Result<Table<'de>, PlaceError>
     ensures scope { ScopeGives result (λ t. inner_view (inners.Table t)) (claims_of pairs.entry.items) }
     ensures borrows { (text : List ℕ) → AreWrittenRight text (assignments_written pairs.entry.items)
         → IfOk result (λ table. AreBorrowedRight text (own_table table.entries)) }
@@ -305,11 +320,11 @@ fn table_of<'de>(alloc: Global, pairs: Vec<Assignment<'de>>) -> Result<Table<'de
     Ok(into_table(scope.tables, scope.values)?)
 }
 
-/// Returns the elements of an array as finished values. Fails with the first clash in one, or if an allocation fails.
+/// Converts the elements of an array. Fails with the first clash in one of them, or if an allocation fails.
 #[cycle(value_of)]
-fn array_of<'de>(alloc: Global, elements: Vec<Val<'de>>) -> Result<Array<'de>, Halt>
+fn array_of<'de>(alloc: Global, elements: Vec<Val<'de>>) -> Result<Array<'de>, PlaceError>
     ensures scope { ScopeGives result (λ xs. inner_view (inners.Array xs))
-        (item_claims (onto (map view elements.entry.items) no_items) 0 []) }
+        (item_claims (onto (map parsed_value elements.entry.items) no_items) 0 []) }
     ensures borrows { (text : List ℕ) → AreWrittenRight text (joined (map written elements.entry.items))
         → IfOk result (λ array. AreBorrowedRight text (own_elements array.items)) }
 {
@@ -320,11 +335,11 @@ fn array_of<'de>(alloc: Global, elements: Vec<Val<'de>>) -> Result<Array<'de>, H
     Ok(array)
 }
 
-/// Converts a value that was read into one of the tree. Fails with the first clash in it, or if an allocation fails.
+/// Converts a value, as it was read, into one of the tree. Fails with the first clash in it, or if an allocation fails.
 #[cycle(value_of)]
 #[inline(always)]
-fn value_of<'de>(alloc: Global, val: Val<'de>) -> Result<Value<'de>, Halt>
-    ensures value { ValueGives result (view val.entry) }
+fn value_of<'de>(alloc: Global, val: Val<'de>) -> Result<Value<'de>, PlaceError>
+    ensures value { ValueGives result (parsed_value val.entry) }
     ensures borrows { (text : List ℕ) → AreWrittenRight text (written val.entry) → ValueRight text result }
 {
     let Val { kind, span } = val;

@@ -1,22 +1,23 @@
-//! Places sections, one by one, into the tree under construction.
+//! Places sections, one after another, in the tree under construction.
 ghost use Rattle.std.specs.Prelude.{◌≡◌, ℕ, List, map, [], ◌∷◌, ◌++◌, IfOk, IfErr, IfSome, IsOk, IsOkAnd, None, OnOk};
 ghost use Rattle.toml_span_read.specs.Borrowed.{assignments_written, section_written, AreWrittenRight};
-ghost use Rattle.toml_span_read.specs.Data.{Block, block, simple_key as part_of};
-ghost use Rattle.toml_span_read.specs.code.Sections.{first_blocks};
-ghost use Rattle.toml_span.specs.code.Borrowed.{IfSectionRight, Keeps, KeepsName};
-ghost use Rattle.toml_span.specs.Borrowed.{first_key, held, AreBorrowedRight};
+ghost use Rattle.toml_span_read.specs.Data.{ParsedSection, parsed_section, simple_key as part_of};
+ghost use Rattle.toml_span_read.specs.code.Sections.{first_sections};
+ghost use Rattle.toml_span.specs.code.Borrowed.{IfSectionRight, KeepsBorrows, KeepsName};
+ghost use Rattle.toml_span.specs.Borrowed.{first_key, strings_and_keys, AreBorrowedRight};
 ghost use Rattle.toml_span.specs.Claims as claims;
-ghost use Rattle.toml_span.specs.code.Marks.{IsHaltInside};
+ghost use Rattle.toml_span.specs.code.ClaimInfos.{IsPlaceErrorInside};
 ghost use Rattle.toml_span.specs.code.Placing.{claims_of, AreSections, Assembles, Opening, Opens, Passes, PassesHeader};
 ghost use Rattle.toml_span.specs.code.Placing.{PassesTable, PlacesSection, Reaches};
 ghost use Rattle.toml_span.specs.code.Relative.{adding, ending, counts_after_adding, counts_after_end, opening};
-ghost use Rattle.toml_span.specs.code.Relative.{part_sort};
+ghost use Rattle.toml_span.specs.code.Relative.{part_kind};
 ghost use Rattle.toml_span.specs.code.Tree.{counts, IsHeld, IsOpen};
-ghost use Rattle.toml_span.specs.code.Growing.{GrownRight, Grows, IsBare, IsGrownInside, PlacesBlock};
+ghost use Rattle.toml_span.specs.code.Assembling.{AssemblyBorrows, IsAssemblyOf, IsBare, IsAssemblyInside};
+ghost use Rattle.toml_span.specs.code.Assembling.{PlacesAtRoot};
 ghost use Rattle.toml_span.specs.Parsing.{IsRoot};
 
 use crate::branch::{Branch, into_table};
-use crate::claims::{Clash, Halt, Head, Mark, Sort, record_claim};
+use crate::claims::{ClaimInfo, ClaimKind, Clash, HeaderInfo, PlaceError, record_claim};
 use crate::scopes::{fresh_child, place_all};
 use std::alloc::{AllocError, Global};
 use std::collections::btree_map::Entry;
@@ -26,45 +27,45 @@ use toml_span_lex::stop::Stop;
 use toml_span_read::{Assignment, Section};
 use toml_span_tree::{Value, ValueInner};
 
-/// Returns the claim of a part of a header.
-fn header_mark(head: Head, sort: Sort, key: &Key<'_>) -> Mark
-    ensures { result ≡ claims.header_mark head sort key.now.span }
+/// Returns the claim of this kind that a part of a header makes.
+fn part_info(head: HeaderInfo, kind: ClaimKind, key: &Key<'_>) -> ClaimInfo
+    ensures { result ≡ claims.part_info head kind key.now.span }
 {
-    Mark {
-        sort,
+    ClaimInfo {
+        kind,
         key: key.span,
         line: head.line,
         extent: head.extent,
     }
 }
 
-/// Returns the sort of claim of a header's part that the parts `rest` follow.
-fn sort_of(head: Head, rest: &[Key<'_>]) -> Sort
-    ensures { result ≡ part_sort head (map part_of rest.now) }
+/// Returns the kind of claim that a part of a header makes. `rest` are the parts after it.
+fn claim_kind(head: HeaderInfo, rest: &[Key<'_>]) -> ClaimKind
+    ensures { result ≡ part_kind head (map part_of rest.now) }
 {
     if !rest.is_empty() {
-        Sort::Passed
+        ClaimKind::Passed
     } else if head.array {
-        Sort::ArrayOfTables
+        ClaimKind::ArrayOfTables
     } else {
-        Sort::StandardTable
+        ClaimKind::StandardTable
     }
 }
 
-/// Places a section below a branch, one part of its header after another. Fails with the first clash, or if an
-/// allocation fails.
+/// Places a section at the end of the path of `parts`, the rest of its header, which begins at this branch. Fails with
+/// the first clash, or if an allocation fails.
 #[cycle(place_section)]
 #[inline(always)]
 fn place_section<'de>(
     alloc: Global,
     node: &mut Branch<'de>,
     parts: &[Key<'de>],
-    head: Head,
+    head: HeaderInfo,
     pairs: Vec<Assignment<'de>>,
-) -> Result<(), Halt>
+) -> Result<(), PlaceError>
     ensures places { PlacesSection node.old node.new result head parts.now pairs.entry.items }
     ensures borrows { (text : List ℕ) → IfSectionRight text parts.now pairs.entry.items
-        (Keeps text node.old node.new result) }
+        (KeepsBorrows text node.old node.new result) }
 {
     let [part, rest @ ..] = parts else {
         return place_all(alloc, pairs, node);
@@ -72,23 +73,23 @@ fn place_section<'de>(
     match node.tables.entry(part.clone(alloc)?)? {
         Entry::Occupied(entry) => pass_child(alloc, entry.into_mut(), part, rest, head, pairs),
         Entry::Vacant(entry) => {
-            let mark = header_mark(head, sort_of(head, rest), part);
-            let child = fresh_child(alloc, &node.values, mark, part)?;
+            let info = part_info(head, claim_kind(head, rest), part);
+            let child = fresh_child(alloc, &node.values, info, part)?;
             pass_child(alloc, entry.insert(child), part, rest, head, pairs)
         }
     }
 }
 
-/// Places a section, beginning at the branch of a part of its header.
+/// Calls `pass_header` for a branch that was found in the map or added to it.
 #[cycle(place_section)]
 fn pass_child<'de>(
     alloc: Global,
     child: &mut Box<Branch<'de>>,
     part: &Key<'de>,
     rest: &[Key<'de>],
-    head: Head,
+    head: HeaderInfo,
     pairs: Vec<Assignment<'de>>,
-) -> Result<(), Halt>
+) -> Result<(), PlaceError>
     ensures places { PassesHeader child.old.value child.new.value result head part.now rest.now pairs.entry.items }
     ensures borrows { (text : List ℕ) → IfSectionRight text rest.now pairs.entry.items
         (KeepsName text part.now.span child.old.value child.new.value result) }
@@ -96,8 +97,8 @@ fn pass_child<'de>(
     pass_header(alloc, child.as_mut(), part, rest, head, pairs)
 }
 
-/// Places a section, beginning at the branch of a part of its header. A part that is not the last one leads into the
-/// latest element of an array of tables (TOML 1.1, Array of Tables).
+/// Places a section, given the branch that `part` of its header names. If more parts follow and the branch is an array
+/// of tables, the path goes on in its latest element (TOML 1.1, Array of Tables). Fails like `place_section`.
 #[cycle(place_section)]
 #[inline(always)]
 fn pass_header<'de>(
@@ -105,9 +106,9 @@ fn pass_header<'de>(
     node: &mut Branch<'de>,
     part: &Key<'de>,
     rest: &[Key<'de>],
-    head: Head,
+    head: HeaderInfo,
     pairs: Vec<Assignment<'de>>,
-) -> Result<(), Halt>
+) -> Result<(), PlaceError>
     ensures places { PassesHeader node.old node.new result head part.now rest.now pairs.entry.items }
     ensures borrows { (text : List ℕ) → IfSectionRight text rest.now pairs.entry.items
         (KeepsName text part.now.span node.old node.new result) }
@@ -121,96 +122,110 @@ fn pass_header<'de>(
     }
 }
 
-/// Claims a branch through which the header passes, and places the section below it.
+/// Claims a branch that the header passes through, and places the section below it. Fails like `place_section`.
 #[cycle(place_section)]
 fn descend<'de>(
     alloc: Global,
     node: &mut Branch<'de>,
     part: &Key<'de>,
     rest: &[Key<'de>],
-    head: Head,
+    head: HeaderInfo,
     pairs: Vec<Assignment<'de>>,
-) -> Result<(), Halt>
+) -> Result<(), PlaceError>
     ensures places { PassesTable node.old node.new result head part.now rest.now pairs.entry.items }
     ensures borrows { (text : List ℕ) → IfSectionRight text rest.now pairs.entry.items
         (KeepsName text part.now.span node.old node.new result) }
 {
     record_claim(
         alloc,
-        &mut node.marks,
-        header_mark(head, Sort::Passed, part),
+        &mut node.infos,
+        part_info(head, ClaimKind::Passed, part),
         part,
     )?;
     place_section(alloc, node, rest, head, pairs)
 }
 
-/// Claims a branch for a section or an element, and places the assignments below it.
+/// Makes a claim of this kind on a branch, and places the assignments in it. Fails with the first clash, or if an
+/// allocation fails.
 #[inline(always)]
 fn open_table<'de>(
     alloc: Global,
     node: &mut Branch<'de>,
-    sort: Sort,
+    kind: ClaimKind,
     part: &Key<'de>,
-    head: Head,
+    head: HeaderInfo,
     pairs: Vec<Assignment<'de>>,
-) -> Result<(), Halt>
-    ensures places { Opening (Opens sort) (claims.header_mark head sort part.now.span) node.old node.new result
-        (opening head sort (part_of part.now) (claims_of pairs.entry.items)) (counts node.old) }
+) -> Result<(), PlaceError>
+    ensures places { Opening (Opens kind) (claims.part_info head kind part.now.span) node.old node.new result
+        (opening head kind (part_of part.now) (claims_of pairs.entry.items)) (counts node.old) }
     ensures borrows { (text : List ℕ) → AreWrittenRight text (assignments_written pairs.entry.items)
         → KeepsName text part.now.span node.old node.new result }
 {
-    record_claim(alloc, &mut node.marks, header_mark(head, sort, part), part)?;
+    record_claim(alloc, &mut node.infos, part_info(head, kind, part), part)?;
     place_all(alloc, pairs, node)
 }
 
-/// Appends an element to an array of tables.
+/// Appends an element with these assignments to the array of tables `node`. Fails with the first clash, or if an
+/// allocation fails.
 fn add_entry<'de>(
     alloc: Global,
     node: &mut Branch<'de>,
     part: &Key<'de>,
-    head: Head,
+    head: HeaderInfo,
     pairs: Vec<Assignment<'de>>,
-) -> Result<(), Halt>
+) -> Result<(), PlaceError>
     ensures places { Reaches IsOpen IsHeld node.old node.new result (adding head (part_of part.now)
         (claims_of pairs.entry.items) (counts node.old [])) (counts_after_adding (counts node.old)) }
     ensures borrows { (text : List ℕ) → AreWrittenRight text (assignments_written pairs.entry.items)
-        → Keeps text node.old node.new result }
+        → KeepsBorrows text node.old node.new result }
 {
     let mut entry = Branch::new(alloc);
-    open_table(alloc, &mut entry, Sort::TableElement, part, head, pairs)?;
+    open_table(
+        alloc,
+        &mut entry,
+        ClaimKind::TableElement,
+        part,
+        head,
+        pairs,
+    )?;
     node.entries.push(entry)?;
     Ok(())
 }
 
-/// Claims the branch at the end of a header, and places the assignments below it.
+/// Claims the branch that the last part of a header names, as a table or as an array of tables, and places the
+/// assignments in it or in a new element. Fails with the first clash, or if an allocation fails.
 #[inline(never)]
 fn end_header<'de>(
     alloc: Global,
     node: &mut Branch<'de>,
     part: &Key<'de>,
-    head: Head,
+    head: HeaderInfo,
     pairs: Vec<Assignment<'de>>,
-) -> Result<(), Halt>
+) -> Result<(), PlaceError>
     ensures places { Passes node.old node.new result (ending head (part_of part.now) (claims_of pairs.entry.items)
         (counts node.old [])) (counts_after_end (counts node.old) head) }
     ensures borrows { (text : List ℕ) → AreWrittenRight text (assignments_written pairs.entry.items)
         → KeepsName text part.now.span node.old node.new result }
 {
     if !head.array {
-        return open_table(alloc, node, Sort::StandardTable, part, head, pairs);
+        return open_table(alloc, node, ClaimKind::StandardTable, part, head, pairs);
     }
     if node.entries.is_empty() {
-        let mark = header_mark(head, Sort::ArrayOfTables, part);
-        record_claim(alloc, &mut node.marks, mark, part)?;
+        let info = part_info(head, ClaimKind::ArrayOfTables, part);
+        record_claim(alloc, &mut node.infos, info, part)?;
     }
     add_entry(alloc, node, part, head, pairs)
 }
 
-/// Places a section below the root of a tree.
-fn place<'de>(alloc: Global, root: &mut Branch<'de>, section: Section<'de>) -> Result<(), Halt>
-    ensures places { PlacesBlock (block section.entry) root.old root.new result }
+/// Places a section below the root of a tree. Fails with the first clash, or if an allocation fails.
+fn place<'de>(
+    alloc: Global,
+    root: &mut Branch<'de>,
+    section: Section<'de>,
+) -> Result<(), PlaceError>
+    ensures places { PlacesAtRoot (parsed_section section.entry) root.old root.new result }
     ensures borrows { (text : List ℕ) → AreWrittenRight text (section_written section.entry)
-        → Keeps text root.old root.new result }
+        → KeepsBorrows text root.old root.new result }
 {
     let Section {
         header,
@@ -219,7 +234,7 @@ fn place<'de>(alloc: Global, root: &mut Branch<'de>, section: Section<'de>) -> R
         extent,
         assignments,
     } = section;
-    let head = Head {
+    let head = HeaderInfo {
         array,
         line,
         extent,
@@ -229,19 +244,19 @@ fn place<'de>(alloc: Global, root: &mut Branch<'de>, section: Section<'de>) -> R
 
 /// The tree of the sections read so far, or their first clash.
 #[derive(Drop)]
-pub(crate) struct Grown<'de> {
-    /// Their tree, unless two clash.
+pub(crate) struct Assembly<'de> {
+    /// The tree, if nothing clashes.
     root: Branch<'de>,
-    /// Their first clash.
+    /// The first clash.
     clash: Option<Box<Clash>>,
 }
 
-impl<'de> Grown<'de> {
-    /// Returns the tree of no sections.
+impl<'de> Assembly<'de> {
+    /// Returns an assembly without sections.
     pub(crate) fn new(alloc: Global) -> Self
-        ensures grows { Grows [] result }
-        ensures inside { (n : ℕ) → IsGrownInside n result }
-        ensures borrows { (text : List ℕ) → GrownRight text result }
+        ensures assembles { IsAssemblyOf [] result }
+        ensures inside { (n : ℕ) → IsAssemblyInside n result }
+        ensures borrows { (text : List ℕ) → AssemblyBorrows text result }
         ensures bare { IsBare result }
     {
         Self {
@@ -251,61 +266,67 @@ impl<'de> Grown<'de> {
     }
 }
 
-/// Places another section, unless two have already clashed. Fails if an allocation fails.
-pub(crate) fn grow<'de>(
+/// Places the next section, or drops it if there is a clash already. A clash is kept in the assembly. Fails only if an
+/// allocation fails.
+pub(crate) fn add_section<'de>(
     alloc: Global,
-    grown: &mut Grown<'de>,
+    assembly: &mut Assembly<'de>,
     section: Section<'de>,
 ) -> Result<(), AllocError>
-    ensures grows { (bs : List Block) → AreSections (block section.entry ∷ []) → Grows bs grown.old
-        → OnOk result (Grows (bs ++ (block section.entry ∷ [])) grown.new) }
+    ensures assembles { (bs : List ParsedSection) → AreSections (parsed_section section.entry ∷ [])
+        → IsAssemblyOf bs assembly.old
+        → OnOk result (IsAssemblyOf (bs ++ (parsed_section section.entry ∷ [])) assembly.new) }
     ensures borrows { (text : List ℕ) → AreWrittenRight text (section_written section.entry)
-        → GrownRight text grown.old → OnOk result (GrownRight text grown.new) }
+        → AssemblyBorrows text assembly.old → OnOk result (AssemblyBorrows text assembly.new) }
 {
-    if grown.clash.is_some() {
+    if assembly.clash.is_some() {
         drop(section);
         return Ok(());
     }
-    match place(alloc, &mut grown.root, section) {
+    match place(alloc, &mut assembly.root, section) {
         Ok(()) => Ok(()),
         Err(Stop::Fault(clash)) => {
-            grown.clash = Some(clash);
+            assembly.clash = Some(clash);
             Ok(())
         }
         Err(Stop::Memory(error)) => Err(error),
     }
 }
 
-/// Returns the tree of the section before the first header, if there is one. Fails if an allocation fails.
+/// Returns the assembly of the section before the first header, or an empty one if there is no such section. Fails if
+/// an allocation fails.
 pub(crate) fn begin<'de>(
     alloc: Global,
     first: Option<Section<'de>>,
-) -> Result<Grown<'de>, AllocError>
-    ensures grows { AreSections (first_blocks first.entry) → IfOk result (Grows (first_blocks first.entry)) }
+) -> Result<Assembly<'de>, AllocError>
+    ensures assembles { AreSections (first_sections first.entry)
+        → IfOk result (IsAssemblyOf (first_sections first.entry)) }
     ensures borrows { (text : List ℕ) → IfSome first.entry (λ section. AreWrittenRight text (section_written section))
-        → IfOk result (GrownRight text) }
+        → IfOk result (AssemblyBorrows text) }
     ensures bare { first.entry ≡ None → IsOkAnd result IsBare }
 {
-    let mut grown = Grown::new(alloc);
+    let mut assembly = Assembly::new(alloc);
     match first {
         Some(section) => {
-            grow(alloc, &mut grown, section)?;
-            Ok(grown)
+            add_section(alloc, &mut assembly, section)?;
+            Ok(assembly)
         }
-        None => Ok(grown),
+        None => Ok(assembly),
     }
 }
 
-/// Returns the tree of a document, which is `length` bytes long. Fails with its first clash, or if an allocation fails.
-pub(crate) fn finish<'de>(grown: Grown<'de>, length: usize) -> Result<Value<'de>, Halt>
-    ensures assembles { (bs : List Block) → Grows bs grown.entry → Assembles bs length result }
+/// Returns the finished root, which spans 0..`length`, the length of the document in bytes. Fails with the first clash,
+/// or if an allocation fails.
+pub(crate) fn finish<'de>(assembly: Assembly<'de>, length: usize) -> Result<Value<'de>, PlaceError>
+    ensures assembles { (bs : List ParsedSection) → IsAssemblyOf bs assembly.entry → Assembles bs length result }
     ensures root { IfOk result (IsRoot length) }
-    ensures placed { (n : ℕ) → IsGrownInside n grown.entry → IfErr result (IsHaltInside n) }
-    ensures borrows { (text : List ℕ) (bs : List Block) → Grows bs grown.entry → GrownRight text grown.entry
-        → IfOk result (λ root. AreBorrowedRight text (held root (first_key (claims.claims bs)))) }
-    ensures bare { IsBare grown.entry → IsOk result }
+    ensures placed { (n : ℕ) → IsAssemblyInside n assembly.entry → IfErr result (IsPlaceErrorInside n) }
+    ensures borrows { (text : List ℕ) (bs : List ParsedSection) → IsAssemblyOf bs assembly.entry
+        → AssemblyBorrows text assembly.entry
+        → IfOk result (λ root. AreBorrowedRight text (strings_and_keys root (first_key (claims.claims bs)))) }
+    ensures bare { IsBare assembly.entry → IsOk result }
 {
-    let Grown { root, clash } = grown;
+    let Assembly { root, clash } = assembly;
     match clash {
         Some(clash) => {
             drop(root);

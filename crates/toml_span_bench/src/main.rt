@@ -1,8 +1,8 @@
 //! Measures how fast a document is parsed.
 //!
-//! `toml_span_bench FILE N` parses FILE N times, or for about a second if N is 0, drops the tree each time, and prints
-//! one line with the best and the mean time of a pass in nanoseconds. `toml_span_bench tokens FILE N` only reads the
-//! tokens.
+//! `toml_span_bench FILE N` parses FILE N times, or for about a second if N is 0, and drops the tree each time. It
+//! prints one line with the shortest and the mean time of a pass in nanoseconds. `toml_span_bench tokens FILE N` only
+//! splits FILE into tokens.
 #![tactic(auto)]
 
 use std::alloc::Global;
@@ -12,7 +12,7 @@ use std::{env, fs, io};
 use toml_span::parse;
 use toml_span::tokens::Tokenizer;
 
-/// About how long to measure if no number of passes is given, in nanoseconds.
+/// How long to measure, in nanoseconds, if no number of passes is given.
 const SECOND: u128 = 1_000_000_000;
 
 /// The usage message.
@@ -21,7 +21,7 @@ const USAGE: &str = "usage: toml_span_bench FILE N
 Parses FILE N times, or for about a second where N is 0, and prints the best and the mean
 time of a pass in nanoseconds. The second form goes through the tokens alone.";
 
-/// Parses a text once, or reads its tokens. Returns whether there was no error.
+/// Parses a text once or, with `in_tokens`, splits it into tokens. Returns whether that succeeded.
 fn is_read(alloc: Global, text: &str, in_tokens: bool) -> bool {
     if !in_tokens {
         return parse(alloc, text).is_ok();
@@ -37,8 +37,8 @@ fn is_read(alloc: Global, text: &str, in_tokens: bool) -> bool {
     false
 }
 
-/// Parses a text, or reads its tokens, `passes` times, or for about a second if that is 0, and prints the line for its
-/// file.
+/// Parses a text `passes` times, or for about a second if that is 0, and prints the line for the file. With
+/// `in_tokens`, only splits it into tokens.
 fn measure(
     rt: &HostRuntime,
     file: &str,

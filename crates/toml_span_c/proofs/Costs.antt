@@ -5,7 +5,7 @@ use Rattle.toml_span_tree.specs.Node.{Node, node, Inner, taken, scalar, array, t
 use Rattle.toml_span_tree.specs.Path.{Path, Step, key, position, Shape, shape_table, shape_of, Place, place_of, at_step, reached}
 use Rattle.toml_span_tree.specs.Value.{view}
 use Rattle.toml_span_tree.specs.declared.value.Value.{Value}
-use Rattle.toml_span_read.specs.Data.{Block}
+use Rattle.toml_span_read.specs.Data.{ParsedSection}
 use Rattle.toml_span.specs.Claims.{Claim, Claims, no_claims, claimed, scope, claims}
 use Rattle.toml_span.specs.Flat.{flat, all_claims}
 use Rattle.toml_span.specs.Ordered.{IsOrdered, HoldsOrdered, AreOrdered, MembersOrdered}
@@ -131,7 +131,7 @@ each-priced c (scope inner cs) ps f = (
 )
 
 -- a document's tree costs no more than its root and its claims
-pub tree-few : (c : Cost) (bs : List Block) (size : ℕ) (root : Value) → IsTreeOf bs size root → node_cost c (view root) ≤ c.shape shape_table + claims_cost c (claims bs)
+pub tree-few : (c : Cost) (bs : List ParsedSection) (size : ℕ) (root : Value) → IsTreeOf bs size root → node_cost c (view root) ≤ c.shape shape_table + claims_cost c (claims bs)
 unfolding flat
 tree-few c bs size root made =
     let cs = claims bs in

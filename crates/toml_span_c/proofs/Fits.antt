@@ -3,14 +3,14 @@ use Rattle.toml_span_lex.proofs.Common.{◌≡◌, ◌≤◌, ◌<◌, ◌+◌, 
 use Rattle.toml_span_lex.specs.declared.span.Span.{Span}
 use Rattle.toml_span_tree.specs.Node.{Scalar}
 use Rattle.toml_span_tree.specs.Path.{Path, Step, key, position, shape_scalar, shape_array, shape_table, Place}
-use Rattle.toml_span_read.specs.Data.{ParsedValue, parsed, scalar, array, inline, ParsedItems, no_items, item, ParsedPairs, no_pairs, pair, KeyValue, Block, first_block, SimpleKey}
-use Rattle.toml_span_read.specs.Grammar.{SpellsScalar, Spells, OpensHeader, ClosesHeader, SpellsHeader, SpellsDocument, ItemsWith, PairsWith, KeyValuesWith, SectionsWith}
+use Rattle.toml_span_read.specs.Data.{ParsedValue, parsed, scalar, array, inline, ParsedItems, no_items, item, ParsedPairs, no_pairs, pair, ParsedAssignment, ParsedSection, headerless_section, SimpleKey}
+use Rattle.toml_span_read.specs.Grammar.{SpellsScalar, Spells, OpensHeader, ClosesHeader, SpellsHeader, SpellsDocument, ItemsWith, PairsWith, AssignmentsWith, SectionsWith}
 use Rattle.toml_span_read.specs.Keys.{SpellsSimpleKey, Onward, SpellsKey}
 use Rattle.toml_span_read.proofs.InsideLemmas.{tail_inside}
 use Rattle.toml_span_read.proofs.SpanLaws.{value_lies}
-use Rattle.toml_span.specs.declared.claims.Head.{Head}
-use Rattle.toml_span.specs.declared.claims.Sort.TheVariants.{Passed, TableElement}
-use Rattle.toml_span.specs.Claims.{Claim, Claims, no_claims, claimed, scope, followed, value_shape, parsed_inner, key_claims, value_claims, inner_claims, item_claims, pair_claims, key_value_claims, element, assigned, dotted, header_claim, array_claims, end_claims, header_claims, section_claims, claims_behind, claims}
+use Rattle.toml_span.specs.declared.claims.HeaderInfo.{HeaderInfo}
+use Rattle.toml_span.specs.declared.claims.ClaimKind.TheVariants.{Passed, TableElement}
+use Rattle.toml_span.specs.Claims.{Claim, Claims, no_claims, claimed, scope, followed, value_shape, parsed_inner, key_claims, value_claims, inner_claims, item_claims, pair_claims, assignments_claims, element, assigned, dotted, header_claim, array_claims, end_claims, header_claims, section_claims, claims_after, claims}
 use Rattle.toml_span.specs.Flat.{all_claims}
 use Rattle.toml_span.specs.Paths.{with_key, with_position, enter, elements_added, opened_by}
 use Rattle.toml_span_c.proofs.Paths.{total}
@@ -65,7 +65,7 @@ module _ (f : Fair) where
   forth : (i j : ℕ) → i ≤ j → f.room i ≤ f.room j
   forth i j l = elim (cases_lt i j) [
     | inl before ↦ omega (arith, f.grows i j before)
-    | inr behind ↦ let same : i ≡ j = omega (arith, l, behind) in rw same (omega arith)
+    | inr beyond ↦ let same : i ≡ j = omega (arith, l, beyond) in rw same (omega arith)
   ]
 
   -- ---- keys
@@ -73,7 +73,7 @@ module _ (f : Fair) where
   onward-fits : (ks : List SimpleKey) (text : List ℕ) (m j : ℕ) → Onward ks text m j → f.room m + key_cost ks ≤ f.room j
   onward-fits [] text m j h = rw h.0 (omega arith)
   onward-fits (k ∷ ks) text m j (a, b, d, here, rest) =
-      omega (arith, forth m a (omega (arith, d.before.forward, d.behind.forward)), f.names k text a b here, onward-fits ks text b j rest)
+      omega (arith, forth m a (omega (arith, d.before.forward, d.after.forward)), f.names k text a b here, onward-fits ks text b j rest)
 
   key-fits : (ks : List SimpleKey) (text : List ℕ) (i j : ℕ) → SpellsKey ks text i j → f.room i + key_cost ks ≤ f.room j
   key-fits [] text i j h = absurd h
@@ -140,50 +140,50 @@ module _ (f : Fair) where
     items-fit : (vs : ParsedItems) (n : ℕ) (q : Path) (text : List ℕ) (limit d i j : ℕ) → ItemsWith SpellsScalar vs text limit d i j → f.room i + spent (item_claims vs n q) ≤ f.room j
     items-fit no_items n q text limit d i j h = omega (arith, forth i j (omega (arith, h.1)), spent-none)
     items-fit (item v vs) n q text limit d i j (m, h, tail) =
-        let behind : (f.room m + f.byte) + spent (item_claims vs (suc n) q) ≤ f.room j = elim tail [
+        let beyond : (f.room m + f.byte) + spent (item_claims vs (suc n) q) ≤ f.room j = elim tail [
           | inl (e, close) ↦ omega (arith, ap (λ l. spent (item_claims l (suc n) q)) e, spent-none, f.grows m j (omega (arith, close.before.forward, close.ends)))
-          | inr (p, sign, rest) ↦ omega (arith, f.grows m p (omega (arith, sign.before.forward, sign.behind.forward)), items-fit vs (suc n) q text limit d p j rest)
+          | inr (p, sign, rest) ↦ omega (arith, f.grows m p (omega (arith, sign.before.forward, sign.after.forward)), items-fit vs (suc n) q text limit d p j rest)
         ] in
-        omega (arith, element-spends v n q (item_claims vs (suc n) q), value-fits v (with_position q n) text limit d i m h, behind)
+        omega (arith, element-spends v n q (item_claims vs (suc n) q), value-fits v (with_position q n) text limit d i m h, beyond)
 
-    pairs-fit : (ps : ParsedPairs) (es : List KeyValue) (q : Path) (text : List ℕ) (limit d i j : ℕ) → PairsWith SpellsScalar ps es text limit d i j → f.room i + spent (pair_claims ps q) ≤ f.room j
+    pairs-fit : (ps : ParsedPairs) (es : List ParsedAssignment) (q : Path) (text : List ℕ) (limit d i j : ℕ) → PairsWith SpellsScalar ps es text limit d i j → f.room i + spent (pair_claims ps q) ≤ f.room j
     pairs-fit no_pairs es q text limit d i j h = omega (arith, forth i j (omega (arith, h.1)), spent-none)
     pairs-fit (pair ss v x ps) es q text limit d i j (m, (a, b, own_key, few, sign, h, extent), clear, tail) =
-        let behind : f.room m + spent (pair_claims ps q) ≤ f.room j = elim tail [
+        let beyond : f.room m + spent (pair_claims ps q) ≤ f.room j = elim tail [
           | inl (e, close) ↦ omega (arith, ap (λ l. spent (pair_claims l q)) e, spent-none, forth m j (omega (arith, close.before.forward, close.ends)))
           | inr (p, comma, rest) ↦
               omega (
                 arith,
-                forth m p (omega (arith, comma.before.forward, comma.behind.forward)),
+                forth m p (omega (arith, comma.before.forward, comma.after.forward)),
                 pairs-fit ps (es ++ (record { parts = ss; value = v; extent = x } ∷ [])) q text limit d p j rest,
               )
         ] in
-        let own = own-fits q ss v text i a b m own_key (omega (arith, sign.before.forward, sign.behind.forward)) (λ r. value-fits v r text limit (d + length ss) b m h) in
-        omega (arith, spent-followed (key_claims q ss v (value_claims v)) (pair_claims ps q), own, behind)
+        let own = own-fits q ss v text i a b m own_key (omega (arith, sign.before.forward, sign.after.forward)) (λ r. value-fits v r text limit (d + length ss) b m h) in
+        omega (arith, spent-followed (key_claims q ss v (value_claims v)) (pair_claims ps q), own, beyond)
 
   -- ---- lines
 
-  key_values-fit : (es before : List KeyValue) (q : Path) (text : List ℕ) (limit i j : ℕ) → KeyValuesWith SpellsScalar es before text limit i j → f.room i + spent (key_value_claims es q) ≤ f.room j
-  unfolding key_value_claims
-  key_values-fit [] before q text limit i j h = omega (arith, forth i j (omega (arith, h)), spent-none)
-  key_values-fit (e ∷ es) before q text limit i j (m, n, k, h, tail, clear, gap, rest) =
+  assignments-fit : (es before : List ParsedAssignment) (q : Path) (text : List ℕ) (limit i j : ℕ) → AssignmentsWith SpellsScalar es before text limit i j → f.room i + spent (assignments_claims es q) ≤ f.room j
+  unfolding assignments_claims
+  assignments-fit [] before q text limit i j h = omega (arith, forth i j (omega (arith, h)), spent-none)
+  assignments-fit (e ∷ es) before q text limit i j (m, n, k, h, tail, clear, gap, rest) =
       let v = e.value in
-      let sign : h.key_end < h.from = omega (arith, h.sign.before.forward, h.sign.behind.forward) in
+      let sign : h.key_end < h.from = omega (arith, h.sign.before.forward, h.sign.after.forward) in
       let own = own-fits q e.parts v text i h.key_end h.from m h.key sign (λ r. value-fits v r text limit (length e.parts) h.from m h.spelled) in
       let on = forth m k (omega (arith, (tail_inside text m n tail).0, gap.forward)) in
-      omega (arith, spent-followed (key_claims q e.parts v (value_claims v)) (key_value_claims es q), own, on, key_values-fit es (before ++ (e ∷ [])) q text limit k j rest)
+      omega (arith, spent-followed (key_claims q e.parts v (value_claims v)) (assignments_claims es q), own, on, assignments-fit es (before ++ (e ∷ [])) q text limit k j rest)
 
   -- ---- sections
 
-  array-spends : (h : Head) (q : Path) (k : SimpleKey) (n : ℕ)
+  array-spends : (h : HeaderInfo) (q : Path) (k : SimpleKey) (n : ℕ)
       → spent (array_claims h (with_key q k) k n (claimed (header_claim h TableElement (with_position (with_key q k) n) k) no_claims)) ≤ f.cost.name k.name + f.byte
   array-spends h q k n = grind (arith, nat_tests, common_steps, f.tables, last-cost, spent-claimed, spent-none)
 
-  end-spends : (h : Head) (q : Path) (k : SimpleKey) (n : ℕ) → spent (end_claims h (with_key q k) k n) ≤ f.cost.name k.name + f.byte
+  end-spends : (h : HeaderInfo) (q : Path) (k : SimpleKey) (n : ℕ) → spent (end_claims h (with_key q k) k n) ≤ f.cost.name k.name + f.byte
   unfolding end_claims
   end-spends h q k n = grind (arith, nat_tests, common_steps, f.tables, array-spends, last-cost, spent-claimed, spent-none)
 
-  header-spends : (e : Path → ℕ) (h : Head) (q : Path) (ks : List SimpleKey) → spent (header_claims e h q ks) ≤ key_cost ks
+  header-spends : (e : Path → ℕ) (h : HeaderInfo) (q : Path) (ks : List SimpleKey) → spent (header_claims e h q ks) ≤ key_cost ks
   unfolding header_claims
   header-spends e h q [] = omega (arith, spent-none)
   header-spends e h q (k ∷ []) = omega (arith, end-spends h q k (e (with_key q k)))
@@ -200,21 +200,21 @@ module _ (f : Fair) where
         arith,
         forth i front.start (omega (arith, opens-forward a text i front.inside front.opens, front.before.forward)),
         key-fits ks text front.start front.end front.key,
-        forth front.end j (omega (arith, front.behind.forward, closes-forward a text h.close h.end h.shuts, (tail_inside text h.end j h.rest).0)),
+        forth front.end j (omega (arith, front.after.forward, closes-forward a text h.close h.end h.shuts, (tail_inside text h.end j h.rest).0)),
       )
 
-  section-fits : (e : Path → ℕ) (b : Block) (text : List ℕ) (limit k j : ℕ) → KeyValuesWith SpellsScalar b.key_values [] text limit k j → f.room k + spent (section_claims e b) ≤ f.room j + key_cost b.header
+  section-fits : (e : Path → ℕ) (b : ParsedSection) (text : List ℕ) (limit k j : ℕ) → AssignmentsWith SpellsScalar b.assignments [] text limit k j → f.room k + spent (section_claims e b) ≤ f.room j + key_cost b.header
   unfolding section_claims
-  section-fits e b text limit k j h = grind (arith, nat_tests, common_steps, header-spends, key_values-fit, spent-followed)
+  section-fits e b text limit k j h = grind (arith, nat_tests, common_steps, header-spends, assignments-fit, spent-followed)
 
-  sections-fit : (earlier bs : List Block) (text : List ℕ) (limit i : ℕ) → SectionsWith SpellsScalar bs text limit i → f.room i + spent (claims_behind earlier bs) ≤ f.room (length text)
-  unfolding claims_behind
+  sections-fit : (earlier bs : List ParsedSection) (text : List ℕ) (limit i : ℕ) → SectionsWith SpellsScalar bs text limit i → f.room i + spent (claims_after earlier bs) ≤ f.room (length text)
+  unfolding claims_after
   sections-fit earlier [] text limit i h = omega (arith, forth i (length text) (omega (arith, h)), spent-none)
   sections-fit earlier (b ∷ bs) text limit i (j, s, rest) =
       let e = elements_added (opened_by earlier) in
       omega (
         arith,
-        spent-followed (section_claims e b) (claims_behind (b ∷ earlier) bs),
+        spent-followed (section_claims e b) (claims_after (b ∷ earlier) bs),
         header-fits b.header b.array text limit i s.end s.header,
         forth s.end s.lines.0 s.lines.1.forward,
         section-fits e b text limit s.lines.0 j s.lines.2,
@@ -222,17 +222,17 @@ module _ (f : Fair) where
       )
 
   -- a first section without a header, and those after it
-  headless-fit : (b : Block) (bs : List Block) (text : List ℕ) (limit i j : ℕ) → b.header ≡ [] → KeyValuesWith SpellsScalar b.key_values [] text limit i j → SectionsWith SpellsScalar bs text limit j
+  headless-fit : (b : ParsedSection) (bs : List ParsedSection) (text : List ℕ) (limit i j : ℕ) → b.header ≡ [] → AssignmentsWith SpellsScalar b.assignments [] text limit i j → SectionsWith SpellsScalar bs text limit j
       → f.room i + spent (claims (b ∷ bs)) ≤ f.room (length text)
-  unfolding claims_behind
+  unfolding claims_after
   headless-fit b bs text limit i j none h rest =
       let e = elements_added (opened_by []) in
-      omega (arith, ap key_cost none, spent-followed (section_claims e b) (claims_behind (b ∷ []) bs), section-fits e b text limit i j h, sections-fit (b ∷ []) bs text limit j rest)
+      omega (arith, ap key_cost none, spent-followed (section_claims e b) (claims_after (b ∷ []) bs), section-fits e b text limit i j h, sections-fit (b ∷ []) bs text limit j rest)
 
-  first-fits : (es : List KeyValue) (bs : List Block) (text : List ℕ) (limit i j : ℕ) → KeyValuesWith SpellsScalar es [] text limit i j → SectionsWith SpellsScalar bs text limit j
-      → f.room i + spent (claims (first_block es ++ bs)) ≤ f.room (length text)
+  first-fits : (es : List ParsedAssignment) (bs : List ParsedSection) (text : List ℕ) (limit i j : ℕ) → AssignmentsWith SpellsScalar es [] text limit i j → SectionsWith SpellsScalar bs text limit j
+      → f.room i + spent (claims (headerless_section es ++ bs)) ≤ f.room (length text)
   first-fits [] bs text limit i j h rest = omega (arith, forth i j (omega (arith, h)), sections-fit [] bs text limit j rest)
   first-fits (e ∷ es) bs text limit i j h rest = headless-fit _ bs text limit i j refl h rest
 
-  pub claims-fit : (bs : List Block) (text : List ℕ) (limit : ℕ) → SpellsDocument bs text limit → claims_cost f.cost (claims bs) ≤ f.room (length text)
+  pub claims-fit : (bs : List ParsedSection) (text : List ℕ) (limit : ℕ) → SpellsDocument bs text limit → claims_cost f.cost (claims bs) ≤ f.room (length text)
   claims-fit bs text limit x = rw x.all (omega (arith, first-fits x.first x.rest text limit x.lines.0 x.end x.lines.2 x.sections))

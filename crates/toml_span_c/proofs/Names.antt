@@ -1,10 +1,10 @@
 -- The numbers of kinds have the names of the kinds, and each error of a document has a number.
 use Rattle.toml_span_lex.proofs.Common.{◌≡◌, ◌≢◌, ◌∙◌, ap, arith, inl, inr, List, refl, sym, ℕ}
 use Rattle.toml_span.specs.Clashes.{kind_of_clash}
-use Rattle.toml_span.specs.Parsing.{IsRefusal, TellsClash}
-use Rattle.toml_span.specs.declared.claims.Blame.{Blame}
-use Rattle.toml_span.specs.declared.claims.Blame.TheVariants.{DuplicateTable, DuplicateKey, RedefineAsArray}
-use Rattle.toml_span.specs.declared.claims.Meeting.{Meeting}
+use Rattle.toml_span.specs.Parsing.{IsRefusal, ReportsClash}
+use Rattle.toml_span.specs.declared.claims.ClashKind.{ClashKind}
+use Rattle.toml_span.specs.declared.claims.ClashKind.TheVariants.{DuplicateTable, DuplicateKey, RedefineAsArray}
+use Rattle.toml_span.specs.declared.claims.ClashInfo.{ClashInfo}
 use Rattle.toml_span_lex.specs.declared.stop.Stop.TheVariants as stops
 use Rattle.toml_span_read.specs.Faults.{error_kind}
 use Rattle.toml_span_read.specs.declared.fault.FaultKind.{FaultKind}
@@ -57,7 +57,7 @@ fault-numbered (faults.Wanted expected found) h = omega (arith, h)
 fault-numbered faults.MultilineStringKey h = omega (arith, h)
 fault-numbered (faults.DottedKeyInvalidType first) h = omega (arith, h)
 
-clash-numbered : (b : Blame) (name : List ℕ) (m : Meeting) → code_number (kind_of_clash b name m) ≢ 0
+clash-numbered : (b : ClashKind) (name : List ℕ) (m : ClashInfo) → code_number (kind_of_clash b name m) ≢ 0
 clash-numbered DuplicateTable name m h = omega (arith, h)
 clash-numbered DuplicateKey name m h = omega (arith, h)
 clash-numbered RedefineAsArray name m h = omega (arith, h)
@@ -68,6 +68,6 @@ refusal-numbered bytes limit error (inl (fault, has, answer)) h =
     let (inside, tells) = answer in
     let (line, column, info, is) = tells in
     fault-numbered fault.kind (sym (ap (λ e. code_number e.kind) is) ∙ h)
-refusal-numbered bytes limit error (inr (blocks, clash, has, answer)) h =
-    let tells : TellsClash bytes clash error = answer in
-    clash-numbered clash.meeting.blame clash.name clash.meeting (sym (ap (λ e. code_number e.kind) tells.tells) ∙ h)
+refusal-numbered bytes limit error (inr (sections, clash, has, answer)) h =
+    let tells : ReportsClash bytes clash error = answer in
+    clash-numbered clash.info.kind clash.name clash.info (sym (ap (λ e. code_number e.kind) tells.reports) ∙ h)

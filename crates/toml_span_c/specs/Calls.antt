@@ -20,11 +20,11 @@ use Rattle.toml_span_tree.specs.declared.value.Value.{Value}
 abbrev pub bound : ℕ
 bound = 16777216
 
--- UTF-8 of at most this length
+-- valid UTF-8 of at most this length
 abbrev pub IsText : List ℕ → Type 0
 IsText bytes = (length bytes ≤ bound) × IsUtf8 bytes
 
--- The status is 2 if the bytes are not such a text; otherwise 0, 1, or 4 if an allocation failed.
+-- The status is 2 if the bytes are not such a text. Otherwise it is 0 or 1, or 4 if an allocation failed.
 pub record IsStatus (bytes : List ℕ) (status : ℕ) : Type 0 where
   pub unread : ¬ IsText bytes → status ≡ 2
   pub read : IsText bytes → (status ≡ 0) ⊎ ((status ≡ 1) ⊎ (status ≡ 4))
@@ -33,8 +33,8 @@ pub record IsStatus (bytes : List ℕ) (status : ℕ) : Type 0 where
 abbrev pub IsDocument : List ℕ → Type 0
 IsDocument bytes = (root : Value) × IsTree bytes depth_limit root
 
--- The bytes are a document. The arrays begin with its records and its strings, as far as there is room, and the counts
--- are those of all of them.
+-- The bytes are a document. The arrays have its records and its strings, as many as fit, and the counts are those of
+-- all of them.
 pub record IsRead (bytes : List ℕ) (nodes nodes' : List Record) (strings strings' : List ℕ) (counts : Counts) : Type 0
   where
     pub root : Value
@@ -43,7 +43,7 @@ pub record IsRead (bytes : List ℕ) (nodes nodes' : List Record) (strings strin
     pub strings_are : strings' ≡ filled (tree_strings bytes (view root)) strings
     pub counts_are : counts ≡ tree_counts bytes (view root)
 
--- The bytes are refused, and P holds for the contents of the error.
+-- The bytes are not a document, and P holds for the contents of the error.
 abbrev pub IsRefused : List ℕ → (ErrorContent → Type 0) → Type 0
 IsRefused bytes P = (error : Error) × IsRefusal bytes depth_limit (stops.Fault error) × P (content_of error)
 
@@ -51,23 +51,23 @@ IsRefused bytes P = (error : Error) × IsRefusal bytes depth_limit (stops.Fault 
 abbrev pub IsFaultOf : FaultRecord → ErrorContent → Type 0
 IsFaultOf fault error = fault ≡ fault_of error
 
--- The array begins with the text, as far as there is room, and `needed` is the length of all of it.
+-- The array has as much of the text as fits, and `needed` is the length of the whole text.
 abbrev pub Fills : List ℕ → List ℕ → ℕ → List ℕ → Type 0
 Fills out out' needed text = (out' ≡ filled text out) × (needed ≡ length text)
 
 -- ---- the calls that write a new text
 
--- The status is 2 if the bytes are not such a text; otherwise 0, 1, 4, or 3 if no new text was made.
+-- The status is 2 if the bytes are not such a text. Otherwise it is 0, 1 or 4, or 3 if there is no new text.
 pub record IsNewStatus (bytes : List ℕ) (status : ℕ) : Type 0 where
   pub unread : ¬ IsText bytes → status ≡ 2
   pub read : IsText bytes → (status ≡ 0) ⊎ ((status ≡ 1) ⊎ ((status ≡ 3) ⊎ (status ≡ 4)))
 
--- The array begins with the text if there is room for all of it, and is unchanged otherwise. `needed` is the length.
+-- The array has the text if all of it fits, and is unchanged otherwise. `needed` is the length of the text.
 abbrev pub Holds : List ℕ → List ℕ → ℕ → List ℕ → Type 0
 Holds out out' needed text =
     (out' ≡ (if nat_le (length text) (length out) then filled text out else out)) × (needed ≡ length text)
 
--- The bytes are a document. The changes make the new text of it.
+-- The bytes are a document, from which the changes make the new text.
 abbrev pub IsEdited : List ℕ → List ChangeRecord → List ℕ → Type 0
 IsEdited bytes changes new = IsDocument bytes × ChangesMade changes bytes new
 

@@ -1,17 +1,18 @@
 -- The changes that records describe.
 use Rattle.std.specs.Prelude.{◌≡◌, ℕ, List, [], ◌∷◌, map}
-use Rattle.toml_span_edit.specs.Edited.{EditMade, Path}
+use Rattle.toml_span_edit.specs.Edited.{EditMade}
+use Rattle.toml_span_edit.specs.Paths.{Path}
 use Rattle.toml_span_edit.specs.declared.edits.Change.{Change}
 use Rattle.toml_span_edit.specs.declared.edits.Change.TheVariants as changes
 use Rattle.toml_span_edit.specs.declared.edits.Edit.{Edit}
 use Rattle.toml_span_c.specs.declared.edits.ChangeRecord.{ChangeRecord}
 use Rattle.toml_span_c.specs.declared.edits.Segment.{Segment}
 
--- the path of some segments
+-- the path of these segments
 abbrev pub names_of : List Segment → Path
 names_of segments = map (λ s. s.bytes.now) segments
 
--- the record has the number of the change, and its value or its new path
+-- The record has the number of the change, and its value or its new path.
 abbrev pub IsChange : ChangeRecord → Change → Type 0
 IsChange r (changes.Set v) = (r.change ≡ 1) × (v.now ≡ r.value.now)
 IsChange r (changes.Replace v) = (r.change ≡ 2) × (v.now ≡ r.value.now)
@@ -24,15 +25,15 @@ IsChange r (changes.Append v) = (r.change ≡ 8) × (v.now ≡ r.value.now)
 IsChange r (changes.Insert v) = (r.change ≡ 9) × (v.now ≡ r.value.now)
 IsChange r (changes.MoveTo target) = (r.change ≡ 10) × (map (λ s. s.now) target.now ≡ names_of r.target.now)
 
--- the record is that of an edit
+-- The record is that of an edit.
 abbrev pub IsEdit : ChangeRecord → Edit → Type 0
 IsEdit r e = (map (λ s. s.now) e.path.now ≡ names_of r.path.now) × IsChange r e.change
 
--- both texts are documents, and the tree of the second one is that of the first one with this change made
+-- Both texts are documents, and the tree of the second is that of the first with this change made.
 abbrev pub ChangeMade : ChangeRecord → List ℕ → List ℕ → Type 0
 ChangeMade r text new = (e : Edit) × IsEdit r e × EditMade e text new
 
--- the changes are made one after the other
+-- The changes are made one after the other.
 abbrev pub ChangesMade : List ChangeRecord → List ℕ → List ℕ → Type 0
 ChangesMade [] text new = new ≡ text
 ChangesMade (r ∷ rs) text new = (mid : List ℕ) × ChangeMade r text mid × ChangesMade rs mid new

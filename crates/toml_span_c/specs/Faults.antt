@@ -9,7 +9,7 @@ use Rattle.toml_span_tree.specs.Error.{unquoted_string}
 use Rattle.toml_span_c.specs.Records.{no_span, range_of}
 use Rattle.toml_span_c.specs.declared.faults.FaultRecord.{FaultRecord}
 
--- the number of a kind, or 0 for a kind that no document has
+-- the number of a kind of error, or 0 for kinds that `parse` does not return
 abbrev pub code_number : Kind → ℕ
 code_number unexpected_eof = 1
 code_number exceeded_depth_limit = 2

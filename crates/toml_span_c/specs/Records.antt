@@ -1,4 +1,4 @@
--- The records of a tree: one for each value, before those of the values inside it.
+-- The records of a tree: one for each value, each before those of the values inside it.
 use Rattle.std.specs.Prelude.{ℕ, suc, ◌+◌, ℤ, pos, Bool, true, ◌&&◌, nat_le, List, [], ◌∷◌, ◌++◌, length}
 use Rattle.std.specs.Prelude.{take, drop, slice_range, Option, Some, None, unwrap_or, if◌then◌else◌}
 use Rattle.std.specs.Float.{Float, binary64}
@@ -54,7 +54,7 @@ abbrev pub scalar_float : Scalar → Float
 scalar_float (float x) = unwrap_or (parse_float binary64 (float_text x)) NO_NUMBER
 scalar_float _ = NO_NUMBER
 
--- the double that is nearest to the text of a float
+-- the number nearest to the text of a float
 abbrev pub number_of : Inner → Float
 number_of (scalar s) = scalar_float s
 number_of _ = NO_NUMBER
@@ -65,7 +65,7 @@ scalar_text (float x) = Some (float_text x)
 scalar_text (datetime d) = Some d
 scalar_text _ = None
 
--- the text of a string, a float or a date
+-- the text of a string, float or date
 abbrev pub text_of : Inner → Option (List ℕ)
 text_of (scalar s) = scalar_text s
 text_of _ = None
@@ -78,7 +78,7 @@ abbrev pub members_count : Members → ℕ
 members_count no_members = 0
 members_count (member name key n ms) = suc (members_count ms)
 
--- the number of values in an array or a table
+-- the number of elements or entries
 abbrev pub children_of : Inner → ℕ
 children_of (array ns) = items_count ns
 children_of (table ms) = members_count ms
@@ -86,8 +86,8 @@ children_of _ = 0
 
 -- ---- the order of the values
 
--- A value with its name and the span of its key, if it has one. The numbers are those of records: of its parent, and of
--- the first one after the values inside it.
+-- A value with its name and the span of its key, if it has one, and two indices of records: that of its parent, and
+-- that of the first one after the values inside it.
 pub record Entry : Type 0 where
   pub parent : ℕ
   pub position : ℕ
@@ -99,8 +99,8 @@ pub record Entry : Type 0 where
 abbrev pub no_span : Span
 no_span = record { start = 0; end = 0 }
 
--- The entries of a value: its own, which has the number `at`, followed by those of the values inside it, the elements
--- of an array in order and the entries of a table in the order of their names. A value that has been taken has none.
+-- The entries of a value: its own, which has the index `at`, and then those of the values inside it, elements in order,
+-- and entries of a table in the order of their names. A value that has been taken has none.
 abbrev mutual
   pub node_entries : ℕ → ℕ → ℕ → Option (List ℕ) → Span → Node → List Entry
   node_entries at parent i name key (node inner span) =
@@ -138,21 +138,21 @@ tree_entries n = node_entries 0 NONE 0 None no_span n
 
 -- ---- texts
 
--- The document has this text at the span.
+-- whether the document has this text at the span
 abbrev pub stands : List ℕ → Span → List ℕ → Bool
 stands document span s =
     nat_le span.start span.end && nat_le span.end (length document)
     && bytes_eq (slice_range document span.start span.end) s
 
--- A text that the document has at the span is there. Any other is in the strings, after `behind` bytes.
+-- A text that the document has at its span is there. Any other is in the string array, after `after` bytes.
 abbrev pub place_of : List ℕ → ℕ → Span → Option (List ℕ) → Text
-place_of document behind span None = record { source = 0; at = 0; length = 0 }
-place_of document behind span (Some s) =
+place_of document after span None = record { source = 0; at = 0; length = 0 }
+place_of document after span (Some s) =
     if stands document span s
     then record { source = 0; at = span.start; length = length s }
-    else record { source = 1; at = behind; length = length s }
+    else record { source = 1; at = after; length = length s }
 
--- the part of a text that is in the strings
+-- what the string array has of a text
 abbrev pub aside : List ℕ → Span → Option (List ℕ) → List ℕ
 aside document span None = []
 aside document span (Some s) = if stands document span s then [] else s
@@ -160,7 +160,7 @@ aside document span (Some s) = if stands document span s then [] else s
 abbrev pub key_aside : List ℕ → Entry → List ℕ
 key_aside document e = aside document e.key_span e.name
 
--- the name, followed by the text
+-- the name and the text of an entry
 abbrev pub entry_strings : List ℕ → Entry → List ℕ
 entry_strings document e = key_aside document e ++ aside document (span_of e.value) (text_of (inner_of e.value))
 
@@ -169,15 +169,15 @@ entry_strings document e = key_aside document e ++ aside document (span_of e.val
 abbrev pub range_of : Span → Range
 range_of span = record { start = span.start; end = span.end }
 
--- the record of an entry, if there are `behind` bytes in the strings already
+-- the record of an entry, if the string array has `after` bytes already
 abbrev pub record_of : List ℕ → ℕ → Entry → Record
-record_of document behind e = record {
+record_of document after e = record {
   kind = kind_number (inner_of e.value);
   truth = truth_of (inner_of e.value);
   span = range_of (span_of e.value);
   key_span = range_of e.key_span;
-  key = place_of document behind e.key_span e.name;
-  text = place_of document (behind + length (key_aside document e)) (span_of e.value) (text_of (inner_of e.value));
+  key = place_of document after e.key_span e.name;
+  text = place_of document (after + length (key_aside document e)) (span_of e.value) (text_of (inner_of e.value));
   parent = e.parent;
   position = e.position;
   children = children_of (inner_of e.value);
@@ -187,14 +187,14 @@ record_of document behind e = record {
 }
 
 abbrev pub records_of : List ℕ → ℕ → List Entry → List Record
-records_of document behind [] = []
-records_of document behind (e ∷ es) =
-    record_of document behind e ∷ records_of document (behind + length (entry_strings document e)) es
+records_of document after [] = []
+records_of document after (e ∷ es) =
+    record_of document after e ∷ records_of document (after + length (entry_strings document e)) es
 
 abbrev pub strings_of : List ℕ → List Entry → List ℕ
 strings_of document es = flat_map (entry_strings document) es
 
--- the records of a tree, its strings, and the number of each
+-- the records of a tree, its strings, and the numbers of both
 abbrev pub tree_records : List ℕ → Node → List Record
 tree_records document n = records_of document 0 (tree_entries n)
 
@@ -209,6 +209,6 @@ tree_counts document n = record {
 
 -- ---- arrays
 
--- an array that begins with a list, as far as there is room; the rest is unchanged
+-- an array whose front is replaced by a list, as much of it as fits
 abbrev pub filled : {A : Type 0} → List A → List A → List A
 filled xs room = take (length room) xs ++ drop (length xs) room

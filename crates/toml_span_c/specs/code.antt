@@ -1,4 +1,4 @@
--- How the functions share the work. No clause of an export depends on it.
+-- How the functions share the work. Nothing else in `specs/` cites it.
 pub mod Filling
 pub mod Sites
 pub mod Answers

@@ -1,4 +1,4 @@
-//! The answer to the bytes of a document.
+//! Parses the bytes of a document.
 ghost use Rattle.toml_span_c.specs.code.Answers.{IsAnswer};
 
 use std::alloc::Global;
@@ -6,20 +6,20 @@ use toml_span::de::parse;
 use toml_span::value::Value;
 use toml_span::{Error, Stop};
 
-/// The maximum length of a document in bytes.
+/// The maximum length of a document, in bytes.
 pub const BOUND: usize = 16_777_216;
 
-/// The answer to the bytes of a document.
+/// The result for the bytes of a document.
 #[derive(Drop)]
 pub(crate) enum Answer<'de> {
     Tree(&'de str, Value<'de>),
     Fault(&'de str, Error<'de>),
-    /// Not UTF-8, or too long.
+    /// The bytes are not valid UTF-8, or longer than `BOUND`.
     Unread,
     Memory,
 }
 
-/// Reads the bytes of a document.
+/// Checks the length of a document and its UTF-8, and parses it.
 pub(crate) fn answer_to<'de>(alloc: Global, bytes: &'de [u8]) -> Answer<'de>
     ensures { IsAnswer bytes.now result }
 {

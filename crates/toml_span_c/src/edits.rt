@@ -11,29 +11,29 @@ use std::alloc::{AllocError, Global};
 use toml_span::Stop;
 use toml_span_edit::{Change, Edit, Edits, Reason};
 
-/// A segment of a path: the name of a key, or the position of an element.
+/// A segment of a path: the name of a key in a table, or the position of an element, counted from 0, in an array.
 #[repr(C)]
 #[derive(Clone, Copy)]
 pub struct Segment<'a> {
     pub bytes: &'a [u8],
 }
 
-/// A change of a document.
+/// A change of a document, as C passes it.
 #[repr(C)]
 #[derive(Clone, Copy)]
 pub struct ChangeRecord<'a> {
-    /// 1 set, 2 replace, 3 set or add, 4 rename, 5 remove, 6 add, 7 add a table, 8 append, 9 insert, 10 move; 0 if the
-    /// path has no segments because it is not one.
+    /// The kind of change: 1 set, 2 replace, 3 set or add, 4 rename, 5 remove, 6 add, 7 add a table, 8 append, 9
+    /// insert, 10 move. 0 stands for a path that could not be split into segments.
     pub change: u32,
-    /// The segments from the root.
+    /// The path, from the root.
     pub path: &'a [Segment<'a>],
-    /// The segments of the new path; only for 10.
+    /// The new path, if `change` is 10.
     pub target: &'a [Segment<'a>],
-    /// The value, which is TOML; for 4 the new name.
+    /// The new value, as TOML. If `change` is 4, the new name.
     pub value: &'a [u8],
 }
 
-/// Why a change is refused.
+/// Why a change was refused.
 #[derive(Drop)]
 enum Refusal {
     Reason(Reason),
@@ -42,14 +42,14 @@ enum Refusal {
     NoChange,
 }
 
-/// Which change is refused, and why.
+/// Which change was refused, and why.
 #[derive(Drop)]
 struct Refused {
     index: usize,
     refusal: Refusal,
 }
 
-/// Returns the names of segments; None if one is not UTF-8.
+/// Returns the names in the segments, or `None` if one is not valid UTF-8. Fails if an allocation fails.
 fn names<'a>(alloc: Global, segments: &[Segment<'a>]) -> Result<Option<Vec<&'a str>>, AllocError>
     ensures { IfOk result (λ read. IfSome read (λ found. map (λ s. s.now) found.items ≡ names_of segments.now)) }
 {
@@ -63,7 +63,7 @@ fn names<'a>(alloc: Global, segments: &[Segment<'a>]) -> Result<Option<Vec<&'a s
     Ok(Some(found))
 }
 
-/// Returns the change of a record, or None if no change has its number.
+/// Returns the change of a record, or `None` if there is no change with this number.
 fn change_of<'e>(
     asked: ChangeRecord<'_>,
     value: &'e str,
@@ -87,7 +87,7 @@ fn change_of<'e>(
     }
 }
 
-/// Makes an edit of a text.
+/// Applies one edit to a text. Fails with the reason if it is refused, or if an allocation fails.
 fn edit_made(alloc: Global, text: &str, edit: Edit<'_>) -> Result<String, Stop<Refusal>>
     ensures { IfOk result (λ new. EditMade edit.entry text.now (string_bytes new)) }
 {
@@ -100,7 +100,7 @@ fn edit_made(alloc: Global, text: &str, edit: Edit<'_>) -> Result<String, Stop<R
     }
 }
 
-/// Makes one change of a text.
+/// Applies one change to a text. Fails with the reason if it is refused, or if an allocation fails.
 fn change_made(alloc: Global, text: &str, asked: ChangeRecord<'_>) -> Result<String, Stop<Refusal>>
     ensures { IfOk result (λ new. ChangeMade asked.entry text.now (string_bytes new)) }
 {
@@ -122,7 +122,8 @@ fn change_made(alloc: Global, text: &str, asked: ChangeRecord<'_>) -> Result<Str
     edit_made(alloc, text, Edit { path, change })
 }
 
-/// Makes a change that has this index.
+/// Applies one change to a text. Fails with the index and the reason if the change is refused, or if an allocation
+/// fails.
 fn indexed_change_made(
     alloc: Global,
     text: &str,
@@ -138,7 +139,8 @@ fn indexed_change_made(
     }
 }
 
-/// Makes changes of a text, one after the other.
+/// Applies the changes to a text, one after the other. Fails with the index of the first that is refused and the
+/// reason, or if an allocation fails.
 fn changes_made(
     alloc: Global,
     text: &str,
@@ -154,7 +156,7 @@ fn changes_made(
     Ok(new)
 }
 
-/// Returns why a change is refused, in words.
+/// Returns the message for a refused change. Fails if an allocation fails.
 fn message_of(alloc: Global, refusal: &Refusal) -> Result<String, AllocError> {
     match refusal {
         Refusal::Reason(reason) => {
@@ -171,7 +173,8 @@ fn message_of(alloc: Global, refusal: &Refusal) -> Result<String, AllocError> {
     }
 }
 
-/// Writes the text after changes of a document, or why one of them is refused. Returns 0, 3 or 4.
+/// Applies the changes to a valid document. Writes the new text, or the message for the first change that is refused.
+/// Returns 0, 3 or 4, as `toml_span_edit_paths` does.
 fn put_changed(
     alloc: Global,
     document: &str,
@@ -204,11 +207,16 @@ fn put_changed(
     }
 }
 
-/// Makes changes of a document, one after the other, and writes the new text if there is room for all of it.
+/// Applies the changes to a document, one after the other, and writes the new text to `out` if it fits.
 ///
-/// Returns 0 and sets `needed` to its length; 1 and sets `fault` to the error of the document; 2 if the text is longer
-/// than 16 MiB or not UTF-8; 3 if a change is refused: then `refused` is its index, and `out` and `needed` are those of
-/// the reason in words, as far as there is room; 4 if an allocation fails. Nothing else is written.
+/// Returns one of these statuses. No other output is written.
+///
+/// - 0: `needed` is the length of the new text.
+/// - 1: the document is not valid TOML; `fault` is its error.
+/// - 2: the document is longer than 16 MiB, or not valid UTF-8.
+/// - 3: a change was refused; `refused` is its index, `out` has as much of the message as fits, and `needed` is the
+///   length of the message.
+/// - 4: an allocation failed.
 #[unsafe(no_mangle)]
 pub extern "C" fn toml_span_edit_paths(
     alloc: Global,

@@ -1,4 +1,4 @@
-//! The records of errors.
+//! Errors as records.
 ghost use Rattle.std.specs.Prelude.{◌≡◌};
 ghost use Rattle.toml_span_tree.specs.Error.{content_of, kind_of};
 ghost use Rattle.toml_span_c.specs.Faults as spec;
@@ -7,25 +7,25 @@ use crate::records::Range;
 use toml_span_lex::span::Span;
 use toml_span_tree::{Error, ErrorKind};
 
-/// Why a document is refused, and where.
+/// Why a document is not valid, and where. Spans are byte offsets, end exclusive.
 #[repr(C)]
 #[derive(Clone, Copy)]
 pub struct FaultRecord {
-    /// The number of the kind of error.
+    /// The number of the kind of error. `toml_span_code` returns its name.
     pub code: u32,
-    /// 1 if there is a second place; otherwise 0.
+    /// 1 if `first` is set, otherwise 0.
     pub has_first: u32,
     /// The bytes that the error is about.
     pub span: Range,
-    /// The second place: the bytes of the earlier table, key or value; otherwise 0..0.
+    /// The span of the earlier table, key or value, if the error has one, otherwise 0..0.
     pub first: Range,
-    /// The line at which the span starts, counted from 0.
+    /// The line where `span` starts, counted from 0.
     pub line: usize,
-    /// The bytes before the span in that line.
+    /// The number of bytes before `span` in that line.
     pub column: usize,
 }
 
-/// Returns the number of a kind of error; 0 for those that no document has.
+/// Returns the number of a kind of error, or 0 for kinds that `parse` does not return.
 fn code_number(kind: &ErrorKind<'_>) -> u32
     ensures { result ≡ spec.code_number (kind_of kind.now) }
 {
@@ -51,7 +51,7 @@ fn code_number(kind: &ErrorKind<'_>) -> u32
     }
 }
 
-/// Returns the second place of an error, if it has one.
+/// Returns the span of the earlier table, key or value, if the error has one.
 fn first_of(kind: &ErrorKind<'_>) -> Option<Span>
     ensures { result ≡ spec.first_of (kind_of kind.now) }
 {
@@ -63,7 +63,7 @@ fn first_of(kind: &ErrorKind<'_>) -> Option<Span>
     }
 }
 
-/// Returns the record of an error.
+/// Converts an error into a record.
 pub(crate) fn fault_of(error: &Error<'_>) -> FaultRecord
     ensures { result ≡ spec.fault_of (content_of error.now) }
 {
@@ -86,7 +86,7 @@ pub(crate) fn fault_of(error: &Error<'_>) -> FaultRecord
     }
 }
 
-/// Returns the name of a code; empty for any other number.
+/// Returns the name of the kind of error with this number, or an empty string if there is none.
 pub(crate) fn code_name(code: u32) -> &'static str
     ensures { result.now ≡ spec.code_name code }
 {

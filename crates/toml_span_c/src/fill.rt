@@ -1,4 +1,4 @@
-//! Fills the caller's arrays value by value.
+//! Fills the caller's arrays with records.
 ghost use Rattle.std.specs.Prelude.{◌≡◌, ◌≤◌, ◌+◌, ◌++◌, ◌∷◌, [], ℕ, suc, false, length, option_map};
 ghost use Rattle.toml_span_lex.specs.declared.span.Span.{Span};
 ghost use Rattle.toml_span_tree.specs.Value.{view, inner_of, items_view, members_view, is_taken};
@@ -13,7 +13,7 @@ use crate::records::{
 use toml_span_lex::span::Span;
 use toml_span_tree::{Table, Value};
 
-/// The site of a value: its name and the span of its key, if it has one, and its position in its parent.
+/// Where a value is in its parent: its name and the span of its key, if it has one, and its position.
 #[derive(Clone, Copy)]
 pub(crate) struct Site<'a> {
     name: Option<&'a str>,
@@ -39,7 +39,8 @@ fn room_of<T>(array: &[T]) -> usize
     array.len()
 }
 
-/// Writes bytes into the strings, as far as there is room, and counts all of them.
+/// Writes as many of the bytes into the string array as fit, at the index `count`, and adds the number of all of them
+/// to `count`.
 fn put_bytes(strings: &mut [u8], count: &mut usize, bytes: &[u8])
     ensures { (m : ℕ) → count.old ≡ m → m + length bytes.now ≤ NONE
         → PutsBytes m bytes.now strings.old strings.new count.new }
@@ -53,7 +54,8 @@ fn put_bytes(strings: &mut [u8], count: &mut usize, bytes: &[u8])
     *count = at.saturating_add(bytes.len());
 }
 
-/// Returns where a text is. One that the document does not have at the span is written into the strings.
+/// Returns where C finds a text: in the document, if it is there at the span, otherwise in the string array, into which
+/// it is written.
 #[inline(always)]
 fn put_text(
     document: &str,
@@ -92,7 +94,7 @@ fn put_text(
     }
 }
 
-/// Writes a record, if there is room for it.
+/// Writes a record at the index `at`, if that is in the array.
 fn put_record(nodes: &mut [Record], at: usize, added: Record)
     ensures { nodes.new ≡ laid at (added ∷ []) nodes.old }
 {
@@ -102,8 +104,8 @@ fn put_record(nodes: &mut [Record], at: usize, added: Record)
     }
 }
 
-/// Returns the record of a value without its `next`, and writes its texts into the strings. It is a separate function
-/// that is not inlined, so that its temporaries do not take stack at every level of a tree.
+/// Returns the record of a value, without its `next`, and writes its texts into the string array. This is not inlined,
+/// so that its temporary values do not take stack at every level of the recursion.
 #[inline(never)]
 fn begin_record(
     document: &str,
@@ -146,7 +148,7 @@ fn begin_record(
     }
 }
 
-/// Writes the records of a value: its own, followed by those of the values inside it.
+/// Writes the record of a value, and then those of the values inside it.
 #[cycle(put_value)]
 fn put_value(
     document: &str,
@@ -171,7 +173,7 @@ fn put_value(
     put_record(nodes, at, record);
 }
 
-/// Writes the records of the values inside a value.
+/// Writes the records of the values inside a value, whose own record has the index `at`.
 #[cycle(put_value)]
 fn put_held(
     document: &str,
@@ -193,7 +195,7 @@ fn put_held(
     }
 }
 
-/// Writes the records of an array's elements.
+/// Writes the records of the elements of an array, whose own record has the index `parent`.
 #[cycle(put_value)]
 fn put_elements(
     document: &str,
@@ -221,7 +223,8 @@ fn put_elements(
     }
 }
 
-/// Writes the records of a table's entries, in the order of their names.
+/// Writes the records of the entries of a table, in the order of their names. The table's own record has the index
+/// `parent`.
 #[cycle(put_value)]
 fn put_entries(
     document: &str,
@@ -249,7 +252,7 @@ fn put_entries(
     }
 }
 
-/// Writes the records of a document. Returns how many records and bytes of strings it has.
+/// Writes the records of a document, as many as fit. Returns the numbers of all records and of all bytes of strings.
 pub(crate) fn put_tree(
     document: &str,
     root: &Value<'_>,

@@ -10,10 +10,10 @@ use std::alloc::Global;
 use toml_span::Stop;
 use toml_span_format::{Options, format};
 
-/// The most spaces of an indent.
+/// The maximum number of spaces per level of indentation.
 pub const MOST_SPACES: usize = 64;
 
-/// Writes the formatted text of a document. Returns 0, 3 or 4.
+/// Writes the formatted text of a valid document if it fits. Returns 0, 3 or 4, as `toml_span_format` does.
 fn put_formatted(
     alloc: Global,
     document: &str,
@@ -36,12 +36,16 @@ fn put_formatted(
     }
 }
 
-/// Formats a document, and writes the new text if there is room for all of it. An indent of more than 64 spaces is
-/// taken as 64.
+/// Formats a document, and writes the result to `out` if it fits. `width` is the width of a line in characters,
+/// `indent` the number of spaces per level of indentation; more than 64 count as 64.
 ///
-/// Returns 0 and sets `needed` to its length; 1 and sets `fault` to the error of the document; 2 if the text is longer
-/// than 16 MiB or not UTF-8; 3 if the formatted text would differ, which is a bug; 4 if an allocation fails. Nothing
-/// else is written.
+/// Returns one of these statuses. No other output is written.
+///
+/// - 0: `needed` is the length of the result.
+/// - 1: the document is not valid TOML; `fault` is its error.
+/// - 2: the document is longer than 16 MiB, or not valid UTF-8.
+/// - 3: the result would differ from the document in more than its layout, which is a bug.
+/// - 4: an allocation failed.
 #[unsafe(no_mangle)]
 pub extern "C" fn toml_span_format(
     alloc: Global,

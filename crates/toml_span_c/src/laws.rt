@@ -1,4 +1,4 @@
-//! Laws about the records.
+//! Laws: facts about the records, stated as functions that do nothing.
 ghost use Rattle.std.specs.Prelude.{◌≡◌, ◌≢◌, ◌≤◌, ◌+◌, ◌*◌, ℕ, List, length};
 ghost use Rattle.toml_span.specs.Parsing.{IsRefusal, IsTree};
 ghost use Rattle.toml_span_c.specs.Faults.{code_name, code_number};
@@ -10,24 +10,24 @@ ghost use Rattle.toml_span_tree.specs.Value.{view};
 ghost use Rattle.toml_span_tree.specs.declared.error.Error.{Error};
 ghost use Rattle.toml_span_tree.specs.declared.value.Value.{Value};
 
-/// The error of a document has a number.
+/// Every error that `parse` returns has a number.
 pub fn errors_are_numbered()
     ensures { (bytes : List ℕ) (limit : ℕ) (error : Error) → IsRefusal bytes limit (stops.Fault error)
         → code_number (content_of error).kind ≢ 0 }
 {}
 
-/// The name of a kind's number is the code of that kind.
+/// The name for the number of a kind is the code of that kind.
 pub fn numbers_are_named()
     ensures { (kind : Kind) → code_number kind ≢ 0 → code_name (code_number kind) ≡ code_of kind }
 {}
 
-/// A document has at most two records per byte, and one more.
+/// A document has at most two records per byte, plus one.
 pub fn records_are_few()
     ensures { (bytes : List ℕ) (limit : ℕ) (root : Value) → IsTree bytes limit root
         → length (tree_records bytes (view root)) ≤ 2 * length bytes + 1 }
 {}
 
-/// The strings of a document have at most as many bytes as it has.
+/// The strings of a document have at most as many bytes as the document.
 pub fn strings_fit()
     ensures { (bytes : List ℕ) (limit : ℕ) (root : Value) → IsTree bytes limit root
         → length (tree_strings bytes (view root)) ≤ length bytes }

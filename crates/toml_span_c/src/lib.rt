@@ -1,6 +1,6 @@
-//! The parser for C: the values of a document as records in the caller's arrays.
+//! The parser for C: it writes the values of a document as records into the caller's arrays.
 //!
-//! A call keeps nothing and returns nothing that was allocated. include/toml_span.h describes the calls for C
+//! A call keeps no state, and returns nothing that it has allocated. include/toml_span.h describes the calls for C
 //! programmers.
 #![tactic(auto)]
 

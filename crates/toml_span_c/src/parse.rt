@@ -8,10 +8,14 @@ use crate::fill::put_tree;
 use crate::records::{Counts, Record};
 use std::alloc::Global;
 
-/// Parses a document, and fills the arrays with its records and its strings as far as there is room.
+/// Parses a document, and writes as many of its records into `nodes`, and of their strings into `strings`, as fit.
 ///
-/// Returns 0 and sets `counts` to their whole numbers; 1 and sets `fault` to the error; 2 if the text is longer than
-/// 16 MiB or not UTF-8; 4 if an allocation fails. Nothing else is written.
+/// Returns one of these statuses. No other output is written.
+///
+/// - 0: `counts` are the numbers of all records and of all bytes of strings.
+/// - 1: the document is not valid TOML; `fault` is its error.
+/// - 2: the document is longer than 16 MiB, or not valid UTF-8.
+/// - 4: an allocation failed.
 #[unsafe(no_mangle)]
 pub extern "C" fn toml_span_parse(
     alloc: Global,
@@ -41,7 +45,7 @@ pub extern "C" fn toml_span_parse(
     }
 }
 
-/// Checks a document: returns the status of `toml_span_parse`.
+/// Parses a document, and returns only the status, as `toml_span_parse` does.
 #[unsafe(no_mangle)]
 pub extern "C" fn toml_span_check(alloc: Global, text: &[u8]) -> u32
     ensures status { IsStatus text.now result }

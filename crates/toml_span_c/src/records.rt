@@ -1,17 +1,17 @@
-//! The records of a document's values.
+//! The values of a document as records.
 ghost use Rattle.std.specs.Prelude.{◌≡◌, option_map};
 ghost use Rattle.toml_span_tree.specs.Value.{inner_view};
 ghost use Rattle.toml_span_c.specs.Records as spec;
 
 use toml_span_tree::ValueInner;
 
-/// The number of no record, which is the parent of the root.
+/// Stands for the index of a record where there is none: the parent of the root.
 pub const NONE: usize = usize::MAX;
 
-/// The `number` of a record that is not a float.
+/// The `number` of a record that is not of a float.
 pub const NO_NUMBER: f64 = 0.0;
 
-/// A byte span of the document.
+/// A range of byte offsets in the document, end exclusive.
 #[repr(C)]
 #[derive(Clone, Copy)]
 pub struct Range {
@@ -19,48 +19,48 @@ pub struct Range {
     pub end: usize,
 }
 
-/// Where the bytes of a text are.
+/// Where the bytes of a text are: in the document, or in the array of strings.
 #[repr(C)]
 #[derive(Clone, Copy)]
 pub struct Text {
-    /// 0: in the document, 1: in the strings.
+    /// 0 in the document, 1 in the strings.
     pub source: usize,
-    /// The first byte.
+    /// The offset of the first byte.
     pub at: usize,
     pub length: usize,
 }
 
-/// A value of a document.
+/// A value of a document. Fields that do not apply to its kind are 0 or empty.
 #[repr(C)]
 #[derive(Clone, Copy)]
 pub struct Record {
     /// 1 string, 2 integer, 3 float, 4 boolean, 5 date or time, 6 array, 7 table.
     pub kind: u32,
-    /// 1 for `true`.
+    /// 1 for `true`, otherwise 0.
     pub truth: u32,
     /// The span of the value.
     pub span: Range,
-    /// The span of its key; 0..0 if it has none.
+    /// The span of its key, or 0..0 if it has none.
     pub key_span: Range,
-    /// Its name in a table; empty if it has none.
+    /// The name of its key, or an empty text if it has none.
     pub key: Text,
-    /// The text of a string, a float or a date.
+    /// The text of a string, float or date.
     pub text: Text,
-    /// The number of its parent's record; `NONE` for the root.
+    /// The index of the record of its parent, or `NONE` for the root.
     pub parent: usize,
-    /// Its position among the values of its parent, counted from 0.
+    /// The position of the value among the children of its parent, counted from 0.
     pub position: usize,
-    /// The number of values in an array or a table.
+    /// The number of its elements or entries.
     pub children: usize,
-    /// The number of the first record after those of the values inside it.
+    /// The index of the first record after this one and those of the values inside it.
     pub next: usize,
     /// The integer.
     pub integer: i64,
-    /// The float that is nearest to its text.
+    /// The number nearest to the text of a float.
     pub number: f64,
 }
 
-/// The number of records, and of bytes in the strings.
+/// The number of records, and the number of bytes in the strings.
 #[repr(C)]
 #[derive(Clone, Copy)]
 pub struct Counts {
@@ -68,7 +68,7 @@ pub struct Counts {
     pub strings: usize,
 }
 
-/// Returns the number of a kind.
+/// Returns the number of a value's kind.
 #[inline(always)]
 pub(crate) fn kind_of(inner: &ValueInner<'_>) -> u32
     ensures { result ≡ spec.kind_number (inner_view inner.now) }
@@ -84,7 +84,7 @@ pub(crate) fn kind_of(inner: &ValueInner<'_>) -> u32
     }
 }
 
-/// Returns 1 for `true`, otherwise 0.
+/// Returns 1 for `true`, and 0 for any other value.
 pub(crate) fn truth_of(inner: &ValueInner<'_>) -> u32
     ensures { result ≡ spec.truth_of (inner_view inner.now) }
 {
@@ -94,7 +94,7 @@ pub(crate) fn truth_of(inner: &ValueInner<'_>) -> u32
     }
 }
 
-/// Returns the integer, otherwise 0.
+/// Returns an integer, and 0 for any other value.
 pub(crate) fn integer_of(inner: &ValueInner<'_>) -> i64
     ensures { result ≡ spec.integer_of (inner_view inner.now) }
 {
@@ -104,7 +104,7 @@ pub(crate) fn integer_of(inner: &ValueInner<'_>) -> i64
     }
 }
 
-/// Returns the double nearest to the text of a float, otherwise 0.0.
+/// Returns the number nearest to the text of a float, and 0.0 for any other value.
 pub(crate) fn number_of(inner: &ValueInner<'_>) -> f64
     ensures { result ≡ spec.number_of (inner_view inner.now) }
 {
@@ -117,7 +117,7 @@ pub(crate) fn number_of(inner: &ValueInner<'_>) -> f64
     }
 }
 
-/// Returns the number of values in an array or a table, otherwise 0.
+/// Returns the number of elements of an array or of entries of a table, and 0 for any other value.
 pub(crate) fn children_of(inner: &ValueInner<'_>) -> usize
     ensures { result ≡ spec.children_of (inner_view inner.now) }
 {
@@ -128,7 +128,7 @@ pub(crate) fn children_of(inner: &ValueInner<'_>) -> usize
     }
 }
 
-/// Returns the text of a string, a float or a date.
+/// Returns the text of a string, float or date, and `None` for any other value.
 pub(crate) fn text_of<'a>(inner: &'a ValueInner<'_>) -> Option<&'a str>
     ensures { option_map (λ text. text.now) result ≡ spec.text_of (inner_view inner.now) }
 {

@@ -1,4 +1,4 @@
-//! The calls that describe the error of a document.
+//! The calls that describe errors.
 ghost use Rattle.std.specs.Prelude.{◌≡◌, ◌≢◌, ℕ, List, IsUtf8};
 ghost use Rattle.toml_span_tree.specs.Message.{display_text};
 ghost use Rattle.toml_span_report.specs.Errors.{IsReport};
@@ -11,7 +11,7 @@ use crate::faults::code_name;
 use std::alloc::Global;
 use toml_span_report::{Style, render_error};
 
-/// Fills an array with a text as far as there is room, and sets `length` to its whole length.
+/// Writes as much of the text to `out` as fits, and sets `length` to the length of the whole text.
 pub(crate) fn put_front(out: &mut [u8], length: &mut usize, text: &str)
     ensures { Fills out.old out.new length.new text.now }
 {
@@ -21,7 +21,7 @@ pub(crate) fn put_front(out: &mut [u8], length: &mut usize, text: &str)
     *length = bytes.len();
 }
 
-/// Writes a text into an array if there is room for all of it, and sets `length` to its length.
+/// Writes the text to `out` if it fits, and sets `length` to its length.
 pub(crate) fn put_whole(out: &mut [u8], length: &mut usize, text: &str)
     ensures { Holds out.old out.new length.new text.now }
 {
@@ -32,7 +32,8 @@ pub(crate) fn put_whole(out: &mut [u8], length: &mut usize, text: &str)
     }
 }
 
-/// Writes the name of a code, such as `duplicate-key`; nothing for any other number.
+/// Writes the name of the kind of error with this number, such as `duplicate-key`, as much as fits. `length` is the
+/// length of the whole name, which is empty if there is no such kind.
 #[unsafe(no_mangle)]
 pub extern "C" fn toml_span_code(code: u32, out: &mut [u8], length: &mut usize)
     ensures { Fills out.old out.new length.new (spec.code_name code) }
@@ -40,7 +41,8 @@ pub extern "C" fn toml_span_code(code: u32, out: &mut [u8], length: &mut usize)
     put_front(out, length, code_name(code));
 }
 
-/// Writes the message of a document's error. Returns the status of `toml_span_parse`; only 1 writes anything.
+/// Writes the message of a document's error, as much as fits. `length` is the length of the whole message. Returns the
+/// status of `toml_span_parse`. If that is not 1, nothing is written.
 #[unsafe(no_mangle)]
 pub extern "C" fn toml_span_message(
     alloc: Global,
@@ -68,8 +70,9 @@ pub extern "C" fn toml_span_message(
     }
 }
 
-/// Writes the report of a document's error: its lines with marks under them. Returns the status of `toml_span_parse`,
-/// and 2 also if the name is not UTF-8; only 1 writes anything.
+/// Writes the report of a document's error, with source lines and marks, as much as fits. `name` is the name of the
+/// file, `length` the length of the whole report. Returns the status of `toml_span_parse`, or 2 if the name is not
+/// valid UTF-8. If that is not 1, nothing is written.
 #[unsafe(no_mangle)]
 pub extern "C" fn toml_span_report(
     alloc: Global,

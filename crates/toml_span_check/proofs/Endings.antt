@@ -10,7 +10,7 @@ use Rattle.toml_span_check.specs.declared.faults.Format.{Format}
 use Rattle.toml_span_check.specs.Run.{Asked, Begins, Runs, Told}
 use Rattle.toml_span_check.specs.code.Telling.{EndsQuiet, TellsAll}
 use Rattle.toml_span_check.proofs.Statuses.{told-small, neither-failed}
-use Rattle.toml_span_check.proofs.Tellings.{tells-first, written-behind}
+use Rattle.toml_span_check.proofs.Tellings.{tells-first, written-after}
 
 -- without memory
 pub ends-empty : (format : Format) (task : Task) (pointer : List ℕ) (excludes names : List (List ℕ)) (watched : Bool) (old new : Option Asked) (told told' : Option (List ℕ)) (untold : Bool) (warned : Option (List ℕ)) (unwarned : Bool) (e : Unwritten) →
@@ -30,7 +30,7 @@ ends-failed format task pointer excludes names watched old new told told' untold
 pub begins-all : (format : Format) (task : Task) (pointer : List ℕ) (excludes names : List (List ℕ)) (watched : Bool) (old new : Option Asked) (told mid told' : Option (List ℕ)) (out errors held : List ℕ) (status : ℕ) →
     Told format task pointer excludes names watched false old new out errors status → HoldsRest told mid out held → HasWritten mid told' held → Begins format task pointer excludes names false old new told told'
 begins-all format task pointer excludes names watched old new told mid told' out errors held status t h w =
-    let all = subst (λ (text : List ℕ). HasWritten told told' text) (h.2 ∙ t.shown) (written-behind told mid told' out held held h w) in
+    let all = subst (λ (text : List ℕ). HasWritten told told' text) (h.2 ∙ t.shown) (written-after told mid told' out held held h w) in
     let first = tells-first format task pointer t.files [] t.files t.mid new told told' (t.all, t.complaints, status, t.wrong) (sym (append-nil t.files)) (inr refl) t.tells all in
     record { aloud = refl; files = t.files; mid = t.mid; found = t.found; tells = first }
 

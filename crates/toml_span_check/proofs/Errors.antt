@@ -6,7 +6,7 @@ use Rattle.toml_span_lex.specs.declared.stop.Stop.TheVariants as stops
 use Rattle.toml_span_tree.specs.declared.error.Error.{Error}
 use Rattle.toml_span_tree.specs.declared.value.Value.{Value}
 use Rattle.toml_span_read.specs.Data.{depth_limit}
-use Rattle.toml_span.specs.Parsing.{Answers, IsRefusal, IsTree}
+use Rattle.toml_span.specs.Parsing.{IsParseResult, IsRefusal, IsTree}
 use Rattle.toml_span_report.specs.Report.{ReportContent, report_content}
 use Rattle.toml_span_report.specs.declared.report.Report.{Report}
 use Rattle.toml_span_check.specs.Every.{Adds, AddsError, Checks, Finds, IsBlanked, Progress, all, clash, first, many, most, nothing, reading, too_many, valid}
@@ -18,8 +18,8 @@ error_in other (Ok e) = e
 error_in other (Err x) = other
 
 -- the error that stops `parse`
-pub refused : (text : List ℕ) (stop : Stop Error) (error : Error) → Answers text depth_limit (Err stop) → Ok error ≡ fault_of stop → IsRefusal text depth_limit (stops.Fault error)
-refused text (stops.Fault e) error answers is = subst (λ (x : Error). Answers text depth_limit (Err (stops.Fault x))) (sym (ap (error_in e) is)) answers
+pub refused : (text : List ℕ) (stop : Stop Error) (error : Error) → IsParseResult text depth_limit (Err stop) → Ok error ≡ fault_of stop → IsRefusal text depth_limit (stops.Fault error)
+refused text (stops.Fault e) error answers is = subst (λ (x : Error). IsParseResult text depth_limit (Err (stops.Fault x))) (sym (ap (error_in e) is)) answers
 refused text (stops.Memory e) error answers is = grind (arith, nat_tests, common_steps)
 
 -- what is found in a text is one more error of it

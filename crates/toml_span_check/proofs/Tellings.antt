@@ -57,18 +57,18 @@ names-split text names i = ap (map text) (sym (take-append-drop i names)) ∙ ma
 -- ---- what is written and held
 
 -- a text after what was written
-pub holds-behind : (a b c : Option (List ℕ)) (all held text kept : List ℕ) (h : HoldsRest a b all held) → HoldsRest b c text kept → HoldsRest a c (h.0 ++ text) kept
-holds-behind a b c all held text kept h k = (h.0 ++ k.0, Appends-trans a b c h.0 k.0 h.1 k.1, append_assoc h.0 k.0 kept ∙ ap (λ l. h.0 ++ l) k.2)
+pub holds-after : (a b c : Option (List ℕ)) (all held text kept : List ℕ) (h : HoldsRest a b all held) → HoldsRest b c text kept → HoldsRest a c (h.0 ++ text) kept
+holds-after a b c all held text kept h k = (h.0 ++ k.0, Appends-trans a b c h.0 k.0 h.1 k.1, append_assoc h.0 k.0 kept ∙ ap (λ l. h.0 ++ l) k.2)
 
-pub written-behind : (a b c : Option (List ℕ)) (all held text : List ℕ) (h : HoldsRest a b all held) → HasWritten b c text → HasWritten a c (h.0 ++ text)
-written-behind a b c all held text h w =
+pub written-after : (a b c : Option (List ℕ)) (all held text : List ℕ) (h : HoldsRest a b all held) → HasWritten b c text → HasWritten a c (h.0 ++ text)
+written-after a b c all held text h w =
     let front = written-front b c text w in
-    front-written a c (h.0 ++ text) front.0 (holds-behind a b c all held text front.0 h front.1)
+    front-written a c (h.0 ++ text) front.0 (holds-after a b c all held text front.0 h front.1)
 
-adds-behind : (format : Format) (task : Task) (pointer name : List ℕ) (reading : Result (List ℕ) (List ℕ)) (held errors : List ℕ) (status : ℕ) (wrong : Tally) (t : TextsOf) (front all : List ℕ) →
+adds-after : (format : Format) (task : Task) (pointer name : List ℕ) (reading : Result (List ℕ) (List ℕ)) (held errors : List ℕ) (status : ℕ) (wrong : Tally) (t : TextsOf) (front all : List ℕ) →
     Adds format task pointer name reading (held, errors, status, wrong) t → front ++ held ≡ all →
     Adds format task pointer name reading (all, errors, status, wrong) (front ++ t.0, t.1, t.2, t.3)
-adds-behind format task pointer name reading held errors status wrong t front all a is = grind (arith, nat_tests, common_steps)
+adds-after format task pointer name reading held errors status wrong t front all a is = grind (arith, nat_tests, common_steps)
 
 -- ---- files, one after another
 
@@ -113,8 +113,8 @@ upto-next format task pointer names more name old mid new reading a b c t u text
       (
         h.0 ++ text,
         tells-more format task pointer names more name old mid new reading (before.1.0, t.1, t.2, t.3) (h.0 ++ text, u.1, u.2, u.3) before.1.1 n l
-            (adds-behind format task pointer name reading t.0 t.1 t.2 t.3 (text, u.1, u.2, u.3) h.0 before.1.0 adds h.2),
-        (holds-behind a b c before.1.0 t.0 text u.0 h holds.0, holds-next task before.1.0 t.0 text u.0 h.0 h.2 before.1.2.1 holds.1),
+            (adds-after format task pointer name reading t.0 t.1 t.2 t.3 (text, u.1, u.2, u.3) h.0 before.1.0 adds h.2),
+        (holds-after a b c before.1.0 t.0 text u.0 h holds.0, holds-next task before.1.0 t.0 text u.0 h.0 h.2 before.1.2.1 holds.1),
       ),
     )
 
@@ -133,8 +133,8 @@ first-more format task pointer names more rest files name old mid new reading a 
     let u = begun.1.0 in
     tells-first format task pointer more rest files old new a c (h.0 ++ u.0, u.1, u.2, u.3) parts (inl begun.0)
     (tells-more format task pointer names more name old mid new reading (before.1.0, t.1, t.2, t.3) (h.0 ++ u.0, u.1, u.2, u.3) before.1.1 n l
-    (adds-behind format task pointer name reading t.0 t.1 t.2 t.3 u h.0 before.1.0 begun.1.1 h.2))
-    (subst (HasWritten a c) (whole-shown format task (h.0 ++ u.0) begun.0) (written-behind a b c before.1.0 t.0 u.0 h begun.1.2))
+    (adds-after format task pointer name reading t.0 t.1 t.2 t.3 u h.0 before.1.0 begun.1.1 h.2))
+    (subst (HasWritten a c) (whole-shown format task (h.0 ++ u.0) begun.0) (written-after a b c before.1.0 t.0 u.0 h begun.1.2))
 
 -- the first files, and no more
 first-upto : (format : Format) (task : Task) (pointer : List ℕ) (names rest files : List (List ℕ)) (old new : Option Asked) (a b : Option (List ℕ)) (t : TextsOf) →

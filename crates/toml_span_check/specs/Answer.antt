@@ -1,4 +1,4 @@
--- The answer to the bytes of a file.
+-- The answer to one file: its errors, or what to print of its document.
 use Rattle.std.specs.Prelude.{◌≡◌, ◌<◌, ◌≤◌, ◌⊎◌, ℕ, true, false, IsUtf8, List, [], ◌++◌, length, codes, Option, Some}
 use Rattle.std.specs.Prelude.{None}
 use Rattle.std.specs.List.{flat_map}
@@ -26,7 +26,7 @@ use Rattle.toml_span_lines.specs.Run.{bound}
 use Rattle.toml_span_places.specs.Spelled.{value_text}
 use Rattle.toml_span_read.specs.Data.{depth_limit}
 
--- the text for a fault that has no place
+-- the text of an error without a place
 abbrev pub plain_fault : Format → List ℕ → List ℕ → List ℕ → List ℕ
 plain_fault format code message name = fault_text format (bare severity.Error code message) name []
 
@@ -34,7 +34,7 @@ abbrev pub nothing_there : Format → List ℕ → List ℕ → ℕ × List ℕ
 nothing_there format pointer name =
     (1, plain_fault format (codes "nothing-there") (codes "no value at `" ++ pointer ++ codes "`") name)
 
--- a value in a form
+-- a value, printed in this form
 abbrev pub formed : Form → Node → List ℕ
 formed Plain n = shown false n ++ codes "\n"
 formed Tagged n = shown true n ++ codes "\n"
@@ -42,34 +42,34 @@ formed Items n = tree_lines n
 formed Raw n = raw n ++ codes "\n"
 formed Toml n = value_text n ++ codes "\n"
 
--- the answer to a document: a status and a text
+-- the answer for a document: a status and a text
 abbrev pub found : Format → Form → List ℕ → List ℕ → Option Node → ℕ × List ℕ
 found format form pointer name (Some n) = (0, formed form n)
 found format form pointer name None = nothing_there format pointer name
 
--- the texts of reports
+-- the text of reports
 abbrev pub report_text : Format → List ℕ → List ℕ → ReportContent → List ℕ
 report_text format name text r = fault_text format r name text
 
 abbrev pub reports_text : Format → List ℕ → List ℕ → List ReportContent → List ℕ
 reports_text format name text rs = flat_map (report_text format name text) rs
 
--- the number and the texts of all errors of a text
+-- the number of all errors of a text, and the text of their reports
 abbrev pub AreReported : Format → List ℕ → List ℕ → ℕ × List ℕ → Type 0
 AreReported format name text answer =
     (rs : List ReportContent) × Checks text rs × (answer ≡ (length rs, reports_text format name text rs))
 
--- the number and the texts of the errors of a valid text: what it uses that the version lacks
+-- the number of errors of a valid text, that is, of uses of what the version lacks, and the text of their reports
 abbrev pub AreLacking : Format → Version → List ℕ → List ℕ → ℕ × List ℕ → Type 0
 AreLacking format version name text answer =
     (rs : List ReportContent) × Lacks version name text rs × (answer ≡ (length rs, reports_text format name text rs))
 
--- the answer to a document
+-- the answer for a document
 abbrev pub Given : Format → Task → List ℕ → List ℕ → List ℕ → Node → ℕ × List ℕ → Type 0
 Given format (Check version) pointer name text n answer = AreLacking format version name text answer
 Given format (Show form) pointer name text n answer = answer ≡ found format form pointer name (pointed pointer n)
 
--- a document and its answer; otherwise all errors of the text
+-- a document and its answer, or all errors of the text
 abbrev pub IsRead : Format → Task → List ℕ → List ℕ → List ℕ → ℕ × List ℕ → Type 0
 IsRead format task pointer name text answer =
     ((root : Value) × IsTree text depth_limit root × Given format task pointer name text (view root) answer)
@@ -81,7 +81,8 @@ too_long format name = (1, plain_fault format (codes "too-long") (codes "the fil
 abbrev pub not_utf8 : Format → List ℕ → ℕ × List ℕ
 not_utf8 format name = (1, plain_fault format (codes "not-utf-8") (codes "the file is not valid UTF-8") name)
 
--- The status and the text for the bytes of a file: more than the bound, no text, or a document or none.
+-- The status and the text for the bytes of a file, which may be longer than the bound, not UTF-8, a document, or not
+-- valid TOML.
 pub record IsAnswer (format : Format) (task : Task) (pointer : List ℕ) (name : List ℕ) (bytes : List ℕ)
     (answer : ℕ × List ℕ) : Type 0 where
   pub long : bound < length bytes → answer ≡ too_long format name

@@ -1,9 +1,9 @@
--- Dates and times as toml-test has them.
+-- Dates and times in the form of the suite `toml-test`.
 use Rattle.std.specs.Prelude.{ℕ, ◌==◌, ◌||◌, nat_lt, Bool, List, ◌++◌, codes, length, take, drop}
 use Rattle.std.specs.Prelude.{slice_index, if◌then◌else◌}
 use Rattle.std.specs.List.{list_any}
 
--- a sign that begins an offset
+-- whether a byte can begin an offset
 abbrev pub begins_offset : ℕ → Bool
 begins_offset byte = (byte == 90 || byte == 122) || (byte == 43 || byte == 45)
 
@@ -18,16 +18,16 @@ date_type date =
     else if list_any begins_offset (drop 11 date) then codes "datetime"
     else codes "datetime-local"
 
--- where the minutes of a time end
+-- the offset after the minutes of a time
 abbrev pub minutes_end : List ℕ → ℕ
 minutes_end date = if is_time date then 5 else 16
 
--- a time whose minutes end at a place has no seconds: it ends there, or its offset begins
+-- whether a time has no seconds: it ends after the minutes, or an offset begins there
 abbrev pub lacks_seconds : List ℕ → ℕ → Bool
 lacks_seconds date at = length date == at || begins_offset (slice_index date at)
 
--- A date or a time, with its seconds where it has a time: `07:32` is `07:32:00`, and `1979-05-27 07:32Z` is
--- `1979-05-27 07:32:00Z`.
+-- A date text, with seconds if it has a time: `07:32` becomes `07:32:00`, and `1979-05-27 07:32Z` becomes `1979-05-27
+-- 07:32:00Z`.
 abbrev pub with_seconds : List ℕ → List ℕ
 with_seconds date =
     if lacks_seconds date (minutes_end date)

@@ -12,18 +12,18 @@ use Rattle.toml_span_report.specs.Errors.{TellsError}
 use Rattle.toml_span_report.specs.Report.{ReportContent, bare}
 use Rattle.toml_span_report.specs.declared.report.Severity.TheVariants as severity
 
--- ---- texts with blanks
+-- ---- texts with spaces
 
--- a text with spaces from one offset to another
+-- a text with spaces in place of the bytes between two offsets
 abbrev pub blank : ℕ → ℕ → List ℕ → List ℕ
 blank from to text = take from text ++ repeat (to - from) (codes " ") ++ drop to text
 
 abbrev pub IsBlanked : List ℕ → List ℕ → Type 0
 IsBlanked text copy = (from to : ℕ) × (copy ≡ blank from to text)
 
--- ---- what is found
+-- ---- the errors
 
--- the offsets of the errors that are found, their reports, and the text with their statements blanked
+-- the offsets of the errors so far, their reports, and the text with spaces in place of their statements
 pub record Progress : Type 0 where
   pub places : List ℕ
   pub reports : List ReportContent
@@ -32,7 +32,7 @@ pub record Progress : Type 0 where
 abbrev pub nothing : List ℕ → Progress
 nothing text = record { places = []; reports = []; kept = text }
 
--- the report of an error at an offset, unless there is one at that offset already
+-- the reports with that of an error at this offset, unless there is one for that offset already
 abbrev pub with_new : List ReportContent → List ℕ → ReportContent → ℕ → List ReportContent
 with_new reports places report place =
     if list_any (λ other. other == place) places then reports else reports ++ report ∷ []
@@ -42,35 +42,36 @@ AddsReport report place old new =
     (new.reports ≡ with_new old.reports old.places report place) × (new.places ≡ old.places ++ place ∷ [])
     × (new.kept ≡ old.kept)
 
--- one more error
+-- the state after one more error
 pub record Adds (report : ReportContent) (place : ℕ) (old new : Progress) : Type 0 where
   pub reports : new.reports ≡ with_new old.reports old.places report place
   pub places : new.places ≡ old.places ++ place ∷ []
   pub kept : IsBlanked old.kept new.kept
 
--- what `parse` returns of a text is one more error
+-- What `parse` returns for a text is one more error.
 abbrev pub AddsError : List ℕ → Progress → Progress → Type 0
 AddsError text old new =
     (error : Error) × IsRefusal text depth_limit (Fault error)
     × ((report : ReportContent) × TellsError severity.Error text (content_of error) report
     × Adds report error.span.start old new)
 
--- The first error is that of `parse`. Each further one is what `parse` returns of the text with blanks up to an offset,
--- or of the text in which the statements with the errors so far are blanked.
+-- The first error is that of `parse`. Each further one is what `parse` returns for the text with spaces up to an
+-- offset, or for the text with spaces in place of the statements with errors so far.
 pub data Finds (text : List ℕ) : Progress → Type 0 where
   first : (p : Progress) → AddsError text (nothing text) p → Finds text p
   reading : (p q : Progress) (copy : List ℕ) → Finds text p → IsBlanked text copy → AddsError copy p q → Finds text q
   clash : (p q : Progress) → Finds text p → AddsError p.kept p q → Finds text q
 
--- how many errors are looked for in a text of this length
+-- the maximum number of errors for a text of this length
 abbrev pub most : ℕ → ℕ
 most len = max (min (134217728 / max len 1) 100) 1
 
 abbrev pub too_many : ReportContent
 too_many = bare severity.Error (codes "too-many-errors") (codes "too many errors")
 
--- None where the text is a document. Else those of errors after which the rest, with their statements blanked, is one;
--- or, where there is one more error, as many as are looked for, and a report that says so.
+-- If the text is a document, there is no report. Otherwise there are those of the errors, and the text with spaces in
+-- place of their statements is a document; or there is one more error, as many have been reported as allowed, and the
+-- last report says so.
 pub data Checks (text : List ℕ) : List ReportContent → Type 0 where
   valid : (root : Value) → IsTree text depth_limit root → Checks text []
   all : (p : Progress) (root : Value) → Finds text p → IsTree p.kept depth_limit root → Checks text p.reports

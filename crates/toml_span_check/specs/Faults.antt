@@ -1,5 +1,5 @@
--- The text of a report: lines with marks and a blank line, one line, one line of JSON, a command for GitHub Actions, or
--- a result of a run in SARIF.
+-- A report in each format: source lines with marks and a blank line, one line, one line of JSON, a command for GitHub
+-- Actions, or a result of SARIF.
 use Rattle.std.specs.Prelude.{ℕ, List, ◌++◌, codes}
 use Rattle.toml_span_report.specs.JsonLine.{report_json}
 use Rattle.toml_span_report.specs.Rendering.{report_text, report_line}

@@ -16,7 +16,7 @@ use Rattle.toml_span_report.specs.declared.report.Severity.TheVariants as severi
 abbrev pub all_safe : List Repair → Bool
 all_safe repairs = list_all (λ repair. repair.is_safe) repairs
 
--- there are replacements, and all of them are safe
+-- whether there are replacements, and all of them are safe
 abbrev pub is_safe : List Repair → Bool
 is_safe [] = false
 is_safe (first ∷ more) = all_safe (first ∷ more)
@@ -24,20 +24,20 @@ is_safe (first ∷ more) = all_safe (first ∷ more)
 abbrev pub edits : List Repair → List Edit
 edits repairs = map (λ repair. (repair.span, repair.text)) repairs
 
--- where the first replacement ends in the new source
+-- the end of the first replacement in the new source
 abbrev pub reach : List Repair → ℕ
 reach [] = 0
 reach (first ∷ more) = first.span.start + length first.text
 
--- a source is valid, or its first error is at an offset or after it; or it is before that
+-- whether a source is valid, or its first error is at or after an offset
 abbrev pub Improves : List ℕ → ℕ → Bool → Type 0
 Improves text at true =
     ((root : Value) × IsTree text depth_limit root)
     ⊎ ((error : Error) × IsRefusal text depth_limit (stops.Fault error) × (at ≤ error.span.start))
 Improves text at false = (error : Error) × IsRefusal text depth_limit (stops.Fault error) × (error.span.start < at)
 
--- The source with these replacements, if they are safe and its first error is then after the first of them. They are
--- not made if one is not safe, if they don't fit the source, or if there is an error before that.
+-- The source with these replacements, if they are safe and its first error is then after the first of them. None if one
+-- is not safe, if they don't fit the source, or if there is an error before that.
 abbrev pub Repairs : List ℕ → List Repair → Option (List ℕ) → Type 0
 Repairs text repairs (Some new) =
     (is_safe repairs ≡ true) × (first_fault text 0 0 (edits repairs) ≡ None) × (new ≡ edited text 0 (edits repairs))
@@ -46,18 +46,18 @@ Repairs text repairs None =
     (is_safe repairs ≡ false) ⊎ (¬ (first_fault text 0 0 (edits repairs) ≡ None))
     ⊎ Improves (edited text 0 (edits repairs)) (reach repairs) false
 
--- the source with this error fixed by the replacements of its report; or none, if they are not made
+-- the source with this error fixed by the replacements of its report, or None if that is not possible
 abbrev pub FixesError : List ℕ → ErrorContent → Option (List ℕ) → Type 0
 FixesError text error new =
     (report : ReportContent) × TellsError severity.Error text error report × Repairs text report.replacements new
 
--- the source with its first error fixed; or none, if it is valid or the error has no fix
+-- the source with its first error fixed, or None if it is valid or that is not possible
 abbrev pub NextFix : List ℕ → Option (List ℕ) → Type 0
 NextFix text new =
     ((root : Value) × IsTree text depth_limit root × (new ≡ None))
     ⊎ ((error : Error) × IsRefusal text depth_limit (stops.Fault error) × FixesError text (content_of error) new)
 
--- from a source this many fixes lead to this one
+-- this many fixes lead from a source to this one
 pub data Leads (text : List ℕ) : ℕ → List ℕ → Type 0 where
   no_fix : (new : List ℕ) → new ≡ text → Leads text 0 new
   one_more : (n : ℕ) (mid new : List ℕ) → Leads text n mid → NextFix mid (Some new) → Leads text (n + 1) new

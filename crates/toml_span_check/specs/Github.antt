@@ -1,4 +1,4 @@
--- A fault as a command of GitHub's workflows, which annotates its lines:
+-- A report as a command for GitHub workflows, which annotates source lines:
 -- `::error file=a.toml,line=2,endLine=2,col=1,endColumn=5,title=duplicate-key::duplicate key: `port``
 use Rattle.std.specs.Prelude.{ℕ, ◌-◌, max, ◌==◌, ◌&&◌, nat_lt, nat_le, List, [], ◌∷◌, ◌++◌, codes, length}
 use Rattle.std.specs.Prelude.{encode_utf8, slice_index, if◌then◌else◌}
@@ -19,8 +19,7 @@ command_of Note = codes "::notice"
 
 -- ---- texts
 
--- GitHub reads a percent sign and the ends of lines by their numbers, and in the value of a property a colon and a
--- comma too.
+-- GitHub unescapes percent signs and line ends, and in the value of a property also colons and commas.
 abbrev pub message_char : ℕ → List ℕ
 message_char c =
     if c == 37 then codes "%25" else if c == 13 then codes "%0D" else if c == 10 then codes "%0A" else encode_utf8 c
@@ -34,7 +33,7 @@ escaped_message text = flat_map message_char (chars text)
 unfoldable pub escaped_property : List ℕ → List ℕ
 escaped_property text = flat_map property_char (chars text)
 
--- any other hidden character is shown as in complaints, as `\u001b`
+-- any other hidden character is escaped as elsewhere, as in `\u001b`
 abbrev pub message : List ℕ → List ℕ
 message text = visible (escaped_message text)
 
@@ -43,17 +42,17 @@ property text = visible (escaped_property text)
 
 -- ---- places
 
--- where what a span marks ends: before a line feed at its end, and a reversed span is empty
+-- the end of what a span marks: before a line feed at its end; a reversed span is empty
 abbrev pub marked_end : List ℕ → Span → ℕ
 marked_end text span =
     if nat_lt span.start span.end && (nat_le span.end (length text) && slice_index text (span.end - 1) == 10)
     then span.end - 1 else max span.start span.end
 
--- the line and the column of an offset, both counted from 1
+-- the line and the column of an offset, both from 1
 abbrev pub line_column : List ℕ → ℕ → ℕ × ℕ
 line_column text at = (line_number text (place text at), column text (place text at))
 
--- GitHub takes no columns where the lines differ. That of the end is after the last character.
+-- GitHub takes no columns if the lines differ. The end is after the last character.
 unfoldable pub columns : ℕ × ℕ → ℕ × ℕ → List ℕ
 columns start end =
     if start.0 == end.0 then codes ",col=" ++ decimal start.1 ++ codes ",endColumn=" ++ decimal end.1 else []
@@ -65,7 +64,7 @@ lines start end =
 abbrev pub region : List ℕ → Span → List ℕ
 region text span = lines (line_column text span.start) (line_column text (marked_end text span))
 
--- the place of the first primary label
+-- the lines and columns of the first primary label
 abbrev pub place_told : List ℕ → List Place → List ℕ
 place_told text [] = []
 place_told text (label ∷ labels) = if label.primary then region text label.span else place_told text labels

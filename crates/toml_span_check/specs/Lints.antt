@@ -3,7 +3,7 @@ use Rattle.std.specs.Prelude.{ℕ, ◌==◌, List, [], ◌∷◌, ◌++◌, if�
 use Rattle.toml_span_report.specs.Visible.{quoted}
 use Rattle.toml_span_check.specs.declared.lints.TheConstants.{HEAD, RESULTS, TAIL}
 
--- without a comma at the start
+-- the text without a comma at its start
 abbrev pub without_comma : List ℕ → List ℕ
 without_comma [] = []
 without_comma (c ∷ cs) = if c == 44 then cs else c ∷ cs

@@ -8,7 +8,7 @@ use Rattle.toml_span_places.specs.Replace.{Edit, edited, first_fault}
 use Rattle.toml_span_places.specs.declared.newer.NewerForm.{NewerForm}
 use Rattle.toml_span_places.specs.declared.newer.NewerKind.{NewerKind}
 use Rattle.toml_span_places.specs.declared.newer.NewerKind.TheVariants as kinds
-use Rattle.toml_span_read.specs.Data.{Block, depth_limit, from_to}
+use Rattle.toml_span_read.specs.Data.{ParsedSection, depth_limit, from_to}
 use Rattle.toml_span_read.specs.Read.{document}
 use Rattle.toml_span_read.specs.declared.fault.Fault.{Fault}
 use Rattle.toml_span_report.specs.Report.{ReportContent, bare, with_help, with_note, with_primary, with_replacement}
@@ -17,12 +17,12 @@ use Rattle.toml_span_check.specs.Fixing.{edits}
 use Rattle.toml_span_check.specs.declared.newer.Version.{Version}
 use Rattle.toml_span_check.specs.declared.newer.Version.TheVariants.{Auto, Toml10, Toml11}
 
--- a file named `pyproject.toml`
+-- whether the last part of a path is `pyproject.toml`
 abbrev pub is_pyproject : List ℕ → Bool
 is_pyproject path =
     bytes_eq path (codes "pyproject.toml") || bytes_eq (drop (length path - 15) path) (codes "/pyproject.toml")
 
--- a file that is checked as TOML 1.0
+-- whether to check a file of this name as TOML 1.0
 abbrev pub is_older : Version → List ℕ → Bool
 is_older Auto name = is_pyproject name
 is_older Toml10 name = true
@@ -50,12 +50,12 @@ help_of kinds.HexEscape = codes "write `\\u00` before the two digits"
 help_of kinds.NoSeconds = codes "add the seconds: `:00`"
 help_of kinds.ByteOrderMark = codes "save the file as UTF-8 without a byte order mark"
 
--- `\u00HH`, with the digits before an offset
+-- `\u00HH`, with the two digits before an offset
 abbrev pub four_digits : List ℕ → ℕ → List ℕ
 four_digits text end =
     codes "\\u00" ++ encode_utf8 (slice_index text (end - 2)) ++ encode_utf8 (slice_index text (end - 1))
 
--- with the replacement of a use by what means the same in TOML 1.0
+-- the report with a replacement that means the same in TOML 1.0
 abbrev pub repaired : ReportContent → List ℕ → NewerForm → NewerKind → ReportContent
 repaired r text form kinds.EscapeEscape = with_replacement r form.span (codes "\\u001B") true
 repaired r text form kinds.HexEscape = with_replacement r form.span (four_digits text form.span.end) true
@@ -71,7 +71,7 @@ repaired r text form kinds.CommentAtEquals = r
 abbrev pub with_older : ReportContent → List ℕ → NewerForm → ReportContent
 with_older r text form = repaired r text form form.kind
 
--- if the name of the file decided
+-- the report with a note, if the name of the file decided
 abbrev pub with_reason : ReportContent → Bool → ReportContent
 with_reason r is_default =
     if is_default
@@ -91,7 +91,7 @@ newer_report text is_default form = with_reason (with_older (plain_report form) 
 -- The reports of all uses, or none if the text can't be read.
 abbrev pub AreNewer : List ℕ → Bool → List ReportContent → Type 0
 AreNewer text is_default rs =
-    ((bs : List Block) × document text depth_limit (Ok bs)
+    ((bs : List ParsedSection) × document text depth_limit (Ok bs)
     × (rs ≡ map (newer_report text is_default) (newer_forms text bs)))
     ⊎ ((fault : Fault) × document text depth_limit (Err fault) × (rs ≡ []))
 
@@ -100,7 +100,7 @@ is_auto Auto = true
 is_auto Toml10 = false
 is_auto Toml11 = false
 
--- The reports of what a valid document of this name uses that the version lacks.
+-- The reports of what a valid document uses that the version lacks; the file has this name.
 abbrev pub Lacks : Version → List ℕ → List ℕ → List ReportContent → Type 0
 Lacks version name text rs =
     ((is_older version name ≡ true) × AreNewer text (is_auto version) rs)
@@ -111,7 +111,7 @@ Lacks version name text rs =
 abbrev pub all_edits : List ReportContent → List Edit
 all_edits rs = flat_map (λ r. edits r.replacements) rs
 
--- the source of this name with the replacements of all reports, unless they don't fit
+-- the source with the replacements of all reports, unless they don't fit
 abbrev pub Replaces : Version → List ℕ → List ℕ → ℕ → List ℕ → Type 0
 Replaces version name text n new =
     (rs : List ReportContent) × Lacks version name text rs

@@ -2,45 +2,45 @@
 use Rattle.std.specs.Prelude.{ℕ, Bool, true, false, ◌==◌, ◌&&◌, ◌||◌, List, [], ◌∷◌, codes, if◌then◌else◌}
 use Rattle.std.specs.Str.{bytes_eq}
 
--- ---- a name, by a pattern of bytes
+-- ---- names
 
 abbrev pub is_nothing : List ℕ → Bool
 is_nothing [] = true
 is_nothing (x ∷ xs) = false
 
--- some end of a name, of all of it on, is matched
+-- whether some end of a name matches, the whole name included
 abbrev pub some_end : (List ℕ → Bool) → List ℕ → Bool
 some_end rest [] = rest []
 some_end rest (x ∷ xs) = rest (x ∷ xs) || some_end rest xs
 
--- a byte that matches, and a rest that does
+-- whether the first byte matches, and the rest does
 abbrev pub one_more : ℕ → (List ℕ → Bool) → List ℕ → Bool
 one_more code rest [] = false
 one_more code rest (x ∷ xs) = (code == 63 || code == x) && rest xs
 
--- `*` is any bytes, `?` any byte, another byte itself
+-- `*` matches any bytes, `?` one byte, any other byte itself
 abbrev pub name_matches : List ℕ → List ℕ → Bool
 name_matches [] name = is_nothing name
 name_matches (code ∷ codes) name =
     if code == 42 then some_end (name_matches codes) name else one_more code (name_matches codes) name
 
--- ---- a path, by a pattern of parts
+-- ---- paths
 
 abbrev pub is_root : List (List ℕ) → Bool
 is_root [] = true
 is_root (part ∷ parts) = false
 
--- some end of a path, of all of it on, is matched
+-- whether some end of a path matches, the whole path included
 abbrev pub some_below : (List (List ℕ) → Bool) → List (List ℕ) → Bool
 some_below rest [] = rest []
 some_below rest (part ∷ parts) = rest (part ∷ parts) || some_below rest parts
 
--- a part that matches, and a rest that does
+-- whether the first part matches, and the rest does
 abbrev pub one_part : List ℕ → (List (List ℕ) → Bool) → List (List ℕ) → Bool
 one_part pattern rest [] = false
 one_part pattern rest (part ∷ parts) = name_matches pattern part && rest parts
 
--- `**` is any parts, another part one
+-- `**` matches any number of parts, any other part of the pattern one part of the path
 abbrev pub path_matches : List (List ℕ) → List (List ℕ) → Bool
 path_matches [] path = is_root path
 path_matches (first ∷ rest) path =

@@ -19,12 +19,12 @@ use Rattle.toml_span_check.specs.declared.faults.Format.{Format}
 use Rattle.toml_span_check.specs.declared.faults.Format.TheVariants.{Text, Sarif}
 use Rattle.toml_span_check.specs.declared.run.Tally.{Tally}
 
--- A search: the patterns of files that are left out, the name that is searched, and the files that were found. For a
--- directory these are files below it, otherwise the name alone.
+-- A search: the patterns of files to leave out, the argument, and the files that were found. For a directory these are
+-- files below it, otherwise the argument itself.
 abbrev pub Search : Type 0
 Search = List (List ℕ) × List ℕ × List (List ℕ)
 
--- a file that was asked for: its name, and its bytes, or the reason in words why it can't be read
+-- a read: the name of the file, and its bytes or the message why it can't be read
 abbrev pub Reading : Type 0
 Reading = List ℕ × Result (List ℕ) (List ℕ)
 
@@ -32,29 +32,29 @@ abbrev pub read_of : Result (Vec ℕ Global) (String Global) → Result (List �
 read_of (Ok bytes) = Ok bytes.items
 read_of (Err words) = Err (string_bytes words)
 
--- what was asked of the system
+-- the searches and reads so far
 pub record Asked : Type 0 where
   pub searches : List Search
   pub readings : List Reading
 
--- What reading a reader gave: all there is, or more than the bound; or why a read failed, and what was read is lost.
+-- What reading returned: the whole input, or more than the bound. Or a read failed, and what had been read is lost.
 abbrev pub HasReadOrNot : Option (List ℕ) → Option (List ℕ) → Result (List ℕ) (List ℕ) → Type 0
 HasReadOrNot old new (Ok bytes) = HasReadAll old new bytes
 HasReadOrNot old new (Err words) = (bytes : List ℕ) × HasRead old new bytes
 
--- why a file can't be read, by the kind of the error: the system's words, except for the commonest kinds
+-- the message why a file can't be read: the system's, except for the most common kinds of errors
 abbrev pub IsReason : ErrorKind → List ℕ → Type 0
 IsReason kind.NotFound words = words ≡ codes "no such file"
 IsReason kind.PermissionDenied words = words ≡ codes "permission denied"
 IsReason kind.IsADirectory words = words ≡ codes "no `*.toml` file in this directory"
 IsReason _ words = ⊤
 
--- one more search, where they are known
+-- one more search, if they are known
 abbrev pub Finds : Option Asked → Option Asked → Search → Type 0
 Finds None new search = ⊤
 Finds (Some asked) new search = new ≡ Some (record asked { searches = asked.searches ++ search ∷ [] })
 
--- The files that names are for, in the order of the names.
+-- The files that the arguments stand for, in the order of the arguments.
 pub data FindsAll (excludes : List (List ℕ))
     : List (List ℕ) → Option Asked → Option Asked → List (List ℕ) → Type 0 where
   no_name : (log : Option Asked) → FindsAll excludes [] log log []
@@ -62,28 +62,29 @@ pub data FindsAll (excludes : List (List ℕ))
       (found : List (List ℕ)) → FindsAll excludes names old mid files → Finds mid new (excludes, name, found)
       → FindsAll excludes (names ++ name ∷ []) old new (files ++ found)
 
--- more readings, where they are known
+-- more reads, if they are known
 abbrev pub Logs : Option Asked → Option Asked → List Reading → Type 0
 Logs None new more = ⊤
 Logs (Some asked) new more = new ≡ Some (record asked { readings = asked.readings ++ more })
 
--- the report on a file that can't be read
+-- the line that a file can't be read
 abbrev pub complaint : List ℕ → List ℕ → List ℕ
 complaint name reason = codes "error: cannot read `" ++ visible name ++ codes "`: " ++ reason ++ codes "\n"
 
--- how many files have errors, and how many errors there are, after one more file with this many errors
+-- how many files have errors, and how many errors there are, after one more file
 abbrev pub none_wrong : Tally
 none_wrong = record { files = 0; errors = 0 }
 
 abbrev pub counted : Tally → ℕ → Tally
 counted wrong errors = record { files = wrong.files + min errors 1; errors = wrong.errors + errors }
 
--- the status of a file with this many errors
+-- the exit status for a file with this many errors
 abbrev pub status_of : ℕ → ℕ
 status_of errors = if errors == 0 then 0 else 1
 
--- What is printed about files, one after another: the answer to the bytes of each, and those that can't be read. The
--- status is the highest of theirs: 1 for a file with errors, and 2 for one that can't be read, which is one error.
+-- The output for files, one after the other: the answer to the bytes of each, and a line for each that can't be read.
+-- The status is the highest of theirs: 1 for a file with errors, and 2 for one that can't be read, which counts as one
+-- error.
 pub data Gathered (format : Format) (task : Task) (pointer : List ℕ)
     : List Reading → List ℕ → List ℕ → ℕ → Tally → Type 0 where
   nothing : Gathered format task pointer [] [] [] 0 none_wrong
@@ -97,7 +98,7 @@ pub data Gathered (format : Format) (task : Task) (pointer : List ℕ)
       → Gathered format task pointer (rs ++ (name, Err reason) ∷ []) out
       (errors ++ complaint (shown_word name) reason) 2 (counted wrong 1)
 
--- the files of these names were read in order, with these reports
+-- The files with these names were read in order, and this is the output for them.
 pub record Tells (format : Format) (task : Task) (pointer : List ℕ) (names : List (List ℕ))
     (old new : Option Asked) (out errors : List ℕ) (status : ℕ) (wrong : Tally) : Type 0 where
   pub readings : List Reading
@@ -105,8 +106,8 @@ pub record Tells (format : Format) (task : Task) (pointer : List ℕ) (names : L
   pub logged : Logs old new readings
   pub told : Gathered format task pointer readings out errors status wrong
 
--- the last line of a check whose errors are printed as text: `3 errors in 2 of 5 files`, or, without errors and
--- somebody watches, `5 files checked`
+-- the last line of a check that prints text: `3 errors in 2 of 5 files` or, without errors and on a terminal, `5 files
+-- checked`
 abbrev pub number_of : ℕ → List ℕ → List ℕ
 number_of n word = decimal n ++ word ++ (if n == 1 then [] else codes "s")
 
@@ -123,7 +124,7 @@ summary (Text style) (Check version) is_watched files wrong =
     if nat_lt 0 wrong.errors then found_errors files wrong else if is_watched then found_none files else []
 summary _ _ is_watched files wrong = []
 
--- the reports on all files together: where errors are reported, a document in the format SARIF
+-- the output for all files: for a check in the format SARIF, the document around the results
 abbrev pub together : Format → List ℕ → List ℕ
 together Sarif told = document told
 together _ told = told
@@ -132,11 +133,11 @@ abbrev pub whole : Format → Task → List ℕ → List ℕ
 whole format (Show form) told = told
 whole format (Check version) told = together format told
 
--- what is written: in a quiet run nothing
+-- what is written, which is nothing in a quiet run
 abbrev pub said : Bool → List ℕ → List ℕ
 said is_quiet text = if is_quiet then [] else text
 
--- the reports of a run: nothing if it is quiet
+-- The output of a run, which is empty if it is quiet.
 pub record Told (format : Format) (task : Task) (pointer : List ℕ) (excludes names : List (List ℕ))
     (is_watched is_quiet : Bool)
     (old new : Option Asked) (out errors : List ℕ) (status : ℕ) : Type 0 where
@@ -150,12 +151,11 @@ pub record Told (format : Format) (task : Task) (pointer : List ℕ) (excludes n
   pub shown : out ≡ said is_quiet (whole format task all)
   pub warned : errors ≡ said is_quiet (complaints ++ summary format task is_watched (length files) wrong)
 
--- documents are shown
+-- the task is to print documents
 abbrev pub Shows : Task → Type 0
 Shows task = (form : Form) × (task ≡ Show form)
 
--- The first files were read, all of them where errors are reported, and the first bytes of their reports were
--- written.
+-- The first files were read, or all of them if the task is to check, and a prefix of the output for them was written.
 pub record TellsFirst (format : Format) (task : Task) (pointer : List ℕ) (files : List (List ℕ))
     (old new : Option Asked) (told told' : Option (List ℕ)) : Type 0 where
   pub first : List (List ℕ)
@@ -169,7 +169,7 @@ pub record TellsFirst (format : Format) (task : Task) (pointer : List ℕ) (file
   pub tells : Tells format task pointer first old new out complaints status wrong
   pub written : HasWritten told told' (whole format task out)
 
--- so in a run, which is not quiet
+-- the same for a run, which is not quiet
 pub record Begins (format : Format) (task : Task) (pointer : List ℕ) (excludes names : List (List ℕ)) (is_quiet : Bool)
     (old new : Option Asked) (told told' : Option (List ℕ)) : Type 0 where
   pub aloud : is_quiet ≡ false
@@ -178,23 +178,24 @@ pub record Begins (format : Format) (task : Task) (pointer : List ℕ) (excludes
   pub found : FindsAll excludes names old mid files
   pub tells : TellsFirst format task pointer files mid new told told'
 
--- A run: standard output before and after and whether writing it failed, the same of standard error, and the status.
+-- A run: standard output before and after, and whether a write to it failed; the same for standard error; and the exit
+-- status.
 pub record Runs (format : Format) (task : Task) (pointer : List ℕ) (excludes names : List (List ℕ))
     (is_watched is_quiet : Bool)
     (old new : Option Asked) (told told' : Option (List ℕ)) (untold : Bool) (warned warned' : Option (List ℕ))
     (unwarned : Bool) (status : ℕ) : Type 0 where
-  -- status 3 exactly where a write failed
+  -- the status is 3 if and only if a write failed
   pub failed : (status ≡ 3) ↔ IsTrue (untold || unwarned)
-  -- without memory nothing is written, or where documents are shown the first bytes of the reports on the first files
+  -- with status 4 nothing has been written or, if documents are printed, a prefix of the output for the first files
   pub silent : status ≡ 4 → Keeps warned warned' × (Keeps told told'
       ⊎ (Shows task × ((last : Option Asked) × Begins format task pointer excludes names is_quiet old last told told')))
-  -- so after a failed write of standard output
+  -- the same after a failed write to standard output
   pub cut : untold ≡ true → Keeps warned warned' × Begins format task pointer excludes names is_quiet old new told told'
-  -- after one of standard error all of standard output is written
+  -- before a failed write to standard error, all of standard output has been written
   pub warns : unwarned ≡ true → (out errors : List ℕ) × (answered : ℕ)
       × Told format task pointer excludes names is_watched is_quiet old new out errors answered × Appends told told' out
       × HasWritten warned warned' errors
-  -- otherwise all files are read, and the reports are written
+  -- otherwise all files have been read, and the output has been written
   pub tells : ¬ (status ≡ 3) → ¬ (status ≡ 4) → (out errors : List ℕ)
       × Told format task pointer excludes names is_watched is_quiet old new out errors status × Appends told told' out
       × Appends warned warned' errors

@@ -1,5 +1,5 @@
--- The faults of a run as one document in the Static Analysis Results Interchange Format (SARIF), version 2.1.0. It has
--- the rules, which are a constant text, and a result for each fault, on a line of its own.
+-- The reports of a run as one document in the Static Analysis Results Interchange Format (SARIF), version 2.1.0. Its
+-- rules are a constant text; it has a result for each report, on a line of its own.
 use Rattle.std.specs.Prelude.{◌≡◌, ◌⊎◌, ℕ, ◌+◌, ◌/◌, ◌%◌, ◌-◌, max, min, Bool, ◌==◌, ◌&&◌, ◌||◌, nat_le, nat_lt}
 use Rattle.std.specs.Prelude.{List, [], ◌∷◌, ◌++◌, codes, drop, length, if◌then◌else◌}
 use Rattle.std.specs.Fmt.{decimal}
@@ -32,7 +32,7 @@ hex_digit n = if nat_lt n 10 then 48 + n else 55 + n
 abbrev pub uri_byte : ℕ → List ℕ
 uri_byte byte = if is_plain byte then byte ∷ [] else 37 ∷ hex_digit (byte / 16) ∷ hex_digit (byte % 16) ∷ []
 
--- a name that begins with a slash is a file of the system, any other is relative to the folder of the run
+-- a name that begins with a slash is an absolute path, any other is relative to the current directory
 abbrev pub scheme_of : List ℕ → List ℕ
 scheme_of [] = []
 scheme_of (c ∷ cs) = if c == 47 then codes "file://" else []
@@ -46,14 +46,14 @@ uri name = scheme_of name ++ flat_map uri_byte name
 unfoldable pub artifact : List ℕ → List ℕ
 artifact name = codes "{\"artifactLocation\":{\"uri\":\"" ++ uri name ++ codes "\"}"
 
--- Lines and columns count from 1, columns in characters. The end is after the last character, and a reversed span is
--- empty.
+-- Lines and columns are counted from 1, columns in characters. The end is after the last character, and a reversed span
+-- is empty.
 unfoldable pub lines : ℕ × ℕ → ℕ × ℕ → List ℕ
 lines start end =
     codes "{\"startLine\":" ++ decimal start.0 ++ codes ",\"startColumn\":" ++ decimal start.1
     ++ codes ",\"endLine\":" ++ decimal end.0 ++ codes ",\"endColumn\":" ++ decimal end.1
 
--- bytes count from 0
+-- bytes are counted from 0
 unfoldable pub bytes : ℕ → ℕ → List ℕ
 bytes start end =
     codes ",\"byteOffset\":" ++ decimal start ++ codes ",\"byteLength\":" ++ decimal (end - start) ++ codes "}"
@@ -74,17 +74,17 @@ location name text label =
 unfoldable pub file_alone : List ℕ → List ℕ
 file_alone name = codes "{\"physicalLocation\":" ++ artifact name ++ codes "}}"
 
--- the place of the first primary label, and else the file alone
+-- the location of the first primary label or, without one, of the file
 abbrev pub place_told : List ℕ → List ℕ → List Place → List ℕ
 place_told name text [] = file_alone name
 place_told name text (label ∷ labels) =
     if label.primary then location name text label else place_told name text labels
 
--- that of a label that is not primary, after a comma
+-- the location of a secondary label, after a comma
 abbrev pub other : List ℕ → List ℕ → Place → List ℕ
 other name text label = if label.primary then [] else codes "," ++ location name text label
 
--- elements with a comma before each, without the first comma
+-- the elements of a list, without the comma before the first
 abbrev pub listed : List ℕ → List ℕ
 listed elements = drop 1 elements
 
@@ -103,7 +103,7 @@ replacement text fix =
     codes "{\"deletedRegion\":" ++ region text fix.span ++ codes ",\"insertedContent\":{\"text\":" ++ quoted fix.text
     ++ codes "}}"
 
--- a fix that makes these replacements
+-- a fix that consists of these replacements
 unfoldable pub change : List ℕ → List ℕ → Repair → List Repair → List ℕ
 change name text first more =
     codes ",\"fixes\":[{\"artifactChanges\":[" ++ artifact name ++ codes ",\"replacements\":["
@@ -130,6 +130,6 @@ sarif r name text = front r ++ places name text r.labels ++ fixes name text r.re
 unfoldable pub document : List ℕ → List ℕ
 document results = HEAD.now ++ listed results ++ TAIL.now
 
--- for a private clause: elements with a comma before each begin with one
+-- (for private functions) Each element of a list has a comma before it.
 abbrev pub BeginsWithComma : List ℕ → Type 0
 BeginsWithComma elements = (elements ≡ []) ⊎ ((rest : List ℕ) × (elements ≡ 44 ∷ rest))

@@ -1,4 +1,4 @@
--- The JSON text that is shown of a tree: as it is, or with the type of each scalar, as toml-test reads it.
+-- A value as JSON, in which scalars may have their types, as in the suite `toml-test`.
 use Rattle.std.specs.Prelude.{ℕ, Bool, true, false, List, [], ◌++◌, codes, if◌then◌else◌}
 use Rattle.std.specs.Fmt.{signed_decimal}
 use Rattle.toml_span_report.specs.Visible.{quoted}
@@ -29,7 +29,7 @@ scalar_text false (float x) = quoted (float_text x)
 scalar_text false (boolean b) = truth b
 scalar_text false (datetime d) = quoted d
 
--- the text of a scalar; nothing for another value
+-- the text of a scalar, and nothing for any other value
 abbrev pub own_text : Bool → Inner → List ℕ
 own_text is_tagged taken = []
 own_text is_tagged (scalar s) = scalar_text is_tagged s
@@ -41,7 +41,7 @@ own_text is_tagged (table ms) = []
 abbrev pub comma_if : Bool → List ℕ
 comma_if later = if later then codes "," else []
 
--- the text of a value, with no space; a value that is taken is `null`
+-- the text of a value, without spaces; a value that has been taken is `null`
 abbrev mutual
   pub shown : Bool → Node → List ℕ
   shown is_tagged (node i span) = inner_shown is_tagged i
@@ -62,7 +62,7 @@ abbrev mutual
   members_shown is_tagged later (member name key n ms) =
       comma_if later ++ quoted name ++ codes ":" ++ shown is_tagged n ++ members_shown is_tagged true ms
 
--- the text of a string, a float or a date as it is, and all else as JSON
+-- the text of a string, float or date, and any other value as JSON
 abbrev pub raw_inner : Inner → List ℕ
 raw_inner (scalar (text s)) = s
 raw_inner (scalar (float x)) = float_text x

@@ -1,4 +1,4 @@
--- The words of the command line as texts, which they need not be.
+-- Command-line arguments as texts, even if they are not valid UTF-8.
 use Rattle.std.specs.Prelude.{ℕ, ◌/◌, ◌%◌, Bool, ◌==◌, nat_lt, List, [], ◌∷◌, ◌++◌, codes, encode_utf8, if◌then◌else◌}
 use Rattle.std.specs.Char.{digit_char}
 use Rattle.std.specs.List.{flat_map, list_any}
@@ -7,21 +7,21 @@ use Rattle.std.specs.Str.{chars, is_utf8}
 abbrev pub digit : ℕ → List ℕ
 digit n = encode_utf8 (digit_char n)
 
--- a byte as it is where it is ASCII, else NUL, `x` and its two digits in base 16
+-- an ASCII byte as it is, any other as NUL, `x` and two hexadecimal digits
 abbrev pub byte_text : ℕ → List ℕ
 byte_text byte = if nat_lt byte 128 then byte ∷ [] else codes "\0x" ++ digit (byte / 16) ++ digit (byte % 16)
 
 abbrev pub bytes_text : List ℕ → List ℕ
 bytes_text word = flat_map byte_text word
 
--- A word as a text. The system's words have no NUL, so one occurs only in a word that is not UTF-8.
+-- An argument as a text. Arguments do not contain NUL, so a NUL is only in the text of one that is not valid UTF-8.
 abbrev pub word_text : List ℕ → List ℕ
 word_text word = if is_utf8 word then word else bytes_text word
 
 abbrev pub is_bytes : List ℕ → Bool
 is_bytes text = list_any (λ byte. byte == 0) text
 
--- the text of a word as people see it: a backslash for each NUL, as `\xe9`
+-- an argument's text as it is displayed: with a backslash for each NUL, as in `\xe9`
 abbrev pub shown_char : ℕ → List ℕ
 shown_char c = encode_utf8 (if c == 0 then 92 else c)
 

@@ -1,4 +1,4 @@
-//! The answer to the bytes of a file.
+//! The answer to one file: its errors, or what to print of its document.
 ghost use Rattle.std.specs.Prelude.{◌≡◌, ◌++◌, IfOk, OnOk, ℕ, List, map, string_bytes};
 ghost use Rattle.toml_span_lex.specs.declared.stop.Stop.TheVariants.{Fault};
 ghost use Rattle.toml_span.specs.Parsing.{IsRefusal};
@@ -16,31 +16,31 @@ use toml_span::{Error, Value};
 use toml_span_lines::run::BOUND;
 use toml_span_report::Report;
 
-/// How a document is shown.
+/// How a document or value is printed.
 #[derive(Clone, Copy, PartialEq, Eq)]
 pub enum Form {
     /// As JSON.
     Plain,
-    /// As JSON with the type of each scalar.
+    /// As JSON, in which each scalar has its type, as in the suite `toml-test`.
     Tagged,
-    /// As lines, one for each node.
+    /// As lines, one for each value, with spans.
     Items,
-    /// The text of a string, a float or a date, and all else as JSON.
+    /// A string, float or date as its text, anything else as JSON.
     Raw,
     /// As TOML on one line.
     Toml,
 }
 
-/// What to do with a document.
+/// What to do with a file.
 #[derive(Clone, Copy, PartialEq, Eq)]
 pub enum Task {
-    /// Report its errors, of this version of TOML.
+    /// Report its errors, for this version of TOML.
     Check(Version),
-    /// Show it, or a value in it.
+    /// Print the document, or a value in it, in this form.
     Show(Form),
 }
 
-/// The text for a fault that has no place.
+/// Returns the report of an error without a place in the file. Fails if an allocation fails.
 fn plain_fault(
     alloc: Global,
     format: Format,
@@ -54,7 +54,7 @@ fn plain_fault(
     Ok(fault_text(alloc, format, &report, name, "")?.into_bytes())
 }
 
-/// Adds the text of each report on a source.
+/// Appends the text of each report. Fails if an allocation fails.
 fn push_reports(
     alloc: Global,
     out: &mut String,
@@ -73,7 +73,8 @@ fn push_reports(
     Ok(())
 }
 
-/// Returns the number and the text of the errors of a source, of which `parse` returns the first one.
+/// Returns the number of errors of a source, and the text of their reports. `error` is the one that `parse` returns.
+/// Fails if an allocation fails.
 fn errors_text(
     alloc: Global,
     format: Format,
@@ -90,7 +91,8 @@ fn errors_text(
     Ok((reports.len(), out.into_bytes()))
 }
 
-/// Returns the number and the text of the errors of a source that `parse` accepts.
+/// Returns the number of errors of a source that `parse` accepts, but that uses what this version of TOML lacks, and
+/// the text of their reports. Fails if an allocation fails.
 fn version_text(
     alloc: Global,
     format: Format,
@@ -106,7 +108,7 @@ fn version_text(
     Ok((reports.len(), out.into_bytes()))
 }
 
-/// The text where a pointer names nothing.
+/// Returns the report that a pointer names no value. Fails if an allocation fails.
 pub(crate) fn nothing_there(
     alloc: Global,
     format: Format,
@@ -121,7 +123,7 @@ pub(crate) fn nothing_there(
     plain_fault(alloc, format, "nothing-there", message.as_str(), name)
 }
 
-/// The text for a file that is longer than the bound.
+/// Returns the report that a file is longer than `BOUND`. Fails if an allocation fails.
 fn too_long(alloc: Global, format: Format, name: &str) -> Result<Vec<u8>, AllocError>
     ensures { IfOk result (λ out. (1, out.items) ≡ spec.too_long format name.now) }
 {
@@ -134,7 +136,7 @@ fn too_long(alloc: Global, format: Format, name: &str) -> Result<Vec<u8>, AllocE
     )
 }
 
-/// The text for a file that is not a text.
+/// Returns the report that a file is not valid UTF-8. Fails if an allocation fails.
 fn not_utf8(alloc: Global, format: Format, name: &str) -> Result<Vec<u8>, AllocError>
     ensures { IfOk result (λ out. (1, out.items) ≡ spec.not_utf8 format name.now) }
 {
@@ -147,15 +149,15 @@ fn not_utf8(alloc: Global, format: Format, name: &str) -> Result<Vec<u8>, AllocE
     )
 }
 
-/// What the bytes of a file are.
+/// The answer to a file.
 pub(crate) enum Judged<'t> {
-    /// Nothing to show: the number of errors, and their text.
+    /// Errors, or nothing to print: the number of errors, and the text of their reports.
     Text(usize, Vec<u8>),
-    /// A document, which is shown in a form.
+    /// A document to print in this form.
     Document(Form, Value<'t>),
 }
 
-/// Judges a text.
+/// Answers a text. Fails if an allocation fails.
 fn judge_text<'t>(
     alloc: Global,
     format: Format,
@@ -183,7 +185,7 @@ fn judge_text<'t>(
     }
 }
 
-/// Judges the bytes of a file.
+/// Answers the bytes of a file. Fails if an allocation fails.
 pub(crate) fn judge<'t>(
     alloc: Global,
     format: Format,

@@ -1,18 +1,18 @@
-//! Dates and times as toml-test has them.
+//! Dates and times in the form of the suite `toml-test`.
 ghost use Rattle.std.specs.Prelude.{◌≡◌, IfOk, string_bytes};
 ghost use Rattle.std.specs.List.{list_any};
 ghost use Rattle.toml_span_check.specs.Dates as spec;
 
 use std::alloc::{AllocError, Global};
 
-/// Whether this is a sign that begins an offset.
+/// Returns whether the byte can begin an offset: `+`, `-`, `Z` or `z`.
 fn begins_offset(byte: u8) -> bool
     ensures { result ≡ spec.begins_offset byte }
 {
     matches!(byte, b'Z' | b'z' | b'+' | b'-')
 }
 
-/// Whether a sign that begins an offset is among these bytes.
+/// Returns whether one of the bytes can begin an offset.
 fn has_offset(bytes: &[u8]) -> bool
     ensures { result ≡ list_any spec.begins_offset bytes.now }
 {
@@ -24,14 +24,14 @@ fn has_offset(bytes: &[u8]) -> bool
     false
 }
 
-/// Whether it is a time alone.
+/// Returns whether a date text is a time alone.
 fn is_time(bytes: &[u8]) -> bool
     ensures { result ≡ spec.is_time bytes.now }
 {
     bytes.get(2).copied() == Some(b':')
 }
 
-/// The type of a date in the words of toml-test.
+/// Returns the type of a date text, as `toml-test` names it.
 pub(crate) fn date_type(date: &str) -> &'static str
     ensures { result.now ≡ spec.date_type date.now }
 {
@@ -42,15 +42,15 @@ pub(crate) fn date_type(date: &str) -> &'static str
     if bytes.len() < 11 {
         return "date-local";
     }
-    let (_, behind) = bytes.split_at(11);
-    if has_offset(behind) {
+    let (_, after) = bytes.split_at(11);
+    if has_offset(after) {
         "datetime"
     } else {
         "datetime-local"
     }
 }
 
-/// Whether a time whose minutes end at this place has no seconds.
+/// Returns whether a time has no seconds. Its minutes end at the offset `at`.
 fn lacks_seconds(bytes: &[u8], at: usize) -> bool
     ensures { result ≡ spec.lacks_seconds bytes.now at }
 {
@@ -60,7 +60,7 @@ fn lacks_seconds(bytes: &[u8], at: usize) -> bool
     }
 }
 
-/// A date, whose time has its seconds.
+/// Returns a date text, with seconds added if its time has none. Fails if an allocation fails.
 pub(crate) fn with_seconds(alloc: Global, date: &str) -> Result<String, AllocError>
     ensures { IfOk result (λ out. string_bytes out ≡ spec.with_seconds date.now) }
 {
@@ -69,9 +69,9 @@ pub(crate) fn with_seconds(alloc: Global, date: &str) -> Result<String, AllocErr
     if !lacks_seconds(bytes, at) {
         return String::from_str(alloc, date);
     }
-    let (front, behind) = date.split_at(at);
+    let (front, after) = date.split_at(at);
     let mut out = String::from_str(alloc, front)?;
     out.push_str(":00")?;
-    out.push_str(behind)?;
+    out.push_str(after)?;
     Ok(out)
 }

@@ -1,4 +1,4 @@
-//! A document is shown.
+//! Prints a document, or a value in it.
 ghost use Rattle.std.specs.Prelude.{◌≡◌, ◌++◌, OnOk, IfOk, codes, false, string_bytes};
 ghost use Rattle.toml_span_lines.specs.Held.{Streams};
 ghost use Rattle.toml_span_tree.specs.Pointer.{pointed};
@@ -15,7 +15,7 @@ use toml_span_lines::lines::write_lines;
 use toml_span_lines::sink::Sink;
 use toml_span_places::to_toml;
 
-/// Adds a text and an end of line.
+/// Appends a text and a line feed. Fails if an allocation fails.
 fn push_line(mut text: String, held: &mut Vec<u8>) -> Result<(), AllocError>
     ensures { OnOk result (held.new.items ≡ held.old.items ++ (string_bytes text ++ codes "\n")) }
 {
@@ -24,7 +24,8 @@ fn push_line(mut text: String, held: &mut Vec<u8>) -> Result<(), AllocError>
     Ok(())
 }
 
-/// Writes a value in a form. The last bytes are held.
+/// Prints a value in this form. The end of the output may stay in the buffer `held`. Fails if a write or an allocation
+/// fails.
 fn write_value<W: Sink>(
     alloc: Global,
     form: Form,
@@ -46,8 +47,8 @@ fn write_value<W: Sink>(
     write_held(writer, held)
 }
 
-/// Writes what a pointer names, or the fault that it names nothing. The last bytes are held. Returns the number of
-/// errors.
+/// Writes the value that a pointer names, or the report that it names none. The end of the output may stay in the
+/// buffer `held`. Returns the number of errors. Fails if a write or an allocation fails.
 pub(crate) fn show<'t, W: Sink>(
     alloc: Global,
     format: Format,

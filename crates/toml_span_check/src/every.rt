@@ -1,4 +1,4 @@
-//! All errors of a text.
+//! Finds all errors of a text.
 ghost use Rattle.std.specs.Prelude.{◌≡◌, ◌∷◌, ◌++◌, [], IfOk, OnOk, map, length, nat_le, string_bytes};
 ghost use Rattle.toml_span_lex.specs.declared.stop.Stop.TheVariants.{Fault};
 ghost use Rattle.toml_span.specs.Parsing.{IsRefusal};
@@ -14,43 +14,43 @@ use toml_span::Error;
 use toml_span::de::parse;
 use toml_span_report::Report;
 
-/// How many errors of a text are reported at most.
+/// The maximum number of errors to report.
 const MOST: usize = 100;
 
-/// How many bytes the number of reports times the length of the text is at most, from the second report on: each may
-/// take one more pass over the text.
+/// The maximum of the number of reports times the length of the text in bytes: for each report, the text may have to be
+/// parsed once more. It does not apply to the first report.
 const WORK: usize = 134_217_728;
 
-/// An error with its report.
+/// An error with its report, and with the statement in which it is.
 #[derive(Drop)]
 struct ErrorAt {
     report: Report,
-    /// The offset at which the error's span starts.
+    /// The start of the error's span.
     place: usize,
-    /// Whether it is the error of two statements that exclude each other.
+    /// Whether the error is a clash of two statements, each of which can be read.
     is_clash: bool,
     statement: Statement,
 }
 
-/// The errors that are found so far.
+/// The errors found so far.
 #[derive(Drop)]
 struct Found {
-    /// The text, in which the statements with errors are blanked.
+    /// The text, with spaces in place of the statements that have errors.
     kept: String,
-    /// The offsets of the errors.
+    /// The starts of the errors' spans.
     places: Vec<usize>,
     reports: Vec<Report>,
 }
 
-/// Returns how many errors of a text of this length are reported.
+/// Returns the maximum number of errors to report for a text of this length.
 fn most(len: usize) -> usize
     ensures { result ≡ spec.most len }
 {
     (WORK / len.max(1)).min(MOST).max(1)
 }
 
-/// Returns the text with spaces in place of the bytes from one offset to another. If these are not in order or not
-/// between characters, returns the text as it is.
+/// Returns the text with spaces in place of the bytes from `from` to `to`. If these are not in order, or not at
+/// character boundaries, returns the text unchanged. Fails if an allocation fails.
 fn blanked(alloc: Global, text: &str, from: usize, to: usize) -> Result<String, AllocError>
     ensures { IfOk result (λ out. IsBlanked text.now (string_bytes out)) }
 {
@@ -64,7 +64,8 @@ fn blanked(alloc: Global, text: &str, from: usize, to: usize) -> Result<String, 
     Ok(out)
 }
 
-/// Makes the report of an error of a text, and finds its statement among those from an offset on.
+/// Makes the report of an error, and finds the statement in which it is. Statements are looked for from the offset
+/// `from` on, where one begins. Fails if an allocation fails.
 fn error_at(
     alloc: Global,
     text: &str,
@@ -82,7 +83,7 @@ fn error_at(
     })
 }
 
-/// Returns the error of a text, if there is one. Its statement is looked for from an offset on.
+/// Parses a text, and returns its error, if there is one, as `error_at` does. Fails if an allocation fails.
 fn next_error(alloc: Global, text: &str, from: usize) -> Result<Option<ErrorAt>, AllocError>
     ensures { IfOk result (Judges text.now) }
 {
@@ -96,7 +97,7 @@ fn next_error(alloc: Global, text: &str, from: usize) -> Result<Option<ErrorAt>,
     }
 }
 
-/// Adds a report, unless there is one at its offset.
+/// Adds a report, unless there is one for the same offset. Fails if an allocation fails.
 fn push_new(found: &mut Found, report: Report, place: usize) -> Result<(), AllocError>
     ensures { OnOk result (AddsReport (report_content report) place (progress found.old) (progress found.new)) }
 {
@@ -107,7 +108,7 @@ fn push_new(found: &mut Found, report: Report, place: usize) -> Result<(), Alloc
     Ok(())
 }
 
-/// Adds an error, and blanks its statement.
+/// Adds an error, and blanks its statement. Fails if an allocation fails.
 fn with_error(alloc: Global, mut found: Found, next: ErrorAt) -> Result<Found, AllocError>
     ensures { IfOk result (λ more. Adds (report_content next.report) next.place (progress found)
         (progress more)) }
@@ -124,14 +125,15 @@ fn with_error(alloc: Global, mut found: Found, next: ErrorAt) -> Result<Found, A
     Ok(found)
 }
 
-/// Whether no more errors are looked for in a text of this length.
+/// Returns whether the maximum number of errors has been reported for a text of this length.
 fn is_full(found: &Found, len: usize) -> bool
     ensures { result ≡ nat_le (spec.most len) (length found.now.places.items) }
 {
     most(len) <= found.places.len()
 }
 
-/// Adds the errors of reading the text from an offset on, each of the statements after the one before.
+/// Adds the faults of the text from the offset `from` on: after each, reading goes on at the next statement. Fails if
+/// an allocation fails.
 fn with_faults(
     alloc: Global,
     mut found: Found,
@@ -157,7 +159,7 @@ fn with_faults(
     Ok(found)
 }
 
-/// Adds a report that there are more errors.
+/// Adds the report that there are more errors. Fails if an allocation fails.
 fn with_too_many(alloc: Global, mut reports: Vec<Report>) -> Result<Vec<Report>, AllocError>
     ensures { IfOk result (λ more. map report_content more.items
         ≡ map report_content reports.items ++ spec.too_many ∷ []) }
@@ -167,7 +169,7 @@ fn with_too_many(alloc: Global, mut reports: Vec<Report>) -> Result<Vec<Report>,
     Ok(reports)
 }
 
-/// Returns the reports of the errors that are found, and of those of the text in which their statements are blanked.
+/// Adds the clashes between the statements that are left, and returns all reports. Fails if an allocation fails.
 fn with_clashes(alloc: Global, mut found: Found, text: &str) -> Result<Vec<Report>, AllocError>
     requires { Finds text.now (progress found) }
     ensures { IfOk result (λ reports. Checks text.now (map report_content reports.items)) }
@@ -184,7 +186,7 @@ fn with_clashes(alloc: Global, mut found: Found, text: &str) -> Result<Vec<Repor
     }
 }
 
-/// Returns the reports of the errors of a text, of which `parse` returns the first one.
+/// Returns the reports of all errors of a text. `error` is the one that `parse` returns. Fails if an allocation fails.
 pub(crate) fn errors_from(
     alloc: Global,
     text: &str,
@@ -205,16 +207,17 @@ pub(crate) fn errors_from(
     with_clashes(alloc, found, text)
 }
 
-/// Returns the reports of all errors of a text: none exactly if `parse` returns a tree, and else first that of the
-/// error that `parse` returns.
+/// Returns the reports of all errors of a text. There are none if and only if `parse` returns a tree; otherwise the
+/// first one is that of the error that `parse` returns.
 ///
-/// After an error of reading, reading goes on at the next statement. Where a statement is not closed, that is the next
-/// line that begins one and is indented no further. Then the statements with errors are blanked, and the others are
-/// parsed together: of two that exclude each other the later one is reported and blanked, a header with its section,
-/// until the rest is valid.
+/// After a statement that can't be read, reading goes on at the next one. If the statement is not closed, that is the
+/// next line that begins a statement and is not indented further. Then the statements with errors are replaced by
+/// spaces, and the others are parsed together: of two that clash, the later one is reported and replaced by spaces, a
+/// header together with its section, until the rest is valid.
 ///
 /// No offset is reported twice. At most 100 errors are looked for, and fewer in a text of more than 1.28 MiB: 128 MiB
-/// divided by its length, at least one. If there are more, the last report has the code `too-many-errors`.
+/// divided by its length, but at least one. If there are more, the last report has the code `too-many-errors`. Fails
+/// only if an allocation fails.
 pub fn check(alloc: Global, text: &str) -> Result<Vec<Report>, AllocError>
     ensures { IfOk result (λ reports. Checks text.now (map report_content reports.items)) }
 {

@@ -1,4 +1,4 @@
-//! The text of a report in each format.
+//! Prints reports in each output format.
 ghost use Rattle.std.specs.Prelude.{◌≡◌, IfOk, string_bytes};
 ghost use Rattle.toml_span_report.specs.Report.{report_content};
 ghost use Rattle.toml_span_check.specs.Faults as spec;
@@ -8,22 +8,22 @@ use crate::sarif::sarif;
 use std::alloc::{AllocError, Global};
 use toml_span_report::{Report, Style, render, render_json, render_line};
 
-/// How reports are printed.
+/// The output format of reports.
 #[derive(Clone, Copy, PartialEq, Eq)]
 pub enum Format {
-    /// Lines of the file, with marks, and a blank line after them.
+    /// Source lines with marks, and a blank line after each report.
     Text(Style),
-    /// One line.
+    /// One line per report.
     Short,
-    /// One line of JSON.
+    /// One line of JSON per report.
     Json,
-    /// One command for GitHub Actions.
+    /// One command for GitHub Actions per report.
     Github,
-    /// One SARIF document for the run.
+    /// One SARIF document for all reports.
     Sarif,
 }
 
-/// Returns a report as people read it, with a blank line after it.
+/// Returns a report with source lines and marks, and a blank line after it. Fails if an allocation fails.
 fn marked_text(
     alloc: Global,
     style: Style,
@@ -39,7 +39,7 @@ fn marked_text(
     Ok(out)
 }
 
-/// Returns a report on a source in a format. In SARIF it is a result of the run, after a comma.
+/// Returns a report in this format. In SARIF, it is a result after a comma. Fails if an allocation fails.
 pub(crate) fn fault_text(
     alloc: Global,
     format: Format,

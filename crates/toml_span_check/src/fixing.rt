@@ -1,4 +1,4 @@
-//! The safe replacements of errors.
+//! Applies the safe replacements of errors.
 ghost use Rattle.std.specs.Prelude.{◌≡◌, ◌+◌, IfOk, map, option_map, string_bytes};
 ghost use Rattle.toml_span_tree.specs.Error.{content_of};
 ghost use Rattle.toml_span_places.specs.Replace.{edit_of};
@@ -12,14 +12,14 @@ use toml_span::{Error, Stop};
 use toml_span_places::{Replacement, replace_all};
 use toml_span_report::{Replacement as Repair, Report};
 
-/// How many errors of a file are fixed at most.
+/// The maximum number of errors to fix in a file.
 const MOST: usize = 100;
 
-/// A source whose errors were fixed.
+/// A source after its errors have been fixed.
 #[derive(Drop)]
 pub struct Fixed {
     pub text: String,
-    /// How many errors were fixed.
+    /// The number of errors that were fixed.
     pub count: usize,
 }
 
@@ -45,7 +45,7 @@ fn is_safe(repairs: &[Repair]) -> bool
     }
 }
 
-/// Returns where the first replacement begins, and the length of its new text.
+/// Returns the start of the first replacement, and the length of its new text.
 fn first_place(repairs: &[Repair]) -> (usize, usize)
     ensures { result.0 + result.1 ≡ spec.reach (map repair_of repairs.now) }
 {
@@ -55,7 +55,7 @@ fn first_place(repairs: &[Repair]) -> (usize, usize)
     }
 }
 
-/// Returns the replacements as edits of the source.
+/// Converts the replacements, for `replace_all`. Fails if an allocation fails.
 fn edits_of<'r>(alloc: Global, repairs: &'r [Repair]) -> Result<Vec<Replacement<'r>>, AllocError>
     ensures { IfOk result (λ edits. map edit_of edits.items ≡ spec.edits (map repair_of repairs.now)) }
 {
@@ -69,7 +69,8 @@ fn edits_of<'r>(alloc: Global, repairs: &'r [Repair]) -> Result<Vec<Replacement<
     Ok(edits)
 }
 
-/// Returns whether a source is valid, or its first error is not before the end of a text of this length at `from`.
+/// Returns whether a source has no error, or its first error starts at or after `from + length`. Fails if an allocation
+/// fails.
 fn improves(alloc: Global, text: &str, from: usize, length: usize) -> Result<bool, AllocError>
     ensures { IfOk result (Improves text.now (from + length)) }
 {
@@ -84,7 +85,8 @@ fn improves(alloc: Global, text: &str, from: usize, length: usize) -> Result<boo
     }
 }
 
-/// Returns the source with the replacements of a report, if they are safe and its first error is then further on.
+/// Returns the source with the replacements of a report, or `None` if one is not safe, or if the first error of the
+/// result is not after them. Fails if an allocation fails.
 fn repaired(alloc: Global, text: &str, report: &Report) -> Result<Option<String>, AllocError>
     ensures { IfOk result (λ new. spec.Repairs text.now (map repair_of report.now.replacements.items)
         (option_map string_bytes new)) }
@@ -107,7 +109,7 @@ fn repaired(alloc: Global, text: &str, report: &Report) -> Result<Option<String>
     }
 }
 
-/// Returns the source with an error of it fixed, or `None` if the error has no fix.
+/// Returns the source with this error fixed, or `None` if that is not possible. Fails if an allocation fails.
 fn with_error_fixed(
     alloc: Global,
     text: &str,
@@ -120,7 +122,8 @@ fn with_error_fixed(
     Ok(new)
 }
 
-/// Returns the source with its first error fixed, or `None` if it is valid or the error has no fix.
+/// Returns the source with its first error fixed, or `None` if it has no error or that is not possible. Fails if an
+/// allocation fails.
 fn next_fix(alloc: Global, text: &str) -> Result<Option<String>, AllocError>
     ensures { IfOk result (λ new. NextFix text.now (option_map string_bytes new)) }
 {
@@ -134,9 +137,11 @@ fn next_fix(alloc: Global, text: &str) -> Result<Option<String>, AllocError>
     }
 }
 
-/// Returns the source with the fixes of its errors made, one after another, and how many there were. A fix is made if
-/// all replacements of the error's report are safe, and the first error of the result is after them. Ends at an error
-/// without a fix, or after 100. Each fix takes time linear in the source.
+/// Fixes errors of a source, one after the other, and returns the result with the number of fixes.
+///
+/// An error is fixed if its report has replacements, all of them are safe, and the first error of the result is after
+/// them. Stops at the first error that can't be fixed, or after 100 fixes. Each takes time linear in the length of the
+/// source. Fails only if an allocation fails.
 pub fn with_fixes(alloc: Global, text: &str) -> Result<Fixed, AllocError>
     ensures { IfOk result (λ made. Fixes text.now made.count (string_bytes made.text)) }
 {

@@ -1,4 +1,4 @@
-//! The TOML files below a directory.
+//! Finds the TOML files below a directory.
 use crate::patterns::{Pattern, ignore_patterns, last_match, pattern_of};
 use crate::words::{is_bytes, word_text};
 use std::alloc::{AllocError, Global};
@@ -7,40 +7,40 @@ use std::io::{BufRead, BufReader, ErrorKind};
 use std::rt::Files;
 use std::{fs, io};
 use toml_span_lines::run::{Cut, read_bytes};
-use toml_span_lines::told::Told;
+use toml_span_lines::tracked::Tracked;
 
-/// The name of the files that list what is ignored.
+/// The name of files that list what to ignore.
 const IGNORE: &str = ".gitignore";
 
-/// A `.gitignore` file.
+/// The patterns of a `.gitignore` file.
 #[derive(Drop)]
 struct Ignore {
     patterns: Vec<Pattern>,
-    /// The length of the path of its directory, with the slash after it.
+    /// The length of the path of its directory, including the slash after it.
     length: usize,
-    /// The position of the one in the next directory above, if there is one.
+    /// The position, in the list of all such files, of the one in the nearest directory above, if there is one.
     above: Option<usize>,
 }
 
-/// A directory that was not searched yet.
+/// A directory that has not been searched yet.
 #[derive(Drop)]
 struct Folder {
     path: String,
-    /// The position of the `.gitignore` file that holds for it.
+    /// The position of the nearest `.gitignore` file, in it or above, if there is one.
     ignore: Option<usize>,
 }
 
-/// What a search has found.
+/// A search in progress.
 #[derive(Drop)]
 struct Below {
     files: Vec<String>,
     folders: Vec<Folder>,
     ignores: Vec<Ignore>,
-    /// The patterns of the command line.
+    /// The patterns of `--exclude`.
     excludes: Vec<Pattern>,
 }
 
-/// Returns whether a name is that of a directory, or of a link to one.
+/// Returns whether there is a directory, or a link to one, at this path.
 pub fn is_folder(rt: &HostRuntime, name: &str) -> bool {
     match fs::metadata(rt, name) {
         Ok(found) => found.is_dir(),
@@ -48,7 +48,7 @@ pub fn is_folder(rt: &HostRuntime, name: &str) -> bool {
     }
 }
 
-/// Returns whether there is a file at a path, maybe by a link, or nobody knows what.
+/// Returns whether there is a file at this path, or a link to one. Returns true if the system can't say.
 fn may_be_file(rt: &HostRuntime, path: &str) -> bool {
     match fs::metadata(rt, path) {
         Ok(found) => found.is_file(),
@@ -56,12 +56,12 @@ fn may_be_file(rt: &HostRuntime, path: &str) -> bool {
     }
 }
 
-/// Returns whether a name is that of the directory itself or of the one above it.
+/// Returns whether the name is `.` or `..`.
 fn is_dots(name: &[u8]) -> bool {
     name == b".".as_slice() || name == b"..".as_slice()
 }
 
-/// Returns the names in a directory.
+/// Returns the names in a directory. Fails if it can't be listed.
 fn names_in(rt: &HostRuntime, folder: &str) -> io::Result<Vec<Vec<u8>>> {
     let mut path = String::from_str(rt.alloc(), folder)?;
     path.push('/')?;
@@ -76,7 +76,7 @@ fn names_in(rt: &HostRuntime, folder: &str) -> io::Result<Vec<Vec<u8>>> {
     Ok(names)
 }
 
-/// Returns the path of a name in a directory.
+/// Returns the path of a name in a directory. Fails if an allocation fails.
 fn path_of(alloc: Global, folder: &str, name: &[u8]) -> Result<String, AllocError> {
     let mut path = String::from_str(alloc, folder)?;
     if !folder.ends_with('/') {
@@ -86,12 +86,13 @@ fn path_of(alloc: Global, folder: &str, name: &[u8]) -> Result<String, AllocErro
     Ok(path)
 }
 
-/// Returns the text of a file: empty if it can't be read or is not valid UTF-8.
+/// Returns the text of a file, or an empty string if it can't be read or is not valid UTF-8. Fails if an allocation
+/// fails.
 fn text_of(rt: &HostRuntime, alloc: Global, path: &str) -> Result<String, AllocError> {
     let Ok(file) = File::open(rt, path) else {
         return Ok(String::new(alloc));
     };
-    match read_bytes(alloc, &mut Told::new(file)) {
+    match read_bytes(alloc, &mut Tracked::new(file)) {
         Ok(bytes) => match str::from_utf8(bytes.as_slice()) {
             Ok(text) => String::from_str(alloc, text),
             Err(_) => Ok(String::new(alloc)),
@@ -101,7 +102,7 @@ fn text_of(rt: &HostRuntime, alloc: Global, path: &str) -> Result<String, AllocE
     }
 }
 
-/// Returns the last name of a path.
+/// Returns the last part of a path.
 fn last_name(path: &str) -> &str {
     match path.rsplit_once('/') {
         Some((_, name)) => name,
@@ -109,15 +110,15 @@ fn last_name(path: &str) -> &str {
     }
 }
 
-/// Returns whether a directory of this name is searched only if it is asked for: a hidden one, `target` and
-/// `node_modules`.
+/// Returns whether directories of this name are searched only if they are arguments themselves: hidden ones, `target`
+/// and `node_modules`.
 fn is_passed_over(name: &str) -> bool {
     name.starts_with('.') || name == "target" || name == "node_modules"
 }
 
 impl Below {
-    /// Returns whether a `.gitignore` file, or one above it, leaves a path out. The deepest one that has a pattern for
-    /// it decides.
+    /// Returns whether `.gitignore` files ignore a path. `ignore` is the position of the nearest such file. The first
+    /// of it and those above that has a pattern for the path decides. Fails if an allocation fails.
     fn is_ignored(
         &self,
         alloc: Global,
@@ -143,7 +144,8 @@ impl Below {
         Ok(false)
     }
 
-    /// Returns whether a path is left out.
+    /// Returns whether to leave a path out, because of a pattern of `--exclude` or a `.gitignore` file. Fails if an
+    /// allocation fails.
     fn is_left_out(
         &self,
         alloc: Global,
@@ -162,7 +164,7 @@ impl Below {
         self.is_ignored(alloc, path, is_directory, ignore)
     }
 
-    /// Adds a directory, unless it is left out.
+    /// Adds a directory to those to search, unless it is left out. Fails if an allocation fails.
     fn push_folder(
         &mut self,
         alloc: Global,
@@ -175,7 +177,7 @@ impl Below {
         Ok(())
     }
 
-    /// Adds a file, unless it is left out or is not a file.
+    /// Adds a file to those found, unless it is left out, or is not a file. Fails if an allocation fails.
     fn push_file(
         &mut self,
         rt: &HostRuntime,
@@ -192,8 +194,9 @@ impl Below {
         Ok(())
     }
 
-    /// Adds what is at a path, if it is a directory, or a file whose name ends in `.toml`. What can't be examined is
-    /// added too, since it may be one, and reading it says why. But a name that is not valid UTF-8 must end in `.toml`.
+    /// Adds what is at a path, if it is a directory, or a file whose name ends in `.toml`. A path that can't be
+    /// examined is added too, so that an attempt to read it reports the reason; if it is not valid UTF-8, its name must
+    /// end in `.toml`. Fails if an allocation fails.
     fn push(
         &mut self,
         rt: &HostRuntime,
@@ -204,7 +207,7 @@ impl Below {
         match fs::symlink_metadata(rt, path.as_str()) {
             Ok(found) if found.is_dir() => self.push_folder(alloc, path, ignore),
             Ok(_) => self.push_file(rt, alloc, path, ignore),
-            // It was removed meanwhile.
+            // It has been removed in the meantime.
             Err(error) if error.kind() == ErrorKind::NotFound => Ok(()),
             Err(_) if is_bytes(path.as_str()) && !path.ends_with(".toml") => Ok(()),
             Err(_) => {
@@ -214,8 +217,8 @@ impl Below {
         }
     }
 
-    /// Reads the `.gitignore` file of a directory, if its names have one. Returns the position of the one that holds
-    /// there.
+    /// Reads the `.gitignore` file of a directory, if one is among these names. Returns the position of the file that
+    /// applies there. Fails if an allocation fails.
     fn ignore_of(
         &mut self,
         rt: &HostRuntime,
@@ -240,7 +243,8 @@ impl Below {
         Ok(Some(at))
     }
 
-    /// Adds what is in a directory, or the directory if it can't be listed: reading it says why.
+    /// Adds what is in a directory. If it can't be listed, adds the directory itself, so that an attempt to read it
+    /// reports the reason. Fails if an allocation fails.
     fn look_into(
         &mut self,
         rt: &HostRuntime,
@@ -262,7 +266,7 @@ impl Below {
     }
 }
 
-/// Returns the patterns that are among these texts.
+/// Parses each text as a pattern, and drops those that can't be parsed. Fails if an allocation fails.
 fn patterns_of(alloc: Global, texts: &[&str]) -> Result<Vec<Pattern>, AllocError> {
     let mut patterns = Vec::new(alloc);
     for text in texts {
@@ -273,9 +277,11 @@ fn patterns_of(alloc: Global, texts: &[&str]) -> Result<Vec<Pattern>, AllocError
     Ok(patterns)
 }
 
-/// Returns the names of the TOML files below a directory, in the order of their bytes. Links to directories aren't
-/// followed. What the patterns `excludes` match is left out, and so is what `.gitignore` files in the directory and
-/// below it match, and directories that are hidden or named `target` or `node_modules`.
+/// Returns the paths of the TOML files below a directory, in the order of their bytes. Does not follow links to
+/// directories.
+///
+/// Leaves out what a pattern of `excludes` matches, what `.gitignore` files in the directory and below match, and
+/// directories that are hidden or named `target` or `node_modules`. Fails if an allocation fails.
 pub(crate) fn files_below(
     rt: &HostRuntime,
     alloc: Global,

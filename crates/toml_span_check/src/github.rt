@@ -1,4 +1,4 @@
-//! A fault as a command of GitHub's workflows, which annotates its lines.
+//! Prints a report as a command for GitHub workflows, which annotates source lines.
 ghost use Rattle.std.specs.Prelude.{◌≡◌, ◌++◌, OnOk, IfOk, map, string_bytes};
 ghost use Rattle.std.specs.Fmt.{decimal};
 ghost use Rattle.toml_span_tree.specs.Diagnostic.{label_content};
@@ -11,7 +11,7 @@ use toml_span::{Label, Span};
 use toml_span_report::visible::push_visible;
 use toml_span_report::{Report, Severity, line_column};
 
-/// The command of a severity.
+/// Returns the command for a severity.
 fn command_of(severity: Severity) -> &'static str
     ensures { result.now ≡ spec.command_of severity }
 {
@@ -22,7 +22,7 @@ fn command_of(severity: Severity) -> &'static str
     }
 }
 
-/// Adds a character of a message.
+/// Appends a character of a message, escaped if necessary. Fails if an allocation fails.
 fn push_message_char(out: &mut String, c: char) -> Result<(), AllocError>
     ensures { OnOk result (string_bytes out.new ≡ string_bytes out.old ++ spec.message_char c) }
 {
@@ -34,7 +34,7 @@ fn push_message_char(out: &mut String, c: char) -> Result<(), AllocError>
     }
 }
 
-/// Adds a character of a property.
+/// Appends a character of a property's value, escaped if necessary. Fails if an allocation fails.
 fn push_property_char(out: &mut String, c: char) -> Result<(), AllocError>
     ensures { OnOk result (string_bytes out.new ≡ string_bytes out.old ++ spec.property_char c) }
 {
@@ -45,7 +45,7 @@ fn push_property_char(out: &mut String, c: char) -> Result<(), AllocError>
     }
 }
 
-/// A message without the characters that GitHub reads by their numbers.
+/// Returns a message with the escapes that a workflow command needs. Fails if an allocation fails.
 fn escaped_message(alloc: Global, text: &str) -> Result<String, AllocError>
     ensures { IfOk result (λ out. string_bytes out ≡ spec.escaped_message text.now) }
 {
@@ -56,7 +56,7 @@ fn escaped_message(alloc: Global, text: &str) -> Result<String, AllocError>
     Ok(out)
 }
 
-/// The same of the value of a property.
+/// Returns the value of a property with the escapes that a workflow command needs. Fails if an allocation fails.
 fn escaped_property(alloc: Global, text: &str) -> Result<String, AllocError>
     ensures { IfOk result (λ out. string_bytes out ≡ spec.escaped_property text.now) }
 {
@@ -67,7 +67,7 @@ fn escaped_property(alloc: Global, text: &str) -> Result<String, AllocError>
     Ok(out)
 }
 
-/// Adds a message.
+/// Appends a message, escaped. Fails if an allocation fails.
 fn push_message(alloc: Global, out: &mut String, text: &str) -> Result<(), AllocError>
     ensures { OnOk result (string_bytes out.new ≡ string_bytes out.old ++ spec.message text.now) }
 {
@@ -75,7 +75,7 @@ fn push_message(alloc: Global, out: &mut String, text: &str) -> Result<(), Alloc
     push_visible(out, escaped.as_str())
 }
 
-/// Adds the value of a property.
+/// Appends the value of a property, escaped. Fails if an allocation fails.
 fn push_property(alloc: Global, out: &mut String, text: &str) -> Result<(), AllocError>
     ensures { OnOk result (string_bytes out.new ≡ string_bytes out.old ++ spec.property text.now) }
 {
@@ -83,7 +83,7 @@ fn push_property(alloc: Global, out: &mut String, text: &str) -> Result<(), Allo
     push_visible(out, escaped.as_str())
 }
 
-/// Adds a property that is a number.
+/// Appends a property that is a number. `title` is what precedes the number. Fails if an allocation fails.
 pub(crate) fn push_number(out: &mut String, title: &str, number: usize) -> Result<(), AllocError>
     ensures { OnOk result (string_bytes out.new ≡ string_bytes out.old ++ title.now ++ decimal number) }
 {
@@ -91,7 +91,7 @@ pub(crate) fn push_number(out: &mut String, title: &str, number: usize) -> Resul
     write!(out, "{number}")
 }
 
-/// Where what is marked ends: before a line feed at its end.
+/// Returns the end of what to mark: that of the span, without a line feed at its end.
 fn marked_end(text: &str, span: Span) -> usize
     ensures { result ≡ spec.marked_end text.now span }
 {
@@ -103,7 +103,8 @@ fn marked_end(text: &str, span: Span) -> usize
     }
 }
 
-/// Adds the columns of the marked part, if it is on one line.
+/// Appends the columns of a region if it is on one line. `start` and `end` are its lines and columns. Fails if an
+/// allocation fails.
 #[tactic(auto, unfolding(crate::specs::Github::columns))]
 fn push_columns(
     out: &mut String,
@@ -119,7 +120,7 @@ fn push_columns(
     push_number(out, ",endColumn=", end.1)
 }
 
-/// Adds the lines of the marked part, and its columns, if it is on one line.
+/// Appends the lines of a region and, if it is on one line, its columns. Fails if an allocation fails.
 #[tactic(auto, unfolding(crate::specs::Github::lines))]
 fn push_lines(
     out: &mut String,
@@ -133,7 +134,7 @@ fn push_lines(
     push_columns(out, start, end)
 }
 
-/// Adds the place of a label.
+/// Appends the lines and columns of a label. Fails if an allocation fails.
 fn push_region(out: &mut String, text: &str, span: Span) -> Result<(), AllocError>
     ensures { OnOk result (string_bytes out.new ≡ string_bytes out.old ++ spec.region text.now span) }
 {
@@ -142,7 +143,7 @@ fn push_region(out: &mut String, text: &str, span: Span) -> Result<(), AllocErro
     push_lines(out, start, end)
 }
 
-/// Adds the place of the first primary label, if there is one.
+/// Appends the lines and columns of the first primary label, if there is one. Fails if an allocation fails.
 fn push_place(out: &mut String, text: &str, labels: &[Label<()>]) -> Result<(), AllocError>
     ensures { OnOk result (string_bytes out.new ≡ string_bytes out.old
         ++ spec.place_told text.now (map label_content labels.now)) }
@@ -155,7 +156,7 @@ fn push_place(out: &mut String, text: &str, labels: &[Label<()>]) -> Result<(), 
     Ok(())
 }
 
-/// A report as one line.
+/// Returns a report as one command, with a line feed at the end. Fails if an allocation fails.
 pub(crate) fn github(
     alloc: Global,
     report: &Report,

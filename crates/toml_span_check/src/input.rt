@@ -1,4 +1,4 @@
-//! The files that are read.
+//! Finds and reads files.
 ghost use Rattle.std.specs.Prelude.{◌≡◌, ◌∷◌, [], IfOk, Option, None, false, map, string_bytes};
 ghost use Rattle.std.specs.IoError.{error_kind};
 ghost use Rattle.toml_span_check.specs.Run.{Asked, Finds, HasReadOrNot, IsReason, Logs, read_of};
@@ -11,15 +11,15 @@ use std::io;
 use std::io::ErrorKind;
 use toml_span_lines::run::{Cut, read_bytes};
 use toml_span_lines::source::Source;
-use toml_span_lines::told::Told;
+use toml_span_lines::tracked::Tracked;
 
-/// Where files are found and read.
+/// A source of files: the file system, or a substitute in tests.
 pub trait Inputs {
-    /// The searches and readings so far, if they are known.
+    /// The searches and reads so far, if they are known.
     ghost log: { Self → Option Asked };
 
-    /// Returns the names of the files that a name is for: of a directory those below it that no pattern of `excludes`
-    /// matches, otherwise the name alone.
+    /// Returns the names of the files that an argument stands for: for a directory, the TOML files below it that no
+    /// pattern of `excludes` matches, otherwise the argument itself. Fails if an allocation fails.
     fn find(
         &mut self,
         alloc: Global,
@@ -29,13 +29,14 @@ pub trait Inputs {
         ensures { IfOk result (λ found. Finds (log self.old) (log self.new)
             (map (λ pattern. pattern.now) excludes.now, name.now, map (λ file. string_bytes file) found.items)) };
 
-    /// Returns the bytes of a file, or the reason why it can't be read. Of a file that is longer than the bound, a few
-    /// more bytes than that are enough.
+    /// Returns the bytes of a file, or a message that says why it can't be read. Of a file that is longer than `BOUND`,
+    /// one byte more than that is enough. Fails if an allocation fails.
     fn read(&mut self, alloc: Global, name: &str) -> Result<Result<Vec<u8>, String>, AllocError>
         ensures { IfOk result (λ r. Logs (log self.old) (log self.new) ((name.now, read_of r) ∷ [])) };
 }
 
-/// Returns why a file can't be read: in the system's words, except for the commonest reasons.
+/// Returns a message that says why a file can't be read: the system's, except for the most common reasons. Fails if an
+/// allocation fails.
 fn reason(alloc: Global, error: &io::Error) -> Result<String, AllocError>
     ensures { IfOk result (λ words. IsReason (error_kind error.now) (string_bytes words)) }
 {
@@ -47,7 +48,7 @@ fn reason(alloc: Global, error: &io::Error) -> Result<String, AllocError>
     }
 }
 
-/// Returns the bytes of an open file, or the reason why it can't be read.
+/// Returns the bytes of an open file, or a message that says why it can't be read. Fails if an allocation fails.
 fn read_all<R: Source>(alloc: Global, reader: &mut R) -> Result<Result<Vec<u8>, String>, AllocError>
     requires { R.failed reader.old ≡ false }
     ensures { IfOk result (λ r. HasReadOrNot (R.remaining reader.old) (R.remaining reader.new) (read_of r)) }
@@ -59,7 +60,7 @@ fn read_all<R: Source>(alloc: Global, reader: &mut R) -> Result<Result<Vec<u8>, 
     }
 }
 
-/// The files and the standard input of the system.
+/// The file system and standard input of the computer.
 #[derive(Drop)]
 pub struct Host {
     pub rt: HostRuntime,
@@ -86,13 +87,13 @@ impl Inputs for Host {
 
     fn read(&mut self, alloc: Global, name: &str) -> Result<Result<Vec<u8>, String>, AllocError> {
         if name == "-" {
-            return read_all(alloc, &mut Told::new(self.rt.stdin()));
+            return read_all(alloc, &mut Tracked::new(self.rt.stdin()));
         }
         if is_bytes(name) {
             return Ok(Err(String::from_str(alloc, "its name is not valid UTF-8")?));
         }
         match File::open(&self.rt, name) {
-            Ok(file) => read_all(alloc, &mut Told::new(file)),
+            Ok(file) => read_all(alloc, &mut Tracked::new(file)),
             Err(error) => Ok(Err(reason(alloc, &error)?)),
         }
     }

@@ -1,4 +1,4 @@
-//! Checks TOML files: reports the errors of files that are not valid TOML, and shows documents and values.
+//! Checks TOML files and reports their errors, and prints documents and values in them.
 #![tactic(auto)]
 
 pub mod answer;

@@ -1,4 +1,4 @@
-//! Formats for the reports of other programs, such as lints: commands of GitHub's workflows, and SARIF.
+//! Output formats for the reports of other programs, such as lints: commands for GitHub workflows, and SARIF.
 ghost use Rattle.std.specs.Prelude.{◌≡◌, IfOk, string_bytes};
 ghost use Rattle.toml_span_check.specs.Github as github_spec;
 ghost use Rattle.toml_span_check.specs.Lints as spec;
@@ -11,21 +11,24 @@ use std::alloc::{AllocError, Global};
 use toml_span_report::Report;
 use toml_span_report::visible::push_quoted;
 
-/// The document before the name of the tool.
+/// The SARIF document up to the name of the tool.
 const HEAD: &str = r#"{
 "$schema":"https://docs.oasis-open.org/sarif/sarif/v2.1.0/errata01/os/schemas/sarif-schema-2.1.0.json",
 "version":"2.1.0",
 "runs":[{"tool":{"driver":{"name":"#;
 
-/// The document between the name of the tool and the results.
+/// The SARIF document from the name of the tool to the results.
 const RESULTS: &str = r#"}},"columnKind":"unicodeCodePoints","results":["#;
 
-/// The document after the results.
+/// The SARIF document after the results.
 const TAIL: &str = "\n]}]}\n";
 
-/// Returns a report as a command of GitHub's workflows, which annotates the lines of its first primary label:
-/// ``::error file=a.toml,line=2,endLine=2,col=1,endColumn=5,title=no-version::the package has no version``, with a line
-/// feed. Lines and columns count from 1, columns in characters. Fails if memory runs out.
+/// Returns a report as a command for GitHub workflows, which annotates the lines of its first primary label: ``::error
+/// file=a.toml,line=2,endLine=2,col=1,endColumn=5,title=no-version::the package has no version``, with a line feed at
+/// the end.
+///
+/// `name` is the name of the file, `text` the source. Lines and columns are counted from 1, columns in characters.
+/// Fails only if an allocation fails.
 pub fn github_line(
     alloc: Global,
     report: &Report,
@@ -38,8 +41,8 @@ pub fn github_line(
     github(alloc, report, name, text)
 }
 
-/// Returns a report as a result of SARIF, after a comma and a line feed: for `sarif_document`. Fails if memory runs
-/// out.
+/// Returns a report as a SARIF result, after a comma and a line feed, for `sarif_document`. `name` is the name of the
+/// file, `text` the source. Fails only if an allocation fails.
 pub fn sarif_result(
     alloc: Global,
     report: &Report,
@@ -52,8 +55,8 @@ pub fn sarif_result(
     sarif(alloc, report, name, text)
 }
 
-/// Returns the SARIF document, version 2.1.0, of a run of the tool of this name. `results` are texts of `sarif_result`,
-/// one after the other. Fails if memory runs out.
+/// Returns the SARIF document, version 2.1.0, of a run of the tool `tool`. `results` is the concatenation of what
+/// `sarif_result` returned for each report. Fails only if an allocation fails.
 #[tactic(auto, unfolding(crate::specs::Lints::sarif_document))]
 pub fn sarif_document(alloc: Global, tool: &str, results: &str) -> Result<String, AllocError>
     ensures { IfOk result (λ out. string_bytes out ≡ spec.sarif_document tool.now results.now) }
@@ -66,7 +69,7 @@ pub fn sarif_document(alloc: Global, tool: &str, results: &str) -> Result<String
     Ok(out)
 }
 
-/// Returns a text without a comma at its start.
+/// Removes a comma at the start of a text.
 fn without_comma(text: &str) -> &str
     ensures { result.now ≡ spec.without_comma text.now }
 {

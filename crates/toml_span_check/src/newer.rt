@@ -1,4 +1,4 @@
-//! Documents as TOML 1.0: the errors and fixes of what a valid document uses that TOML 1.0 lacks.
+//! Checks documents as TOML 1.0: reports and replaces what TOML 1.0 lacks.
 ghost use Rattle.std.specs.Prelude.{◌≡◌, ◌++◌, IfOk, OnOk, map, string_bytes};
 ghost use Rattle.toml_span_places.specs.Replace.{edit_of};
 ghost use Rattle.toml_span_report.specs.Report.{repair_of, report_content};
@@ -14,10 +14,10 @@ use toml_span_read::gaps::byte_at;
 use toml_span_read::read_sections;
 use toml_span_report::{Replacement as Repair, Report};
 
-/// The version of TOML that documents are checked as.
+/// The version of TOML that documents are checked against.
 #[derive(Clone, Copy, PartialEq, Eq)]
 pub enum Version {
-    /// TOML 1.0 for files named `pyproject.toml`, which pip reads as that, and TOML 1.1 for others.
+    /// TOML 1.0 for files named `pyproject.toml`, which pip reads as TOML 1.0, otherwise TOML 1.1.
     Auto,
     /// TOML 1.0.
     Toml10,
@@ -25,7 +25,7 @@ pub enum Version {
     Toml11,
 }
 
-/// Returns whether a path names a file `pyproject.toml`.
+/// Returns whether the last part of a path is `pyproject.toml`.
 fn is_pyproject(path: &str) -> bool
     ensures { result ≡ spec.is_pyproject path.now }
 {
@@ -34,7 +34,7 @@ fn is_pyproject(path: &str) -> bool
     path == "pyproject.toml" || end == b"/pyproject.toml".as_slice()
 }
 
-/// Returns whether a file is checked as TOML 1.0.
+/// Returns whether to check a file of this name as TOML 1.0.
 pub(crate) fn is_older(version: Version, name: &str) -> bool
     ensures { result ≡ spec.is_older version name.now }
 {
@@ -45,7 +45,7 @@ pub(crate) fn is_older(version: Version, name: &str) -> bool
     }
 }
 
-/// Returns the message of the report of a use.
+/// Returns the message of the report for this form.
 fn message_of(kind: NewerKind) -> &'static str
     ensures { result.now ≡ spec.message_of kind }
 {
@@ -62,7 +62,7 @@ fn message_of(kind: NewerKind) -> &'static str
     }
 }
 
-/// Returns the help of the report of a use.
+/// Returns the help of the report for this form.
 fn help_of(kind: NewerKind) -> &'static str
     ensures { result.now ≡ spec.help_of kind }
 {
@@ -78,7 +78,8 @@ fn help_of(kind: NewerKind) -> &'static str
     }
 }
 
-/// Returns the escape by four digits that has the two digits before `end`.
+/// Returns the escape `\u` with the two digits that end at the offset `end`, after two zeros. Fails if an allocation
+/// fails.
 fn four_digits(alloc: Global, text: &str, end: usize) -> Result<String, AllocError>
     ensures { IfOk result (λ out. string_bytes out ≡ spec.four_digits text.now end) }
 {
@@ -88,7 +89,7 @@ fn four_digits(alloc: Global, text: &str, end: usize) -> Result<String, AllocErr
     Ok(out)
 }
 
-/// Adds the replacement of a use by what means the same in TOML 1.0, if there is one.
+/// Adds a replacement that means the same in TOML 1.0, if there is one. Fails if an allocation fails.
 fn with_older(
     alloc: Global,
     report: Report,
@@ -114,7 +115,7 @@ fn with_older(
     }
 }
 
-/// Returns the report of a use, without replacements and notes.
+/// Returns the report of a use, without replacements and notes. Fails if an allocation fails.
 fn plain_report(alloc: Global, form: NewerForm) -> Result<Report, AllocError>
     ensures { IfOk result (λ made. report_content made ≡ spec.plain_report form) }
 {
@@ -123,7 +124,7 @@ fn plain_report(alloc: Global, form: NewerForm) -> Result<Report, AllocError>
         .help(help_of(form.kind))
 }
 
-/// Adds why it is checked as TOML 1.0, if the name of the file decided that.
+/// Adds a note on why the file is checked as TOML 1.0, if its name decided that. Fails if an allocation fails.
 fn with_reason(report: Report, is_default: bool) -> Result<Report, AllocError>
     ensures { IfOk result (λ made. report_content made ≡ spec.with_reason (report_content report) is_default) }
 {
@@ -134,7 +135,8 @@ fn with_reason(report: Report, is_default: bool) -> Result<Report, AllocError>
     }
 }
 
-/// Returns the report of a use. `is_default` says whether the name of the file decided that it is TOML 1.0.
+/// Returns the report of a use. `is_default` says whether the name of the file decided to check it as TOML 1.0. Fails
+/// if an allocation fails.
 fn newer_report(
     alloc: Global,
     text: &str,
@@ -148,7 +150,7 @@ fn newer_report(
     with_reason(repaired, is_default)
 }
 
-/// Returns the reports of these uses.
+/// Returns the report of each use. Fails if an allocation fails.
 fn reports_of(
     alloc: Global,
     text: &str,
@@ -165,10 +167,10 @@ fn reports_of(
     Ok(reports)
 }
 
-/// Returns the reports of what a document uses that TOML 1.0 lacks, in the order of the text. There are none if it
+/// Returns the reports of what a document uses that TOML 1.0 lacks, in the order of the text. Returns none if the text
 /// can't be read.
 ///
-/// `is_default` says whether the name of the file decided that it is TOML 1.0. Fails if an allocation fails.
+/// `is_default` says whether the name of the file decided to check it as TOML 1.0. Fails only if an allocation fails.
 pub fn newer_reports(alloc: Global, text: &str, is_default: bool) -> Result<Vec<Report>, AllocError>
     ensures { IfOk result (λ reports. spec.AreNewer text.now is_default (map report_content reports.items)) }
 {
@@ -181,7 +183,8 @@ pub fn newer_reports(alloc: Global, text: &str, is_default: bool) -> Result<Vec<
     reports_of(alloc, text, forms.as_slice(), is_default)
 }
 
-/// Returns the reports of what a valid document of this name uses that the version lacks.
+/// Returns the reports of what a valid document uses that this version lacks. `name` is the name of the file. Fails if
+/// an allocation fails.
 pub(crate) fn version_reports(
     alloc: Global,
     text: &str,
@@ -197,7 +200,7 @@ pub(crate) fn version_reports(
     }
 }
 
-/// Adds replacements as edits of the source.
+/// Appends the replacements, converted for `replace_all`. Fails if an allocation fails.
 fn push_edits<'r>(repairs: &'r [Repair], edits: &mut Vec<Replacement<'r>>) -> Result<(), AllocError>
     ensures { OnOk result (map edit_of edits.new.items ≡ map edit_of edits.old.items
         ++ edits_of (map repair_of repairs.now)) }
@@ -211,7 +214,7 @@ fn push_edits<'r>(repairs: &'r [Repair], edits: &mut Vec<Replacement<'r>>) -> Re
     Ok(())
 }
 
-/// Returns the replacements of these reports as edits of the source.
+/// Returns the replacements of all reports, converted for `replace_all`. Fails if an allocation fails.
 fn all_edits<'r>(alloc: Global, reports: &'r [Report]) -> Result<Vec<Replacement<'r>>, AllocError>
     ensures { IfOk result (λ edits. map edit_of edits.items ≡ spec.all_edits (map report_content reports.now)) }
 {
@@ -222,8 +225,9 @@ fn all_edits<'r>(alloc: Global, reports: &'r [Report]) -> Result<Vec<Replacement
     Ok(edits)
 }
 
-/// Returns the source of this name with what the version lacks replaced by what means the same in it, and the number of
-/// replacements. What has no replacement is left. Takes time linear in the source. Fails if an allocation fails.
+/// Replaces what a document uses that this version of TOML lacks by what means the same in it, and returns the result
+/// with the number of replacements. Leaves what has no replacement. `name` is the name of the file. Takes time linear
+/// in the length of the text. Fails only if an allocation fails.
 pub fn with_older_forms(
     alloc: Global,
     text: &str,

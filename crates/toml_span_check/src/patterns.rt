@@ -1,14 +1,14 @@
-//! Patterns of the files and directories that a search leaves out.
+//! Patterns of files and directories to leave out of a search.
 ghost use Rattle.std.specs.Prelude.{◌≡◌, ◌≤◌, IfSome, map, string_bytes};
 ghost use Rattle.toml_span_check.specs.Patterns as spec;
 
 use std::alloc::{AllocError, Global};
 
-/// How many steps a match may take. A pattern that would take more does not match.
+/// The maximum number of steps to match a path. A pattern that would need more does not match.
 const STEPS: usize = 100_000;
 
-/// Returns whether a pattern without slashes matches a name: `*` any bytes, `?` one byte, all other bytes themselves.
-/// `None` if there are not enough steps. Takes them from `steps`.
+/// Returns whether a pattern without slashes matches a name: `*` matches any bytes, `?` one byte, any other byte
+/// itself. Returns `None` when no `steps` are left.
 fn name_matches(steps: &mut usize, pattern: &[u8], name: &[u8]) -> Option<bool>
     ensures value { IfSome result (λ found. found ≡ spec.name_matches pattern.now name.now) }
     ensures steps { steps.new ≤ steps.old }
@@ -32,8 +32,8 @@ fn name_matches(steps: &mut usize, pattern: &[u8], name: &[u8]) -> Option<bool>
     }
 }
 
-/// Returns whether a pattern matches a path, each given as its parts between slashes: `**` any parts, another part of
-/// the pattern one part. `None` if there are not enough steps. Takes them from `steps`.
+/// Returns whether a pattern matches a path, both split at their slashes: `**` matches any number of parts, any other
+/// part of the pattern one part of the path. Returns `None` when no `steps` are left.
 fn path_matches(steps: &mut usize, pattern: &[String], path: &[&str]) -> Option<bool>
     ensures value { IfSome result (λ found. found
         ≡ spec.path_matches (map string_bytes pattern.now) (map (λ part. part.now) path.now)) }
@@ -63,18 +63,18 @@ fn path_matches(steps: &mut usize, pattern: &[String], path: &[&str]) -> Option<
     }
 }
 
-/// A pattern, as a line of a `.gitignore` file or as `--exclude` has it.
+/// A pattern of `--exclude` or of a line of a `.gitignore` file.
 #[derive(Drop)]
 pub(crate) struct Pattern {
-    /// The parts between slashes. The first is `**` if the pattern matches at any depth.
+    /// The parts between its slashes. If the pattern matches at any depth, the first one is `**`.
     parts: Vec<String>,
-    /// Whether it takes back what earlier patterns leave out.
+    /// Whether the pattern begins with `!`: what it matches is not left out.
     is_negated: bool,
-    /// Whether it matches directories only.
+    /// Whether the pattern matches only directories.
     is_directory: bool,
 }
 
-/// Returns the parts of a path between slashes.
+/// Splits a path at its slashes. Fails if an allocation fails.
 fn parts_of<'t>(alloc: Global, path: &'t str) -> Result<Vec<&'t str>, AllocError> {
     let mut parts = Vec::new(alloc);
     let mut rest = path;
@@ -91,7 +91,7 @@ fn parts_of<'t>(alloc: Global, path: &'t str) -> Result<Vec<&'t str>, AllocError
     Ok(parts)
 }
 
-/// Returns the parts of a pattern without what is before and after it: with `**` before them if it has no slash.
+/// Splits a pattern at its slashes, and puts `**` before it if it has none. Fails if an allocation fails.
 fn pattern_parts(alloc: Global, text: &str) -> Result<Vec<String>, AllocError> {
     let mut parts = Vec::new(alloc);
     if !text.contains('/') {
@@ -103,7 +103,7 @@ fn pattern_parts(alloc: Global, text: &str) -> Result<Vec<String>, AllocError> {
     Ok(parts)
 }
 
-/// Returns a text without the `!` before it, if it has one, and whether it does.
+/// Removes a `!` at the start of a text. Returns whether there was one, and the rest.
 fn without_mark<'t>(text: &'t str) -> (bool, &'t str) {
     match text.strip_prefix('!') {
         Some(rest) => (true, rest),
@@ -111,7 +111,7 @@ fn without_mark<'t>(text: &'t str) -> (bool, &'t str) {
     }
 }
 
-/// Returns a text without the slash at its end, if it has one, and whether it does.
+/// Removes a slash at the end of a text. Returns whether there was one, and the rest.
 fn without_slash<'t>(text: &'t str) -> (bool, &'t str) {
     match text.strip_suffix('/') {
         Some(front) => (true, front),
@@ -119,9 +119,9 @@ fn without_slash<'t>(text: &'t str) -> (bool, &'t str) {
     }
 }
 
-/// Returns a pattern. After `!` it takes back. Before a slash it matches directories only. With another slash it
-/// matches a whole path, otherwise a name at any depth. `None` if it is empty, or has `[` or a backslash, which are not
-/// supported.
+/// Parses a pattern. A `!` before it negates it, and a slash at its end makes it match only directories. If there is
+/// another slash it matches whole paths, otherwise names at any depth. Returns `None` if it is empty, or contains `[`
+/// or a backslash, which are not supported. Fails if an allocation fails.
 pub(crate) fn pattern_of(alloc: Global, text: &str) -> Result<Option<Pattern>, AllocError> {
     let (is_negated, text) = without_mark(text);
     let (is_directory, text) = without_slash(text);
@@ -135,7 +135,7 @@ pub(crate) fn pattern_of(alloc: Global, text: &str) -> Result<Option<Pattern>, A
     }))
 }
 
-/// Returns the patterns of the lines of a `.gitignore` file, in their order.
+/// Parses the lines of a `.gitignore` file, and returns their patterns in order. Fails if an allocation fails.
 pub(crate) fn ignore_patterns(alloc: Global, text: &str) -> Result<Vec<Pattern>, AllocError> {
     let mut patterns = Vec::new(alloc);
     for line in text.lines() {
@@ -150,7 +150,8 @@ pub(crate) fn ignore_patterns(alloc: Global, text: &str) -> Result<Vec<Pattern>,
     Ok(patterns)
 }
 
-/// Returns whether a pattern matches a path, given as its parts, of a directory or not.
+/// Returns whether a pattern matches a path, which is split at its slashes. `is_directory` says whether a directory is
+/// there.
 fn is_match(pattern: &Pattern, path: &[&str], is_directory: bool) -> bool {
     if pattern.is_directory && !is_directory {
         return false;
@@ -159,8 +160,8 @@ fn is_match(pattern: &Pattern, path: &[&str], is_directory: bool) -> bool {
     path_matches(&mut steps, pattern.parts.as_slice(), path).unwrap_or(false)
 }
 
-/// Returns what the last pattern that matches a path says: `Some(true)` to leave it out, `Some(false)` to take it back.
-/// The path is relative to the directory of the patterns.
+/// Returns what the last pattern that matches a path decides: `Some(true)` to leave it out, `Some(false)` to keep it.
+/// Returns `None` if none matches. The path is relative to the directory of the patterns. Fails if an allocation fails.
 pub(crate) fn last_match(
     alloc: Global,
     patterns: &[Pattern],

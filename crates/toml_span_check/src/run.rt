@@ -1,4 +1,4 @@
-//! The run of the program.
+//! Runs a check of files.
 ghost use Rattle.std.specs.Prelude.{◌≡◌, ◌+◌, ◌++◌, IfOk, OnOk, false, map, string_bytes};
 ghost use Rattle.toml_span_check.specs.Run as spec;
 ghost use Rattle.toml_span_check.specs.Run.{FindsAll, Runs, complaint};
@@ -16,28 +16,29 @@ use std::io::sink;
 use toml_span_lines::held::Unwritten;
 use toml_span_lines::run::write_bytes;
 use toml_span_lines::sink::Sink;
-use toml_span_lines::told::Told;
+use toml_span_lines::tracked::Tracked;
 use toml_span_report::visible::push_visible;
 
-/// How many files have errors or can't be read, and how many errors there are. A file that can't be read is one.
+/// The number of files that have errors or can't be read, and the number of errors. A file that can't be read counts as
+/// one error.
 #[derive(Clone, Copy, Drop)]
 struct Tally {
     files: usize,
     errors: usize,
 }
 
-/// What is printed about files.
+/// The output of a check, as far as it has not been written.
 #[derive(Drop)]
 struct Telling {
-    /// Standard output that is not written yet.
+    /// What remains to be written to standard output.
     held: Vec<u8>,
-    /// Standard error: the files that can't be read.
+    /// What to write to standard error: a line for each file that can't be read.
     errors: String,
     status: u8,
     wrong: Tally,
 }
 
-/// Returns the sum of two counts. A sum that does not fit ends the run as out of memory does.
+/// Returns the sum of two counts. Fails if it does not fit, as if an allocation had failed.
 fn sum_of(count: usize, more: usize) -> Result<usize, AllocError>
     ensures { IfOk result (λ sum. sum ≡ count + more) }
 {
@@ -48,7 +49,7 @@ fn sum_of(count: usize, more: usize) -> Result<usize, AllocError>
 }
 
 impl Telling {
-    /// Counts a file with this many errors.
+    /// Counts the errors of a file. Fails if a sum does not fit.
     fn count(&mut self, errors: usize) -> Result<(), AllocError>
         ensures { OnOk result (self.new ≡ record self.old { wrong = spec.counted self.old.wrong errors }) }
     {
@@ -59,14 +60,14 @@ impl Telling {
     }
 }
 
-/// Returns the exit status of a file with this many errors.
+/// Returns the exit status for a file with this many errors.
 fn status_of(errors: usize) -> u8
     ensures { result ≡ spec.status_of errors }
 {
     if errors == 0 { 0 } else { 1 }
 }
 
-/// Adds the line that reports a file that can't be read.
+/// Appends the line which reports that a file can't be read, and why. Fails if an allocation fails.
 pub fn push_complaint(out: &mut String, name: &str, reason: &str) -> Result<(), AllocError>
     ensures { OnOk result (string_bytes out.new ≡ string_bytes out.old ++ complaint name.now reason.now) }
 {
@@ -78,7 +79,8 @@ pub fn push_complaint(out: &mut String, name: &str, reason: &str) -> Result<(), 
     Ok(())
 }
 
-/// Writes a document that is shown, or holds the errors of a file. Returns the number of errors.
+/// Answers the bytes of a file: writes the document to print, or appends the reports of errors to `held`. Returns the
+/// number of errors. Fails if a write or an allocation fails.
 fn tell_bytes<O: Sink>(
     alloc: Global,
     format: Format,
@@ -104,7 +106,7 @@ fn tell_bytes<O: Sink>(
     }
 }
 
-/// Adds the report on one file.
+/// Answers one file, which may be unreadable, and counts its errors. Fails if a write or an allocation fails.
 fn tell_one<O: Sink>(
     alloc: Global,
     format: Format,
@@ -147,7 +149,7 @@ fn tell_one<O: Sink>(
     Ok(())
 }
 
-/// The names of the files that names are for.
+/// Returns the names of the files that the arguments stand for. Fails if an allocation fails.
 fn find_all<I: Inputs>(
     alloc: Global,
     excludes: &[&str],
@@ -166,7 +168,7 @@ fn find_all<I: Inputs>(
     Ok(files)
 }
 
-/// Reads the files in order, and writes or holds their reports.
+/// Reads the files in order, and answers each. Fails if a write or an allocation fails.
 fn tell<I: Inputs, O: Sink>(
     alloc: Global,
     format: Format,
@@ -206,7 +208,7 @@ fn tell<I: Inputs, O: Sink>(
     Ok(telling)
 }
 
-/// Adds a number of things: `1 file`, `2 files`.
+/// Appends a number and a noun, such as `1 file` or `2 files`. Fails if an allocation fails.
 fn push_number(out: &mut String, number: usize, word: &str) -> Result<(), AllocError>
     ensures { OnOk result (string_bytes out.new ≡ string_bytes out.old ++ spec.number_of number word.now) }
 {
@@ -218,7 +220,7 @@ fn push_number(out: &mut String, number: usize, word: &str) -> Result<(), AllocE
     Ok(())
 }
 
-/// Adds the line that counts errors: `3 errors in 2 of 5 files`.
+/// Appends the line that counts errors: `3 errors in 2 of 5 files`. Fails if an allocation fails.
 #[tactic(auto, unfolding(crate::specs::Run::found_errors))]
 fn push_errors(out: &mut String, files: usize, wrong: Tally) -> Result<(), AllocError>
     ensures { OnOk result (string_bytes out.new ≡ string_bytes out.old ++ spec.found_errors files wrong) }
@@ -231,7 +233,7 @@ fn push_errors(out: &mut String, files: usize, wrong: Tally) -> Result<(), Alloc
     out.push_str("\n")
 }
 
-/// Adds the line that counts files without errors: `5 files checked`.
+/// Appends the line that counts files without errors: `5 files checked`. Fails if an allocation fails.
 #[tactic(auto, unfolding(crate::specs::Run::found_none))]
 fn push_checked(out: &mut String, files: usize) -> Result<(), AllocError>
     ensures { OnOk result (string_bytes out.new ≡ string_bytes out.old ++ spec.found_none files) }
@@ -240,8 +242,8 @@ fn push_checked(out: &mut String, files: usize) -> Result<(), AllocError>
     out.push_str(" checked\n")
 }
 
-/// Adds the last line of a check whose errors are printed as text: how many errors there are, or, without errors and
-/// somebody watches, how many files were checked.
+/// Appends the last line of a check that prints text: the number of errors or, if there are none and standard output is
+/// a terminal (`is_watched`), the number of files. Fails if an allocation fails.
 fn push_summary(
     out: &mut String,
     format: Format,
@@ -260,7 +262,7 @@ fn push_summary(
     }
 }
 
-/// The reports on all files together.
+/// Completes the output for all files: in SARIF, the document around the results. Fails if an allocation fails.
 fn whole(alloc: Global, format: Format, task: Task, told: Vec<u8>) -> Result<Vec<u8>, AllocError>
     ensures { IfOk result (λ out. out.items ≡ spec.whole format task told.items) }
 {
@@ -270,7 +272,8 @@ fn whole(alloc: Global, format: Format, task: Task, told: Vec<u8>) -> Result<Vec
     }
 }
 
-/// Reads the files that these names are for, and writes or holds their reports, and at the end how many have errors.
+/// Reads the files that the arguments stand for, and answers each, with a summary at the end. Fails if a write or an
+/// allocation fails.
 fn tell_all<I: Inputs, O: Sink>(
     alloc: Global,
     format: Format,
@@ -302,9 +305,8 @@ fn tell_all<I: Inputs, O: Sink>(
     Ok(telling)
 }
 
-/// Reads the files that these names are for, and writes their reports. Returns the status with which the program
-/// ends: 0 where all are read, 1 where one has a fault, 2 where one can't be read, 3 where a write fails, 4 without
-/// memory.
+/// Reads the files that the arguments stand for, answers each, and writes the output. Returns the exit status: 0
+/// without errors, 1 if a file has errors, 2 if a file can't be read, 3 if a write failed, 4 if an allocation failed.
 fn run_aloud<I: Inputs, O: Sink, E: Sink>(
     alloc: Global,
     format: Format,
@@ -339,7 +341,7 @@ fn run_aloud<I: Inputs, O: Sink, E: Sink>(
     }
 }
 
-/// Reads the files that these names are for, and writes nothing. Answers the status: 4 without memory.
+/// Does the same as `run_aloud`, but writes nothing. Returns the exit status.
 fn run_quiet<I: Inputs>(
     alloc: Global,
     format: Format,
@@ -354,7 +356,7 @@ fn run_quiet<I: Inputs>(
         (map (λ name. name.now) names.now) is_watched
         (I.log inputs.old) (I.log inputs.new) result }
 {
-    let mut nowhere = Told::new(sink());
+    let mut nowhere = Tracked::new(sink());
     match tell_all(
         alloc,
         format,
@@ -371,7 +373,11 @@ fn run_quiet<I: Inputs>(
     }
 }
 
-/// Runs on the files that these names are for (see `run_aloud`). A quiet run writes nothing.
+/// Reads the files that the arguments `names` stand for, and checks or prints each of them.
+///
+/// `excludes` are patterns of files to leave out of directories, and `pointer` names the value to print. `is_watched`
+/// says whether standard output is a terminal, and `is_quiet` suppresses all output. Returns the exit status: 0 without
+/// errors, 1 if a file has errors, 2 if a file can't be read, 3 if a write failed, 4 if an allocation failed.
 pub fn run<I: Inputs, O: Sink, E: Sink>(
     alloc: Global,
     format: Format,

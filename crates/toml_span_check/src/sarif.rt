@@ -1,4 +1,5 @@
-//! The faults of a run as one document in the Static Analysis Results Interchange Format (SARIF), version 2.1.0.
+//! Prints the reports of a run as one document of the Static Analysis Results Interchange Format (SARIF), version
+//! 2.1.0.
 ghost use Rattle.std.specs.Prelude.{◌≡◌, ◌<◌, ◌≤◌, ◌++◌, OnOk, IfOk, codes, map, string_bytes};
 ghost use Rattle.std.specs.List.{flat_map};
 ghost use Rattle.toml_span_tree.specs.Diagnostic.{label_content};
@@ -12,7 +13,7 @@ use toml_span::{Label, Span};
 use toml_span_report::visible::push_quoted;
 use toml_span_report::{Replacement, Report, Severity, line_column};
 
-/// The document up to its results, with a rule for each code of an error.
+/// The document up to the results, with a rule for each error code.
 const HEAD: &str = r#"{
 "$schema":"https://docs.oasis-open.org/sarif/sarif/v2.1.0/errata01/os/schemas/sarif-schema-2.1.0.json",
 "version":"2.1.0",
@@ -20,12 +21,12 @@ const HEAD: &str = r#"{
 {"id":"unexpected","shortDescription":{"text":"A character that is not part of TOML here."}},
 {"id":"unterminated-string","shortDescription":{"text":"A string that is not closed before the end of the file."}},
 {"id":"invalid-char-in-string","shortDescription":{"text":"A character that a string cannot contain."}},
-{"id":"invalid-escape","shortDescription":{"text":"A backslash that begins no escape."}},
+{"id":"invalid-escape","shortDescription":{"text":"A backslash that does not begin an escape."}},
 {"id":"invalid-hex-escape","shortDescription":{"text":"An escape with too few hexadecimal digits."}},
-{"id":"invalid-escape-value","shortDescription":{"text":"An escape that is no character."}},
+{"id":"invalid-escape-value","shortDescription":{"text":"An escape that does not name a character."}},
 {"id":"multiline-string-key","shortDescription":{"text":"A string of several lines as a key."}},
 {"id":"unquoted-string","shortDescription":{"text":"A value without quotes."}},
-{"id":"invalid-number","shortDescription":{"text":"A number that TOML does not have."}},
+{"id":"invalid-number","shortDescription":{"text":"A number that is not valid in TOML."}},
 {"id":"invalid-datetime","shortDescription":{"text":"A date or a time that does not exist."}},
 {"id":"unexpected-eof","shortDescription":{"text":"A value that is missing at the end of the file."}},
 {"id":"wanted","shortDescription":{"text":"Something else was expected here."}},
@@ -40,10 +41,10 @@ const HEAD: &str = r#"{
 {"id":"too-long","shortDescription":{"text":"A file that is larger than 16 MiB."}}
 ]}},"columnKind":"unicodeCodePoints","results":["#;
 
-/// The document after its results.
+/// The document after the results.
 const TAIL: &str = "\n]}]}\n";
 
-/// The level of a severity.
+/// Returns the level for a severity.
 fn level_of(severity: Severity) -> &'static str
     ensures { result.now ≡ spec.level_of severity }
 {
@@ -54,14 +55,14 @@ fn level_of(severity: Severity) -> &'static str
     }
 }
 
-/// Returns whether a byte is written as it is in a path of a URI: the unreserved ones, and the slash.
+/// Returns whether a byte occurs unescaped in the path of a URI: an unreserved one, or a slash.
 fn is_plain(byte: u8) -> bool
     ensures { result ≡ spec.is_plain byte }
 {
     matches!(byte, b'A'..=b'Z' | b'a'..=b'z' | b'0'..=b'9' | b'-' | b'.' | b'_' | b'~' | b'/')
 }
 
-/// The hexadecimal digit of a number below 16.
+/// Returns the upper-case hexadecimal digit of a number below 16.
 fn hex_digit(number: u8) -> u8
     requires { number < 16 }
     ensures { result ≡ spec.hex_digit number }
@@ -73,7 +74,7 @@ fn hex_digit(number: u8) -> u8
     }
 }
 
-/// Adds a byte of a path.
+/// Appends a byte of a path, percent-encoded if necessary. Fails if an allocation fails.
 fn push_uri_byte(out: &mut String, byte: u8) -> Result<(), AllocError>
     ensures { OnOk result (string_bytes out.new ≡ string_bytes out.old ++ spec.uri_byte byte) }
 {
@@ -85,7 +86,7 @@ fn push_uri_byte(out: &mut String, byte: u8) -> Result<(), AllocError>
     out.push(hex_digit(byte % 16) as char)
 }
 
-/// The front of a name's URI.
+/// Returns what the URI of a file begins with: `file://` for an absolute path.
 fn scheme_of(name: &str) -> &'static str
     ensures { result.now ≡ spec.scheme_of name.now }
 {
@@ -95,7 +96,7 @@ fn scheme_of(name: &str) -> &'static str
     }
 }
 
-/// Adds the bytes of a path.
+/// Appends the bytes of a path, percent-encoded if necessary. Fails if an allocation fails.
 fn push_path(out: &mut String, path: &[u8]) -> Result<(), AllocError>
     ensures { OnOk result (string_bytes out.new ≡ string_bytes out.old ++ flat_map spec.uri_byte path.now) }
 {
@@ -105,7 +106,7 @@ fn push_path(out: &mut String, path: &[u8]) -> Result<(), AllocError>
     Ok(())
 }
 
-/// Adds the URI of a file.
+/// Appends the URI of a file. Fails if an allocation fails.
 #[tactic(auto, unfolding(crate::specs::Sarif::uri))]
 fn push_uri(out: &mut String, name: &str) -> Result<(), AllocError>
     ensures { OnOk result (string_bytes out.new ≡ string_bytes out.old ++ spec.uri name.now) }
@@ -114,7 +115,7 @@ fn push_uri(out: &mut String, name: &str) -> Result<(), AllocError>
     push_path(out, name.as_bytes())
 }
 
-/// Adds the location of a file, as an object.
+/// Appends the location of a file as a JSON object. Fails if an allocation fails.
 fn push_artifact(out: &mut String, name: &str) -> Result<(), AllocError>
     ensures { OnOk result (string_bytes out.new ≡ string_bytes out.old ++ spec.artifact name.now) }
 {
@@ -124,7 +125,7 @@ fn push_artifact(out: &mut String, name: &str) -> Result<(), AllocError>
     Ok(())
 }
 
-/// Adds the lines and columns of a region, with the brace that opens it.
+/// Appends the lines and columns of a region, after its opening brace. Fails if an allocation fails.
 fn push_lines(
     out: &mut String,
     start: (usize, usize),
@@ -139,7 +140,7 @@ fn push_lines(
     Ok(())
 }
 
-/// Adds the bytes of a region, with the brace that closes it.
+/// Appends the byte range of a region, before its closing brace. Fails if an allocation fails.
 #[tactic(auto, unfolding(crate::specs::Sarif::bytes))]
 fn push_bytes(out: &mut String, start: usize, end: usize) -> Result<(), AllocError>
     requires { start ≤ end }
@@ -150,7 +151,7 @@ fn push_bytes(out: &mut String, start: usize, end: usize) -> Result<(), AllocErr
     out.push_str("}")
 }
 
-/// Adds the region of a span, which ends no later than the source.
+/// Appends the region of a span, which is cut at the end of the source. Fails if an allocation fails.
 fn push_region(out: &mut String, text: &str, span: Span) -> Result<(), AllocError>
     ensures { OnOk result (string_bytes out.new ≡ string_bytes out.old ++ spec.region text.now span) }
 {
@@ -160,7 +161,7 @@ fn push_region(out: &mut String, text: &str, span: Span) -> Result<(), AllocErro
     push_bytes(out, start, end)
 }
 
-/// Adds the location of a label, and its message.
+/// Appends the location of a label, with its message. Fails if an allocation fails.
 fn push_location(
     alloc: Global,
     out: &mut String,
@@ -181,7 +182,7 @@ fn push_location(
     Ok(())
 }
 
-/// Adds the location of a file alone.
+/// Appends the location of a file, without a region. Fails if an allocation fails.
 fn push_file(out: &mut String, name: &str) -> Result<(), AllocError>
     ensures { OnOk result (string_bytes out.new ≡ string_bytes out.old ++ spec.file_alone name.now) }
 {
@@ -191,7 +192,7 @@ fn push_file(out: &mut String, name: &str) -> Result<(), AllocError>
     Ok(())
 }
 
-/// Adds the place of the first primary label, or else the file alone.
+/// Appends the location of the first primary label or, if there is none, of the file. Fails if an allocation fails.
 fn push_place(
     alloc: Global,
     out: &mut String,
@@ -210,7 +211,7 @@ fn push_place(
     push_file(out, name)
 }
 
-/// Adds the place of a label that is not primary, after a comma.
+/// Appends the location of a label after a comma, if it is secondary. Fails if an allocation fails.
 fn push_other(
     alloc: Global,
     out: &mut String,
@@ -228,7 +229,7 @@ fn push_other(
     push_location(alloc, out, name, text, label)
 }
 
-/// The places of the labels that are not primary, each after a comma.
+/// Returns the locations of the secondary labels, each after a comma. Fails if an allocation fails.
 fn others(alloc: Global, name: &str, text: &str, labels: &[Label<()>]) -> Result<String, AllocError>
     ensures { IfOk result (λ out. string_bytes out
         ≡ flat_map (spec.other name.now text.now) (map label_content labels.now)) }
@@ -240,7 +241,7 @@ fn others(alloc: Global, name: &str, text: &str, labels: &[Label<()>]) -> Result
     Ok(out)
 }
 
-/// Elements of a list with a comma before each, without the first comma.
+/// Removes the comma before the first element of a list.
 fn listed(elements: &[u8]) -> &[u8]
     ensures { result.now ≡ spec.listed elements.now }
 {
@@ -250,7 +251,7 @@ fn listed(elements: &[u8]) -> &[u8]
     }
 }
 
-/// Adds the code, the level and the message of a report, after a comma.
+/// Appends the code, the level and the message of a report, after a comma. Fails if an allocation fails.
 fn push_front(alloc: Global, out: &mut String, report: &Report) -> Result<(), AllocError>
     ensures { OnOk result (string_bytes out.new ≡ string_bytes out.old ++ spec.front (report_content report.now)) }
 {
@@ -264,7 +265,7 @@ fn push_front(alloc: Global, out: &mut String, report: &Report) -> Result<(), Al
     Ok(())
 }
 
-/// Adds elements of a list, without the first comma.
+/// Appends the elements of a list, without the comma before the first. Fails if an allocation fails.
 fn push_listed(out: &mut String, elements: &str) -> Result<(), AllocError>
     requires { BeginsWithComma elements.now }
     ensures { OnOk result (string_bytes out.new ≡ string_bytes out.old ++ spec.listed elements.now) }
@@ -275,7 +276,7 @@ fn push_listed(out: &mut String, elements: &str) -> Result<(), AllocError>
     }
 }
 
-/// Adds the places of the labels that are not primary.
+/// Appends the locations of the secondary labels, if there are any. Fails if an allocation fails.
 fn push_related(
     alloc: Global,
     out: &mut String,
@@ -291,7 +292,7 @@ fn push_related(
     Ok(())
 }
 
-/// Adds the places of labels.
+/// Appends the locations of all labels. Fails if an allocation fails.
 fn push_places(
     alloc: Global,
     out: &mut String,
@@ -310,7 +311,7 @@ fn push_places(
     Ok(())
 }
 
-/// Adds a replacement: the region that it deletes, and the text that it inserts there.
+/// Appends a replacement: the region to delete, and the text to insert there. Fails if an allocation fails.
 fn push_replacement(
     alloc: Global,
     out: &mut String,
@@ -328,7 +329,7 @@ fn push_replacement(
     Ok(())
 }
 
-/// Adds replacements, each after a comma.
+/// Appends each replacement after a comma. Fails if an allocation fails.
 fn push_replacements(
     alloc: Global,
     out: &mut String,
@@ -345,7 +346,7 @@ fn push_replacements(
     Ok(())
 }
 
-/// Adds a fix that makes these replacements.
+/// Appends a fix that consists of these replacements. Fails if an allocation fails.
 fn push_change(
     alloc: Global,
     out: &mut String,
@@ -366,7 +367,7 @@ fn push_change(
     Ok(())
 }
 
-/// Adds the fix of a report, which makes all its replacements, or nothing if it has none.
+/// Appends a fix with all replacements of a report, or nothing if there are none. Fails if an allocation fails.
 fn push_fixes(
     alloc: Global,
     out: &mut String,
@@ -383,7 +384,7 @@ fn push_fixes(
     }
 }
 
-/// A report as a result of the run, after a comma.
+/// Returns a report as a result, after a comma. Fails if an allocation fails.
 pub(crate) fn sarif(
     alloc: Global,
     report: &Report,
@@ -400,7 +401,8 @@ pub(crate) fn sarif(
     Ok(out)
 }
 
-/// Elements of a list with a comma before each, as a list between two texts.
+/// Returns the elements of a list, without the comma before the first, between `head` and `tail`. Fails if an
+/// allocation fails.
 fn between(alloc: Global, head: &str, elements: &[u8], tail: &str) -> Result<Vec<u8>, AllocError>
     ensures { IfOk result (λ out. out.items ≡ head.now ++ spec.listed elements.now ++ tail.now) }
 {
@@ -410,7 +412,7 @@ fn between(alloc: Global, head: &str, elements: &[u8], tail: &str) -> Result<Vec
     Ok(out)
 }
 
-/// The document for the results of a run, which have a comma before each.
+/// Returns the document with these results, each of which has a comma before it. Fails if an allocation fails.
 #[tactic(auto, unfolding(crate::specs::Sarif::document))]
 pub(crate) fn document(alloc: Global, results: &[u8]) -> Result<Vec<u8>, AllocError>
     ensures { IfOk result (λ out. out.items ≡ spec.document results.now) }

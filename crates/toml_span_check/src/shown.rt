@@ -1,4 +1,4 @@
-//! The JSON text of a tree.
+//! Prints values as JSON.
 ghost use Rattle.std.specs.Prelude.{◌≡◌, ◌++◌, false, true, OnOk, IfOk, string_bytes, codes};
 ghost use Rattle.toml_span_tree.specs.Value.{view, inner_view, items_view, members_view};
 ghost use Rattle.toml_span_check.specs.Shown as spec;
@@ -8,14 +8,14 @@ use std::alloc::{AllocError, Global};
 use toml_span::value::{Table, Value, ValueInner};
 use toml_span_report::visible::push_quoted;
 
-/// `true` or `false`.
+/// Returns the text of a boolean.
 pub(crate) fn truth(is_true: bool) -> &'static str
     ensures { result.now ≡ spec.truth is_true }
 {
     if is_true { "true" } else { "false" }
 }
 
-/// Adds a comma, if something precedes.
+/// Appends a comma, unless this is the first element. Fails if an allocation fails.
 pub(crate) fn push_comma(out: &mut String, later: bool) -> Result<(), AllocError>
     ensures { OnOk result (string_bytes out.new ≡ string_bytes out.old ++ spec.comma_if later) }
 {
@@ -25,7 +25,7 @@ pub(crate) fn push_comma(out: &mut String, later: bool) -> Result<(), AllocError
     Ok(())
 }
 
-/// Adds a scalar with its type.
+/// Appends an object with the type and the value of a scalar. Fails if an allocation fails.
 fn push_tagged(
     alloc: Global,
     out: &mut String,
@@ -41,7 +41,7 @@ fn push_tagged(
     out.push_str("}")
 }
 
-/// Adds a scalar with its type, and nothing for an array or a table.
+/// Appends a scalar with its type, or nothing for an array or a table. Fails if an allocation fails.
 fn push_typed(alloc: Global, out: &mut String, scalar: &ValueInner<'_>) -> Result<(), AllocError>
     ensures { OnOk result (string_bytes out.new ≡ string_bytes out.old ++ spec.own_text true (inner_view scalar.now)) }
 {
@@ -62,7 +62,7 @@ fn push_typed(alloc: Global, out: &mut String, scalar: &ValueInner<'_>) -> Resul
     }
 }
 
-/// Adds a scalar as it is, and nothing for an array or a table.
+/// Appends a scalar, or nothing for an array or a table. Fails if an allocation fails.
 fn push_plain(alloc: Global, out: &mut String, scalar: &ValueInner<'_>) -> Result<(), AllocError>
     ensures { OnOk result (string_bytes out.new ≡ string_bytes out.old ++ spec.own_text false (inner_view scalar.now)) }
 {
@@ -80,15 +80,15 @@ fn push_plain(alloc: Global, out: &mut String, scalar: &ValueInner<'_>) -> Resul
     }
 }
 
-/// How a tree is shown.
+/// How to print a value.
 #[derive(Clone, Copy)]
 pub(crate) struct Shape {
     pub(crate) alloc: Global,
-    /// Whether scalars have their types.
+    /// Whether scalars have their types, as in the suite `toml-test`.
     pub(crate) is_tagged: bool,
 }
 
-/// Adds a value. One that is taken is `null`.
+/// Appends a value. A value that has been taken is `null`. Fails if an allocation fails.
 #[cycle(push_value)]
 fn push_value(shape: Shape, out: &mut String, value: &Value<'_>) -> Result<(), AllocError>
     ensures { OnOk result (string_bytes out.new ≡ string_bytes out.old ++ spec.shown shape.is_tagged (view value.now)) }
@@ -111,7 +111,7 @@ fn push_value(shape: Shape, out: &mut String, value: &Value<'_>) -> Result<(), A
     }
 }
 
-/// Adds the elements of an array, in brackets.
+/// Appends the elements of an array, in brackets. Fails if an allocation fails.
 #[cycle(push_value)]
 fn push_elements(shape: Shape, out: &mut String, elements: &[Value<'_>]) -> Result<(), AllocError>
     ensures { OnOk result (string_bytes out.new ≡ string_bytes out.old ++ (codes "["
@@ -128,7 +128,7 @@ fn push_elements(shape: Shape, out: &mut String, elements: &[Value<'_>]) -> Resu
     Ok(())
 }
 
-/// Adds the entries of a table, in braces.
+/// Appends the entries of a table, in braces. Fails if an allocation fails.
 #[cycle(push_value)]
 fn push_entries(shape: Shape, out: &mut String, table: &Table<'_>) -> Result<(), AllocError>
     ensures { OnOk result (string_bytes out.new ≡ string_bytes out.old ++ (codes "{"
@@ -147,7 +147,7 @@ fn push_entries(shape: Shape, out: &mut String, table: &Table<'_>) -> Result<(),
     Ok(())
 }
 
-/// The JSON text of a value.
+/// Returns a value as JSON. If `is_tagged`, scalars have their types. Fails if an allocation fails.
 pub(crate) fn shown(alloc: Global, value: &Value<'_>, is_tagged: bool) -> Result<String, AllocError>
     ensures { IfOk result (λ out. string_bytes out ≡ spec.shown is_tagged (view value.now)) }
 {
@@ -156,7 +156,7 @@ pub(crate) fn shown(alloc: Global, value: &Value<'_>, is_tagged: bool) -> Result
     Ok(out)
 }
 
-/// Returns the text of a string, a float or a date as it is, and of all else the JSON text.
+/// Returns the text of a string, float or date, or any other value as JSON. Fails if an allocation fails.
 pub(crate) fn raw(alloc: Global, value: &Value<'_>) -> Result<String, AllocError>
     ensures { IfOk result (λ out. string_bytes out ≡ spec.raw (view value.now)) }
 {

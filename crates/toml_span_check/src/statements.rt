@@ -1,7 +1,7 @@
-//! Finds the statement of an error: the header or the assignment that it is in, and where the next one begins.
+//! Finds the statement in which an error is, that is, a header or an assignment, and where the next one begins.
 use toml_span::ErrorKind;
 
-/// What is open after some bytes of a statement.
+/// What is open at some byte of a statement.
 #[derive(Clone, Copy)]
 pub(crate) struct Open {
     /// The number of open brackets and braces.
@@ -10,30 +10,30 @@ pub(crate) struct Open {
     quote: u8,
     /// Whether the open string has three quotes on each side.
     is_long: bool,
-    /// The number of bytes that belong to the one before.
+    /// The number of bytes after this one that belong to the same token.
     skip: usize,
-    /// Whether the statement is a header, which ends with its line.
+    /// Whether the statement is a header, which ends at the end of its line.
     is_header: bool,
 }
 
-/// The lines of the statement that an error is in, as byte offsets at which lines begin.
+/// The statement in which an error is. The offsets are starts of lines, or the length of the text.
 #[derive(Clone, Copy)]
 pub(crate) struct Statement {
-    /// Where it begins.
+    /// The start of the statement.
     pub(crate) start: usize,
-    /// Where the next one begins, or the end of the text.
+    /// The start of the next statement.
     pub(crate) next: usize,
     /// Where the last statement ends that has no meaning without it: for a header the last one of its section.
     pub(crate) end: usize,
 }
 
-/// The byte at an offset, or 0 at the end of the text and past it.
+/// Returns the byte at the offset `at`, or 0 if the text ends before it.
 fn byte_at(text: &str, at: usize) -> u8 {
     let bytes = text.as_bytes();
     if at < bytes.len() { bytes[at] } else { 0 }
 }
 
-/// The first offset, starting at one, whose byte is neither a space nor a tab.
+/// Returns the first offset from `from` on whose byte is neither a space nor a tab.
 fn blanks_end(text: &str, from: usize) -> usize {
     let bytes = text.as_bytes();
     for at in from..bytes.len() {
@@ -44,13 +44,13 @@ fn blanks_end(text: &str, from: usize) -> usize {
     bytes.len()
 }
 
-/// Whether there are three quotes at an offset.
+/// Returns whether there are three equal quotes at the offset.
 fn is_long(text: &str, at: usize) -> bool {
     let quote = byte_at(text, at);
     quote == byte_at(text, at.saturating_add(1)) && quote == byte_at(text, at.saturating_add(2))
 }
 
-/// Nothing is open before a statement, whose line begins at an offset.
+/// Returns what is open before a statement that begins at the offset `line`: nothing.
 fn begin(text: &str, line: usize) -> Open {
     Open {
         depth: 0,
@@ -61,7 +61,7 @@ fn begin(text: &str, line: usize) -> Open {
     }
 }
 
-/// What is open after a byte outside of strings and comments.
+/// Returns what is open after the byte at `at`, which is not in a string or comment.
 fn outside(text: &str, open: Open, at: usize) -> Open {
     let mut next = open;
     match byte_at(text, at) {
@@ -78,7 +78,7 @@ fn outside(text: &str, open: Open, at: usize) -> Open {
     next
 }
 
-/// What is open after a byte of a string.
+/// Returns what is open after the byte at `at`, which is in a string.
 fn inside(text: &str, open: Open, at: usize) -> Open {
     let mut next = open;
     let byte = byte_at(text, at);
@@ -95,7 +95,8 @@ fn inside(text: &str, open: Open, at: usize) -> Open {
     next
 }
 
-/// What is open after a line feed. It ends comments, headers, and strings in one quote, also where they are not closed.
+/// Returns what is open after a line feed. It ends comments, headers and single-line strings, even if they are not
+/// closed.
 fn after_line(open: Open) -> Open {
     let mut next = open;
     next.skip = 0;
@@ -108,7 +109,7 @@ fn after_line(open: Open) -> Open {
     next
 }
 
-/// What is open after one more byte.
+/// Returns what is open after the byte at `at`, given what is open before it.
 fn step(text: &str, open: Open, at: usize) -> Open {
     if byte_at(text, at) == b'\n' {
         after_line(open)
@@ -125,17 +126,17 @@ fn step(text: &str, open: Open, at: usize) -> Open {
     }
 }
 
-/// Whether a line that is not within a string begins after the byte at an offset, after which this is open.
+/// Returns whether the byte at `at` ends a line outside strings. `open` is what is open after it.
 fn is_line_end(text: &str, open: Open, at: usize) -> bool {
     open.quote == 0 && byte_at(text, at) == b'\n'
 }
 
-/// Whether a statement ends with the byte at an offset, after which this is open.
+/// Returns whether the byte at `at` ends the statement. `open` is what is open after it.
 fn is_end(text: &str, open: Open, at: usize) -> bool {
     open.depth == 0 && is_line_end(text, open, at)
 }
 
-/// Where the statement begins that holds the byte at an offset, of those from another offset on.
+/// Returns the start of the statement that contains the offset `place`. A statement begins at `from`.
 fn start_of(text: &str, from: usize, place: usize) -> usize {
     let mut start = from;
     let mut open = begin(text, from);
@@ -149,7 +150,7 @@ fn start_of(text: &str, from: usize, place: usize) -> usize {
     start
 }
 
-/// Where the string in one quote that begins at an offset is closed, or its line ends.
+/// Returns the end of the single-line string that begins at `from`, or the end of its line if it is not closed.
 fn quoted_end(text: &str, from: usize) -> usize {
     let bytes = text.as_bytes();
     let quote = byte_at(text, from);
@@ -166,7 +167,7 @@ fn quoted_end(text: &str, from: usize) -> usize {
     bytes.len()
 }
 
-/// Where the bytes of a bare key from an offset on end.
+/// Returns the end of the bare key that begins at `from`.
 fn bare_end(text: &str, from: usize) -> usize {
     let bytes = text.as_bytes();
     for at in from..bytes.len() {
@@ -177,7 +178,7 @@ fn bare_end(text: &str, from: usize) -> usize {
     bytes.len()
 }
 
-/// Where the part of a key at an offset ends, with the blanks after it: at the same offset if there is no key.
+/// Returns the end of the key that begins at `from`, and of the blanks after it, or `from` if there is no key.
 fn part_end(text: &str, from: usize) -> usize {
     let end = match byte_at(text, from) {
         b'"' | b'\'' => quoted_end(text, from),
@@ -190,7 +191,7 @@ fn part_end(text: &str, from: usize) -> usize {
     }
 }
 
-/// Where a dotted key at an offset ends, with the blanks after it, if there is one.
+/// Returns the end of the dotted key that begins at `from`, and of the blanks after it, or `None` if there is no key.
 fn key_end(text: &str, from: usize) -> Option<usize> {
     let mut at = from;
     for _ in from..text.len() {
@@ -206,7 +207,8 @@ fn key_end(text: &str, from: usize) -> Option<usize> {
     None
 }
 
-/// Where the brackets of a header that begins at an offset end, if nothing else is on its line.
+/// Returns the end of the closing brackets of the header that begins at `from`, or `None` if there is no header that is
+/// alone on its line.
 fn header_end(text: &str, from: usize) -> Option<usize> {
     let is_array = byte_at(text, from.saturating_add(1)) == b'[';
     let width = if is_array { 2usize } else { 1 };
@@ -221,8 +223,8 @@ fn header_end(text: &str, from: usize) -> Option<usize> {
     }
 }
 
-/// Where the head of the statement ends that the line at an offset begins: after its equals sign or its header. `None`
-/// if the line begins no statement.
+/// Returns the end of a statement's head in the line that begins at `line`: after the `=` of an assignment, or after a
+/// header. Returns `None` if the line does not begin a statement.
 fn head_end(text: &str, line: usize) -> Option<usize> {
     let from = blanks_end(text, line);
     if byte_at(text, from) == b'[' {
@@ -236,13 +238,14 @@ fn head_end(text: &str, line: usize) -> Option<usize> {
     }
 }
 
-/// By how many bytes the line at an offset is indented.
+/// Returns the number of blanks at the start of the line that begins at `line`.
 fn indentation(text: &str, line: usize) -> usize {
     blanks_end(text, line).saturating_sub(line)
 }
 
-/// Whether a statement begins with the line at an offset although the one before it is not closed: no further indented
-/// than that one, whose error is not after its head.
+/// Returns whether the line that begins at `line` is the start of a statement, even though the one from `start` on,
+/// with an error at `place`, is not closed. It must not be indented further than that one, and the error must not be in
+/// its head.
 fn resumes(text: &str, line: usize, start: usize, place: usize) -> bool {
     match head_end(text, line) {
         Some(end) => end > place && indentation(text, line) <= indentation(text, start),
@@ -250,8 +253,8 @@ fn resumes(text: &str, line: usize, start: usize, place: usize) -> bool {
     }
 }
 
-/// Whether the line at an offset goes on with a statement that can't be read: it is indented further, and neither blank
-/// nor the beginning of a statement.
+/// Returns whether the line that begins at `line` belongs to a statement that can't be read, and that begins at
+/// `start`: it is indented further, is not blank, and does not begin a statement.
 fn continues(text: &str, line: usize, start: usize) -> bool {
     let is_blank = matches!(
         byte_at(text, blanks_end(text, line)),
@@ -262,7 +265,7 @@ fn continues(text: &str, line: usize, start: usize) -> bool {
         && head_end(text, line).is_none()
 }
 
-/// The first line after an offset with which a statement begins although a string is open.
+/// Returns the start of the first line after `place` that begins a statement in spite of an open string.
 fn next_head(text: &str, start: usize, place: usize) -> usize {
     for at in place..text.len() {
         if byte_at(text, at) == b'\n' && resumes(text, at + 1, start, place) {
@@ -272,8 +275,9 @@ fn next_head(text: &str, start: usize, place: usize) -> usize {
     text.len()
 }
 
-/// Where the next statement begins after an error at an offset in a statement: after the line that ends it, and after
-/// those that continue it. Where it is not closed, this is the next line that begins a statement.
+/// Returns where the next statement begins after the one from `start` on, which has an error at `place`. If the
+/// statement can't be read (`is_broken`), lines that continue it are skipped; and if it is not closed, the next one is
+/// the next line that begins a statement.
 fn next_of(text: &str, start: usize, place: usize, is_broken: bool) -> usize {
     let mut open = begin(text, start);
     for at in start..text.len() {
@@ -296,7 +300,7 @@ fn next_of(text: &str, start: usize, place: usize, is_broken: bool) -> usize {
     }
 }
 
-/// The first line from one on that begins a header.
+/// Returns the start of the first header from the start of a line on, or the length of the text if there is none.
 fn next_header(text: &str, from: usize) -> usize {
     let mut open = begin(text, from);
     if open.is_header {
@@ -314,7 +318,7 @@ fn next_header(text: &str, from: usize) -> usize {
     text.len()
 }
 
-/// Whether the error is that of two statements that exclude each other, each of which can be read.
+/// Returns whether the error is a clash of two statements, each of which can be read.
 pub(crate) fn is_clash(kind: &ErrorKind<'_>) -> bool {
     matches!(
         kind,
@@ -325,7 +329,7 @@ pub(crate) fn is_clash(kind: &ErrorKind<'_>) -> bool {
     )
 }
 
-/// The statement that an error at an offset is in, of those from another offset on, at which a line begins.
+/// Returns the statement that contains the offset `place`, where an error is. A statement begins at `from`.
 pub(crate) fn statement_of(text: &str, from: usize, place: usize, is_clash: bool) -> Statement {
     let start = start_of(text, from, place);
     let next = next_of(text, start, place, !is_clash);

@@ -1,11 +1,11 @@
-//! The words of the command line as texts, which they need not be.
+//! Command-line arguments as texts, even if they are not valid UTF-8.
 ghost use Rattle.std.specs.Prelude.{◌≡◌, ◌<◌, ◌++◌, IfOk, OnOk, encode_utf8, string_bytes};
 ghost use Rattle.std.specs.Char.{digit_char};
 ghost use Rattle.toml_span_check.specs.Words as spec;
 
 use std::alloc::{AllocError, Global};
 
-/// Adds a digit in base 16.
+/// Appends a hexadecimal digit. Fails if an allocation fails.
 fn push_digit(text: &mut String, digit: u8) -> Result<(), AllocError>
     requires { digit < 16 }
     ensures { OnOk result (string_bytes text.new ≡ string_bytes text.old ++ encode_utf8 (digit_char digit)) }
@@ -13,7 +13,8 @@ fn push_digit(text: &mut String, digit: u8) -> Result<(), AllocError>
     text.push(char::from_digit(digit as u32, 16).unwrap_or('0'))
 }
 
-/// Adds a byte of a word: as it is if it is ASCII, otherwise a NUL and its number in base 16, as `\0xe9`.
+/// Appends a byte of an argument: an ASCII byte as it is, any other as NUL, `x` and two hexadecimal digits. Fails if an
+/// allocation fails.
 fn push_byte(text: &mut String, byte: u8) -> Result<(), AllocError>
     ensures { OnOk result (string_bytes text.new ≡ string_bytes text.old ++ spec.byte_text byte) }
 {
@@ -25,7 +26,7 @@ fn push_byte(text: &mut String, byte: u8) -> Result<(), AllocError>
     push_digit(text, byte % 16)
 }
 
-/// The bytes of a word, each as a text.
+/// Returns the bytes of an argument, each as `push_byte` appends it. Fails if an allocation fails.
 fn bytes_text(alloc: Global, word: &[u8]) -> Result<String, AllocError>
     ensures { IfOk result (λ text. string_bytes text ≡ spec.bytes_text word.now) }
 {
@@ -36,8 +37,9 @@ fn bytes_text(alloc: Global, word: &[u8]) -> Result<String, AllocError>
     Ok(text)
 }
 
-/// A word as a text. One that is not UTF-8 has a NUL before the number of each byte that is not ASCII: no other word
-/// has a NUL, and no file's name.
+/// Returns an argument as a text. If it is not valid UTF-8, each byte that is not ASCII is written as NUL, `x` and two
+/// hexadecimal digits. This is unambiguous, since arguments and file names do not contain NUL. Fails if an allocation
+/// fails.
 pub fn word_text(alloc: Global, word: &[u8]) -> Result<String, AllocError>
     ensures { IfOk result (λ text. string_bytes text ≡ spec.word_text word.now) }
 {
@@ -47,14 +49,14 @@ pub fn word_text(alloc: Global, word: &[u8]) -> Result<String, AllocError>
     }
 }
 
-/// Returns whether a text is that of a word that is not UTF-8.
+/// Returns whether the text stands for an argument that is not valid UTF-8.
 pub fn is_bytes(text: &str) -> bool
     ensures { result ≡ spec.is_bytes text.now }
 {
     text.as_bytes().contains(&0)
 }
 
-/// The text of a word as people see it, with a backslash for each NUL, as `\xe9`.
+/// Returns an argument's text as it is displayed: with `\` instead of NUL, as in `\xe9`. Fails if an allocation fails.
 pub fn shown_word(alloc: Global, text: &str) -> Result<String, AllocError>
     ensures { IfOk result (λ shown. string_bytes shown ≡ spec.shown_word text.now) }
 {

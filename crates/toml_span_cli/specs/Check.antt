@@ -1,4 +1,4 @@
--- What `check` does on words: a run, before which errors are fixed if the words ask for that.
+-- What `check` does: a run, before which `--fix` fixes errors.
 use Rattle.std.specs.Prelude.{◌≡◌, ◌⊎◌, ℕ, Bool, true, List, Option, None}
 use Rattle.std.specs.Io.KnownBytes.{Keeps}
 use Rattle.toml_span_lines.specs.Run.{HasWritten}
@@ -8,14 +8,14 @@ use Rattle.toml_span_cli.specs.Options.{Asks}
 use Rattle.toml_span_cli.specs.Start.{Starts}
 use Rattle.toml_span_cli.specs.declared.options.Reader.TheVariants as readers
 
--- the words ask for fixing
+-- the arguments have the option `--fix`
 abbrev pub AsksForFixing : List (List ℕ) → Bool → Type 0
 AsksForFixing words is_terminal =
     (format : Format) × (task : Task) × (pointer : List ℕ) × (excludes names : List (List ℕ)) × (is_quiet : Bool)
     × Asks readers.Check words is_terminal format task pointer excludes names is_quiet true
 
--- After files were fixed a line says how many, and they are checked; or it says why one can't be written, or can't be
--- written itself, which is status 3, and nothing is checked.
+-- After files have been fixed, a line says how many errors were fixed, and the files are checked. If the line says that
+-- a file can't be written, or can't be written itself (status 3), no file is checked.
 abbrev pub ChecksFixed : List (List ℕ) → Bool → Bool → Option (List ℕ) → Option (List ℕ) → Bool → Option (List ℕ)
     → Option (List ℕ) → Bool → ℕ → Type 0
 ChecksFixed words is_terminal is_watched told told' untold warned warned' unwarned status =

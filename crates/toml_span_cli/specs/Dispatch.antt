@@ -1,4 +1,4 @@
--- What the arguments ask for, and what is done then.
+-- What the arguments ask for, and how it is carried out.
 use Rattle.std.specs.Prelude.{◌≤◌, ℕ, Bool, true, false, ◌||◌, List, drop, Option, Some, None, slice_get}
 use Rattle.std.specs.Prelude.{if◌then◌else◌}
 use Rattle.std.specs.Io.KnownBytes.{Keeps}
@@ -15,21 +15,21 @@ use Rattle.toml_span_cli.specs.declared.dispatch.Request.TheVariants as requests
 use Rattle.toml_span_cli.specs.declared.help.TheConstants.{HELP, VERSION}
 use Rattle.toml_span_cli.specs.declared.options.Reader.TheVariants as readers
 
--- a command of this name; else a file, if the word is the name of one
+-- the command of this name or, if a file has this name, a check of files
 abbrev pub named : Option Command → Bool → Request
 named (Some command) is_file = requests.Command command
 named None true = requests.Files
 named None false = requests.Unknown
 
--- What the first argument asks for, where a file of this name exists, or not.
+-- What the first argument is. The flag says whether a file has this name.
 unfoldable pub request_of : List ℕ → Bool → Request
 request_of word exists =
     if is_help word then requests.Help
     else if is_version word then requests.Version
     else named (command_named word) (is_file word || exists)
 
--- What a command does on words, of which the first is its name, or the program's: standard output before and after and
--- whether writing it failed, the same of standard error, and the status, which is at most 4.
+-- What a command does. The first of the words is its name, or that of the program. Then standard output before and
+-- after, and whether a write to it failed; the same for standard error; and the status, which is at most 4.
 abbrev pub Performs : Command → List (List ℕ) → Bool → Bool → Option (List ℕ) → Option (List ℕ) → Bool → Option (List ℕ)
     → Option (List ℕ) → Bool → ℕ → Type 0
 Performs commands.Check words is_coloured is_watched told told' untold warned warned' unwarned status =
@@ -40,7 +40,7 @@ Performs commands.Show words is_coloured is_watched told told' untold warned war
     Shows words told told' untold warned warned' unwarned status
 Performs command words is_coloured is_watched told told' untold warned warned' unwarned status = status ≤ 4
 
--- What is done for a request: a command gets the words that follow the program's name, a check of files all of them.
+-- How a request is carried out. A command gets the words after the program's name, a check of files gets all words.
 abbrev pub Answers : Request → List (List ℕ) → Bool → Bool → Option (List ℕ) → Option (List ℕ) → Bool → Option (List ℕ)
     → Option (List ℕ) → Bool → ℕ → Type 0
 Answers (requests.Command command) words is_coloured is_watched told told' untold warned warned' unwarned status =
@@ -54,7 +54,7 @@ Answers requests.Version words is_coloured is_watched told told' untold warned w
 Answers requests.Unknown words is_coloured is_watched told told' untold warned warned' unwarned status =
     Keeps told told' × Warns warned warned' unwarned 2 status
 
--- what is done for the first argument, or for none
+-- how the first argument is carried out, or none
 abbrev pub AnswersFirst : Option (List ℕ) → List (List ℕ) → Bool → Bool → Option (List ℕ) → Option (List ℕ) → Bool
     → Option (List ℕ) → Option (List ℕ) → Bool → ℕ → Type 0
 AnswersFirst None words is_coloured is_watched told told' untold warned warned' unwarned status =
@@ -62,7 +62,7 @@ AnswersFirst None words is_coloured is_watched told told' untold warned warned' 
 AnswersFirst (Some word) words is_coloured is_watched told told' untold warned warned' unwarned status =
     (exists : Bool) × Answers (request_of word exists) words is_coloured is_watched told told' untold warned warned' unwarned status
 
--- What is done for the words of the command line, of which the first is the program's name.
+-- How the command line is carried out. Its first word is the program's name.
 abbrev pub Dispatches : List (List ℕ) → Bool → Bool → Option (List ℕ) → Option (List ℕ) → Bool → Option (List ℕ)
     → Option (List ℕ) → Bool → ℕ → Type 0
 Dispatches words is_coloured is_watched told told' untold warned warned' unwarned status =

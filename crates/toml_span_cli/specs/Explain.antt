@@ -1,11 +1,11 @@
--- The page of a code.
+-- The explanation of a code.
 use Rattle.std.specs.Prelude.{ℕ, List, codes, Option, Some, if◌then◌else◌}
 use Rattle.std.specs.Str.{bytes_eq}
 use Rattle.toml_span_report.specs.Explanations.{explained}
 use Rattle.toml_span_cli.specs.declared.explain.TheConstants.{NOT_UTF_8, TOO_LONG, TOO_MANY_ERRORS}
 use Rattle.toml_span_cli.specs.declared.explain.TheConstants.{NOTHING_THERE}
 
--- that of an error of a document, or of another error that `check` and `get` report
+-- that of an error of a document, or of another error of `check` and `get`
 unfoldable pub page_of : List ℕ → Option (List ℕ)
 page_of code =
     if bytes_eq code (codes "too-many-errors") then Some TOO_MANY_ERRORS.now

@@ -1,5 +1,5 @@
--- Which options come of which words. The words are cut into options by the kit's `clap`, whose `matches_of` and
--- `fault_of` are functions of them.
+-- The options in the arguments. The kit's `clap` splits the arguments into options: its `matches_of` and `fault_of` are
+-- functions of them.
 use Rattle.std.specs.Prelude.{◌≡◌, ◌==◌, ℕ, Bool, true, false, List, [], ◌∷◌, Option, Some, None, codes}
 use Rattle.std.specs.Prelude.{unwrap_or, if◌then◌else◌, Result, Ok, Err}
 use Rattle.std.specs.Str.{bytes_eq}
@@ -26,13 +26,13 @@ use Rattle.toml_span_check.specs.Words.{is_bytes}
 use Rattle.toml_span_report.specs.declared.Style.{Style}
 use Rattle.toml_span_report.specs.declared.Style.TheVariants.{Plain, Coloured}
 
--- ---- the words that the program knows
+-- ---- the options of each command
 
 -- `--NAME`
 abbrev pub flag : List ℕ → Rule
 flag name = record (new_rule name) { long = Some name; action = Some SetTrue }
 
--- `--NAME VALUE`, with a value where it is not given
+-- `--NAME VALUE`, with a default
 abbrev pub choice : List ℕ → List ℕ → Rule
 choice name default = record (new_rule name) { long = Some name; defaults = default ∷ [] }
 
@@ -40,14 +40,14 @@ choice name default = record (new_rule name) { long = Some name; defaults = defa
 abbrev pub several : List ℕ → Rule
 several name = record (new_rule name) { long = Some name; action = Some Append }
 
--- any number of names, and `-` where there is none
+-- any number of names, and `-` if there are none
 abbrev pub files : Rule
 files = record (new_rule (codes "FILE")) {
   range = Some (record { start_inclusive = 0; end_inclusive = usize_max });
   defaults = codes "-" ∷ [];
 }
 
--- one word, which must be there
+-- a required argument
 abbrev pub required : List ℕ → Rule
 required name = record (new_rule name) { required = true }
 
@@ -81,9 +81,9 @@ abbrev pub program : Reader → App
 program readers.Check = check
 program readers.Get = get
 
--- ---- what they ask for
+-- ---- what they mean
 
--- the value of an option, and nothing where it has none
+-- the value of an option, or nothing
 abbrev pub value_of : List Row → List ℕ → List ℕ
 value_of rows name = unwrap_or (first_of name rows) []
 
@@ -125,7 +125,7 @@ abbrev pub shows : Result (Option Form) Mistake → Result Task Mistake
 shows (Ok chosen) = Ok (Show (unwrap_or chosen form.Plain))
 shows (Err mistake) = Err mistake
 
--- a path is empty or begins with a slash
+-- whether a path is empty or begins with a slash
 abbrev pub is_pointer : List ℕ → Bool
 is_pointer [] = true
 is_pointer (first ∷ rest) = first == 47
@@ -141,7 +141,7 @@ abbrev pub checks : Option Version → Result Task Mistake
 checks (Some version) = Ok (Check version)
 checks None = Err mistake.Version
 
--- what to do with documents
+-- the task
 abbrev pub task_of : Reader → List Row → Result Task Mistake
 task_of readers.Check rows = checks (version_named (value_of rows (codes "toml")))
 task_of readers.Get rows =
@@ -149,7 +149,7 @@ task_of readers.Get rows =
     else if is_pointer (value_of rows (codes "PATH")) then shows (form_of rows)
     else Err mistake.Slash
 
--- where a document is shown, what is told can't be one as well
+-- If a document is printed, errors can't be reported as one document.
 abbrev pub with_task : Format → Task → Result (Format × Task) Mistake
 with_task Sarif (Show form) = Err mistake.Sarif
 with_task format task = Ok (format, task)
@@ -167,16 +167,16 @@ with_style (Some style) reader rows =
     with_format (format_named (value_of rows (codes "format")) style) (task_of reader rows)
 with_style None reader rows = Err mistake.Color
 
--- how errors are reported and what to do with documents, or what is wrong
+-- the format and the task, or what is wrong
 abbrev pub asked : Reader → List Row → Bool → Result (Format × Task) Mistake
 asked reader rows is_terminal = with_style (style_named (value_of rows (codes "color")) is_terminal) reader rows
 
--- the options that words are cut into, with their values
+-- the options in these words, with their values
 unfoldable pub options : Reader → List (List ℕ) → List Row
 options reader words = matches_of (program reader) words
 
--- What words ask of a command that takes them: the format and the task, the path of the value that is shown, the
--- patterns of what is left out, the names of the files, and whether nothing is printed and errors are fixed.
+-- What the words mean if they are right: the format and the task, the path of the value to print, the patterns of what
+-- to leave out, the names of the files, whether to print nothing, and whether to fix errors.
 pub record Asks (reader : Reader) (words : List (List ℕ)) (is_terminal : Bool) (format : Format) (task : Task)
     (pointer : List ℕ) (excludes names : List (List ℕ)) (is_quiet is_fixing : Bool) : Type 0 where
   pub what : asked reader (options reader words) is_terminal ≡ Ok (format, task)
@@ -201,11 +201,11 @@ abbrev pub mistake_kinds : Result (Format × Task) Mistake → Kinds
 mistake_kinds (Ok what) = []
 mistake_kinds (Err mistake) = kind_of mistake ∷ []
 
--- the kind of the error by which clap refuses words: `DisplayHelp` where they ask for help, none where it takes them
+-- the kind of clap's error for these words: `DisplayHelp` if they ask for help, and none if they are right
 unfoldable pub refusals : Reader → List (List ℕ) → Kinds
 refusals reader words = fault_of (program reader) words
 
--- the kind of the error that words give, and none where they are taken
+-- the kind of error for these words, and none if they are right
 abbrev pub faults : Reader → List (List ℕ) → Bool → Kinds
 faults reader words is_terminal =
     or_else (refusals reader words) (mistake_kinds (asked reader (options reader words) is_terminal))

@@ -1,14 +1,14 @@
--- What is written of a text.
+-- What is printed.
 use Rattle.std.specs.Prelude.{◌≡◌, ℕ, Bool, true, false, List, Option, if◌then◌else◌}
 use Rattle.std.specs.Io.KnownBytes.{Appends}
 use Rattle.toml_span_lines.specs.Run.{HasWritten}
 
--- a text is written, with this status; or a write fails, which is status 3, and the first bytes are written
+-- A text is written, with this status. Or a write fails, which is status 3, and a prefix is written.
 pub record Says (old new : Option (List ℕ)) (failed : Bool) (text : List ℕ) (said status : ℕ) : Type 0 where
   pub written : HasWritten old new text
   pub whole : failed ≡ false → Appends old new text
   pub ended : status ≡ (if failed then 3 else said)
 
--- some text is written
+-- Some text is written.
 abbrev pub Warns : Option (List ℕ) → Option (List ℕ) → Bool → ℕ → ℕ → Type 0
 Warns old new failed said status = (text : List ℕ) × Says old new failed text said status

@@ -1,4 +1,4 @@
--- What the program does on the words of its command line.
+-- What the program does with its arguments.
 use Rattle.std.specs.Prelude.{◌≡◌, ◌≢◌, ◌⊎◌, ℕ, Bool, true, false, List, [], Option}
 use Rattle.std.specs.Io.KnownBytes.{Keeps}
 use Rattle.clap.specs.Kinds.{IsAmong}
@@ -18,8 +18,8 @@ abbrev pub help_of : Reader → List ℕ
 help_of readers.Check = CHECK.now
 help_of readers.Get = GET.now
 
--- What is written for an error of this kind: the help or the version, if the words ask for that; else what is wrong
--- with them, or nothing without memory.
+-- What is printed for an error of this kind: the help or the version, if the words ask for it, otherwise what is wrong
+-- with them. Nothing is printed if an allocation fails.
 abbrev pub Refuses : Reader → ErrorKind → Option (List ℕ) → Option (List ℕ) → Bool → Option (List ℕ) → Option (List ℕ) → Bool → ℕ
     → Type 0
 Refuses reader kind told told' untold warned warned' unwarned status =
@@ -29,8 +29,8 @@ Refuses reader kind told told' untold warned warned' unwarned status =
     × ((message : List ℕ) × Says warned warned' unwarned (visible_lines message) 2 status))
     ⊎ ((status ≡ 4) × Keeps told told' × Keeps warned warned')
 
--- A command on words. Where it takes them, it is a run on what they ask for; else no file is read. Without memory,
--- which is status 4, nothing is read or written.
+-- A command with these words. If they are right, it runs on the files that they name. Otherwise no file is read. If an
+-- allocation fails, the status is 4.
 abbrev pub Starts : Reader → List (List ℕ) → Bool → Bool → Option Asked → Option Asked
     → Option (List ℕ) → Option (List ℕ) → Bool → Option (List ℕ) → Option (List ℕ) → Bool → ℕ → Type 0
 Starts reader words is_terminal is_watched old new told told' untold warned warned' unwarned status =

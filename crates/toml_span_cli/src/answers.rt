@@ -1,4 +1,4 @@
-//! What a command writes at its end.
+//! What a command prints at its end.
 ghost use Rattle.std.specs.Prelude.{◌≡◌, ◌≤◌, false};
 
 use crate::say::quoted_word;
@@ -7,7 +7,7 @@ use toml_span_lines::run::write_bytes;
 use toml_span_lines::sink::Sink;
 use toml_span_report::visible::push_visible;
 
-/// What a command writes, and the exit status.
+/// What a command prints, and its exit status.
 #[derive(Drop)]
 pub(crate) struct Answer {
     pub(crate) out: String,
@@ -16,7 +16,7 @@ pub(crate) struct Answer {
     ghost small: { status ≤ 4 },
 }
 
-/// Returns the answer of a command that succeeds: it prints a text.
+/// Returns the answer of a command that succeeds and prints this text.
 pub(crate) fn printed(alloc: Global, out: String) -> Answer {
     Answer {
         out,
@@ -25,7 +25,8 @@ pub(crate) fn printed(alloc: Global, out: String) -> Answer {
     }
 }
 
-/// Returns the answer of a command that fails with this status: a line that names the file and the reason.
+/// Returns the answer of a command that fails with this status: a line with `front`, the name of the file and the
+/// reason. Fails if an allocation fails.
 pub(crate) fn failed(
     alloc: Global,
     front: &str,
@@ -47,7 +48,7 @@ pub(crate) fn failed(
     })
 }
 
-/// Writes an answer. Returns its status, or 3 if a write fails.
+/// Prints an answer. Returns its status, or 3 if a write fails.
 pub(crate) fn give<O: Sink, E: Sink>(answer: &Answer, out: &mut O, errors: &mut E) -> u8
     requires out { O.failed out.old ≡ false }
     requires errors { E.failed errors.old ≡ false }

@@ -5,21 +5,21 @@ use std::alloc::{AllocError, Global};
 use toml_span::Stop;
 use toml_span_files::Options;
 
-/// The most seconds to wait: a day.
+/// The maximum number of seconds to wait: a day.
 const MOST_WAIT: u64 = 86_400;
 
-/// What is done with the result.
+/// What to do with the result of the edits.
 #[derive(Clone, Copy, PartialEq, Eq)]
 pub(crate) enum Show {
-    /// It replaces the file.
+    /// Replace the file by it.
     No,
-    /// It is printed.
+    /// Print it.
     Text,
-    /// What it changes is printed.
+    /// Print how it differs from the file.
     Diff,
 }
 
-/// What the arguments of a command that edits a file ask for.
+/// The parsed arguments of a command that edits a file.
 #[derive(Drop)]
 pub(crate) struct Arguments<'w> {
     /// The arguments that are not options.
@@ -28,15 +28,15 @@ pub(crate) struct Arguments<'w> {
     pub(crate) edits: Vec<&'w str>,
     pub(crate) options: Options,
     pub(crate) show: Show,
-    /// Values are texts, not TOML.
+    /// Whether values are texts rather than TOML.
     pub(crate) is_string: bool,
     pub(crate) is_help: bool,
 }
 
-/// The option that the next argument belongs to.
+/// The option whose value is the next argument.
 #[derive(Clone, Copy)]
 enum Waiting {
-    /// None.
+    /// None: the next argument is not the value of an option.
     No,
     /// `--wait`
     Wait,
@@ -46,7 +46,7 @@ enum Waiting {
     Never,
 }
 
-/// Arguments, while they are read.
+/// Arguments that are being parsed.
 #[derive(Drop)]
 struct Reading<'w> {
     alloc: Global,
@@ -55,7 +55,7 @@ struct Reading<'w> {
     waiting: Waiting,
 }
 
-/// Returns a number of seconds.
+/// Parses a number of seconds, from 0 to `MOST_WAIT`. Fails with a message if it is not one.
 fn seconds(alloc: Global, word: &str) -> Result<u64, Stop<String>> {
     match word.parse::<u64>() {
         Ok(number) if number <= MOST_WAIT => Ok(number),
@@ -66,7 +66,7 @@ fn seconds(alloc: Global, word: &str) -> Result<u64, Stop<String>> {
 }
 
 impl<'w> Reading<'w> {
-    /// Refuses an argument.
+    /// Fails with the message that this argument is unexpected.
     fn unexpected(&self, word: &str) -> Result<(), Stop<String>> {
         let word = quoted_word(self.alloc, word)?;
         Err(Stop::Fault(format!(in self.alloc;
@@ -74,7 +74,7 @@ impl<'w> Reading<'w> {
         )?))
     }
 
-    /// Takes an argument that begins with a dash.
+    /// Parses an argument that begins with a dash. Fails with a message.
     fn option(&mut self, word: &'w str) -> Result<(), Stop<String>> {
         match word {
             "-h" | "--help" => self.asked.is_help = true,
@@ -95,7 +95,7 @@ impl<'w> Reading<'w> {
         Ok(())
     }
 
-    /// Takes an argument.
+    /// Parses an argument. Fails with a message.
     fn take(&mut self, word: &'w str) -> Result<(), Stop<String>> {
         match self.waiting {
             Waiting::Wait => self.asked.options.wait = seconds(self.alloc, word)?,
@@ -115,7 +115,7 @@ impl<'w> Reading<'w> {
     }
 }
 
-/// Returns what the arguments of a command ask for, or what is wrong with them.
+/// Parses the arguments of a command. Fails with a message, or if an allocation fails.
 pub(crate) fn arguments_asked<'w>(
     alloc: Global,
     command: Command,

@@ -1,4 +1,4 @@
-//! The edits that arguments and scripts ask for.
+//! The edits that arguments and scripts describe.
 use crate::commands::Command;
 use crate::options::{NO_POINTER, is_pointer};
 use std::alloc::{AllocError, Global};
@@ -14,7 +14,7 @@ pub(crate) struct Change<'w> {
 /// What an edit does at its path.
 #[derive(Clone, Copy)]
 pub(crate) enum Task<'w> {
-    /// Sets the value, or adds it.
+    /// Replaces the value, or adds it.
     Set(&'w str),
     /// Renames the key.
     Rename(&'w str),
@@ -26,7 +26,7 @@ pub(crate) enum Task<'w> {
     Append(&'w str),
     /// Adds an element before the one at the path.
     Insert(&'w str),
-    /// Moves the value to another path.
+    /// Moves the value to this path.
     Move(&'w str),
 }
 
@@ -40,8 +40,8 @@ pub(crate) fn count_of(command: Command) -> usize {
     }
 }
 
-/// Returns the edit of a command and its arguments after the name of the file, or None if there are more or fewer than
-/// it takes.
+/// Returns the edit that a command makes with its arguments after the name of the file, or `None` if it takes another
+/// number of them.
 pub(crate) fn change_of<'w>(command: Command, words: &[&'w str]) -> Option<Change<'w>> {
     let [path, rest @ ..] = words else {
         return None;
@@ -69,7 +69,7 @@ impl<'w> Change<'w> {
     }
 }
 
-/// Returns the command that a line of a script begins with.
+/// Returns the command with this name, or `None` if no line of a script may begin with it.
 fn scripted(name: &str) -> Option<Command> {
     match name {
         "set" => Some(Command::Set),
@@ -83,8 +83,7 @@ fn scripted(name: &str) -> Option<Command> {
     }
 }
 
-/// Returns the first word of a line and what follows it. A word in quotes ends with the next such quote; nothing is
-/// escaped in it.
+/// Splits a line after its first word, which may be in quotes. In quotes nothing is escaped.
 fn first_word(line: &str) -> Option<(&str, &str)> {
     let line = line.trim_start();
     let (word, rest) = match (line.strip_prefix('\''), line.strip_prefix('"')) {
@@ -98,8 +97,8 @@ fn first_word(line: &str) -> Option<(&str, &str)> {
     Some((word, rest.trim_start()))
 }
 
-/// Returns the edit that a line of a script asks for: a command and its arguments with blanks between them, of which
-/// the last one is the rest of the line.
+/// Parses a line of a script: a command and its arguments, separated by blanks. The last argument is the rest of the
+/// line. Returns `None` if the line is wrong.
 fn line_change(line: &str) -> Option<Change<'_>> {
     let (name, rest) = first_word(line)?;
     let command = scripted(name)?;
@@ -118,7 +117,7 @@ fn line_change(line: &str) -> Option<Change<'_>> {
     }
 }
 
-/// Returns the edit of one line, or what is wrong with it.
+/// Parses a line of a script. Fails with a message, or if an allocation fails.
 fn checked<'w>(
     alloc: Global,
     front: &str,
@@ -133,7 +132,7 @@ fn checked<'w>(
     Err(Stop::Fault(format!(in alloc; "{front} {at}: {reason}")?))
 }
 
-/// Returns the edits of options.
+/// Parses the edits of the options `-e`. Fails with a message, or if an allocation fails.
 pub(crate) fn option_changes<'w>(
     alloc: Global,
     edits: &[&'w str],
@@ -145,7 +144,8 @@ pub(crate) fn option_changes<'w>(
     Ok(changes)
 }
 
-/// Returns the edits of a script, one per line. Lines that are blank or begin with `#` are ignored.
+/// Parses a script with one edit per line. Ignores blank lines, and lines that begin with `#`. Fails with a message, or
+/// if an allocation fails.
 pub(crate) fn script_changes(alloc: Global, script: &str) -> Result<Vec<Change<'_>>, Stop<String>> {
     let mut changes = Vec::new(alloc);
     for (at, line) in script.lines().enumerate() {

@@ -15,14 +15,14 @@ use toml_span_check::newer::with_older_forms;
 use toml_span_lines::run::BOUND;
 use toml_span_lines::sink::Sink;
 
-/// How many errors were fixed, and in how many files.
+/// The number of errors that were fixed, and the number of files with such errors.
 #[derive(Clone, Copy, Drop)]
 struct Count {
     errors: usize,
     files: usize,
 }
 
-/// Fixes errors of a source, and then replaces what its version of TOML lacks.
+/// Fixes the errors of a source, and then replaces what its version of TOML lacks. Fails if an allocation fails.
 fn fixed(alloc: Global, text: &str, task: Task, name: &str) -> Result<Fixed, AllocError> {
     let made = with_fixes(alloc, text)?;
     let Task::Check(version) = task else {
@@ -35,8 +35,9 @@ fn fixed(alloc: Global, text: &str, task: Task, name: &str) -> Result<Fixed, All
     })
 }
 
-/// Fixes errors of a file, and replaces it if there were some. Returns how many, or why it is not written. A file that
-/// can't be read, or is not a text of at most 16 MiB, is left as it is: checking it says why.
+/// Fixes the errors of a file, and replaces the file if there were any. Returns the number of fixes, or the answer for
+/// a file that could not be written. Leaves a file that can't be read, or is not a text of at most 16 MiB, for the
+/// check to report. Fails if an allocation fails.
 fn fix_file(
     alloc: Global,
     host: &mut Host,
@@ -65,14 +66,14 @@ fn fix_file(
     }
 }
 
-/// What fixing leaves to print on standard error, and whether all that was fixed is written.
+/// What to print on standard error after fixing, and whether all fixes were written.
 #[derive(Drop)]
 struct Outcome {
     line: String,
     is_written: bool,
 }
 
-/// Returns the line that counts what was fixed: nothing if there is nothing to say.
+/// Returns the line that counts the fixes, or an empty text if there is nothing to say. Fails if an allocation fails.
 fn counted(alloc: Global, count: Count, is_quiet: bool) -> Result<Outcome, AllocError> {
     let (errors, files) = (count.errors, count.files);
     let mut line = String::new(alloc);
@@ -87,7 +88,7 @@ fn counted(alloc: Global, count: Count, is_quiet: bool) -> Result<Outcome, Alloc
     })
 }
 
-/// Fixes errors of the files that names are for, except for standard input.
+/// Fixes the errors of the files that the arguments stand for, except for standard input. Fails if an allocation fails.
 fn fix_files(alloc: Global, options: &Options<'_>, host: &mut Host) -> Result<Outcome, AllocError> {
     let mut count = Count {
         errors: 0,
@@ -115,7 +116,8 @@ fn fix_files(alloc: Global, options: &Options<'_>, host: &mut Host) -> Result<Ou
     counted(alloc, count, options.is_quiet)
 }
 
-/// Does what `--fix` asks for. Returns `None` if the words don't ask for it, or are wrong.
+/// Carries out `--fix`. Returns `None` if the arguments don't have that option, or are wrong. Fails if an allocation
+/// fails.
 fn fix(
     alloc: Global,
     words: &[String],
@@ -132,7 +134,7 @@ fn fix(
     }
 }
 
-/// Prints what fixing leaves to say, and checks the files if all that was fixed is written.
+/// Prints what fixing has to say and, if all fixes were written, checks the files. Returns the exit status.
 fn check_fixed<O: Sink, E: Sink>(
     alloc: Global,
     outcome: &Outcome,
@@ -168,8 +170,8 @@ fn check_fixed<O: Sink, E: Sink>(
     }
 }
 
-/// Checks files, and fixes errors before if the words ask for it. The words are the command's name and its arguments.
-/// Returns the exit status.
+/// Checks files and, with `--fix`, first fixes their errors. `words` are the name of the command and its arguments.
+/// Returns the exit status. Fails if an allocation fails.
 pub(crate) fn check<O: Sink, E: Sink>(
     alloc: Global,
     words: &[String],

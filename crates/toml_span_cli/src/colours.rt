@@ -1,4 +1,4 @@
-//! Whether reports have colors where no option decides.
+//! Decides whether reports have colors if no option does.
 ghost use Rattle.std.specs.Prelude.{◌≡◌};
 ghost use Rattle.toml_span_cli.specs.Colours as spec;
 
@@ -6,8 +6,8 @@ use std::alloc::AllocError;
 use std::env;
 use std::env::VarError;
 
-/// Returns whether reports have colors. The texts are the values of `NO_COLOR`, `CLICOLOR_FORCE` and `TERM`, empty
-/// for a variable that is not set.
+/// Returns whether reports have colors. `no_color`, `force` and `term` are the values of the variables `NO_COLOR`,
+/// `CLICOLOR_FORCE` and `TERM`, each of them empty if it is not set.
 fn has_colours(is_terminal: bool, no_color: &str, force: &str, term: &str) -> bool
     ensures { result ≡ spec.has_colours is_terminal no_color.now force.now term.now }
 {
@@ -21,7 +21,8 @@ fn has_colours(is_terminal: bool, no_color: &str, force: &str, term: &str) -> bo
     }
 }
 
-/// Returns the value of an environment variable: empty if it is not set, and `?` if it is not valid UTF-8.
+/// Returns the value of an environment variable: empty if it is not set, `?` if it is not valid UTF-8. Fails if an
+/// allocation fails.
 fn variable(rt: &HostRuntime, name: &str) -> Result<String, AllocError> {
     match env::var(rt, name) {
         Ok(value) => Ok(value),
@@ -31,7 +32,7 @@ fn variable(rt: &HostRuntime, name: &str) -> Result<String, AllocError> {
     }
 }
 
-/// Returns whether reports on standard output have colors.
+/// Returns whether reports on standard output have colors. Fails if an allocation fails.
 pub(crate) fn wants_colours(rt: &HostRuntime, is_terminal: bool) -> Result<bool, AllocError> {
     let no_color = variable(rt, "NO_COLOR")?;
     let force = variable(rt, "CLICOLOR_FORCE")?;

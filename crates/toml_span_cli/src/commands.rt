@@ -54,7 +54,7 @@ pub(crate) fn command_named(name: &str) -> Option<Command>
     }
 }
 
-/// Returns the name of a command, and its arguments that are not options.
+/// Returns a command's name, and its arguments other than options, as its usage has them.
 pub(crate) fn arguments_of(command: Command) -> &'static str {
     match command {
         Command::Check => "check [OPTION].. [FILE|DIRECTORY|-]..",
@@ -74,7 +74,7 @@ pub(crate) fn arguments_of(command: Command) -> &'static str {
     }
 }
 
-/// Returns the help of a command.
+/// Returns the help text of a command.
 pub(crate) fn help_of(command: Command) -> &'static str {
     match command {
         Command::Check => CHECK,

@@ -1,4 +1,4 @@
-//! Which command the arguments ask for.
+//! Carries out the command that the arguments ask for.
 ghost use Rattle.std.specs.Prelude.{◌≡◌, ◌≤◌, IfOk, false, map, string_bytes};
 ghost use Rattle.toml_span_cli.specs.Dispatch.{Dispatches, Performs};
 ghost use Rattle.toml_span_cli.specs.Dispatch as spec;
@@ -21,22 +21,22 @@ use toml_span_check::input::Host;
 use toml_span_lines::sink::Sink;
 use toml_span_report::nearest;
 
-/// What the first argument asks for.
+/// What the first argument is.
 #[derive(Clone, Copy, PartialEq, Eq)]
 enum Request {
-    /// The command of this name.
+    /// A command.
     Command(Command),
-    /// A check of files: the argument is an option or the name of a file.
+    /// An option or the name of a file: the request is to check files.
     Files,
-    /// The help of the program.
+    /// A request for the help of the program.
     Help,
-    /// The version.
+    /// A request for the version.
     Version,
     /// Neither a command nor a file.
     Unknown,
 }
 
-/// Returns what the first argument asks for. A word may be the name of a file, if one exists.
+/// Returns what the first argument is. `exists` says whether a file has this name.
 #[tactic(auto, unfolding(crate::specs::Dispatch::request_of))]
 fn request_of(word: &str, exists: bool) -> Request
     ensures { result ≡ spec.request_of word.now exists }
@@ -54,7 +54,7 @@ fn request_of(word: &str, exists: bool) -> Request
     }
 }
 
-/// Reports a word that is neither a command nor a file. Returns status 2.
+/// Reports an argument that is neither a command nor a file. Returns status 2. Fails if an allocation fails.
 fn say_unknown<E: Sink>(alloc: Global, word: &str, errors: &mut E) -> Result<u8, AllocError>
     requires { E.failed errors.old ≡ false }
     ensures { IfOk result (λ status.
@@ -71,7 +71,8 @@ fn say_unknown<E: Sink>(alloc: Global, word: &str, errors: &mut E) -> Result<u8,
     Ok(say(errors, text.as_str(), 2))
 }
 
-/// Prints the help of the program or of a command. The words are the command's name and its arguments.
+/// Prints the help of the program or of a command. `words` are the name of the command and its arguments. Returns the
+/// exit status. Fails if an allocation fails.
 fn help<O: Sink, E: Sink>(
     alloc: Global,
     words: &[String],
@@ -92,7 +93,7 @@ fn help<O: Sink, E: Sink>(
     }
 }
 
-/// Prints the help of a command.
+/// Prints the help of a command. Returns the exit status. Fails if an allocation fails.
 fn say_help<O: Sink>(alloc: Global, command: Command, out: &mut O) -> Result<u8, AllocError>
     requires { O.failed out.old ≡ false }
     ensures { IfOk result (λ status. status ≤ 4) }
@@ -110,7 +111,8 @@ fn say_help<O: Sink>(alloc: Global, command: Command, out: &mut O) -> Result<u8,
     }
 }
 
-/// Performs a command. The words are its name, or the program's, and its arguments. Returns the exit status.
+/// Carries out a command. `words` are its name, or that of the program, and its arguments. Returns the exit status.
+/// Fails if an allocation fails.
 fn perform<O: Sink, E: Sink>(
     alloc: Global,
     command: Command,
@@ -154,9 +156,10 @@ fn perform<O: Sink, E: Sink>(
     }
 }
 
-/// Does what the words of the command line ask for. The first one is the program's name. Returns the exit status: 0
-/// for success, 1 for an error in a file or a refused edit, 2 if a file can't be read or the arguments are wrong, 3 if
-/// a write fails, 4 without memory.
+/// Carries out what the arguments ask for. `words` are the name of the program and its arguments.
+///
+/// Returns the exit status: 0 for success, 1 for an error in a file or a refused edit, 2 if a file can't be read or the
+/// arguments are wrong, 3 if a write fails, 4 if an allocation fails.
 pub(crate) fn dispatch<O: Sink, E: Sink>(
     alloc: Global,
     words: &[String],

@@ -18,7 +18,8 @@ use toml_span_files::{Failed, Failure, LIMIT, edit_file, unified};
 use toml_span_lines::sink::Sink;
 use toml_span_report::visible::{push_char, visible, visible_lines};
 
-/// Returns a text as a terminal may get it: hidden characters by their numbers, except tabs and line ends.
+/// Returns a text to print. For a terminal, all characters are escaped that it would act on, except tabs and line ends.
+/// Fails if an allocation fails.
 pub(crate) fn shown(alloc: Global, text: String, is_terminal: bool) -> Result<String, AllocError> {
     if !is_terminal {
         return Ok(text);
@@ -33,13 +34,13 @@ pub(crate) fn shown(alloc: Global, text: String, is_terminal: bool) -> Result<St
     Ok(out)
 }
 
-/// Returns the answer for edits that are not made.
+/// Returns the answer for edits that were refused. Fails if an allocation fails.
 fn refused(alloc: Global, file: &str, stop: Stop<String>) -> Result<Answer, AllocError> {
     let reason = stop.fault()?;
     failed(alloc, "error: cannot edit ", file, reason.as_str(), 1)
 }
 
-/// Prints the result of edits, or what they change.
+/// Returns the answer that prints the result of edits, or how it differs from the file. Fails if an allocation fails.
 fn show(
     alloc: Global,
     file: &str,
@@ -70,7 +71,7 @@ fn show(
     Ok(printed(alloc, shown(alloc, diff, host.rt.stdout().is_terminal())?))
 }
 
-/// Makes edits in a file.
+/// Makes edits, and replaces the file. Returns the answer. Fails if an allocation fails.
 fn write(
     alloc: Global,
     file: &str,
@@ -89,7 +90,7 @@ fn write(
     }
 }
 
-/// Makes edits, or prints their result.
+/// Makes edits, and replaces the file or prints the result. Returns the answer. Fails if an allocation fails.
 fn perform(
     alloc: Global,
     file: &str,
@@ -104,7 +105,7 @@ fn perform(
     }
 }
 
-/// Makes the edits of a script, which is read from standard input, in the file.
+/// Makes the edits of a script on standard input. Returns the answer. Fails if an allocation fails.
 fn perform_script(
     alloc: Global,
     file: &str,
@@ -133,14 +134,14 @@ fn perform_script(
     }
 }
 
-/// Returns the help of a command that edits.
+/// Returns the help text of a command that edits. Fails if an allocation fails.
 pub(crate) fn edit_help(alloc: Global, command: Command) -> Result<String, AllocError> {
     let mut text = String::from_str(alloc, help_of(command))?;
     text.push_str(EDITING)?;
     Ok(text)
 }
 
-/// Returns the answer for wrong arguments.
+/// Returns the answer for wrong arguments. Fails if an allocation fails.
 fn misuse(alloc: Global, command: Command, message: &str) -> Result<Answer, AllocError> {
     let arguments = arguments_of(command);
     let text = format!(in alloc;
@@ -153,7 +154,7 @@ fn misuse(alloc: Global, command: Command, message: &str) -> Result<Answer, Allo
     })
 }
 
-/// Returns the answer for another number of arguments than the command takes.
+/// Returns the answer for a wrong number of arguments. Fails if an allocation fails.
 fn miscounted(alloc: Global, command: Command, given: usize) -> Result<Answer, AllocError> {
     let wanted = count_of(command).saturating_add(1);
     let arguments = if wanted == 1 { "argument" } else { "arguments" };
@@ -161,7 +162,8 @@ fn miscounted(alloc: Global, command: Command, given: usize) -> Result<Answer, A
     misuse(alloc, command, message.as_str())
 }
 
-/// Makes the edits that `-e` or a script on standard input asks for.
+/// Makes the edits of the options `-e`, or of a script on standard input. Returns the answer. Fails if an allocation
+/// fails.
 fn edit_by_script(
     alloc: Global,
     asked: &Arguments<'_>,
@@ -186,7 +188,7 @@ fn edit_by_script(
     }
 }
 
-/// Makes the edit that arguments ask for.
+/// Makes the edit that the arguments describe. Returns the answer. Fails if an allocation fails.
 fn edit_once(
     alloc: Global,
     command: Command,
@@ -204,7 +206,7 @@ fn edit_once(
     }
 }
 
-/// Returns the answer for the arguments of a command that edits.
+/// Parses the arguments of a command that edits, and carries it out. Returns the answer. Fails if an allocation fails.
 fn answer_of(
     alloc: Global,
     command: Command,
@@ -231,7 +233,8 @@ fn answer_of(
     }
 }
 
-/// Makes the edits that arguments ask for. The words are the command's name and its arguments. Returns the exit status.
+/// Carries out a command that edits. `words` are the name of the command and its arguments. Returns the exit status.
+/// Fails if an allocation fails.
 pub(crate) fn edit<O: Sink, E: Sink>(
     alloc: Global,
     command: Command,

@@ -10,10 +10,10 @@ use std::alloc::{AllocError, Global};
 use toml_span_lines::sink::Sink;
 use toml_span_report::{CODES, explain as page_of_error, nearest};
 
-/// The codes of the errors that `check` and `get` report besides those of documents.
+/// The error codes of `check` and `get` that `toml_span_report::explain` does not know.
 const OWN_CODES: [&str; 4] = ["too-many-errors", "not-utf-8", "too-long", "nothing-there"];
 
-/// The pages of these codes.
+/// The explanations of these codes.
 const TOO_MANY_ERRORS: &str = "\
 more errors than are reported
 
@@ -42,7 +42,7 @@ The file is valid, but has no value at the path of `toml-span get`.
     toml-span get Cargo.toml /package/keywords/0
     toml-span get Cargo.toml ''                     # the whole document";
 
-/// Returns the page of a code.
+/// Returns the explanation of a code, if there is one.
 #[tactic(auto, unfolding(crate::specs::Explain::page_of))]
 fn page_of(code: &str) -> Option<&'static str>
     ensures { option_map (λ page. page.now) result ≡ spec.page_of code.now }
@@ -56,7 +56,7 @@ fn page_of(code: &str) -> Option<&'static str>
     }
 }
 
-/// Returns the first line of a page.
+/// Returns the first line of an explanation.
 fn title_of(page: &str) -> &str {
     match page.split_once('\n') {
         Some((title, _)) => title,
@@ -64,7 +64,7 @@ fn title_of(page: &str) -> &str {
     }
 }
 
-/// Adds a line for each code, with its title.
+/// Appends a line for each code, with its title. Fails if an allocation fails.
 fn push_titles(out: &mut String, list: &[&str]) -> Result<(), AllocError> {
     for code in list {
         out.push_str(*code)?;
@@ -77,7 +77,7 @@ fn push_titles(out: &mut String, list: &[&str]) -> Result<(), AllocError> {
     Ok(())
 }
 
-/// Prints all codes with their titles.
+/// Prints all codes with their titles. Returns the exit status. Fails if an allocation fails.
 fn say_all<O: Sink>(alloc: Global, out: &mut O) -> Result<u8, AllocError>
     requires { O.failed out.old ≡ false }
     ensures { IfOk result (λ status. status ≤ 4) }
@@ -88,7 +88,7 @@ fn say_all<O: Sink>(alloc: Global, out: &mut O) -> Result<u8, AllocError>
     Ok(say(out, text.as_str(), 0))
 }
 
-/// Reports a code that has no page. Returns status 2.
+/// Reports a code that is not known. Returns status 2. Fails if an allocation fails.
 fn say_unknown<E: Sink>(alloc: Global, code: &str, errors: &mut E) -> Result<u8, AllocError>
     requires { E.failed errors.old ≡ false }
     ensures { IfOk result (λ status. status ≤ 4) }
@@ -106,7 +106,8 @@ fn say_unknown<E: Sink>(alloc: Global, code: &str, errors: &mut E) -> Result<u8,
     Ok(say(errors, text.as_str(), 2))
 }
 
-/// Prints the page of a code, or reports that it has none.
+/// Prints the explanation of a code, or reports that it is not known. Returns the exit status. Fails if an allocation
+/// fails.
 fn say_page<O: Sink, E: Sink>(
     alloc: Global,
     code: &str,
@@ -126,7 +127,8 @@ fn say_page<O: Sink, E: Sink>(
     }
 }
 
-/// Prints what a code means, or all codes if none is given. The words are the command's name and its arguments.
+/// Prints the explanation of a code or, if none is given, all codes. `words` are the name of the command and its
+/// arguments. Returns the exit status. Fails if an allocation fails.
 pub(crate) fn explain<O: Sink, E: Sink>(
     alloc: Global,
     words: &[String],

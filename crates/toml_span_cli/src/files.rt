@@ -1,4 +1,4 @@
-//! Single files that are read and edited.
+//! Reads and replaces single files.
 ghost use Rattle.std.specs.Prelude.{◌≤◌};
 
 use crate::answers::{Answer, failed};
@@ -8,7 +8,8 @@ use toml_span_check::folder::is_folder;
 use toml_span_check::input::{Host, Inputs};
 use toml_span_files::{Failure, Options, put_file};
 
-/// Returns the bytes of a file, or of standard input for `-`, or why they can't be read. A directory is not read.
+/// Returns the bytes of a file, or of standard input for `-`, or why they can't be read. Does not read directories.
+/// Fails if an allocation fails.
 pub(crate) fn read_file(
     alloc: Global,
     host: &mut Host,
@@ -20,7 +21,7 @@ pub(crate) fn read_file(
     host.read(alloc, name)
 }
 
-/// Returns how the line of a failure begins, and the exit status.
+/// Returns how the line for a failure begins, and the exit status.
 fn beginning(failure: &Failure) -> (&'static str, u8)
     ensures { result.1 ≤ 3 }
 {
@@ -31,7 +32,7 @@ fn beginning(failure: &Failure) -> (&'static str, u8)
     }
 }
 
-/// Returns why a file is not edited, in words.
+/// Returns why a file was not edited, in words. Fails if an allocation fails.
 fn words_of(alloc: Global, failure: &Failure) -> Result<String, AllocError> {
     match failure {
         Failure::Unread(error) => match error.kind() {
@@ -43,7 +44,7 @@ fn words_of(alloc: Global, failure: &Failure) -> Result<String, AllocError> {
     }
 }
 
-/// Returns the options that a failure makes one think of, or nothing.
+/// Returns a hint at the options that help with a failure, or an empty text.
 fn hint(failure: &Failure) -> &'static str {
     match failure {
         Failure::ReadOnly => "help: `--force` edits it all the same\n",
@@ -61,7 +62,8 @@ fn hint(failure: &Failure) -> &'static str {
     }
 }
 
-/// Returns the answer for a file that is not edited. With `has_options`, it names the options that help.
+/// Returns the answer for a file that was not edited. If `has_options`, the answer names the options that help. Fails
+/// if an allocation fails.
 pub(crate) fn unedited(
     alloc: Global,
     file: &str,
@@ -80,8 +82,8 @@ pub(crate) fn unedited(
     Ok(answer)
 }
 
-/// Puts a text in the place of a file that was read, and still has these bytes. Returns None, or the answer for a file
-/// that is not written.
+/// Replaces the content of a file by a text, unless its bytes have changed since they were read. Returns `None`, or the
+/// answer for a file that was not written. Fails if an allocation fails.
 pub(crate) fn replace(
     alloc: Global,
     rt: &HostRuntime,

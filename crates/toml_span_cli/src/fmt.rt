@@ -19,19 +19,19 @@ use toml_span_lines::sink::Sink;
 use toml_span_report::visible::visible;
 use toml_span_report::{Report, Style, render};
 
-/// The largest numbers that options take.
+/// The maximum values of the options.
 const MOST_COLUMNS: usize = 65_535;
 
 const MOST_SPACES: usize = 64;
 
-/// An option that takes a number.
+/// An option whose value is a number.
 #[derive(Clone, Copy)]
 enum Number {
     Width,
     Indent,
 }
 
-/// What arguments ask for.
+/// The parsed arguments.
 #[derive(Drop)]
 struct Asked<'w> {
     options: Options,
@@ -39,13 +39,13 @@ struct Asked<'w> {
     is_diff: bool,
     is_sorted: bool,
     names: Vec<&'w str>,
-    /// The option whose number is the next argument.
+    /// The option whose value is the next argument.
     waiting: Option<Number>,
-    /// Whether all later arguments are names.
+    /// Whether all later arguments are names of files.
     is_over: bool,
 }
 
-/// Returns the number of an option.
+/// Parses the value of an option. Fails with a message.
 fn number_of(alloc: Global, option: &str, word: &str, most: usize) -> Result<usize, Stop<String>> {
     match word.parse::<usize>() {
         Ok(number) if number <= most => Ok(number),
@@ -56,7 +56,7 @@ fn number_of(alloc: Global, option: &str, word: &str, most: usize) -> Result<usi
 }
 
 impl<'w> Asked<'w> {
-    /// Takes the number of an option.
+    /// Parses and stores the value of an option. Fails with a message.
     fn set(&mut self, alloc: Global, option: Number, word: &str) -> Result<(), Stop<String>> {
         match option {
             Number::Width => {
@@ -69,7 +69,7 @@ impl<'w> Asked<'w> {
         Ok(())
     }
 
-    /// Takes an option.
+    /// Parses an option. Fails with a message.
     fn option(&mut self, alloc: Global, word: &str) -> Result<(), Stop<String>> {
         match word {
             "--check" => self.is_check = true,
@@ -87,7 +87,7 @@ impl<'w> Asked<'w> {
         Ok(())
     }
 
-    /// Takes an argument.
+    /// Parses an argument. Fails with a message.
     fn take(&mut self, alloc: Global, word: &'w str) -> Result<(), Stop<String>> {
         if let Some(option) = self.waiting.take() {
             return self.set(alloc, option, word);
@@ -104,7 +104,7 @@ impl<'w> Asked<'w> {
     }
 }
 
-/// Returns what arguments ask for, or what is wrong with them.
+/// Parses all arguments. Fails with a message, or if an allocation fails.
 fn asked_of<'w>(alloc: Global, arguments: &'w [String]) -> Result<Asked<'w>, Stop<String>> {
     let mut asked = Asked {
         options: Options::new(),
@@ -128,7 +128,7 @@ fn asked_of<'w>(alloc: Global, arguments: &'w [String]) -> Result<Asked<'w>, Sto
     Ok(asked)
 }
 
-/// Returns the answer for a file that is not valid TOML, or not formatted.
+/// Returns the answer for a file that can't be formatted. Fails if an allocation fails.
 fn refused(
     alloc: Global,
     name: &str,
@@ -151,7 +151,7 @@ fn refused(
     }
 }
 
-/// Returns the answer for a file that would change, if it is not to be written.
+/// Returns the answer for a file that would change but is not to be written. Fails if an allocation fails.
 fn would_change(
     alloc: Global,
     asked: &Asked<'_>,
@@ -177,7 +177,7 @@ fn would_change(
     })
 }
 
-/// Writes the new text of a file, or answers what would change.
+/// Writes the new text of a file, or returns what would change. Fails if an allocation fails.
 fn put(
     alloc: Global,
     asked: &Asked<'_>,
@@ -202,7 +202,7 @@ fn put(
     }
 }
 
-/// Formats a file, and returns what to print.
+/// Formats a file. Returns what to print. Fails if an allocation fails.
 fn format_file(
     alloc: Global,
     asked: &Asked<'_>,
@@ -238,7 +238,7 @@ fn format_file(
     }
 }
 
-/// Adds the answer for a file to those before.
+/// Appends the answer for a file to that for the files before it. Fails if an allocation fails.
 fn add(all: &mut Answer, one: &Answer) -> Result<(), AllocError> {
     all.out.push_str(one.out.as_str())?;
     all.errors.push_str(one.errors.as_str())?;
@@ -246,7 +246,7 @@ fn add(all: &mut Answer, one: &Answer) -> Result<(), AllocError> {
     Ok(())
 }
 
-/// Formats the files that names are for, and returns what to print.
+/// Formats the files that the arguments stand for. Returns what to print. Fails if an allocation fails.
 fn format_each(alloc: Global, asked: &Asked<'_>, host: &mut Host) -> Result<Answer, AllocError> {
     let mut all = printed(alloc, String::new(alloc));
     for name in &asked.names {
@@ -259,7 +259,8 @@ fn format_each(alloc: Global, asked: &Asked<'_>, host: &mut Host) -> Result<Answ
     Ok(all)
 }
 
-/// Formats the files that names are for, and returns what to print: differences as a terminal or a file shows them.
+/// Formats the files that the arguments stand for. Returns what to print: on a terminal, differences are escaped. Fails
+/// if an allocation fails.
 fn format_all(alloc: Global, asked: &Asked<'_>, host: &mut Host) -> Result<Answer, AllocError> {
     let answer = format_each(alloc, asked, host)?;
     if !asked.is_diff {
@@ -278,9 +279,9 @@ fn format_all(alloc: Global, asked: &Asked<'_>, host: &mut Host) -> Result<Answe
     })
 }
 
-/// Formats files. The words are the command's name and its arguments. Returns the exit status: 1 if a file is not
-/// formatted, or would change and is only checked, 2 if one can't be read or the arguments are wrong, 3 if a write
-/// fails.
+/// Formats files. `words` are the name of the command and its arguments. Returns the exit status: 1 if a file is not
+/// valid, or would change and is not to be written, 2 if a file can't be read or the arguments are wrong, 3 if a write
+/// fails. Fails if an allocation fails.
 pub(crate) fn fmt<O: Sink, E: Sink>(
     alloc: Global,
     words: &[String],

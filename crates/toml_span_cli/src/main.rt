@@ -1,4 +1,4 @@
-//! The command line of toml-span: checks, shows and edits TOML files.
+//! The command line of `toml-span`: checks, prints, edits and formats TOML files.
 #![tactic(auto)]
 
 ghost use Rattle.std.specs.Prelude.{◌≤◌, IfOk};
@@ -29,9 +29,9 @@ use std::alloc::AllocError;
 use std::io::IsTerminal;
 use std::process::ExitCode;
 use toml_span_check::input::Host;
-use toml_span_lines::told::Told;
+use toml_span_lines::tracked::Tracked;
 
-/// Runs the program, and returns its exit status.
+/// Runs the program. Returns its exit status. Fails if an allocation fails.
 fn status_of(rt: HostRuntime) -> Result<u8, AllocError>
     ensures { IfOk result (λ status. status ≤ 4) }
 {
@@ -39,10 +39,10 @@ fn status_of(rt: HostRuntime) -> Result<u8, AllocError>
     let words = given_words(&rt)?;
     let out = rt.stdout();
     let is_coloured = wants_colours(&rt, out.is_terminal())?;
-    let mut out = Told::new(out);
+    let mut out = Tracked::new(out);
     let errors = rt.stderr();
     let is_watched = errors.is_terminal();
-    let mut errors = Told::new(errors);
+    let mut errors = Tracked::new(errors);
     let mut host = Host { rt };
     dispatch(
         alloc,

@@ -1,15 +1,15 @@
-//! What edits make of the text of a file.
+//! Makes edits of the text of a file.
 use crate::changes::{Change, Task};
 use std::alloc::{AllocError, Global};
 use std::fmt::Write;
 use toml_span::Stop;
 use toml_span_edit::{Edit, EditError, Edits, Reason, segments, string_text};
 
-/// What an edit does.
+/// The kind of an edit.
 #[derive(Clone, Copy)]
 enum Kind {
     Set,
-    /// Sets the value, also over tables that headers or dotted keys define.
+    /// Sets the value, even over tables that headers or dotted keys define.
     SetForced,
     Rename,
     Remove,
@@ -19,7 +19,7 @@ enum Kind {
     Move,
 }
 
-/// An edit as the library takes it.
+/// An edit in the form that the library takes.
 #[derive(Drop)]
 struct Prepared<'w> {
     kind: Kind,
@@ -38,7 +38,7 @@ fn segments_of<'w>(alloc: Global, path: &'w str) -> Result<Vec<&'w str>, AllocEr
     }
 }
 
-/// Returns a value of the arguments as TOML.
+/// Returns a value that was given as an argument, as TOML. If `is_string`, the argument is the content of a string.
 fn value_of(alloc: Global, value: &str, is_string: bool) -> Result<String, AllocError> {
     if is_string {
         string_text(alloc, value)
@@ -47,7 +47,7 @@ fn value_of(alloc: Global, value: &str, is_string: bool) -> Result<String, Alloc
     }
 }
 
-/// Returns what a task does.
+/// Returns the kind of edit for a task.
 fn kind_of(task: Task<'_>) -> Kind {
     match task {
         Task::Set(_) => Kind::Set,
@@ -60,7 +60,7 @@ fn kind_of(task: Task<'_>) -> Kind {
     }
 }
 
-/// Prepares an edit.
+/// Prepares an edit. Fails if an allocation fails.
 fn prepare<'w>(
     alloc: Global,
     change: &'w Change<'_>,
@@ -87,7 +87,7 @@ fn prepare<'w>(
     Ok(prepared)
 }
 
-/// Prepares edits.
+/// Prepares edits. Fails if an allocation fails.
 fn prepare_all<'w>(
     alloc: Global,
     changes: &'w [Change<'_>],
@@ -119,7 +119,7 @@ fn edit_of<'w>(prepared: &'w Prepared<'w>) -> Edit<'w> {
     }
 }
 
-/// Makes edits that are prepared.
+/// Makes edits that have been prepared. Fails with the edit that is refused, or if an allocation fails.
 fn finished<'w>(
     alloc: Global,
     text: &'w str,
@@ -143,7 +143,7 @@ fn words_of(alloc: Global, error: &EditError, count: usize) -> Result<String, Al
     Ok(words)
 }
 
-/// Lets an edit write over tables, if that is why it is refused. Returns whether it did.
+/// If an edit was refused because it sets a value over tables, changes it so that it does that. Returns whether it did.
 fn force(list: &mut [Prepared<'_>], error: &EditError) -> bool {
     let Reason::NotSpelled = error.reason else {
         return false;
@@ -160,7 +160,8 @@ fn force(list: &mut [Prepared<'_>], error: &EditError) -> bool {
     }
 }
 
-/// Makes edits that are prepared. With `is_forced`, values are set over tables too.
+/// Makes edits that have been prepared. If `is_forced`, values may be set over tables. Fails with a message, or if an
+/// allocation fails.
 fn forced(
     alloc: Global,
     text: &str,
@@ -168,7 +169,7 @@ fn forced(
     is_forced: bool,
 ) -> Result<String, Stop<String>> {
     let count = list.len();
-    // (an edit is forced at most once)
+    // (each edit is changed at most once)
     for _ in 0..=count {
         let error = match finished(alloc, text, list.as_slice()) {
             Ok(new) => return Ok(new),
@@ -181,8 +182,8 @@ fn forced(
     Err(Stop::Fault(String::from_str(alloc, "the tables in the way are not replaced")?))
 }
 
-/// Returns the text that edits make of the bytes of a file, or why they can't be made, in words. With `is_string`,
-/// values are texts. With `is_forced`, values are set over tables too.
+/// Makes edits of the bytes of a file, and returns the new text. If `is_string`, values are texts rather than TOML. If
+/// `is_forced`, values may be set over tables. Fails with a message, or if an allocation fails.
 pub(crate) fn new_text(
     alloc: Global,
     bytes: &[u8],

@@ -1,4 +1,4 @@
-//! The options of the commands that read documents.
+//! The options of `check` and `get`.
 ghost use Rattle.std.specs.Prelude.{◌≡◌, IfOk, false, map, string_bytes};
 ghost use Rattle.clap.specs.Kinds.{FailsBy};
 ghost use Rattle.clap.specs.Words.{app_of, found_of, rows_of, rule_of};
@@ -31,27 +31,27 @@ pub(crate) const NO_POINTER: &str = "PATH must begin with `/`, as in /package/na
 pub(crate) struct Options<'w> {
     pub(crate) format: Format,
     pub(crate) task: Task,
-    /// The path of the value to show: empty for the whole document.
+    /// The path of the value to print. Empty for the whole document.
     pub(crate) pointer: &'w str,
     /// The patterns of files and directories to leave out of a search.
     pub(crate) excludes: Vec<&'w str>,
     pub(crate) names: Vec<&'w str>,
-    /// Write nothing.
+    /// Whether to print nothing.
     pub(crate) is_quiet: bool,
-    /// Make safe replacements before.
+    /// Whether to make the safe replacements first.
     pub(crate) is_fixing: bool,
 }
 
-/// What is wrong with arguments that clap takes.
+/// What is wrong with arguments that clap accepts.
 #[derive(Clone, Copy, PartialEq, Eq)]
 enum Mistake {
-    /// No such format.
+    /// There is no such format.
     Format,
-    /// No such time for colors.
+    /// There is no such value of `--color`.
     Color,
-    /// No such version of TOML.
+    /// There is no such version of TOML.
     Version,
-    /// Two forms of the value.
+    /// Two options choose the form of the value.
     Forms,
     /// The path is not valid UTF-8.
     Path,
@@ -61,7 +61,7 @@ enum Mistake {
     Sarif,
 }
 
-/// A flag, which has no value.
+/// Returns a flag, that is, an option without a value.
 fn flag<'w>(alloc: Global, name: &'w str) -> Arg<'w>
     ensures rule { rule_of result ≡ spec.flag name.entry.now }
     ensures own { result.global ≡ false }
@@ -69,7 +69,7 @@ fn flag<'w>(alloc: Global, name: &'w str) -> Arg<'w>
     Arg::new(alloc, name).long(name).action(ArgAction::SetTrue)
 }
 
-/// An option with a value where it is not given.
+/// Returns an option with a default value.
 fn choice<'w>(alloc: Global, name: &'w str, default: &'w str) -> Arg<'w>
     ensures rule { rule_of result ≡ spec.choice name.entry.now default.entry.now }
     ensures own { result.global ≡ false }
@@ -77,7 +77,7 @@ fn choice<'w>(alloc: Global, name: &'w str, default: &'w str) -> Arg<'w>
     Arg::new(alloc, name).long(name).default_value(default)
 }
 
-/// An option that can be given several times.
+/// Returns an option that may be repeated.
 fn several<'w>(alloc: Global, name: &'w str) -> Arg<'w>
     ensures rule { rule_of result ≡ spec.several name.entry.now }
     ensures own { result.global ≡ false }
@@ -85,7 +85,7 @@ fn several<'w>(alloc: Global, name: &'w str) -> Arg<'w>
     Arg::new(alloc, name).long(name).action(ArgAction::Append)
 }
 
-/// The names of files.
+/// Returns the argument for the names of files.
 fn files<'w>(alloc: Global) -> Arg<'w>
     ensures rule { rule_of result ≡ spec.files }
     ensures own { result.global ≡ false }
@@ -93,7 +93,7 @@ fn files<'w>(alloc: Global) -> Arg<'w>
     Arg::new(alloc, "FILE").num_args(0..).default_value("-")
 }
 
-/// An argument that has to be given.
+/// Returns an argument that is required.
 fn required<'w>(alloc: Global, name: &'w str) -> Arg<'w>
     ensures rule { rule_of result ≡ spec.required name.entry.now }
     ensures own { result.global ≡ false }
@@ -101,7 +101,7 @@ fn required<'w>(alloc: Global, name: &'w str) -> Arg<'w>
     Arg::new(alloc, name).required(true)
 }
 
-/// The options that both commands take.
+/// Returns the options of both commands. Fails if an allocation fails.
 fn common<'w>(alloc: Global, name: &'w str, help: &'w str) -> Result<Command<'w>, AllocError>
     ensures { IfOk result (λ c. app_of c ≡ spec.common) }
 {
@@ -113,7 +113,7 @@ fn common<'w>(alloc: Global, name: &'w str, help: &'w str) -> Result<Command<'w>
         .arg(choice(alloc, "color", "auto"))
 }
 
-/// The arguments of `check`.
+/// Returns the arguments of `check`. Fails if an allocation fails.
 fn check_command<'w>(alloc: Global) -> Result<Command<'w>, AllocError>
     ensures { IfOk result (λ c. app_of c ≡ spec.check) }
 {
@@ -125,7 +125,7 @@ fn check_command<'w>(alloc: Global) -> Result<Command<'w>, AllocError>
         .arg(files(alloc))
 }
 
-/// The options of `get` for the form of the value.
+/// Returns the options of `get` for the form of the value. Fails if an allocation fails.
 fn forms_command<'w>(alloc: Global) -> Result<Command<'w>, AllocError>
     ensures { IfOk result (λ c. app_of c ≡ spec.forms) }
 {
@@ -137,7 +137,7 @@ fn forms_command<'w>(alloc: Global) -> Result<Command<'w>, AllocError>
         .arg(flag(alloc, "items"))
 }
 
-/// The arguments of `get`.
+/// Returns the arguments of `get`. Fails if an allocation fails.
 fn get_command<'w>(alloc: Global) -> Result<Command<'w>, AllocError>
     ensures { IfOk result (λ c. app_of c ≡ spec.get) }
 {
@@ -146,7 +146,7 @@ fn get_command<'w>(alloc: Global) -> Result<Command<'w>, AllocError>
         .arg(required(alloc, "PATH"))
 }
 
-/// The arguments of a command.
+/// Returns the arguments of a command. Fails if an allocation fails.
 fn command<'w>(alloc: Global, reader: Reader) -> Result<Command<'w>, AllocError>
     ensures { IfOk result (λ c. app_of c ≡ spec.program reader) }
 {
@@ -156,7 +156,7 @@ fn command<'w>(alloc: Global, reader: Reader) -> Result<Command<'w>, AllocError>
     }
 }
 
-/// The format of this name.
+/// Returns the output format with this name.
 fn format_named(name: &str, style: Style) -> Option<Format>
     ensures { result ≡ spec.format_named name.now style }
 {
@@ -170,7 +170,7 @@ fn format_named(name: &str, style: Style) -> Option<Format>
     }
 }
 
-/// The style of this name.
+/// Returns the style for this value of `--color`.
 fn style_named(name: &str, is_terminal: bool) -> Option<Style>
     ensures { result ≡ spec.style_named name.now is_terminal }
 {
@@ -183,21 +183,21 @@ fn style_named(name: &str, is_terminal: bool) -> Option<Style>
     }
 }
 
-/// The value of an option, and nothing where it has none.
+/// Returns the value of an option, or an empty text.
 fn value_of<'w>(matches: &ArgMatches<'w>, name: &str) -> &'w str
     ensures { result.now ≡ spec.value_of (rows_of (found_of matches.now)) name.now }
 {
     matches.get_str(name).unwrap_or("")
 }
 
-/// Whether a flag is given.
+/// Returns whether a flag is set.
 fn is_given(matches: &ArgMatches<'_>, name: &str) -> bool
     ensures { result ≡ spec.is_given (rows_of (found_of matches.now)) name.now }
 {
     value_of(matches, name) == "true"
 }
 
-/// The form that is chosen, after one more flag.
+/// Returns the chosen form after one more flag. Fails if two flags choose a form.
 fn with_form(
     chosen: Result<Option<Form>, Mistake>,
     is_given: bool,
@@ -212,7 +212,7 @@ fn with_form(
     }
 }
 
-/// The form of the value, if a flag chooses one.
+/// Returns the form of the value, if a flag chooses one. Fails if two do.
 fn form_of(matches: &ArgMatches<'_>) -> Result<Option<Form>, Mistake>
     ensures { result ≡ spec.form_of (rows_of (found_of matches.now)) }
 {
@@ -223,7 +223,7 @@ fn form_of(matches: &ArgMatches<'_>) -> Result<Option<Form>, Mistake>
     with_form(tagged, is_given(matches, "items"), Form::Items)
 }
 
-/// Whether a path is empty or begins with a slash.
+/// Returns whether a path is empty or begins with a slash.
 pub(crate) fn is_pointer(path: &str) -> bool
     ensures { result ≡ spec.is_pointer path.now }
 {
@@ -233,7 +233,7 @@ pub(crate) fn is_pointer(path: &str) -> bool
     }
 }
 
-/// The version of TOML of this name.
+/// Returns the version of TOML with this name, or `None` if there is none.
 fn version_named(name: &str) -> Option<Version>
     ensures { result ≡ spec.version_named name.now }
 {
@@ -245,7 +245,7 @@ fn version_named(name: &str) -> Option<Version>
     }
 }
 
-/// What to do with documents.
+/// Returns what to do with the files. Fails with a mistake.
 fn task_of(reader: Reader, matches: &ArgMatches<'_>) -> Result<Task, Mistake>
     ensures { result ≡ spec.task_of reader (rows_of (found_of matches.now)) }
 {
@@ -263,7 +263,7 @@ fn task_of(reader: Reader, matches: &ArgMatches<'_>) -> Result<Task, Mistake>
     }
 }
 
-/// How errors are reported, and what to do with documents.
+/// Returns the format and the task. Fails if they don't go together.
 fn with_task(format: Format, task: Task) -> Result<(Format, Task), Mistake>
     ensures { result ≡ spec.with_task format task }
 {
@@ -273,7 +273,7 @@ fn with_task(format: Format, task: Task) -> Result<(Format, Task), Mistake>
     }
 }
 
-/// How errors are reported, and what to do with documents.
+/// Returns how to report errors, and what to do with the files. Fails with a mistake.
 fn asked(
     reader: Reader,
     matches: &ArgMatches<'_>,
@@ -293,7 +293,7 @@ fn asked(
     }
 }
 
-/// What kind of error a mistake is to clap.
+/// Returns the kind of clap's error for a mistake.
 fn kind_of(mistake: Mistake) -> ErrorKind
     ensures { result ≡ spec.kind_of mistake }
 {
@@ -304,7 +304,7 @@ fn kind_of(mistake: Mistake) -> ErrorKind
     }
 }
 
-/// A mistake in words.
+/// Returns the message for a mistake.
 fn message_of(mistake: Mistake) -> &'static str {
     match mistake {
         Mistake::Format => "the value of '--format' must be text, short, json, github or sarif",
@@ -318,8 +318,8 @@ fn message_of(mistake: Mistake) -> &'static str {
     }
 }
 
-/// Returns what words ask of a command. The first word is the name of the command or the program. An error is a mistake
-/// in the words or a request for help, as clap reports them, or out of memory.
+/// Parses the arguments of a command. The first of `words` is the name of the command or the program. Fails with clap's
+/// error, which may also be a request for help, or if an allocation fails.
 pub(crate) fn options_of<'w>(
     alloc: Global,
     reader: Reader,

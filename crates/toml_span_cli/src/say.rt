@@ -1,4 +1,4 @@
-//! What the program writes of itself: help, and what is wrong with its arguments.
+//! Prints help, and what is wrong with arguments.
 ghost use Rattle.std.specs.Prelude.{◌≡◌, IfOk, false};
 ghost use Rattle.toml_span_cli.specs.Say.{Says, Warns};
 
@@ -9,7 +9,7 @@ use toml_span_lines::run::write_bytes;
 use toml_span_lines::sink::Sink;
 use toml_span_report::visible::{push_visible, visible_lines};
 
-/// Writes a text. Returns the status, or 3 if the write fails.
+/// Writes a text. Returns `status`, or 3 if the write fails.
 pub(crate) fn say<W: Sink>(writer: &mut W, text: &str, status: u8) -> u8
     requires { W.failed writer.old ≡ false }
     ensures { Says (W.contents writer.old) (W.contents writer.new) (W.failed writer.new) text.now status result }
@@ -21,7 +21,7 @@ pub(crate) fn say<W: Sink>(writer: &mut W, text: &str, status: u8) -> u8
     }
 }
 
-/// Returns a word of the command line in back quotes, without hidden characters.
+/// Returns an argument in backticks, escaped for a terminal. Fails if an allocation fails.
 pub(crate) fn quoted_word(alloc: Global, word: &str) -> Result<String, AllocError> {
     let word = shown_word(alloc, word)?;
     let mut out = String::from_str(alloc, "`")?;
@@ -30,7 +30,7 @@ pub(crate) fn quoted_word(alloc: Global, word: &str) -> Result<String, AllocErro
     Ok(out)
 }
 
-/// Reports wrong arguments of a command. Returns status 2.
+/// Reports wrong arguments of a command. Returns status 2. Fails if an allocation fails.
 pub(crate) fn say_misuse<E: Sink>(
     alloc: Global,
     command: Command,

@@ -13,9 +13,9 @@ use toml_span_check::run::push_complaint;
 use toml_span_check::words::shown_word;
 use toml_span_lines::run::run;
 use toml_span_lines::sink::Sink;
-use toml_span_lines::told::Told;
+use toml_span_lines::tracked::Tracked;
 
-/// Reports a file that can't be read. Returns status 2.
+/// Reports a file that can't be read. Returns status 2. Fails if an allocation fails.
 pub(crate) fn say_unread<E: Sink>(
     alloc: Global,
     name: &str,
@@ -32,7 +32,8 @@ pub(crate) fn say_unread<E: Sink>(
     Ok(say(errors, line.as_str(), 2))
 }
 
-/// Prints the lines of a file's tree, or the line of its error, or reports that it can't be read.
+/// Prints the lines of a file's tree or the line of its error, or reports that the file can't be read. Returns the exit
+/// status. Fails if an allocation fails.
 fn show_file<O: Sink, E: Sink>(
     alloc: Global,
     name: &str,
@@ -47,7 +48,7 @@ fn show_file<O: Sink, E: Sink>(
         (E.contents errors.old) (E.contents errors.new) (E.failed errors.new) status) }
 {
     match read_file(alloc, host, name)? {
-        Ok(bytes) => Ok(run(alloc, &mut Told::new(bytes.as_slice()), out)),
+        Ok(bytes) => Ok(run(alloc, &mut Tracked::new(bytes.as_slice()), out)),
         Err(reason) => {
             let status = say_unread(alloc, name, reason.as_str(), errors)?;
             Ok(status)
@@ -55,7 +56,8 @@ fn show_file<O: Sink, E: Sink>(
     }
 }
 
-/// Prints what `show_file` prints, or the help. The words are the command's name and its arguments.
+/// Carries out `show`: prints a file, or the help. `words` are the name of the command and its arguments. Returns the
+/// exit status. Fails if an allocation fails.
 pub(crate) fn show<O: Sink, E: Sink>(
     alloc: Global,
     words: &[String],

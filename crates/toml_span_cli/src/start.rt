@@ -17,7 +17,7 @@ use toml_span_check::words::shown_word;
 use toml_span_lines::sink::Sink;
 use toml_span_report::visible::{visible, visible_lines};
 
-/// Returns the help of a command.
+/// Returns the help text of a command.
 fn help_of(reader: Reader) -> &'static str
     ensures { result.now ≡ spec.help_of reader }
 {
@@ -27,7 +27,8 @@ fn help_of(reader: Reader) -> &'static str
     }
 }
 
-/// What clap says of words that it refuses. Those that it takes as they are shown have a path that is not valid UTF-8.
+/// Returns clap's message for arguments that it refuses. If it accepts them in their displayed form, the path is not
+/// valid UTF-8, and the message says so. Fails if an allocation fails.
 fn message_of(alloc: Global, reader: Reader, words: &[String]) -> Result<String, AllocError> {
     match options_of(alloc, reader, words, false) {
         Ok(options) => {
@@ -43,7 +44,7 @@ fn message_of(alloc: Global, reader: Reader, words: &[String]) -> Result<String,
     }
 }
 
-/// What is wrong with words, in lines without hidden characters.
+/// Returns what is wrong with the arguments, as lines that are escaped for a terminal. Fails if an allocation fails.
 fn mistake(alloc: Global, reader: Reader, words: &[String]) -> Result<String, AllocError>
     ensures { IfOk result (λ out. (message : List ℕ) × (string_bytes out ≡ visible_lines message)) }
 {
@@ -56,7 +57,7 @@ fn mistake(alloc: Global, reader: Reader, words: &[String]) -> Result<String, Al
     visible_lines(alloc, message.as_str())
 }
 
-/// Writes the help or the version, if the words ask for it, and else what is wrong with them.
+/// Prints the help or the version, if the arguments ask for it, or what is wrong with them. Returns the exit status.
 fn refuse<O: Sink, E: Sink>(
     alloc: Global,
     reader: Reader,
@@ -81,9 +82,9 @@ fn refuse<O: Sink, E: Sink>(
     }
 }
 
-/// Does what words ask of a command: runs on files (see `run`), or writes the help or the version, with status 0, or
-/// what is wrong with the words, with status 2. The first word is the name of the command or the program. Returns the
-/// status: 3 if a write fails, 4 without memory.
+/// Carries out `check` or `get`: runs on files (see `run`), or prints the help or the version, with status 0, or what
+/// is wrong with the arguments, with status 2. `words` are the name of the command or program and its arguments.
+/// Returns the exit status: 3 if a write fails, 4 if an allocation fails.
 pub(crate) fn start<I: Inputs, O: Sink, E: Sink>(
     alloc: Global,
     reader: Reader,

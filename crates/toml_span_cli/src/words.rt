@@ -7,7 +7,7 @@ use std::env::FillError;
 use std::rt::Env;
 use toml_span_check::words::word_text;
 
-/// Returns an argument by its position, or None after the last one.
+/// Returns the argument at a position, or `None` after the last one. Fails if an allocation fails.
 fn word(rt: &HostRuntime, at: usize) -> Result<Option<Vec<u8>>, AllocError> {
     let mut size = 256usize;
     for _ in 0..usize::BITS {
@@ -24,7 +24,8 @@ fn word(rt: &HostRuntime, at: usize) -> Result<Option<Vec<u8>>, AllocError> {
     Err(AllocError)
 }
 
-/// Returns the arguments as texts (see `word_text`). The first one is the program's name.
+/// Returns all arguments as texts (see `word_text`). The first is the name of the program. Fails if an allocation
+/// fails.
 pub(crate) fn given_words(rt: &HostRuntime) -> Result<Vec<String>, AllocError> {
     let mut words = Vec::new(rt.alloc());
     for at in 0..usize::MAX {
@@ -36,7 +37,7 @@ pub(crate) fn given_words(rt: &HostRuntime) -> Result<Vec<String>, AllocError> {
     Ok(words)
 }
 
-/// Returns whether an argument asks for help.
+/// Returns whether an argument is `-h` or `--help`.
 pub(crate) fn is_help(word: &str) -> bool
     ensures { result ≡ spec.is_help word.now }
 {
@@ -50,7 +51,7 @@ pub(crate) fn is_version(word: &str) -> bool
     word == "-V" || word == "--version"
 }
 
-/// Returns whether a word begins with a byte.
+/// Returns whether an argument begins with this byte.
 fn begins_with(word: &str, byte: u8) -> bool
     ensures { result ≡ spec.begins_with byte word.now }
 {
@@ -60,14 +61,14 @@ fn begins_with(word: &str, byte: u8) -> bool
     }
 }
 
-/// Returns whether a word has a byte.
+/// Returns whether an argument contains this byte.
 fn has(word: &str, byte: u8) -> bool
     ensures { result ≡ spec.has byte word.now }
 {
     word.as_bytes().contains(&byte)
 }
 
-/// Returns whether a word is an option, `-`, or the name of a file rather than a misspelled command.
+/// Returns whether an argument is an option, `-`, or the name of a file rather than a misspelled command.
 pub(crate) fn is_file(word: &str) -> bool
     ensures { result ≡ spec.is_file word.now }
 {

@@ -1,5 +1,5 @@
 -- Edits that are made one after the other, and paths without their last segment.
-use Rattle.toml_span_lex.proofs.Common.{arith, ◌≡◌, ◌<◌, ◌≤◌, ℕ, ◌+◌, ◌-◌, List, [], ◌∷◌, ◌++◌, length, take, drop, take_more, get_or, map, map-append, refl, sym, ap, subst, ◌∙◌, Bor, Result, Ok, Err, IfOk}
+use Rattle.toml_span_lex.proofs.Common.{arith, ◌≡◌, ◌<◌, ◌≤◌, ℕ, ◌+◌, ◌-◌, List, [], ◌∷◌, ◌++◌, length, take, drop, take_more, get_or, map, map-append, refl, sym, ap, subst, ◌∙◌, Bor, Result, Ok, Err, IfOk, OnOk}
 use Rattle.std.proofs.lemmas.List.{take_all}
 use Rattle.toml_span_edit.specs.Edited.{EditMade, EditsMade}
 use Rattle.toml_span_edit.specs.declared.edits.Change.TheVariants as changes
@@ -42,7 +42,7 @@ now_of segment = segment.now
 abbrev pub no_name : Bor (List ℕ)
 no_name = record { ref_ptr = (0, 0); now = [] }
 
--- the segments of a path but for the last one, and the last one
+-- the segments of a path except the last one, and the last one
 abbrev pub front_of : List (Bor (List ℕ)) → List (List ℕ)
 front_of path = map now_of (take (length path - 1) path)
 
@@ -61,3 +61,7 @@ split_last path h =
 pub if_ok : {A E : Type 0} (P Q : A → Type 0) → ((x : A) → P x → Q x) → (r : Result A E) → IfOk r P → IfOk r Q
 if_ok P Q f (Ok x) h = f x h
 if_ok P Q f (Err e) h = h
+
+pub on_ok : {A E : Type 0} (P Q : Type 0) → (P → Q) → (r : Result A E) → OnOk r P → OnOk r Q
+on_ok P Q f (Ok x) h = f h
+on_ok P Q f (Err e) h = h

@@ -1,35 +1,29 @@
 -- What edits make of a document.
-use Rattle.std.specs.Prelude.{◌≡◌, ℕ, List, [], ◌∷◌, ◌++◌, map, Bool, true, Option, Some, option_and_then, codes, ◌⊎◌}
+use Rattle.std.specs.Prelude.{◌≡◌, ℕ, List, [], ◌∷◌, ◌++◌, map, Bool, true, Some, codes, ◌⊎◌}
 use Rattle.toml_span_read.specs.Data.{depth_limit}
 use Rattle.toml_span_tree.specs.Node.{Node}
 use Rattle.toml_span_tree.specs.Value.{inner_of, view}
 use Rattle.toml_span_tree.specs.declared.value.Value.{Value}
 use Rattle.toml_span.specs.Parsing.{IsTree}
 use Rattle.toml_span_edit.specs.Same.{same}
+use Rattle.toml_span_edit.specs.Kept.{Keeps}
 use Rattle.toml_span_edit.specs.Made.{child, lacks, put, last, renames, at, added}
+use Rattle.toml_span_edit.specs.Paths.{Path, Splits, found}
 use Rattle.toml_span_edit.specs.declared.edits.Change.{Change}
 use Rattle.toml_span_edit.specs.declared.edits.Change.TheVariants as changes
 use Rattle.toml_span_edit.specs.declared.edits.Edit.{Edit}
 use Rattle.toml_span_edit.specs.declared.step.Spot.{Spot}
 use Rattle.toml_span_edit.specs.declared.step.Spot.TheVariants as spots
 
-abbrev pub Path : Type 0
-Path = List (List ℕ)
-
 -- ---- values
 
--- the text is one value: this is it
+-- The text spells this value, and nothing else.
 abbrev pub Spells : List ℕ → Node → Type 0
 Spells text w =
     (root : Value) × IsTree (codes "v = " ++ text) depth_limit root
     × (child (codes "v") (inner_of (view root)) ≡ Some w)
 
--- what the path names
-abbrev pub found : Path → Node → Option Node
-found [] n = Some n
-found (segment ∷ path) n = option_and_then (found path) (child segment (inner_of n))
-
--- both texts are documents, and their trees are the same except for spans
+-- Both texts are documents, and their trees are equal except for spans.
 abbrev pub IsSameDocument : List ℕ → List ℕ → Type 0
 IsSameDocument text new =
     (root result : Value) × IsTree text depth_limit root × IsTree new depth_limit result
@@ -37,46 +31,42 @@ IsSameDocument text new =
 
 -- ---- one edit
 
--- how a value goes to where it is put: over another one, under a name or at a position in it, or after its last element
+-- how a new value is put: over another one, under a name or at a position in it, or after its last element
 abbrev pub goes : Spot → Node → Node → Node → Bool
 goes spots.Here w n k = same w k
 goes (spots.Under segment) w n k = put segment.now w n k
 goes spots.End w n k = last w (inner_of n) (inner_of k)
 
--- the second tree is the first one with the value of this text put so, at the path
+-- The second tree is the first with the value of this text put in this way at the path.
 abbrev pub Goes : (Node → Node → Node → Bool) → List ℕ → Path → Node → Node → Type 0
 Goes related text path n k = (w : Node) × Spells text w × (at path (related w) n k ≡ true)
 
--- the second tree is the first one with the value of this text at the path, where there was none
+-- The second tree is the first with the value of this text at the path, where there was none.
 abbrev pub IsNew : List ℕ → Path → Node → Node → Type 0
 IsNew text path n k = (w : Node) × Spells text w × (added path w n k ≡ true)
 
--- the path without its last segment
-abbrev pub Splits : Path → Path → List ℕ → Type 0
-Splits path front name = path ≡ front ++ name ∷ []
-
--- what the path names is gone
+-- The value at the path is removed.
 abbrev pub IsGone : Path → Node → Node → Type 0
 IsGone path n k =
     (front : Path) × (name : List ℕ) × Splits path front name × (at front (lacks name) n k ≡ true)
 
--- the key that the path names has another name
+-- The key at the path has another name.
 abbrev pub IsRenamed : List ℕ → Path → Node → Node → Type 0
 IsRenamed new path n k =
     (front : Path) × (name : List ℕ) × Splits path front name × (at front (renames name new) n k ≡ true)
 
--- the value of this text is put under the last segment of the path, in what the others name
+-- The value of this text is under the last segment of the path, in the value at the others.
 abbrev pub IsUnder : List ℕ → Path → Node → Node → Type 0
 IsUnder text path n k =
     (front : Path) × (name : List ℕ) × Splits path front name × Goes (put name) text front n k
 
--- the value is put at the path: as an element there, or as an entry, with the tables that were missing on the way
+-- The value is at the path: as an element there, or as an entry, with the tables that were missing on the way.
 abbrev pub IsPut : Path → Node → Node → Node → Type 0
 IsPut path w n k =
     ((front : Path) × (name : List ℕ) × Splits path front name × (at front (put name w) n k ≡ true))
     ⊎ (added path w n k ≡ true)
 
--- what a change at a path makes of a tree
+-- What a change at a path does to a tree.
 abbrev pub Makes : Change → Path → Node → Node → Type 0
 Makes (changes.Set v) path n k = Goes (goes spots.Here) v.now path n k
 Makes (changes.Replace v) path n k = Goes (goes spots.Here) v.now path n k
@@ -91,28 +81,30 @@ Makes (changes.Insert v) path n k = IsUnder v.now path n k
 Makes (changes.MoveTo target) path n k =
     (w mid : Node) × (found path n ≡ Some w) × IsGone path n mid × IsPut (map (λ s. s.now) target.now) w mid k
 
--- the text is a document, and its tree is this one with the change made
+-- The text is a document, and its tree is this one with the change made.
 abbrev pub IsMade : Change → Path → Node → List ℕ → Type 0
 IsMade change path n new = (root : Value) × IsTree new depth_limit root × Makes change path n (view root)
 
--- the same, with a value put at the path
+-- the same for a value that is put at the path
 abbrev pub IsPutBack : Path → Node → Node → List ℕ → Type 0
 IsPutBack path w n new = (root : Value) × IsTree new depth_limit root × IsPut path w n (view root)
 
--- the same, with what the path names moved to another one
+-- the same for a value that is moved from one path to another
 abbrev pub IsMoved : Path → Path → Node → List ℕ → Type 0
 IsMoved target path n new =
     (w mid : Node) × (found path n ≡ Some w) × IsGone path n mid × IsPutBack target w mid new
 
--- both texts are documents, and the tree of the second one is that of the first one with this edit made
+-- Both texts are documents, and the tree of the second one is that of the first one with this edit made. The bytes that
+-- this edit keeps are the same.
 abbrev pub EditMade : Edit → List ℕ → List ℕ → Type 0
 EditMade e text new =
     (root : Value) × IsTree text depth_limit root
     × IsMade e.change (map (λ s. s.now) e.path.now) (view root) new
+    × Keeps e.change (map (λ s. s.now) e.path.now) (view root) text new
 
 -- ---- several
 
--- the edits are made one after the other
+-- The edits are made one after the other.
 abbrev pub EditsMade : List Edit → List ℕ → List ℕ → Type 0
 EditsMade [] text new = new ≡ text
 EditsMade (e ∷ es) text new = (mid : List ℕ) × EditMade e text mid × EditsMade es mid new

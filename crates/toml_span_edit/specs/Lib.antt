@@ -1,4 +1,6 @@
 pub mod Same
 pub mod Made
+pub mod Paths
+pub mod Kept
 pub mod Edited
 pub mod Listed

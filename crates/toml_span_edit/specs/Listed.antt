@@ -1,10 +1,10 @@
--- Edits that are listed before they are made.
+-- The list of edits.
 use Rattle.std.specs.Prelude.{◌≡◌, List, [], ◌∷◌, ◌++◌, Result, Ok, Err}
 use Rattle.std.specs.declared.alloc.AllocError.{AllocError}
 use Rattle.toml_span_edit.specs.declared.edits.Edit.{Edit}
 use Rattle.toml_span_edit.specs.declared.edits.Edits.{Edits}
 
--- one more edit is at the end of the list, or none after an error; the text is the same
+-- The edit is appended to the list, or nothing is after a failed allocation. The text stays the same.
 abbrev pub Pushed : Edit → Edits → Result Unit AllocError → Edits → Type 0
 Pushed e old (Ok u) new = (new.list.items ≡ old.list.items ++ e ∷ []) × (new.text ≡ old.text)
 Pushed e old (Err x) new = (new.list.items ≡ old.list.items) × (new.text ≡ old.text)

@@ -1,4 +1,4 @@
--- Whether a tree is another one with a change made. Spans don't count.
+-- Whether a tree is another one with a change made. Spans are ignored.
 use Rattle.std.specs.Prelude.{◌≡◌, ℕ, zero, suc, List, [], ◌∷◌, Bool, true, false, ◌&&◌, ◌||◌, if◌then◌else◌}
 use Rattle.std.specs.Prelude.{Option, Some, None, is_some, option_and_then}
 use Rattle.std.specs.Borrow.{Bor}
@@ -15,9 +15,9 @@ use Rattle.toml_span_edit.specs.Same.{same, same_items, same_members}
 use Rattle.toml_span_edit.specs.declared.made.Local.{Local}
 use Rattle.toml_span_edit.specs.declared.made.Local.TheVariants as locals
 
--- ---- what a segment names
+-- ---- segments
 
--- in a table the entry with that name, in an array the element at the position that it spells
+-- in a table the entry with this name, in an array the element at the position that the segment spells
 abbrev pub child : List ℕ → Inner → Option Node
 child segment (array ns) = option_and_then (λ i. get_item i ns) (position_of segment)
 child segment (table ms) = get_member segment ms
@@ -33,20 +33,20 @@ at_position holds (Some i) = holds i
 
 -- ---- all but one
 
--- the same elements, except for those at a position, which both have
+-- the same elements, except for those at this position, which both have
 abbrev pub items_but : ℕ → Items → Items → Bool
 items_but zero (item n ns) (item k ks) = same_items ns ks
 items_but (suc i) (item n ns) (item k ks) = same n k && items_but i ns ks
 items_but _ _ _ = false
 
--- the same entries, except for the values of those with a name
+-- the same entries, except for the values of those with this name
 abbrev pub members_but : List ℕ → Members → Members → Bool
 members_but name no_members no_members = true
 members_but name (member one span n ms) (member other place k ks) =
     bytes_eq one other && ((bytes_eq name one || same n k) && members_but name ms ks)
 members_but name _ _ = false
 
--- two tables or two arrays that are the same, except for what the segment names
+-- two tables or two arrays that are equal except for what the segment selects
 abbrev pub same_but : List ℕ → Inner → Inner → Bool
 same_but segment (array ns) (array ks) = at_position (λ i. items_but i ns ks) (position_of segment)
 same_but segment (table ms) (table ks) = members_but segment ms ks
@@ -54,7 +54,7 @@ same_but segment _ _ = false
 
 -- ---- one that is gone
 
--- the second ones are the first ones without the element at a position
+-- the second elements are the first without the one at this position
 abbrev pub item_gone : ℕ → Items → Items → Bool
 item_gone zero (item n ns) ks = same_items ns ks
 item_gone (suc i) (item n ns) (item k ks) = same n k && item_gone i ns ks
@@ -66,24 +66,24 @@ without name no_members = no_members
 without name (member other span n ms) =
     if bytes_eq name other then without name ms else member other span n (without name ms)
 
--- the second one is the first one without what the segment names in it
+-- the second value is the first without what the segment selects in it
 abbrev pub gone : List ℕ → Inner → Inner → Bool
 gone segment (array ns) (array ks) = at_position (λ i. item_gone i ns ks) (position_of segment)
 gone segment (table ms) (table ks) = is_some (get_member segment ms) && same_members (without segment ms) ks
 gone segment _ _ = false
 
--- the same of two values
+-- the same for two nodes
 abbrev pub lacks : List ℕ → Node → Node → Bool
 lacks segment n k = gone segment (inner_of n) (inner_of k)
 
 -- ---- one that is new
 
--- the second one is the first one, and the segment names this value in it: in an array before the elements from that
--- position on, in a table besides the others
+-- The second value is the first, except that the segment selects this value in it: in an array it is inserted before
+-- the element at that position, in a table it is added.
 abbrev pub put : List ℕ → Node → Node → Node → Bool
 put segment w n k = lacks segment k n && both same (Some w) (child segment (inner_of k))
 
--- the elements of the second one are those of the first one, and this one after them
+-- the second elements are the first, with this one at the end
 abbrev pub item_last : Node → Items → Items → Bool
 item_last w no_items (item k no_items) = same w k
 item_last w (item n ns) (item k ks) = same n k && item_last w ns ks
@@ -93,19 +93,19 @@ abbrev pub last : Node → Inner → Inner → Bool
 last w (array ns) (array ks) = item_last w ns ks
 last w _ _ = false
 
--- the entry with a name has another one
+-- the entry with this name has another name
 abbrev pub renamed : List ℕ → List ℕ → Inner → Inner → Bool
 renamed name new (table ms) (table ks) =
     both same (get_member name ms) (get_member new ks) && same_members (without name ms) (without new ks)
 renamed name new _ _ = false
 
--- the same of two values
+-- the same for two nodes
 abbrev pub renames : List ℕ → List ℕ → Node → Node → Bool
 renames name new n k = renamed name new (inner_of n) (inner_of k)
 
 -- ---- at a path
 
--- The two are the same except for what the path names, and that is related so.
+-- The two are equal except for the values at the path, which are related in this way.
 abbrev pub at : List (List ℕ) → (Node → Node → Bool) → Node → Node → Bool
 at [] related n k = related n k
 at (segment ∷ path) related n k =
@@ -116,7 +116,7 @@ at (segment ∷ path) related n k =
 abbrev pub nowhere : Span
 nowhere = record { start = 0; end = 0 }
 
--- a value in one table more for each of the names, which has nothing else
+-- a value inside tables, one for each of the names, that contain nothing else
 abbrev pub nested : List (List ℕ) → Node → Node
 nested [] w = w
 nested (name ∷ names) w =
@@ -127,8 +127,8 @@ added_at below segment w n k (Some m) (Some l) = same_but segment (inner_of n) (
 added_at below segment w n k None (Some l) = put segment w n k
 added_at below segment w n k _ None = false
 
--- The second one is the first one with this value at the path, where the first one has none. Tables that are missing on
--- the way are new.
+-- The second tree is the first with this value at the path, where the first has none, and with the tables that were
+-- missing on the way.
 abbrev pub added : List (List ℕ) → Node → Node → Node → Bool
 added [] w n k = false
 added (segment ∷ path) w n k =
@@ -136,7 +136,7 @@ added (segment ∷ path) w n k =
 
 -- ---- for the code
 
--- what a change makes of a value
+-- what a change does to the value at its path
 abbrev pub local : Local → Node → Node → Bool
 local (locals.Set w) n k = same (view w.now) k
 local (locals.Gone segment) n k = lacks segment.now n k
@@ -144,7 +144,7 @@ local (locals.Put segment w) n k = put segment.now (view w.now) n k
 local (locals.Last w) n k = last (view w.now) (inner_of n) (inner_of k)
 local (locals.Renamed name new) n k = renames name.now new.now n k
 
--- the next one of some entries that has another name, and those after it
+-- of these entries, the next one with another name, and those after it
 abbrev pub IsNext : List ℕ → List (Key × Value) → Option (Bor Key × Bor Value) → List (Key × Value) → Type 0
 IsNext name before None after = without name (members_view before) ≡ no_members
 IsNext name before (Some e) after =

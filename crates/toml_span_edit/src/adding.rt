@@ -1,4 +1,4 @@
-//! Entries, tables and elements that are added.
+//! Adds entries and tables.
 use crate::document::{Document, written};
 use crate::given::{check_value, key_text};
 use crate::items::{bare, count_of, put_item};
@@ -15,22 +15,23 @@ use toml_span::Stop;
 use toml_span_places::{assignment_lines, section_lines};
 use toml_span_read::{Assignment, Section, Val, ValKind};
 
-/// Where an entry of a table is written.
+/// Where an entry of a table can be written.
 #[derive(Clone, Copy)]
 enum Door<'s, 'de> {
-    /// At the end of the text's lines before the first header, or at the start.
+    /// Before the first header: at the end of the lines there, or at the start of the text.
     Top,
-    /// On a line after those of a section.
+    /// On a line of its own, after the lines of the table's section.
     Body(&'s Section<'de>),
-    /// On a line, or in a pair, after that of a dotted key, whose part at this index names the table.
+    /// After the line or pair of a dotted key. The part with this index names the table.
     Dotted(&'s Assignment<'de>, usize, Home<'s, 'de>),
-    /// In braces.
+    /// Inside the braces of an inline table.
     Braces(&'s Val<'de>),
-    /// Below a header of its own, before a section whose header passes the table by the part at this index.
+    /// Below a new header, before a section whose header passes through the table. The part with this index names the
+    /// table.
     Header(&'s Section<'de>, usize),
 }
 
-/// Whether the first mention opens an element of an array of tables, so that they name the array.
+/// Returns whether these mentions are of an array of tables: the first one opens an element of it.
 pub(crate) fn names_array(mentions: &[Mention<'_, '_>]) -> bool {
     match mentions.first() {
         Some(Mention::Below(section, index)) => opens_element(*section, *index),
@@ -38,7 +39,7 @@ pub(crate) fn names_array(mentions: &[Mention<'_, '_>]) -> bool {
     }
 }
 
-/// Where an entry is written in the table at these mentions.
+/// Returns where an entry can be written in the table that has these mentions, or `None` if they are not of a table.
 fn door_of<'s, 'de>(mentions: &[Mention<'s, 'de>]) -> Option<Door<'s, 'de>> {
     let mut door = None;
     if names_array(mentions) {
@@ -62,8 +63,8 @@ fn door_of<'s, 'de>(mentions: &[Mention<'s, 'de>]) -> Option<Door<'s, 'de>> {
     }
 }
 
-/// Where the first entry of a document is written that has none before its first header: after a byte order mark, and
-/// after comments at the start that a blank line ends.
+/// Returns where to write the first entry of a document that has none before its first header: after a byte order mark,
+/// and after comments at the start that a blank line ends.
 fn top_of(text: &str) -> usize {
     let start = if text.starts_with('\u{feff}') { 3 } else { 0 };
     let mut at = start;
@@ -81,7 +82,8 @@ fn top_of(text: &str) -> usize {
     }
 }
 
-/// Puts lines into a text at the start of a line, or after the end of the last one.
+/// Inserts lines at the offset `at`, which is the start of a line, or the end of a text whose last line is not closed.
+/// Fails if an allocation fails.
 fn put_lines(
     document: Document<'_, '_>,
     at: usize,
@@ -96,7 +98,7 @@ fn put_lines(
     plan.put(point(at), new)
 }
 
-/// Puts an entry before the first header.
+/// Inserts an entry before the first header. Fails if an allocation fails.
 fn put_at_top(document: Document<'_, '_>, entry: &str, plan: &mut Plan) -> Result<(), AllocError> {
     let (text, end) = (document.text, line_end(document.text));
     let at = top_of(text);
@@ -109,7 +111,7 @@ fn put_at_top(document: Document<'_, '_>, entry: &str, plan: &mut Plan) -> Resul
     put_lines(document, at, lines.as_str(), plan)
 }
 
-/// The blanks with which the last line of a section begins.
+/// Returns the blanks at the start of the last line of a section.
 fn body_indent<'s>(text: &'s str, section: &Section<'_>) -> &'s str {
     match section.assignments.as_slice().last() {
         Some(assignment) if begins_line(text, assignment.extent.start) => {
@@ -119,7 +121,7 @@ fn body_indent<'s>(text: &'s str, section: &Section<'_>) -> &'s str {
     }
 }
 
-/// Puts an entry where the door of its table is.
+/// Inserts an entry at a door of its table. Fails if an allocation fails.
 fn put_entry(
     document: Document<'_, '_>,
     door: Door<'_, '_>,
@@ -153,7 +155,8 @@ fn put_entry(
     }
 }
 
-/// Puts an entry of the table of a dotted key after an assignment.
+/// Inserts an entry of the table that a dotted key names, after the assignment with that key. Fails if an allocation
+/// fails.
 fn put_sibling(
     document: Document<'_, '_>,
     assignment: &Assignment<'_>,
@@ -178,7 +181,7 @@ fn put_sibling(
     }
 }
 
-/// How many of the first segments of a path name a value that is there.
+/// Returns how many of the first segments of a path name an existing value. Fails if an allocation fails.
 pub(crate) fn known(document: Document<'_, '_>, path: &[&str]) -> Result<usize, AllocError> {
     for depth in (1..path.len()).rev() {
         if !document.mentions(front_of(path, depth))?.is_empty() {
@@ -188,7 +191,7 @@ pub(crate) fn known(document: Document<'_, '_>, path: &[&str]) -> Result<usize, 
     Ok(0)
 }
 
-/// A dotted key with these parts.
+/// Returns a dotted key with these parts. Fails if an allocation fails.
 pub(crate) fn dotted(document: Document<'_, '_>, parts: &[&str]) -> Result<String, AllocError> {
     let mut key = String::new(document.alloc);
     for name in parts {
@@ -201,7 +204,7 @@ pub(crate) fn dotted(document: Document<'_, '_>, parts: &[&str]) -> Result<Strin
     Ok(key)
 }
 
-/// The door of the root: its section, which has no header, or the top of the text.
+/// Returns where an entry of the root can be written.
 fn root_door<'s, 'de>(mentions: &[Mention<'s, 'de>]) -> Door<'s, 'de> {
     let Some(first) = mentions.first() else {
         return Door::Top;
@@ -212,7 +215,7 @@ fn root_door<'s, 'de>(mentions: &[Mention<'s, 'de>]) -> Door<'s, 'de> {
     }
 }
 
-/// The door of the table at a path, with which the document names it or which is the root.
+/// Returns where an entry of the table at a path can be written. The table must exist.
 fn table_door<'s, 'de>(
     document: Document<'s, 'de>,
     path: &[&str],
@@ -228,7 +231,7 @@ fn table_door<'s, 'de>(
     }
 }
 
-/// Adds an entry to a table that is there.
+/// Adds an entry to an existing table. Fails with the reason if that is not possible, or if an allocation fails.
 pub(crate) fn add(
     document: Document<'_, '_>,
     path: &[&str],
@@ -249,8 +252,8 @@ pub(crate) fn add(
     Ok(())
 }
 
-/// Where the last section of the table at a path ends, and the text of its header and a dot. None where the table is
-/// written in braces or by dotted keys.
+/// Returns the end of the last section of the table at a path, and the text of its header followed by a dot. Returns
+/// `None` if the table is written in braces or by dotted keys. Fails if an allocation fails.
 pub(crate) fn section_place<'s>(
     document: Document<'s, '_>,
     path: &[&str],
@@ -280,7 +283,7 @@ pub(crate) fn section_place<'s>(
     Ok(place)
 }
 
-/// Puts a section at an offset, with blank lines around it.
+/// Inserts a section at an offset, with blank lines around it. Fails if an allocation fails.
 pub(crate) fn put_section(
     document: Document<'_, '_>,
     at: usize,
@@ -300,7 +303,8 @@ pub(crate) fn put_section(
     put_lines(document, at, lines.as_str(), plan)
 }
 
-/// An entry with the comments of its value: lines above it, and what is at the end of its line.
+/// Returns an entry with the comments of its value: the lines above it, and what follows it on its line. Fails if an
+/// allocation fails.
 fn entry_text(
     document: Document<'_, '_>,
     key: &str,
@@ -312,7 +316,7 @@ fn entry_text(
     format!(in document.alloc; "{above}{front}{key} = {value}{note}")
 }
 
-/// The blanks before a line of a door.
+/// Returns the blanks with which to begin a line at a door.
 fn door_indent<'s>(text: &'s str, door: Door<'_, '_>) -> &'s str {
     match door {
         Door::Body(section) => body_indent(text, section),
@@ -320,7 +324,7 @@ fn door_indent<'s>(text: &'s str, door: Door<'_, '_>) -> &'s str {
     }
 }
 
-/// Whether an entry with comments can be written at a door.
+/// Returns whether an entry at this door can have comments.
 fn takes_comments(door: Door<'_, '_>) -> bool {
     match door {
         Door::Top | Door::Body(_) | Door::Header(_, _) => true,
@@ -328,9 +332,9 @@ fn takes_comments(door: Door<'_, '_>) -> bool {
     }
 }
 
-/// Adds a value at a path where there is none, with the tables that are missing on the way: as a section of its own,
-/// or by a dotted key in a table that is written in braces or by dotted keys. Its comments go with it to a line that
-/// begins with its key.
+/// Adds a value at a path where there is none, and the missing tables on the way: as a section of its own, or by a
+/// dotted key in a table that is written in braces or by dotted keys. If its key begins a line, the comments of the
+/// value are written too. Fails with the reason if that is not possible, or if an allocation fails.
 pub(crate) fn add_lines(
     document: Document<'_, '_>,
     path: &[&str],
@@ -365,7 +369,8 @@ pub(crate) fn add_lines(
     Ok(())
 }
 
-/// Adds a value at a path where there is none, with the tables that are missing on the way.
+/// Adds a value at a path where there is none, and the missing tables on the way. Fails with the reason if that is not
+/// possible, or if an allocation fails.
 pub(crate) fn add_deep(
     document: Document<'_, '_>,
     path: &[&str],
@@ -381,13 +386,13 @@ pub(crate) fn add_deep(
     add_lines(document, path, moved, plan)
 }
 
-/// What is between a header that is there and a key.
+/// Returns the dot between a header and a key, or an empty string if there is no header.
 pub(crate) fn dot_after(header: &str) -> &'static str {
     if header.is_empty() { "" } else { "." }
 }
 
-/// Adds an empty table at a path where there is nothing, by a header, or as `{}` in a table that is written in braces
-/// or by dotted keys.
+/// Adds an empty table at a path where there is nothing: by a header, or as `{}` in a table that is written in braces
+/// or by dotted keys. Fails with the reason if that is not possible, or if an allocation fails.
 pub(crate) fn add_table(
     document: Document<'_, '_>,
     path: &[&str],

@@ -1,18 +1,39 @@
 //! A document that is read, and what an edit replaces in it.
+ghost use Rattle.std.specs.Prelude.{IfOk, Ok, map};
+ghost use Rattle.toml_span_read.specs.Data.{depth_limit, parsed_section};
+ghost use Rattle.toml_span_read.specs.Read.{document};
+
 use crate::lines::part;
 use crate::mentions::{Mention, mentions_of, part_at};
+use crate::reason::Reason;
 use std::alloc::{AllocError, Global};
-use toml_span::Span;
 use toml_span::value::Key;
+use toml_span::{Span, Stop};
 use toml_span_places::{section_lines, with_quotes};
-use toml_span_read::{Assignment, Section, Val, ValKind};
+use toml_span_read::{Assignment, Section, Val, ValKind, read_sections};
 
-/// A document that is read.
+/// A document: its text and its sections.
 #[derive(Clone, Copy)]
 pub(crate) struct Document<'s, 'de> {
     pub alloc: Global,
     pub text: &'s str,
     pub sections: &'s [Section<'de>],
+}
+
+/// The sections of a text that is a document.
+pub(crate) fn sections_of<'t>(
+    alloc: Global,
+    text: &'t str,
+) -> Result<Vec<Section<'t>>, Stop<Reason>>
+    ensures { IfOk result (λ sections. document text.now depth_limit (Ok (map parsed_section sections.items))) }
+{
+    match read_sections(alloc, text, 128) {
+        Ok(sections) => Ok(sections),
+        Err(stop) => {
+            drop(stop.fault()?);
+            Err(Stop::Fault(Reason::WouldDiffer))
+        }
+    }
 }
 
 /// The value that is written at one of these mentions.
@@ -27,7 +48,7 @@ pub(crate) fn written<'s, 'de>(mentions: &[Mention<'s, 'de>]) -> Option<&'s Val<
     None
 }
 
-/// The element of an array at an index.
+/// Returns the element of an array at an index.
 fn element_of<'s, 'de>(list: &'s Val<'de>, index: usize) -> Option<&'s Val<'de>> {
     match &list.kind {
         ValKind::Array(items) => items.get(index),
@@ -35,7 +56,7 @@ fn element_of<'s, 'de>(list: &'s Val<'de>, index: usize) -> Option<&'s Val<'de>>
     }
 }
 
-/// The part of a header at an index.
+/// Returns the part of a header at an index.
 fn header_key<'s, 'de>(section: &'s Section<'de>, index: usize) -> Option<&'s Key<'de>> {
     section.header.as_slice().get(index)
 }
@@ -45,12 +66,12 @@ impl<'s, 'de> Document<'s, 'de> {
         mentions_of(self.alloc, self.sections, path)
     }
 
-    /// The span of a key with its quotes.
+    /// Returns the span of a key with its quotes.
     fn whole(&self, key: &Key<'_>) -> Span {
         with_quotes(self.text, key.span)
     }
 
-    /// The text of a header up to the part at an index, without brackets.
+    /// Returns the text of a header up to the part at an index, without the brackets.
     pub(crate) fn header_text(&self, section: &Section<'_>, index: usize) -> &'s str {
         match (header_key(section, 0), header_key(section, index)) {
             (Some(first), Some(last)) => {
@@ -60,14 +81,14 @@ impl<'s, 'de> Document<'s, 'de> {
         }
     }
 
-    /// The text of a dotted key up to the part at an index.
+    /// Returns the text of a dotted key up to the part at an index.
     pub(crate) fn dotted_text(&self, assignment: &Assignment<'_>, index: usize) -> &'s str {
         let first = self.whole(part_at(&assignment.parts, 0));
         let last = self.whole(part_at(&assignment.parts, index));
         part(self.text, first.start, last.end)
     }
 
-    /// Where the lines of a section's own assignments end.
+    /// Returns the end of the lines of a section's assignments.
     pub(crate) fn body_end(&self, section: &Section<'_>) -> usize {
         section_lines(self.text, section).end
     }

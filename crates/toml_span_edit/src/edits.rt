@@ -1,4 +1,4 @@
-//! Edits of a document.
+//! Edits documents.
 ghost use Rattle.std.specs.Prelude.{◌≡◌, IfOk, [], string_bytes};
 ghost use Rattle.toml_span_edit.specs.Edited as spec;
 ghost use Rattle.toml_span_edit.specs.Listed.{Pushed};
@@ -9,32 +9,32 @@ use crate::step::step;
 use std::alloc::{AllocError, Global};
 use toml_span::Stop;
 
-/// What an edit does at its path. Values are TOML, such as `1`, `"a"` or `[1, 2]`.
+/// What an edit does at its path. Values are written as TOML, such as `1`, `"a"` or `[1, 2]`.
 #[derive(Clone, Copy, Debug)]
 pub enum Change<'e> {
-    /// Writes a value over one that is written as a value, not by headers or dotted keys.
+    /// Replaces a value that is written as such, not defined by headers or dotted keys.
     Set(&'e str),
-    /// Writes a value over one, also over a table or an array of tables that headers or dotted keys define.
+    /// Replaces a value, even a table or an array of tables that headers or dotted keys define.
     Replace(&'e str),
-    /// Sets the value if there is one, and else adds it, with the tables that are missing on the way.
+    /// Replaces the value if there is one, otherwise adds it, and the missing tables on the way.
     SetOrAdd(&'e str),
-    /// Renames the key, wherever it is written.
+    /// Renames the key at every place where it is written.
     Rename(&'e str),
     /// Removes the value with its key, or the element of an array.
     Remove,
-    /// Adds a value to a table that is there. The last segment is the new key.
+    /// Adds a value to an existing table. The last segment is the new key.
     Add(&'e str),
-    /// Adds an empty table, with the tables that are missing on the way.
+    /// Adds an empty table, and the missing tables on the way.
     AddTable,
-    /// Adds an element after the last one of the array, or the array if there is none.
+    /// Adds an element at the end of the array, or adds the array if there is none.
     Append(&'e str),
-    /// Adds an element before the one at the position that is the last segment, or after the last one.
+    /// Adds an element before the one at the position of the last segment, or at the end of the array.
     Insert(&'e str),
-    /// Moves the value to another path, where there is none, with its comments.
+    /// Moves the value, with its comments, to another path, where there is none.
     MoveTo(&'e [&'e str]),
 }
 
-/// An edit: a change at a path.
+/// One edit: a change at a path.
 #[derive(Clone, Copy, Debug)]
 pub struct Edit<'e> {
     /// The segments from the root: names of keys, and positions of elements, counted from 0.
@@ -42,26 +42,26 @@ pub struct Edit<'e> {
     pub change: Change<'e>,
 }
 
-/// Why the edits of a document are refused.
+/// Why an edit was refused, and which one.
 #[derive(Debug, Drop)]
 pub struct EditError {
-    /// Which edit is refused, counted from 0.
+    /// The position of the edit in the list, counted from 0.
     pub edit: usize,
     pub reason: Reason,
 }
 
-/// Edits of a document, which are made one after the other by `finish`.
+/// A list of edits, which `finish` makes one after the other.
 #[derive(Drop)]
 pub struct Edits<'e> {
     alloc: Global,
-    /// The document.
+    /// The document to edit.
     pub text: &'e str,
     /// The edits so far.
     pub list: Vec<Edit<'e>>,
 }
 
 impl<'e> Edits<'e> {
-    /// Creates an empty list of edits of a text. The text is only read by `finish`.
+    /// Returns an empty list of edits. The text is not read before `finish`.
     pub fn new(alloc: Global, text: &'e str) -> Self
         ensures { (result.text ≡ text.entry) × (result.list.items ≡ []) }
     {
@@ -72,7 +72,7 @@ impl<'e> Edits<'e> {
         }
     }
 
-    /// Adds an edit after the others. After an error they are as before.
+    /// Appends an edit. If an allocation fails, the list is unchanged.
     pub fn push(&mut self, edit: Edit<'e>) -> Result<(), AllocError>
         ensures { Pushed edit.entry self.old result self.new }
     {
@@ -86,81 +86,88 @@ impl<'e> Edits<'e> {
         self.push(Edit { path, change })
     }
 
-    /// Adds `Change::Set`: writes a value over the one at a path.
+    /// Appends `Change::Set`: replaces the value at a path by this one. If an allocation fails, the list is unchanged.
     pub fn set(&mut self, path: &'e [&'e str], value: &'e str) -> Result<(), AllocError>
         ensures { Pushed (record { path = path.entry; change = changes.Set value.entry }) self.old result self.new }
     {
         self.change(path, Change::Set(value))
     }
 
-    /// Adds `Change::Replace`: writes a value over the one at a path, also over tables that headers define.
+    /// Appends `Change::Replace`: replaces the value at a path, even a table that headers define. If an allocation
+    /// fails, the list is unchanged.
     pub fn replace(&mut self, path: &'e [&'e str], value: &'e str) -> Result<(), AllocError>
         ensures { Pushed (record { path = path.entry; change = changes.Replace value.entry }) self.old result self.new }
     {
         self.change(path, Change::Replace(value))
     }
 
-    /// Adds `Change::SetOrAdd`: sets the value at a path, or adds it.
+    /// Appends `Change::SetOrAdd`: replaces the value at a path, or adds it. If an allocation fails, the list is
+    /// unchanged.
     pub fn set_or_add(&mut self, path: &'e [&'e str], value: &'e str) -> Result<(), AllocError>
         ensures { Pushed (record { path = path.entry; change = changes.SetOrAdd value.entry }) self.old result self.new }
     {
         self.change(path, Change::SetOrAdd(value))
     }
 
-    /// Adds `Change::Rename`: renames the key at a path.
+    /// Appends `Change::Rename`: renames the key at a path. If an allocation fails, the list is unchanged.
     pub fn rename(&mut self, path: &'e [&'e str], name: &'e str) -> Result<(), AllocError>
         ensures { Pushed (record { path = path.entry; change = changes.Rename name.entry }) self.old result self.new }
     {
         self.change(path, Change::Rename(name))
     }
 
-    /// Adds `Change::Remove`: removes the value at a path.
+    /// Appends `Change::Remove`: removes the value at a path. If an allocation fails, the list is unchanged.
     pub fn remove(&mut self, path: &'e [&'e str]) -> Result<(), AllocError>
         ensures { Pushed (record { path = path.entry; change = changes.Remove }) self.old result self.new }
     {
         self.change(path, Change::Remove)
     }
 
-    /// Adds `Change::Add`: adds a value at a path, where there is none, to a table that is there.
+    /// Appends `Change::Add`: adds a value at a path where there is none, to an existing table. If an allocation fails,
+    /// the list is unchanged.
     pub fn add(&mut self, path: &'e [&'e str], value: &'e str) -> Result<(), AllocError>
         ensures { Pushed (record { path = path.entry; change = changes.Add value.entry }) self.old result self.new }
     {
         self.change(path, Change::Add(value))
     }
 
-    /// Adds `Change::AddTable`: adds an empty table at a path, where there is nothing.
+    /// Appends `Change::AddTable`: adds an empty table at a path where there is nothing. If an allocation fails, the
+    /// list is unchanged.
     pub fn add_table(&mut self, path: &'e [&'e str]) -> Result<(), AllocError>
         ensures { Pushed (record { path = path.entry; change = changes.AddTable }) self.old result self.new }
     {
         self.change(path, Change::AddTable)
     }
 
-    /// Adds `Change::Append`: adds an element after the last one of the array at a path.
+    /// Appends `Change::Append`: adds an element at the end of the array at a path. If an allocation fails, the list is
+    /// unchanged.
     pub fn append(&mut self, path: &'e [&'e str], value: &'e str) -> Result<(), AllocError>
         ensures { Pushed (record { path = path.entry; change = changes.Append value.entry }) self.old result self.new }
     {
         self.change(path, Change::Append(value))
     }
 
-    /// Adds `Change::Insert`: adds an element before the one at a path, which ends with a position.
+    /// Appends `Change::Insert`: adds an element before the one at a path, whose last segment is a position. If an
+    /// allocation fails, the list is unchanged.
     pub fn insert(&mut self, path: &'e [&'e str], value: &'e str) -> Result<(), AllocError>
         ensures { Pushed (record { path = path.entry; change = changes.Insert value.entry }) self.old result self.new }
     {
         self.change(path, Change::Insert(value))
     }
 
-    /// Adds `Change::MoveTo`: moves the value at a path to another one.
+    /// Appends `Change::MoveTo`: moves the value at a path to another path. If an allocation fails, the list is
+    /// unchanged.
     pub fn move_to(&mut self, path: &'e [&'e str], target: &'e [&'e str]) -> Result<(), AllocError>
         ensures { Pushed (record { path = path.entry; change = changes.MoveTo target.entry }) self.old result self.new }
     {
         self.change(path, Change::MoveTo(target))
     }
 
-    /// Makes the edits one after the other, and returns the new text. Without edits it is the text itself, which is not
-    /// read then.
+    /// Makes the edits one after the other, and returns the new text. Without edits, returns the text itself without
+    /// reading it.
     ///
-    /// The error is the first edit that is refused, and why, or out of memory. An edit is refused if the tree of its
-    /// result would not be the tree before it with this edit alone.
+    /// Fails with the first edit that is refused and the reason, or if an allocation fails. An edit is refused unless
+    /// the tree of its result is the tree before it with only this change.
     pub fn finish(self) -> Result<String, Stop<EditError>>
         ensures { IfOk result (λ new. spec.EditsMade self.entry.list.items self.entry.text.now (string_bytes new)) }
     {
@@ -168,7 +175,7 @@ impl<'e> Edits<'e> {
     }
 }
 
-/// Makes an edit that has this index.
+/// Makes an edit. If it is refused, the error has this index.
 fn edit_made(
     alloc: Global,
     text: &str,
@@ -183,7 +190,7 @@ fn edit_made(
     }
 }
 
-/// Makes edits one after the other. The first one has this index.
+/// Makes edits one after the other. `first` is the index of the first of them.
 fn rest_made(
     alloc: Global,
     text: String,
@@ -211,7 +218,7 @@ fn all_made(alloc: Global, text: &str, edits: &[Edit<'_>]) -> Result<String, Sto
     Ok(made)
 }
 
-/// The error of an edit.
+/// Returns the error of a refused edit.
 fn refused(edit: usize, stop: Stop<Reason>) -> Stop<EditError> {
     match stop {
         Stop::Memory(error) => Stop::Memory(error),

@@ -1,4 +1,4 @@
-//! Values and names as they are given, and as they are written.
+//! Checks values that a caller passes, and writes names and strings.
 ghost use Rattle.std.specs.Prelude.{◌≡◌, ◌++◌, IfOk, codes, string_bytes};
 
 use crate::reason::Reason;
@@ -7,10 +7,10 @@ use toml_span::Stop;
 use toml_span_places::{quote_key, quote_string};
 use toml_span_read::{Section, read_sections};
 
-/// What is before a value that is read alone.
+/// What is written before a value to read it alone.
 const FRONT: &str = "v = ";
 
-/// A document with this value alone.
+/// Returns a document with only this value. Fails if an allocation fails.
 pub(crate) fn probe_text(alloc: Global, value: &str) -> Result<String, AllocError>
     ensures { IfOk result (λ text. string_bytes text ≡ codes "v = " ++ value.now) }
 {
@@ -19,7 +19,8 @@ pub(crate) fn probe_text(alloc: Global, value: &str) -> Result<String, AllocErro
     Ok(text)
 }
 
-/// The sections of a document that has a value alone. The fault is `NoValue` where the value is not one.
+/// Returns the sections of a document with only this value. Fails with `NoValue` if it is not a value, or if an
+/// allocation fails.
 pub(crate) fn probed<'p>(
     alloc: Global,
     probe: &'p str,
@@ -39,7 +40,7 @@ pub(crate) fn probed<'p>(
     }
 }
 
-/// Whether there is one assignment, which begins the document and ends it.
+/// Returns whether there is only one assignment, which ends at `end`.
 fn is_one_value(sections: &[Section<'_>], end: usize) -> bool {
     match sections {
         [section] => match section.assignments.as_slice() {
@@ -50,19 +51,21 @@ fn is_one_value(sections: &[Section<'_>], end: usize) -> bool {
     }
 }
 
-/// Checks that a text is one TOML value, without anything before it or after it.
+/// Checks that a text is one TOML value, with nothing before or after it. Fails with `NoValue` if not, or if an
+/// allocation fails.
 pub(crate) fn check_value(alloc: Global, value: &str) -> Result<(), Stop<Reason>> {
     let probe = probe_text(alloc, value)?;
     drop(probed(alloc, probe.as_str(), value)?);
     Ok(())
 }
 
-/// Whether a character can be in a word that somebody wrote without quotes.
+/// Returns whether a character may occur in a word that was probably meant as a string.
 fn is_in_word(c: char) -> bool {
     !c.is_whitespace() && !c.is_control() && !"\"'[]{}#,=\\`".contains(c)
 }
 
-/// The reason to refuse a value, with the string that a bare word may stand for, as it is written in a shell.
+/// Returns the reason to refuse a value. For a bare word, it suggests the string that was probably meant, quoted for a
+/// shell. Fails if an allocation fails.
 pub(crate) fn no_value(alloc: Global, value: &str) -> Result<Reason, AllocError> {
     if value.is_empty() || !value.chars().all(|c| is_in_word(c)) {
         return Ok(Reason::NoValue(None));
@@ -71,7 +74,7 @@ pub(crate) fn no_value(alloc: Global, value: &str) -> Result<Reason, AllocError>
     Ok(Reason::NoValue(Some(format!(in alloc; "'{string}'?")?)))
 }
 
-/// A spelling with the escapes of TOML 1.0 in place of `\e` and `\xHH`, which TOML 1.1 added.
+/// Replaces the escapes `\e` and `\xHH`, which TOML 1.1 added, by escapes of TOML 1.0. Fails if an allocation fails.
 fn older(alloc: Global, text: &str) -> Result<String, AllocError> {
     let mut out = String::new(alloc);
     let mut escaped = false;
@@ -98,7 +101,8 @@ fn older(alloc: Global, text: &str) -> Result<String, AllocError> {
     Ok(out)
 }
 
-/// A key as it is written: bare if it can be, or in quotes, with escapes that TOML 1.0 has too.
+/// Returns a name as a key: bare if possible, otherwise in quotes, with escapes that TOML 1.0 has too. Fails if an
+/// allocation fails.
 pub(crate) fn key_text(alloc: Global, name: &str) -> Result<String, AllocError> {
     let text = quote_key(alloc, name)?;
     if text.starts_with('"') {
@@ -107,7 +111,8 @@ pub(crate) fn key_text(alloc: Global, name: &str) -> Result<String, AllocError> 
     Ok(text)
 }
 
-/// A string as it is written on one line, in quotes, with escapes that TOML 1.0 has too.
+/// Returns a text as a string on one line, in quotes, with escapes that TOML 1.0 has too. Fails only if an allocation
+/// fails.
 pub fn string_text(alloc: Global, text: &str) -> Result<String, AllocError> {
     let text = quote_string(alloc, text)?;
     if text.starts_with('"') {

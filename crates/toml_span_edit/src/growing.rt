@@ -1,4 +1,4 @@
-//! Elements that are added to arrays.
+//! Adds elements to arrays.
 use crate::adding::{add_deep, dot_after, dotted, known, put_section, section_place};
 use crate::document::{Document, written};
 use crate::given::{check_value, probe_text, probed};
@@ -11,7 +11,8 @@ use crate::reason::Reason;
 use toml_span::Stop;
 use toml_span_read::{Section, Val, ValKind};
 
-/// The section of an array's element, with the pairs of a value as its lines, which has to be an inline table.
+/// Returns a section for a new element of an array of tables: the header, and a line for each pair of the value, which
+/// must be an inline table. Fails with the reason if it is not, or if an allocation fails.
 fn element_text(
     document: Document<'_, '_>,
     header: &str,
@@ -34,12 +35,13 @@ fn element_text(
     Ok(lines)
 }
 
-/// The value of the only assignment.
+/// Returns the value of the only assignment.
 fn given_value<'s, 'de>(sections: &'s [Section<'de>]) -> Option<&'s Val<'de>> {
     Some(&sections.first()?.assignments.as_slice().first()?.value)
 }
 
-/// The header of an array of tables, and where its last section ends. None where no header names an element.
+/// Returns the text of the header of an array of tables, and the end of its last section. Returns `None` if no header
+/// opens an element of it.
 fn elements_end<'s>(
     document: Document<'s, '_>,
     mentions: &[Mention<'s, '_>],
@@ -56,7 +58,7 @@ fn elements_end<'s>(
     }
 }
 
-/// Whether a value is an inline table.
+/// Returns whether a value is an inline table.
 fn is_inline(document: Document<'_, '_>, value: &str) -> Result<bool, Stop<Reason>> {
     let probe = probe_text(document.alloc, value)?;
     let sections = probed(document.alloc, probe.as_str(), value)?;
@@ -66,8 +68,9 @@ fn is_inline(document: Document<'_, '_>, value: &str) -> Result<bool, Stop<Reaso
     })
 }
 
-/// Adds an array with one element where nothing is at the path: as a section, if the element is an inline table and no
-/// braces or dotted keys define the table of the array.
+/// Adds an array with one element at a path where there is nothing: as a section if the element is an inline table and
+/// neither braces nor dotted keys define the table around it. Fails with the reason if that is not possible, or if an
+/// allocation fails.
 fn append_first(
     document: Document<'_, '_>,
     path: &[&str],
@@ -87,8 +90,9 @@ fn append_first(
     add_deep(document, path, array.as_str(), plan)
 }
 
-/// Adds an element after the last one of the array at a path. In an array of tables it is a section, and its value has
-/// to be an inline table. Where nothing is at the path, the array is added with this element alone.
+/// Adds an element at the end of the array at a path. In an array of tables it becomes a section, and its value must be
+/// an inline table. If there is nothing at the path, adds an array with only this element. Fails with the reason if
+/// that is not possible, or if an allocation fails.
 pub(crate) fn append(
     document: Document<'_, '_>,
     path: &[&str],
@@ -121,7 +125,8 @@ pub(crate) fn append(
     }
 }
 
-/// Puts an element of an array of tables before the one whose section this is.
+/// Inserts an element of an array of tables before the section `next` of another element. Fails with the reason if that
+/// is not possible, or if an allocation fails.
 fn put_element(
     document: Document<'_, '_>,
     next: &Section<'_>,
@@ -137,7 +142,8 @@ fn put_element(
     Ok(())
 }
 
-/// Adds an element before the one at a path, which is a position in an array, or after the last one.
+/// Adds an element before the one at a path, whose last segment is a position, or at the end of the array. Fails with
+/// the reason if that is not possible, or if an allocation fails.
 pub(crate) fn insert(
     document: Document<'_, '_>,
     path: &[&str],
@@ -168,7 +174,7 @@ pub(crate) fn insert(
     }
 }
 
-/// How many elements the sections of an array of tables open.
+/// Returns how many elements the sections in these mentions open.
 fn elements(mentions: &[Mention<'_, '_>]) -> usize {
     let mut count: usize = 0;
     for mention in mentions {

@@ -1,4 +1,4 @@
-//! Items in brackets or braces: elements of arrays, and pairs of inline tables.
+//! Inserts and removes items in brackets or braces: elements of arrays, and pairs of inline tables.
 use crate::lines::{
     begins_line, blanks_before, comments_above, indent, line_end, line_start, line_stop, next_line,
     part, point,
@@ -11,7 +11,7 @@ use toml_span::value::{Value, ValueInner};
 use toml_span_places::literal_span;
 use toml_span_read::{Val, ValKind};
 
-/// The span of a value with its quotes.
+/// Returns the span of a value with its quotes.
 pub(crate) fn literal_of(text: &str, value: &Val<'_>) -> Span {
     let ValKind::String(string) = &value.kind else {
         return value.span;
@@ -24,7 +24,7 @@ pub(crate) fn literal_of(text: &str, value: &Val<'_>) -> Span {
     span
 }
 
-/// How many items there are in brackets or braces.
+/// Returns the number of items in an array or inline table.
 pub(crate) fn count_of(list: &Val<'_>) -> usize {
     match &list.kind {
         ValKind::Array(items) => items.len(),
@@ -33,7 +33,8 @@ pub(crate) fn count_of(list: &Val<'_>) -> usize {
     }
 }
 
-/// The span of an item: an element, or a pair from its key to the end of its value. None where there is none.
+/// Returns the span of an item: of an element, or of a pair from its key to the end of its value. Returns `None` if
+/// there is no item at this index.
 pub(crate) fn item_span(text: &str, list: &Val<'_>, index: usize) -> Option<Span> {
     match &list.kind {
         ValKind::Array(items) => Some(literal_of(text, items.get(index)?)),
@@ -42,12 +43,12 @@ pub(crate) fn item_span(text: &str, list: &Val<'_>, index: usize) -> Option<Span
     }
 }
 
-/// Where the closing bracket or brace is.
+/// Returns the offset of the closing bracket or brace.
 fn close_of(list: &Val<'_>) -> usize {
     list.span.end.saturating_sub(1)
 }
 
-/// Where the space after an item ends: at the next item, or the closing bracket or brace.
+/// Returns where the space after an item ends: at the next item, or at the closing bracket or brace.
 fn space_end(text: &str, list: &Val<'_>, index: usize) -> usize {
     match item_span(text, list, index.saturating_add(1)) {
         Some(next) => next.start,
@@ -55,7 +56,8 @@ fn space_end(text: &str, list: &Val<'_>, index: usize) -> usize {
     }
 }
 
-/// Where the comma is between two offsets that have only blanks, line ends and comments between them besides.
+/// Returns the offset of the comma between two offsets. Otherwise there are only blanks, line ends and comments between
+/// them.
 fn comma_between(text: &str, start: usize, end: usize) -> Option<usize> {
     let mut is_comment = false;
     for (index, byte) in part(text, start, end).bytes().enumerate() {
@@ -69,7 +71,7 @@ fn comma_between(text: &str, start: usize, end: usize) -> Option<usize> {
     None
 }
 
-/// Cuts a comma, with its line if nothing else is on it.
+/// Removes a comma, with its line if nothing else is on it. Fails if an allocation fails.
 fn cut_comma(text: &str, comma: usize, plan: &mut Plan) -> Result<(), AllocError> {
     let stop = line_stop(text, comma);
     let after = comma.saturating_add(1);
@@ -86,7 +88,8 @@ fn cut_comma(text: &str, comma: usize, plan: &mut Plan) -> Result<(), AllocError
     })
 }
 
-/// Cuts items, the last of which has the end of its line after it, with the comment there, and a comma.
+/// Removes items that are followed by a line end, with the comment before that and one comma. Fails if an allocation
+/// fails.
 fn cut_to_line_end(
     text: &str,
     items: Span,
@@ -109,8 +112,8 @@ fn cut_to_line_end(
     }
 }
 
-/// Cuts items that have the closing bracket or brace on their line, with one comma: the one before them, unless a
-/// comment or a line end is there, or else the one after them.
+/// Removes items that are followed by the closing bracket or brace on the same line, with one comma: the one before
+/// them or, if a comment or a line end is there, the one after them. Fails if an allocation fails.
 fn cut_last(
     text: &str,
     before: Option<Span>,
@@ -137,8 +140,8 @@ fn cut_last(
     })
 }
 
-/// Takes the items from one to another out of brackets or braces, each with one comma and the comment at the end of its
-/// line. A comment on a line of its own stays, since it belongs to what follows it.
+/// Removes the items from index `first` to `last`, each with one comma and the comment at the end of its line. A
+/// comment on its own line stays, since it belongs to what follows it. Fails if an allocation fails.
 pub(crate) fn cut_items(
     text: &str,
     list: &Val<'_>,
@@ -170,7 +173,7 @@ pub(crate) fn cut_items(
     cut_last(text, before, items, end, plan)
 }
 
-/// Puts the first item into brackets or braces.
+/// Inserts the first item into empty brackets or braces. Fails if an allocation fails.
 fn put_first(
     alloc: Global,
     text: &str,
@@ -192,7 +195,7 @@ fn put_first(
     plan.put(Span { start, end }, new)
 }
 
-/// An item that is put in: lines above it with its comments, and what follows its comma on its line.
+/// An item to insert: the lines above it with its comments, and what follows its comma on the line.
 #[derive(Clone, Copy)]
 pub(crate) struct Item<'i> {
     pub above: &'i str,
@@ -200,8 +203,8 @@ pub(crate) struct Item<'i> {
     pub note: &'i str,
 }
 
-/// Puts an item after the last one, on a line of its own where the last one begins its line, or where a comment ends
-/// that line.
+/// Inserts an item after the last one: on a line of its own if the last one begins a line, or if a comment ends its
+/// line. Fails if an allocation fails.
 fn put_last(
     alloc: Global,
     text: &str,
@@ -249,8 +252,8 @@ fn put_last(
     }
 }
 
-/// The blanks before a new item on a line of its own: those of the line of the last item, or four more than those of
-/// the line that opens the brackets.
+/// Returns the blanks for a new item on a line of its own: those of the line of the last item, or four more than those
+/// of the line that opens the brackets. Fails if an allocation fails.
 fn front_of(alloc: Global, text: &str, list: &Val<'_>, last: Span) -> Result<String, AllocError> {
     let mut front = String::from_str(alloc, indent(text, last.start))?;
     if list.span.start >= line_start(text, last.start) {
@@ -259,8 +262,8 @@ fn front_of(alloc: Global, text: &str, list: &Val<'_>, last: Span) -> Result<Str
     Ok(front)
 }
 
-/// Puts an item before another one: on a line of its own, above the comments of that one, where that one begins its
-/// line.
+/// Inserts an item before another one: on a line of its own, above the comments of that one, if that one begins a line.
+/// Fails if an allocation fails.
 fn put_before(
     alloc: Global,
     text: &str,
@@ -293,7 +296,7 @@ fn put_before(
     plan.put(point(next.start), format!(in alloc; "{item}, ")?)
 }
 
-/// Puts an item into brackets or braces before the one at an index, or after the last one.
+/// Inserts an item before the one at an index, or after the last one. Fails if an allocation fails.
 pub(crate) fn put_item(
     alloc: Global,
     text: &str,
@@ -312,7 +315,7 @@ pub(crate) fn put_item(
     }
 }
 
-/// An item without comments.
+/// Returns an item without comments.
 pub(crate) fn bare(text: &str) -> Item<'_> {
     Item {
         above: "",
@@ -321,8 +324,8 @@ pub(crate) fn bare(text: &str) -> Item<'_> {
     }
 }
 
-/// The comment at the end of the line of what ends at an offset, after a comma if there is one, with the blanks before
-/// it.
+/// Returns the comment at the end of the line of the item that ends at the offset, after a comma if there is one, with
+/// the blanks before it.
 fn note_after(text: &str, end: usize) -> &str {
     let rest = part(text, end, line_stop(text, end));
     let note = match rest.trim_start().strip_prefix(',') {
@@ -336,7 +339,7 @@ fn note_after(text: &str, end: usize) -> &str {
     }
 }
 
-/// The comments of an item that begins its line: the lines above it, and the comment at the end of its line.
+/// Returns the comments of an item that begins a line: the lines above it, and the comment at the end of its line.
 pub(crate) fn comments_of(text: &str, item: Span) -> (&str, &str) {
     if !begins_line(text, item.start) {
         return ("", "");

@@ -1,4 +1,4 @@
-//! Edits TOML documents and leaves their other bytes as they are.
+//! Edits TOML documents. Bytes that have nothing to do with an edit stay as they are.
 #![tactic(auto)]
 
 mod adding;
@@ -7,18 +7,21 @@ mod edits;
 mod given;
 mod growing;
 mod items;
+mod kept;
 mod lines;
 mod made;
 mod mentions;
 mod moving;
 mod paths;
 mod plan;
+mod reach;
 mod reason;
 mod removing;
 mod same;
 mod setting;
 mod step;
 mod tasks;
+mod texts;
 mod unchanged;
 
 pub use edits::{Change, Edit, EditError, Edits};

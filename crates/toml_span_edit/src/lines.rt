@@ -1,22 +1,22 @@
-//! Lines of a text.
+//! The lines of a text.
 use toml_span::Span;
 
-/// A part of a text, or nothing where it has no such part.
+/// Returns the part of a text between two offsets, or an empty text if there is no such part.
 pub(crate) fn part(text: &str, start: usize, end: usize) -> &str {
     text.get(start..end).unwrap_or("")
 }
 
-/// The span without bytes at an offset.
+/// Returns the empty span at an offset.
 pub(crate) fn point(at: usize) -> Span {
     Span { start: at, end: at }
 }
 
-/// How the lines of a text end.
+/// Returns the line end that a text uses.
 pub(crate) fn line_end(text: &str) -> &'static str {
     if text.contains("\r\n") { "\r\n" } else { "\n" }
 }
 
-/// Where the line of an offset starts.
+/// Returns the start of the line of an offset.
 pub(crate) fn line_start(text: &str, offset: usize) -> usize {
     match part(text, 0, offset).rfind('\n') {
         Some(at) => at.saturating_add(1),
@@ -24,7 +24,7 @@ pub(crate) fn line_start(text: &str, offset: usize) -> usize {
     }
 }
 
-/// Where the line of an offset stops: before its line end, or at the end of the text.
+/// Returns the end of the line of an offset, before its line end.
 pub(crate) fn line_stop(text: &str, offset: usize) -> usize {
     let rest = part(text, offset, text.len());
     match rest.find('\n') {
@@ -40,7 +40,7 @@ pub(crate) fn line_stop(text: &str, offset: usize) -> usize {
     }
 }
 
-/// Where the line after that of an offset starts, or the end of the text.
+/// Returns the start of the line after that of an offset, or the length of the text.
 pub(crate) fn next_line(text: &str, offset: usize) -> usize {
     let rest = part(text, offset, text.len());
     match rest.find('\n') {
@@ -49,18 +49,18 @@ pub(crate) fn next_line(text: &str, offset: usize) -> usize {
     }
 }
 
-/// Where the blanks start that end at an offset.
+/// Returns the start of the run of blanks that ends at an offset.
 pub(crate) fn blanks_before(text: &str, offset: usize) -> usize {
     part(text, 0, offset).trim_end_matches([' ', '\t']).len()
 }
 
-/// Whether nothing but blanks is before an offset on its line.
+/// Returns whether only blanks precede an offset on its line.
 pub(crate) fn begins_line(text: &str, offset: usize) -> bool {
     let start = blanks_before(text, offset);
     start == 0 || part(text, 0, start).ends_with('\n')
 }
 
-/// The blanks with which the line of an offset begins.
+/// Returns the blanks at the start of the line of an offset.
 pub(crate) fn indent(text: &str, offset: usize) -> &str {
     let start = line_start(text, offset);
     let line = part(text, start, text.len());
@@ -68,7 +68,7 @@ pub(crate) fn indent(text: &str, offset: usize) -> &str {
     part(text, start, text.len().saturating_sub(rest.len()))
 }
 
-/// Where the lines start that have only a comment and are directly above the line that starts at an offset.
+/// Returns the start of the lines with only a comment that are directly above the line which starts at the offset.
 pub(crate) fn comments_above(text: &str, offset: usize) -> usize {
     let mut start: usize = 0;
     let mut at: usize = 0;
@@ -81,7 +81,7 @@ pub(crate) fn comments_above(text: &str, offset: usize) -> usize {
     start
 }
 
-/// Whether a text ends in the middle of a line.
+/// Returns whether the offset is after a line without a line end.
 pub(crate) fn is_open(text: &str, offset: usize) -> bool {
     offset > 0 && !part(text, 0, offset).ends_with('\n')
 }

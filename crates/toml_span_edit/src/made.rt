@@ -1,9 +1,10 @@
-//! Whether a tree is another one with a change made.
+//! Compares the tree before an edit with the tree after it.
 ghost use Rattle.std.specs.Prelude.{◌≡◌, ◌&&◌, None, Some, map, option_map, option_and_then};
 ghost use Rattle.toml_span_tree.specs.Node.{get_item, get_member};
 ghost use Rattle.toml_span_tree.specs.Pointer.{position_of};
 ghost use Rattle.toml_span_tree.specs.Value.{inner_of, items_view, members_view, view};
 ghost use Rattle.toml_span_edit.specs.Made as spec;
+ghost use Rattle.toml_span_edit.specs.Paths as paths;
 ghost use Rattle.toml_span_edit.specs.Same.{same, same_members};
 
 use crate::paths::position;
@@ -11,7 +12,7 @@ use crate::same::{same_items, same_tree};
 use std::collections::btree_map::Iter;
 use toml_span::value::{Array, Key, Table, Value, ValueInner};
 
-/// The value of an entry.
+/// Returns the value of the entry with this name.
 fn entry_named<'v, 'de>(table: &'v Table<'de>, name: &str) -> Option<&'v Value<'de>>
     ensures { option_map (λ v. view v.now) result ≡ get_member name.now (members_view table.now.entries) }
 {
@@ -23,7 +24,7 @@ fn entry_named<'v, 'de>(table: &'v Table<'de>, name: &str) -> Option<&'v Value<'
     None
 }
 
-/// The element at the position that a segment spells.
+/// Returns the element at the position that a segment spells.
 fn element_named<'v, 'de>(array: &'v Array<'de>, segment: &str) -> Option<&'v Value<'de>>
     ensures { option_map (λ v. view v.now) result
         ≡ option_and_then (λ i. get_item i (items_view array.now.items)) (position_of segment.now) }
@@ -31,7 +32,7 @@ fn element_named<'v, 'de>(array: &'v Array<'de>, segment: &str) -> Option<&'v Va
     array.get(position(segment)?)
 }
 
-/// The value that a segment names in a table or an array.
+/// Returns the value that a segment selects: an entry of a table, or an element of an array.
 pub(crate) fn child<'v, 'de>(value: &'v Value<'de>, segment: &str) -> Option<&'v Value<'de>>
     ensures { option_map (λ v. view v.now) result ≡ spec.child segment.now (inner_of (view value.now)) }
 {
@@ -42,6 +43,19 @@ pub(crate) fn child<'v, 'de>(value: &'v Value<'de>, segment: &str) -> Option<&'v
         ValueInner::Array(array) => element_named(array, segment),
         ValueInner::Table(table) => entry_named(table, segment),
         _ => None,
+    }
+}
+
+/// Returns the value at a path.
+pub(crate) fn value_at<'v, 'de>(path: &[&str], value: &'v Value<'de>) -> Option<&'v Value<'de>>
+    ensures { option_map (λ v. view v.now) result ≡ paths.found (map (λ s. s.now) path.now) (view value.now) }
+{
+    let [segment, rest @ ..] = path else {
+        return Some(value);
+    };
+    match child(value, *segment) {
+        Some(below) => value_at(rest, below),
+        None => None,
     }
 }
 
@@ -59,7 +73,7 @@ fn items_but(items: &[Value<'_>], at: usize, others: &[Value<'_>]) -> bool
     same_items(&items[..at], &others[..at]) && same_items(&items[at + 1..], &others[at + 1..])
 }
 
-/// Whether two arrays are the same, except for the elements at the position that a segment spells.
+/// Returns whether two arrays are equal except for the elements at the position that a segment spells.
 fn array_but(array: &Array<'_>, segment: &str, others: &Array<'_>) -> bool
     ensures { result ≡ spec.at_position (λ i. spec.items_but i (items_view array.now.items)
         (items_view others.now.items)) (position_of segment.now) }
@@ -70,7 +84,7 @@ fn array_but(array: &Array<'_>, segment: &str, others: &Array<'_>) -> bool
     }
 }
 
-/// Whether two tables are the same, except for the values of the entries with a name.
+/// Returns whether two tables are equal except for the values of the entries with this name.
 fn members_but(table: &Table<'_>, name: &str, others: &Table<'_>) -> bool
     ensures { result ≡ spec.members_but name.now (members_view table.now.entries) (members_view others.now.entries) }
 {
@@ -89,7 +103,7 @@ fn members_but(table: &Table<'_>, name: &str, others: &Table<'_>) -> bool
     rest.next().is_none()
 }
 
-/// Whether two tables, or two arrays, are the same, except for what the segment names.
+/// Returns whether two tables, or two arrays, are equal except for what a segment selects.
 fn same_but(value: &Value<'_>, segment: &str, other: &Value<'_>) -> bool
     ensures { result ≡ spec.same_but segment.now (inner_of (view value.now)) (inner_of (view other.now)) }
 {
@@ -102,7 +116,7 @@ fn same_but(value: &Value<'_>, segment: &str, other: &Value<'_>) -> bool
     }
 }
 
-/// Whether the second elements are the first ones without the one at a position.
+/// Returns whether `others` is `items` without the element at this position.
 #[tactic(auto, using(crate::proofs::Elements::short_gone, crate::proofs::Elements::few_gone))]
 fn item_gone(items: &[Value<'_>], at: usize, others: &[Value<'_>]) -> bool
     ensures { result ≡ spec.item_gone at (items_view items.now) (items_view others.now) }
@@ -116,7 +130,7 @@ fn item_gone(items: &[Value<'_>], at: usize, others: &[Value<'_>]) -> bool
     same_items(&items[..at], &others[..at]) && same_items(&items[at + 1..], &others[at..])
 }
 
-/// Whether the second array is the first one without the element at the position that a segment spells.
+/// Returns whether `others` is `array` without the element at the position that a segment spells.
 fn array_gone(array: &Array<'_>, segment: &str, others: &Array<'_>) -> bool
     ensures { result ≡ spec.at_position (λ i. spec.item_gone i (items_view array.now.items)
         (items_view others.now.items)) (position_of segment.now) }
@@ -127,7 +141,7 @@ fn array_gone(array: &Array<'_>, segment: &str, others: &Array<'_>) -> bool
     }
 }
 
-/// Whether the second entries are the first ones without those with a name.
+/// Returns whether `others` is `table` without the entry with this name.
 fn members_gone(table: &Table<'_>, name: &str, others: &Table<'_>) -> bool
     ensures { result ≡ same_members (spec.without name.now (members_view table.now.entries))
         (members_view others.now.entries) }
@@ -147,7 +161,7 @@ fn members_gone(table: &Table<'_>, name: &str, others: &Table<'_>) -> bool
     rest.next().is_none()
 }
 
-/// Whether the second value is the first one without what the segment names in it.
+/// Returns whether `other` is `value` without what a segment selects.
 fn gone(value: &Value<'_>, segment: &str, other: &Value<'_>) -> bool
     ensures { result ≡ spec.gone segment.now (inner_of (view value.now)) (inner_of (view other.now)) }
 {
@@ -162,7 +176,7 @@ fn gone(value: &Value<'_>, segment: &str, other: &Value<'_>) -> bool
     }
 }
 
-/// Whether the second value is the first one, and the segment names this value in it.
+/// Returns whether `other` is `value`, except that a segment selects the value `new` in it.
 fn put(value: &Value<'_>, segment: &str, new: &Value<'_>, other: &Value<'_>) -> bool
     ensures { result ≡ spec.put segment.now (view new.now) (view value.now) (view other.now) }
 {
@@ -172,7 +186,7 @@ fn put(value: &Value<'_>, segment: &str, new: &Value<'_>, other: &Value<'_>) -> 
     }
 }
 
-/// Whether the second elements are the first ones, and one more after them.
+/// Returns whether `others` is `items` with the element `new` at its end.
 fn item_last(items: &[Value<'_>], new: &Value<'_>, others: &[Value<'_>]) -> bool
     ensures { result ≡ spec.item_last (view new.now) (items_view items.now) (items_view others.now) }
 {
@@ -191,7 +205,7 @@ fn item_last(items: &[Value<'_>], new: &Value<'_>, others: &[Value<'_>]) -> bool
     }
 }
 
-/// Whether the second array is the first one, and one more element after its last one.
+/// Returns whether `other` is the array `value` with the element `new` at its end.
 fn last(value: &Value<'_>, new: &Value<'_>, other: &Value<'_>) -> bool
     ensures { result ≡ spec.last (view new.now) (inner_of (view value.now)) (inner_of (view other.now)) }
 {
@@ -201,7 +215,7 @@ fn last(value: &Value<'_>, new: &Value<'_>, other: &Value<'_>) -> bool
     }
 }
 
-/// The next entry with another name.
+/// Returns the next entry that does not have this name.
 fn next_but<'v, 'de>(
     rest: &mut Iter<'v, Key<'de>, Value<'de>>,
     name: &str,
@@ -216,7 +230,7 @@ fn next_but<'v, 'de>(
     None
 }
 
-/// Whether two tables are the same without the entries with a name in one and another name in the other.
+/// Returns whether two tables are equal except for the entry `name` of one and the entry `other_name` of the other.
 fn same_without(table: &Table<'_>, name: &str, others: &Table<'_>, other_name: &str) -> bool
     ensures { result ≡ same_members (spec.without name.now (members_view table.now.entries))
         (spec.without other_name.now (members_view others.now.entries)) }
@@ -236,7 +250,7 @@ fn same_without(table: &Table<'_>, name: &str, others: &Table<'_>, other_name: &
     next_but(&mut rest, other_name).is_none()
 }
 
-/// Whether the second table is the first one in which the entry with a name has another one.
+/// Returns whether `other` is the table `value`, in which the entry `name` is called `new`.
 fn renamed(value: &Value<'_>, name: &str, new: &str, other: &Value<'_>) -> bool
     ensures { result ≡ spec.renamed name.now new.now (inner_of (view value.now)) (inner_of (view other.now)) }
 {
@@ -251,23 +265,23 @@ fn renamed(value: &Value<'_>, name: &str, new: &str, other: &Value<'_>) -> bool
     }
 }
 
-/// What a change makes of the value at a path. A segment names an entry of the table there, or an element of the array.
+/// A change of the value at a path. A segment selects an entry of that table, or an element of that array.
 #[derive(Clone, Copy)]
 pub(crate) enum Local<'l, 'v, 'de> {
-    /// It is another value.
+    /// The value is replaced by this one.
     Set(&'v Value<'de>),
-    /// What the segment names in it is gone.
+    /// What the segment selects is removed.
     Gone(&'l str),
-    /// The segment names another value in it.
+    /// The segment selects this value afterwards.
     Put(&'l str, &'v Value<'de>),
-    /// It has another value as its last element.
+    /// This element is added at the end.
     Last(&'v Value<'de>),
-    /// Its entry with a name has another one.
+    /// The entry with the first name gets the second name.
     Renamed(&'l str, &'l str),
 }
 
 impl Local<'_, '_, '_> {
-    /// Whether the second value is the first one with this change.
+    /// Returns whether `other` is `value` with this change.
     fn holds(self, value: &Value<'_>, other: &Value<'_>) -> bool
         ensures { result ≡ spec.local self.entry (view value.now) (view other.now) }
     {
@@ -281,7 +295,7 @@ impl Local<'_, '_, '_> {
     }
 }
 
-/// Whether the second tree is the first one with a change at a path, and all else is the same.
+/// Returns whether the tree `other` is `value` with a change at a path, and no other difference.
 pub(crate) fn changed(
     path: &[&str],
     local: Local<'_, '_, '_>,
@@ -301,7 +315,7 @@ pub(crate) fn changed(
     }
 }
 
-/// Whether a value is another one in one table more for each of the names, which has nothing else.
+/// Returns whether `value` is `new` inside tables, one for each of the names, that contain nothing else.
 fn is_nested(names: &[&str], new: &Value<'_>, value: &Value<'_>) -> bool
     ensures { result ≡ same (spec.nested (map (λ s. s.now) names.now) (view new.now)) (view value.now) }
 {
@@ -320,7 +334,7 @@ fn is_nested(names: &[&str], new: &Value<'_>, value: &Value<'_>) -> bool
     }
 }
 
-/// Whether the second tree is the first one with a value at a path, where the first one has none, and with the tables
+/// Returns whether the tree `other` is `value` with the value `new` at a path where there was none, and with the tables
 /// that were missing on the way.
 pub(crate) fn added(path: &[&str], new: &Value<'_>, value: &Value<'_>, other: &Value<'_>) -> bool
     ensures { result ≡ spec.added (map (λ s. s.now) path.now) (view new.now) (view value.now) (view other.now) }

@@ -1,4 +1,4 @@
-//! Where a document names the value at a path.
+//! Finds the places where a document names the value at a path.
 use crate::paths::{has_position, has_segment, rest_of};
 use std::alloc::{AllocError, Global};
 use toml_span::Span;
@@ -8,37 +8,37 @@ use toml_span_read::{Assignment, DottedKey, Section, Val, ValKind};
 /// Where an assignment is written.
 #[derive(Clone, Copy)]
 pub(crate) enum Home<'s, 'de> {
-    /// On lines of a section.
+    /// On a line of a section.
     Lines,
-    /// In the braces of an inline table, at a position among its pairs.
+    /// In the braces of an inline table, where this is its index among the pairs.
     Braces(&'s Val<'de>, usize),
 }
 
-/// A place that names the value at a path.
+/// A place in the text that names the value at a path.
 #[derive(Clone, Copy)]
 pub(crate) enum Mention<'s, 'de> {
-    /// The section whose header is that of the table. The root has one without a header.
+    /// The section of the table itself. For the root, the section without a header.
     Own(&'s Section<'de>),
-    /// A section of a table in the value, whose header names the value by the part at this index.
+    /// The section of a table inside the value. The part of its header with this index names the value.
     Below(&'s Section<'de>, usize),
-    /// An assignment whose dotted key names the value by the part at this index, which is not the last.
+    /// An assignment with a dotted key, whose part with this index names the value. It is not the last part.
     Dotted(&'s Assignment<'de>, usize, Home<'s, 'de>),
     /// The assignment of the value.
     Assigned(&'s Assignment<'de>, Home<'s, 'de>),
-    /// The element of an array in brackets, at a position.
+    /// The element of an array in brackets, with its index.
     Element(&'s Val<'de>, usize),
 }
 
-/// How the table of a section lies to a path.
+/// Where the table of a section is, relative to a path.
 enum Placement {
     Apart,
-    /// At the path's first segments, this many of them.
+    /// On the way to the path: it is named by this many of the path's segments.
     Above(usize),
-    /// Below the path, whose last key is the part of the header at this index.
+    /// At the path or inside the value there. The part of its header with this index is the last segment of the path.
     Below(usize),
 }
 
-/// The part of a dotted key at an index.
+/// Returns the part of a dotted key at an index.
 pub(crate) fn part_at<'s, 'de>(parts: &'s DottedKey<'de>, index: usize) -> &'s Key<'de> {
     if let Some(key) = parts.inner.get(index) {
         return key;
@@ -46,12 +46,13 @@ pub(crate) fn part_at<'s, 'de>(parts: &'s DottedKey<'de>, index: usize) -> &'s K
     &parts.last
 }
 
-/// How many elements of an array of tables at the first segments of a path have been opened.
+/// Returns how many elements have been opened in the array of tables that the first `depth` segments of a path name.
 fn count_at(counts: &[usize], depth: usize) -> usize {
     counts.get(depth).copied().unwrap_or(0)
 }
 
-/// Counts one more element, and returns how many there were.
+/// Counts one more element of the array of tables that the first `depth` segments of a path name, and returns how many
+/// there were before.
 fn count_up(counts: &mut Vec<usize>, depth: usize) -> usize {
     match counts.get_mut(depth) {
         Some(count) => {
@@ -63,8 +64,8 @@ fn count_up(counts: &mut Vec<usize>, depth: usize) -> usize {
     }
 }
 
-/// How the table of a section lies to a path. `counts` has the number of elements opened so far of the array of tables
-/// at each front of the path.
+/// Returns where the table of a section is, relative to a path. `counts` has, for each number of first segments of the
+/// path, how many elements have been opened in the array of tables that they name.
 fn placement_of(section: &Section<'_>, path: &[&str], counts: &mut Vec<usize>) -> Placement {
     let mut depth: usize = 0;
     let last = section.header.len().saturating_sub(1);
@@ -96,8 +97,8 @@ fn placement_of(section: &Section<'_>, path: &[&str], counts: &mut Vec<usize>) -
     Placement::Above(depth)
 }
 
-/// How many of the parts of a dotted key a path begins with: all of them, or all that the path has. None where they
-/// differ.
+/// Returns how many parts of a dotted key a path begins with: all parts, or as many as the path has segments. Returns
+/// `None` if they differ.
 fn common(parts: &DottedKey<'_>, path: &[&str]) -> Option<usize> {
     let count = parts.inner.len().saturating_add(1).min(path.len());
     for index in 0..count {
@@ -108,7 +109,8 @@ fn common(parts: &DottedKey<'_>, path: &[&str]) -> Option<usize> {
     Some(count)
 }
 
-/// Adds what an assignment names at a path, which is not empty, from its table on.
+/// Appends what an assignment names at a path, which begins at the table of the assignment and is not empty. Fails if
+/// an allocation fails.
 #[cycle(push_inside)]
 fn push_assigned<'s, 'de>(
     assignment: &'s Assignment<'de>,
@@ -130,7 +132,7 @@ fn push_assigned<'s, 'de>(
     push_inside(&assignment.value, rest_of(path, count), out)
 }
 
-/// Adds the element of an array at an index, if it is what a path names.
+/// Appends the element of an array at an index, if the path leads there. Fails if an allocation fails.
 fn push_element<'s, 'de>(
     array: &'s Val<'de>,
     index: usize,
@@ -143,7 +145,7 @@ fn push_element<'s, 'de>(
     Ok(())
 }
 
-/// Adds what is at a path in a value, unless the path is empty.
+/// Appends what is at a path inside a value, unless the path is empty. Fails if an allocation fails.
 #[cycle(push_inside)]
 fn push_inside<'s, 'de>(
     value: &'s Val<'de>,
@@ -169,7 +171,7 @@ fn push_inside<'s, 'de>(
     Ok(())
 }
 
-/// Adds what a section names at a path.
+/// Appends what a section names at a path. Fails if an allocation fails.
 fn push_section<'s, 'de>(
     section: &'s Section<'de>,
     path: &[&str],
@@ -189,8 +191,8 @@ fn push_section<'s, 'de>(
     Ok(())
 }
 
-/// Returns the places that name the value at a path, in the order of the text. There are none where the document has no
-/// such value, or where it is an array of tables without an element.
+/// Returns the places that name the value at a path, in the order of the text. There are none if the document has no
+/// such value, or if it is an array of tables without an element. Fails if an allocation fails.
 pub(crate) fn mentions_of<'s, 'de>(
     alloc: Global,
     sections: &'s [Section<'de>],
@@ -204,12 +206,12 @@ pub(crate) fn mentions_of<'s, 'de>(
     Ok(out)
 }
 
-/// Whether a section is that of an element of the array at the part of its header.
+/// Returns whether a section is that of an element of the array that the part of its header with this index names.
 pub(crate) fn opens_element(section: &Section<'_>, part: usize) -> bool {
     section.array && part.saturating_add(1) == section.header.len()
 }
 
-/// The span of an assignment, from its key to the end of its value.
+/// Returns the span of an assignment, from its key to the end of its value.
 pub(crate) fn pair_span(assignment: &Assignment<'_>) -> Span {
     assignment.extent
 }

@@ -1,4 +1,4 @@
-//! Values that are moved to another path.
+//! Moves values to other paths.
 use crate::adding::add_lines;
 use crate::document::{Document, written};
 use crate::given::key_text;
@@ -13,22 +13,22 @@ use toml_span::{Span, Stop};
 use toml_span_places::with_quotes;
 use toml_span_read::{Section, ValKind};
 
-/// A value that is moved, as it is written, with its comments.
+/// A value to move: its text, with its comments.
 #[derive(Clone, Copy)]
 pub(crate) struct Moved<'s> {
-    /// The lines with only a comment that are directly above it.
+    /// The lines with only a comment that are directly above the value.
     pub above: &'s str,
     pub value: &'s str,
-    /// The blanks and the comment at the end of its line.
+    /// The blanks and the comment after the value on its line.
     pub note: &'s str,
 }
 
-/// Where the comments above what has this extent start.
+/// Returns the start of the comments above an assignment or element with this extent.
 fn comments_start(text: &str, extent: Span) -> usize {
     comments_above(text, line_start(text, extent.start))
 }
 
-/// The value at a path, if it is written as a value.
+/// Returns the value at a path with its comments, if it is written as a value. Fails if an allocation fails.
 pub(crate) fn moved_value<'s>(
     document: Document<'s, '_>,
     path: &[&str],
@@ -52,7 +52,7 @@ pub(crate) fn moved_value<'s>(
     Ok(Some(Moved { above, value, note }))
 }
 
-/// The extent of what is moved with the comments above it: an assignment on lines, or an element.
+/// Returns the extent of an assignment on lines, or of an element, whose comments move with it.
 fn extent_of(text: &str, mention: &Mention<'_, '_>) -> Option<Span> {
     match *mention {
         Mention::Assigned(assignment, Home::Lines) => Some(assignment.extent),
@@ -61,7 +61,7 @@ fn extent_of(text: &str, mention: &Mention<'_, '_>) -> Option<Span> {
     }
 }
 
-/// Takes out the comments above the value at a path, which are to move with it.
+/// Removes the comments above the value at a path. They move with it. Fails if an allocation fails.
 pub(crate) fn cut_comments(
     document: Document<'_, '_>,
     path: &[&str],
@@ -82,7 +82,7 @@ pub(crate) fn cut_comments(
     Ok(())
 }
 
-/// Whether the value at a path is an array, with brackets or of tables.
+/// Returns whether the value at a path is an array, in brackets or of tables. Fails if an allocation fails.
 fn is_array(document: Document<'_, '_>, path: &[&str]) -> Result<bool, AllocError> {
     let mentions = document.mentions(path)?;
     if let Some(value) = written(mentions.as_slice()) {
@@ -94,7 +94,8 @@ fn is_array(document: Document<'_, '_>, path: &[&str]) -> Result<bool, AllocErro
     })
 }
 
-/// Puts a value that was moved at a path: as an element of the array there, or as an entry.
+/// Inserts a value that is moved at a path: as an element of the array there, or as an entry. Fails with the reason if
+/// that is not possible, or if an allocation fails.
 pub(crate) fn put_moved(
     document: Document<'_, '_>,
     path: &[&str],
@@ -115,7 +116,8 @@ pub(crate) fn put_moved(
     add_lines(document, path, moved, plan)
 }
 
-/// The text of the header that a table has at a path in a table that headers define, or at the root.
+/// Returns the text of the header for a table at a path, if headers define the table around it, or that is the root.
+/// Fails if an allocation fails.
 fn new_header(document: Document<'_, '_>, path: &[&str]) -> Result<Option<String>, AllocError> {
     let [front @ .., name] = path else {
         return Ok(None);
@@ -135,7 +137,8 @@ fn new_header(document: Document<'_, '_>, path: &[&str]) -> Result<Option<String
     Ok(Some(format!(in document.alloc; "{table}.{key}")?))
 }
 
-/// The part of a header that names the table of a section, or one above it.
+/// Returns the span of a header from its first part to the one at an index, which names the table of the section or one
+/// around it.
 fn header_span(text: &str, section: &Section<'_>, index: usize) -> Span {
     let keys = section.header.as_slice();
     match (keys.first(), keys.get(index)) {
@@ -147,8 +150,8 @@ fn header_span(text: &str, section: &Section<'_>, index: usize) -> Span {
     }
 }
 
-/// Writes another path into the headers of the table, or array of tables, at a path. It is not moved if anything but
-/// headers defines it, or the table at the new path.
+/// Changes the path in the headers of the table, or array of tables, at a path. Fails with the reason if anything other
+/// than headers defines it, or the table around the new path, or if an allocation fails.
 pub(crate) fn rename_headers(
     document: Document<'_, '_>,
     path: &[&str],

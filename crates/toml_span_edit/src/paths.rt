@@ -1,11 +1,15 @@
 //! Paths: the segments from the root of a tree to a value.
+ghost use Rattle.std.specs.Prelude.{◌≡◌, map};
+ghost use Rattle.toml_span_tree.specs.Nodes.{step_of};
 ghost use Rattle.toml_span_tree.specs.Pointer.{position_of};
 ghost use Rattle.toml_span_tree.specs.code.Pointer.{PositionIs};
+ghost use Rattle.toml_span_edit.specs.Paths as spec;
 
 use std::alloc::{AllocError, Global};
+use toml_span::value::Step;
 
-/// Splits a pointer such as `/a/0` into its segments. The empty pointer has none, and names the root. Returns None for
-/// a pointer that is not empty and does not begin with a slash.
+/// Splits a pointer such as `/a/0` into its segments. The empty pointer has none, and names the root. Returns `None`
+/// for a pointer that is not empty and does not begin with a slash. Fails only if an allocation fails.
 pub fn segments<'p>(alloc: Global, pointer: &'p str) -> Result<Option<Vec<&'p str>>, AllocError> {
     if pointer.is_empty() {
         return Ok(Some(Vec::new(alloc)));
@@ -16,8 +20,8 @@ pub fn segments<'p>(alloc: Global, pointer: &'p str) -> Result<Option<Vec<&'p st
     }
 }
 
-/// The position that a segment spells: with no sign, and no zero before other digits. None also where it is past every
-/// list.
+/// Returns the position that a segment spells, without a sign and without leading zeros. Returns `None` for any other
+/// segment, and for a number that does not fit into a `usize`.
 pub(crate) fn position(segment: &str) -> Option<usize>
     ensures { PositionIs result (position_of segment.now) }
 {
@@ -31,18 +35,18 @@ pub(crate) fn position(segment: &str) -> Option<usize>
     segment.parse::<usize>().ok()
 }
 
-/// The segments after the first ones.
+/// Returns the segments after the first `count`.
 pub(crate) fn rest_of<'p, 'e>(path: &'p [&'e str], count: usize) -> &'p [&'e str] {
     let start = count.min(path.len());
     &path[start..]
 }
 
-/// The first segments.
+/// Returns the first `count` segments.
 pub(crate) fn front_of<'p, 'e>(path: &'p [&'e str], count: usize) -> &'p [&'e str] {
     path.get(..count).unwrap_or(path)
 }
 
-/// Whether a path has a segment at an index, and it is this one.
+/// Returns whether this is the segment of a path at an index.
 pub(crate) fn has_segment(path: &[&str], index: usize, segment: &str) -> bool {
     match path.get(index) {
         Some(other) => *other == segment,
@@ -50,10 +54,49 @@ pub(crate) fn has_segment(path: &[&str], index: usize, segment: &str) -> bool {
     }
 }
 
-/// Whether a path has a segment at an index that spells this position.
+/// Returns whether the segment of a path at an index spells this position.
 pub(crate) fn has_position(path: &[&str], index: usize, at: usize) -> bool {
     match path.get(index) {
         Some(segment) => position(*segment) == Some(at),
         None => false,
     }
+}
+
+/// Whether a segment names a step.
+fn is_step(segment: &str, step: Step<'_>) -> bool
+    ensures { result ≡ spec.is_step segment.now (step_of step.entry) }
+{
+    match step {
+        Step::Key(name) => segment == name,
+        Step::Position(at) => match position(segment) {
+            Some(there) => there == at,
+            None => false,
+        },
+    }
+}
+
+/// Whether segments name steps, one by one.
+pub(crate) fn names_steps(path: &[&str], steps: &[Step<'_>]) -> bool
+    ensures { result ≡ spec.names_steps (map (λ s. s.now) path.now) (map step_of steps.now) }
+{
+    let [segment, path @ ..] = path else {
+        return steps.is_empty();
+    };
+    let [step, steps @ ..] = steps else {
+        return false;
+    };
+    is_step(*segment, *step) && names_steps(path, steps)
+}
+
+/// Whether segments name the first steps.
+pub(crate) fn names_first(path: &[&str], steps: &[Step<'_>]) -> bool
+    ensures { result ≡ spec.names_first (map (λ s. s.now) path.now) (map step_of steps.now) }
+{
+    let [segment, path @ ..] = path else {
+        return true;
+    };
+    let [step, steps @ ..] = steps else {
+        return false;
+    };
+    is_step(*segment, *step) && names_first(path, steps)
 }

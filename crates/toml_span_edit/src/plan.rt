@@ -1,17 +1,22 @@
 //! What an edit replaces in a text.
+ghost use Rattle.std.specs.Prelude.{◌≡◌, IfOk, Some, map, string_bytes};
+ghost use Rattle.toml_span_places.specs.Replace.{edit_of, replaced};
+ghost use Rattle.toml_span_edit.specs.Kept as spec;
+
+use crate::kept::{are_header_parts, replace_space};
 use crate::reason::Reason;
 use std::alloc::{AllocError, Global};
 use toml_span::{Span, Stop};
 use toml_span_places::{Replacement, replace_all};
 
-/// A span and the text to write over it.
+/// A span, and the text that replaces it.
 #[derive(Drop)]
 pub(crate) struct Piece {
     pub span: Span,
     pub text: String,
 }
 
-/// Pieces in the order of the text, none of which starts before the end of the one before it.
+/// Replacements in the order of the text, whose spans don't overlap.
 #[derive(Drop)]
 pub(crate) struct Plan {
     alloc: Global,
@@ -26,20 +31,20 @@ impl Plan {
         }
     }
 
-    /// Writes a text over a span.
+    /// Adds the replacement of a span by a text. Fails if an allocation fails.
     pub(crate) fn put(&mut self, span: Span, text: String) -> Result<(), AllocError> {
         self.pieces.push(Piece { span, text })?;
         Ok(())
     }
 
-    /// Removes a span.
+    /// Adds the removal of a span. Fails if an allocation fails.
     pub(crate) fn cut(&mut self, span: Span) -> Result<(), AllocError> {
         let text = String::new(self.alloc);
         self.put(span, text)
     }
 
-    /// The text with the pieces replaced.
-    pub(crate) fn applied(&self, text: &str) -> Result<String, Stop<Reason>> {
+    /// The pieces as replacements.
+    fn replacements(&self) -> Result<Vec<Replacement<'_>>, AllocError> {
         let mut list = Vec::with_capacity(self.alloc, self.pieces.len())?;
         for piece in &self.pieces {
             list.push(Replacement {
@@ -47,10 +52,49 @@ impl Plan {
                 text: piece.text.as_str(),
             })?;
         }
-        match replace_all(self.alloc, text, list.as_slice()) {
-            Ok(new) => Ok(new),
-            Err(Stop::Memory(error)) => Err(Stop::Memory(error)),
-            Err(Stop::Fault(_)) => Err(Stop::Fault(Reason::WouldDiffer)),
+        Ok(list)
+    }
+
+    /// The text with the pieces replaced.
+    pub(crate) fn applied(&self, text: &str) -> Result<String, Stop<Reason>> {
+        let list = self.replacements()?;
+        with_replaced(self.alloc, text, list.as_slice())
+    }
+
+    /// The text with the pieces inserted. They are refused if they replace anything but white space.
+    pub(crate) fn inserted(&self, text: &str) -> Result<String, Stop<Reason>>
+        ensures { IfOk result (λ new. spec.IsInserted text.now (string_bytes new)) }
+    {
+        let list = self.replacements()?;
+        if !replace_space(text, list.as_slice()) {
+            return Err(Stop::Fault(Reason::WouldDiffer));
         }
+        with_replaced(self.alloc, text, list.as_slice())
+    }
+
+    /// The text with the pieces replaced. They are refused if they replace anything but parts of headers.
+    pub(crate) fn in_headers(&self, text: &str) -> Result<String, Stop<Reason>>
+        ensures { IfOk result (λ new. spec.AreHeadersReplaced text.now (string_bytes new)) }
+    {
+        let list = self.replacements()?;
+        if !are_header_parts(text, list.as_slice()) {
+            return Err(Stop::Fault(Reason::WouldDiffer));
+        }
+        with_replaced(self.alloc, text, list.as_slice())
+    }
+}
+
+/// The text with these replacements made.
+fn with_replaced(
+    alloc: Global,
+    text: &str,
+    list: &[Replacement<'_>],
+) -> Result<String, Stop<Reason>>
+    ensures { IfOk result (λ new. replaced text.now (map edit_of list.now) ≡ Some (string_bytes new)) }
+{
+    match replace_all(alloc, text, list) {
+        Ok(new) => Ok(new),
+        Err(Stop::Memory(error)) => Err(Stop::Memory(error)),
+        Err(Stop::Fault(_)) => Err(Stop::Fault(Reason::WouldDiffer)),
     }
 }

@@ -1,39 +1,39 @@
-//! Why an edit is refused.
+//! Why an edit was refused.
 
-/// Why an edit is refused.
+/// Why an edit was refused.
 #[derive(Debug, Drop)]
 pub enum Reason {
-    /// The document is larger than 16 MiB.
+    /// The document is longer than 16 MiB.
     TooLong,
     /// The document is not valid UTF-8.
     NotUtf8,
-    /// The document is not valid TOML: where, and why.
+    /// The document is not valid TOML. This is its error with line and column.
     NoDocument(String),
     /// There is no value at the path.
     Nothing,
-    /// The given value is not one TOML value. For a bare word, the string that it may stand for, as it is
-    /// written in a shell, and a question mark.
+    /// The new value is not a TOML value. For a bare word, this is the string that was probably meant, quoted for a
+    /// shell, followed by a question mark.
     NoValue(Option<String>),
-    /// Headers or dotted keys define what the path names.
+    /// Headers or dotted keys define the value at the path.
     NotSpelled,
     /// The path does not name a key.
     NoKey,
-    /// There is a value at the path already.
+    /// There already is a value at the path.
     There,
-    /// The path does not name a table.
+    /// The path does not lead to a table.
     NoTable,
-    /// The path does not name an array, or a position in one.
+    /// The path does not lead to an array, or not to a position in one.
     NoArray,
-    /// An element of an array of tables has to be given as an inline table.
+    /// A new element of an array of tables must be written as an inline table.
     NoInlineTable,
-    /// The result would not be valid TOML: where, and why.
+    /// The result would not be valid TOML. This is its error with line and column.
     WouldBeNone(String),
-    /// The edit would change more than the path names.
+    /// The edit would change something else too.
     WouldDiffer,
 }
 
 impl Reason {
-    /// Returns the reason in words. For some reasons `detail` follows.
+    /// Returns the reason in words. `detail` may continue them.
     pub fn text(&self) -> &'static str {
         match self {
             Reason::TooLong => "the file is larger than 16 MiB",
@@ -58,8 +58,8 @@ impl Reason {
         }
     }
 
-    /// Returns what follows the reason: the line, the column and the message of an error, or the string that a bare
-    /// word may stand for. Empty for other reasons.
+    /// Returns what follows the reason: the line, column and message of an error, or the string that was probably
+    /// meant. It is empty for other reasons.
     pub fn detail(&self) -> &str {
         match self {
             Reason::NoDocument(fault) => fault.as_str(),

@@ -1,4 +1,4 @@
-//! Values that are removed.
+//! Removes values.
 use crate::document::Document;
 use crate::items::cut_items;
 use crate::lines::{line_end, line_stop};
@@ -10,7 +10,7 @@ use toml_span::{Span, Stop};
 use toml_span_places::{assignment_lines, section_lines};
 use toml_span_read::Val;
 
-/// Items of one array or inline table, next to each other.
+/// Adjacent items of one array or inline table.
 #[derive(Clone, Copy)]
 struct Run<'s, 'de> {
     list: &'s Val<'de>,
@@ -18,7 +18,7 @@ struct Run<'s, 'de> {
     last: usize,
 }
 
-/// The items that are cut for a mention, which is in brackets or braces. None for one on lines.
+/// Returns the items to remove for a mention in brackets or braces, or `None` if it is on lines.
 fn run_of<'s, 'de>(mention: &Mention<'s, 'de>) -> Option<Run<'s, 'de>> {
     let (list, index) = match *mention {
         Mention::Dotted(_, _, Home::Braces(list, index)) => (list, index),
@@ -33,7 +33,7 @@ fn run_of<'s, 'de>(mention: &Mention<'s, 'de>) -> Option<Run<'s, 'de>> {
     })
 }
 
-/// Returns the lines to cut with a mention, or None if it is not on lines of its own.
+/// Returns the lines to remove for a mention, or `None` if it is not on lines of its own.
 fn lines_of(text: &str, mention: &Mention<'_, '_>) -> Option<Span> {
     match *mention {
         Mention::Own(section) => Some(section_lines(text, section)),
@@ -44,7 +44,7 @@ fn lines_of(text: &str, mention: &Mention<'_, '_>) -> Option<Span> {
     }
 }
 
-/// Both runs as one, if the second continues the first.
+/// Joins two runs, if the second continues the first.
 fn joined<'s, 'de>(run: Run<'s, 'de>, next: Run<'s, 'de>) -> Option<Run<'s, 'de>> {
     let continues = run.list.span == next.list.span && run.last.saturating_add(1) == next.first;
     if continues {
@@ -58,7 +58,7 @@ fn joined<'s, 'de>(run: Run<'s, 'de>, next: Run<'s, 'de>) -> Option<Run<'s, 'de>
     }
 }
 
-/// Takes the items of a run out.
+/// Removes the items of a run. Fails if an allocation fails.
 fn cut_run(text: &str, run: Option<Run<'_, '_>>, plan: &mut Plan) -> Result<(), AllocError> {
     match run {
         Some(run) => cut_items(text, run.list, run.first, run.last, plan),
@@ -66,7 +66,7 @@ fn cut_run(text: &str, run: Option<Run<'_, '_>>, plan: &mut Plan) -> Result<(), 
     }
 }
 
-/// Takes out what these mentions name.
+/// Removes what these mentions name. Fails if an allocation fails.
 fn cut_all(text: &str, mentions: &[Mention<'_, '_>], plan: &mut Plan) -> Result<(), AllocError> {
     let mut open = None;
     for mention in mentions {
@@ -87,7 +87,7 @@ fn cut_all(text: &str, mentions: &[Mention<'_, '_>], plan: &mut Plan) -> Result<
     cut_run(text, open, plan)
 }
 
-/// Whether a mention does not define a table by itself, but only names it on the way to another value.
+/// Returns whether a mention only passes through a table on the way to another value, and does not define it.
 fn passes(mention: &Mention<'_, '_>) -> bool {
     match *mention {
         Mention::Below(_, _) => true,
@@ -96,12 +96,13 @@ fn passes(mention: &Mention<'_, '_>) -> bool {
     }
 }
 
-/// Whether a table is there only because of these values in it, this many: no header or braces define it.
+/// Returns whether a table exists only because of values in it, of which there are `values`: no header and no braces
+/// define it.
 fn is_implied(table: &[Mention<'_, '_>], values: usize) -> bool {
     table.len() == values && table.iter().all(|mention| passes(mention))
 }
 
-/// Writes an empty table at the first of the mentions, which name a value in it and are removed.
+/// Writes an empty table instead of the first of these mentions, which are removed. Fails if an allocation fails.
 fn keep_table(
     document: Document<'_, '_>,
     table: &Mention<'_, '_>,
@@ -137,8 +138,8 @@ fn keep_table(
     }
 }
 
-/// Takes out the value at a path. A table that is only there because of it stays, empty, and is written as a header or
-/// as `{}`.
+/// Removes the value at a path. A table that exists only because of it stays as an empty table, which is written as a
+/// header or as `{}`. Fails with the reason if that is not possible, or if an allocation fails.
 pub(crate) fn remove(
     document: Document<'_, '_>,
     path: &[&str],

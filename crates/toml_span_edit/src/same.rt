@@ -1,12 +1,12 @@
-//! Trees that are the same except for their spans.
+//! Compares trees without regard to spans.
 ghost use Rattle.std.specs.Prelude.{◌≡◌};
 ghost use Rattle.toml_span_tree.specs.Value.{inner_view, items_view, members_view, view};
 ghost use Rattle.toml_span_edit.specs.Same as spec;
 
 use toml_span::value::{Table, Value, ValueInner};
 
-/// Returns whether two trees have the same keys and values at the same paths. Spans don't count, nor how a value is
-/// spelled, except for floats and dates, whose texts are compared.
+/// Returns whether two trees have the same keys and values at the same paths. Spans are ignored, and so is the spelling
+/// of values, except that floats and dates are compared by their texts.
 #[cycle(same)]
 pub fn same_tree(tree: &Value<'_>, other: &Value<'_>) -> bool
     ensures { result ≡ spec.same (view tree.now) (view other.now) }
@@ -28,7 +28,7 @@ pub fn same_tree(tree: &Value<'_>, other: &Value<'_>) -> bool
     }
 }
 
-/// Whether both are scalars of one kind, and equal.
+/// Returns whether both values are scalars of the same kind, and equal.
 fn same_scalar(inner: &ValueInner<'_>, other: &ValueInner<'_>) -> bool
     ensures { result ≡ spec.same_scalars (inner_view inner.now) (inner_view other.now) }
 {
@@ -42,7 +42,7 @@ fn same_scalar(inner: &ValueInner<'_>, other: &ValueInner<'_>) -> bool
     }
 }
 
-/// Whether two lists have the same values.
+/// Returns whether two lists have equal values.
 #[cycle(same)]
 pub(crate) fn same_items(items: &[Value<'_>], others: &[Value<'_>]) -> bool
     ensures { result ≡ spec.same_items (items_view items.now) (items_view others.now) }
@@ -59,7 +59,7 @@ pub(crate) fn same_items(items: &[Value<'_>], others: &[Value<'_>]) -> bool
     rest.next().is_none()
 }
 
-/// Whether two tables have the same entries.
+/// Returns whether two tables have equal entries.
 #[cycle(same)]
 fn same_entries(table: &Table<'_>, others: &Table<'_>) -> bool
     ensures { result ≡ spec.same_members (members_view table.now.entries) (members_view others.now.entries) }

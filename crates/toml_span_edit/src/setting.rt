@@ -1,66 +1,202 @@
 //! Values that are set, and keys that are renamed.
-use crate::document::{Document, written};
-use crate::given::{check_value, key_text};
-use crate::items::literal_of;
-use crate::mentions::{Mention, part_at};
-use crate::plan::Plan;
-use crate::reason::Reason;
-use toml_span::Stop;
-use toml_span::value::Key;
-use toml_span_places::with_quotes;
+ghost use Rattle.std.specs.Prelude.{◌≡◌, ◌++◌, IfOk, Ok, Some, [], ◌∷◌, map, string_bytes};
+ghost use Rattle.toml_span_read.specs.Data.{depth_limit, parsed_section};
+ghost use Rattle.toml_span_read.specs.Read.{document as read};
+ghost use Rattle.toml_span_tree.specs.Value.{view};
+ghost use Rattle.toml_span_places.specs.Keys.{document_keys, key_mention};
+ghost use Rattle.toml_span_places.specs.Replace as places;
+ghost use Rattle.toml_span_edit.specs.Kept as spec;
 
-/// Writes a value over the one at a path.
-pub(crate) fn set(
-    document: Document<'_, '_>,
+use crate::document::{Document, sections_of, written};
+use crate::given::{check_value, key_text};
+use crate::made::value_at;
+use crate::mentions::Mention;
+use crate::paths::names_steps;
+use crate::reason::Reason;
+use std::alloc::{AllocError, Global};
+use toml_span::value::Value;
+use toml_span::{Span, Stop};
+use toml_span_places::{KeyPlace, key_places, literal_span, replaced};
+
+/// How what is at a path is written.
+#[derive(Clone, Copy)]
+pub(crate) enum Written {
+    /// As a value.
+    Literal,
+    /// By headers or dotted keys.
+    Otherwise,
+    /// Not at all: there is nothing at the path.
+    Nowhere,
+}
+
+/// How what is at a path is written.
+pub(crate) fn how_written(
+    alloc: Global,
+    text: &str,
+    path: &[&str],
+) -> Result<Written, Stop<Reason>> {
+    let sections = sections_of(alloc, text)?;
+    let document = Document {
+        alloc,
+        text,
+        sections: sections.as_slice(),
+    };
+    let mentions = document.mentions(path)?;
+    if written(mentions.as_slice()).is_some() {
+        return Ok(Written::Literal);
+    }
+    Ok(if mentions.is_empty() {
+        Written::Nowhere
+    } else {
+        Written::Otherwise
+    })
+}
+
+/// The text with another one in place of a span.
+fn with_span_replaced(
+    alloc: Global,
+    text: &str,
+    span: Span,
+    new: &str,
+) -> Result<String, Stop<Reason>>
+    ensures { IfOk result (λ out. places.replaced text.now ((span, new.now) ∷ []) ≡ Some (string_bytes out)) }
+{
+    match replaced(alloc, text, &[span], new)? {
+        Some(out) => Ok(out),
+        None => Err(Stop::Fault(Reason::WouldDiffer)),
+    }
+}
+
+/// The text with a value written over the literal at a path.
+pub(crate) fn write_over(
+    alloc: Global,
+    text: &str,
     path: &[&str],
     value: &str,
-    plan: &mut Plan,
-) -> Result<(), Stop<Reason>> {
-    check_value(document.alloc, value)?;
-    let mentions = document.mentions(path)?;
-    match written(mentions.as_slice()) {
-        Some(old) => {
-            let new = String::from_str(document.alloc, value)?;
-            plan.put(literal_of(document.text, old), new)?;
-            Ok(())
-        }
-        None if mentions.is_empty() && !path.is_empty() => Err(Stop::Fault(Reason::Nothing)),
-        None => Err(Stop::Fault(Reason::NotSpelled)),
+    old: &Value<'_>,
+) -> Result<String, Stop<Reason>>
+    ensures { IfOk result (λ new. spec.IsWrittenOver value.now (map (λ s. s.now) path.now) (view old.now) text.now
+        (string_bytes new)) }
+{
+    match value_at(path, old) {
+        Some(there) => with_span_replaced(alloc, text, literal_span(text, there), value),
+        None => Err(Stop::Fault(Reason::Nothing)),
     }
 }
 
-/// Returns the key that names the value of a mention, or None if no key does.
-fn key_of<'s, 'de>(mention: &Mention<'s, 'de>) -> Option<&'s Key<'de>> {
-    match *mention {
-        Mention::Own(section) if section.array => None,
-        Mention::Own(section) => section.header.as_slice().last(),
-        Mention::Below(section, index) => section.header.as_slice().get(index),
-        Mention::Dotted(assignment, index, _) => Some(part_at(&assignment.parts, index)),
-        Mention::Assigned(assignment, _) => Some(&assignment.parts.last),
-        Mention::Element(_, _) => None,
-    }
-}
-
-/// Writes a name over the key of a path, wherever it is written.
-pub(crate) fn rename(
-    document: Document<'_, '_>,
+/// The text with a value written over the one at a path.
+pub(crate) fn set_text(
+    alloc: Global,
+    text: &str,
     path: &[&str],
-    name: &str,
-    plan: &mut Plan,
-) -> Result<(), Stop<Reason>> {
-    let mentions = document.mentions(path)?;
+    value: &str,
+    old: &Value<'_>,
+) -> Result<String, Stop<Reason>>
+    ensures { IfOk result (λ new. spec.IsWrittenOver value.now (map (λ s. s.now) path.now) (view old.now) text.now
+        (string_bytes new)) }
+{
+    check_value(alloc, value)?;
+    match how_written(alloc, text, path)? {
+        Written::Literal => write_over(alloc, text, path, value, old),
+        Written::Nowhere if !path.is_empty() => Err(Stop::Fault(Reason::Nothing)),
+        _ => Err(Stop::Fault(Reason::NotSpelled)),
+    }
+}
+
+// ---- keys
+
+/// The keys at a path, with their quotes.
+fn keys_at(alloc: Global, path: &[&str], places: &[KeyPlace<'_>]) -> Result<Vec<Span>, AllocError>
+    ensures { IfOk result (λ spans. spans.items
+        ≡ spec.keys_at (map (λ s. s.now) path.now) (map key_mention places.now)) }
+{
+    let mut spans = Vec::new(alloc);
+    for place in places {
+        if names_steps(path, place.path.as_slice()) {
+            spans.push(place.whole)?;
+        }
+    }
+    Ok(spans)
+}
+
+/// The spans of all keys at a path, with their quotes.
+fn key_spans(document: Document<'_, '_>, path: &[&str]) -> Result<Vec<Span>, AllocError>
+    ensures { IfOk result (λ spans. spans.items ≡ spec.keys_at (map (λ s. s.now) path.now)
+        (document_keys document.entry.text.now (map parsed_section document.entry.sections.now))) }
+{
+    let places = key_places(document.alloc, document.text, document.sections)?;
+    keys_at(document.alloc, path, places.as_slice())
+}
+
+/// The text with a key in place of these.
+fn with_spans(alloc: Global, text: &str, spans: &[Span], key: &str) -> Result<String, Stop<Reason>>
+    ensures { IfOk result (λ new. places.replaced text.now (map (λ span. (span, key.now)) spans.now)
+        ≡ Some (string_bytes new)) }
+{
+    match replaced(alloc, text, spans, key)? {
+        Some(new) => Ok(new),
+        None => Err(Stop::Fault(Reason::WouldDiffer)),
+    }
+}
+
+/// The text with a key in place of all keys at a path.
+fn with_key(document: Document<'_, '_>, path: &[&str], key: &str) -> Result<String, Stop<Reason>>
+    ensures { IfOk result (λ new. places.replaced document.entry.text.now (map (λ span. (span, key.now))
+        (spec.keys_at (map (λ s. s.now) path.now) (document_keys document.entry.text.now
+        (map parsed_section document.entry.sections.now)))) ≡ Some (string_bytes new)) }
+{
+    let spans = key_spans(document, path)?;
+    with_spans(document.alloc, document.text, spans.as_slice(), key)
+}
+
+/// Checks that keys name what is at a path.
+fn check_keys(document: Document<'_, '_>, path: &[&str]) -> Result<(), Stop<Reason>> {
     if path.is_empty() {
         return Err(Stop::Fault(Reason::NoKey));
     }
+    let mentions = document.mentions(path)?;
     if mentions.is_empty() {
         return Err(Stop::Fault(Reason::Nothing));
     }
     for mention in &mentions {
-        let Some(key) = key_of(mention) else {
-            return Err(Stop::Fault(Reason::NoKey));
-        };
-        let new = key_text(document.alloc, name)?;
-        plan.put(with_quotes(document.text, key.span), new)?;
+        match mention {
+            Mention::Own(section) if section.array => return Err(Stop::Fault(Reason::NoKey)),
+            Mention::Element(_, _) => return Err(Stop::Fault(Reason::NoKey)),
+            _ => {}
+        }
     }
     Ok(())
+}
+
+/// The text with a name written over the keys of a path.
+fn rename_keys(
+    document: Document<'_, '_>,
+    path: &[&str],
+    name: &str,
+) -> Result<String, Stop<Reason>>
+    requires { read document.text.now depth_limit (Ok (map parsed_section document.sections.now)) }
+    ensures { IfOk result (λ new. spec.AreKeysReplaced (map (λ s. s.now) path.now) document.entry.text.now
+        (string_bytes new)) }
+{
+    check_keys(document, path)?;
+    let key = key_text(document.alloc, name)?;
+    with_key(document, path, key.as_str())
+}
+
+/// The text with a name written over the keys of a path.
+pub(crate) fn renamed_text(
+    alloc: Global,
+    text: &str,
+    path: &[&str],
+    name: &str,
+) -> Result<String, Stop<Reason>>
+    ensures { IfOk result (λ new. spec.AreKeysReplaced (map (λ s. s.now) path.now) text.now (string_bytes new)) }
+{
+    let sections = sections_of(alloc, text)?;
+    let document = Document {
+        alloc,
+        text,
+        sections: sections.as_slice(),
+    };
+    rename_keys(document, path, name)
 }

@@ -1,30 +1,23 @@
 //! One edit: what it replaces in the text, and whether the new tree is as it should be.
-ghost use Rattle.std.specs.Prelude.{◌≡◌, ◌++◌, IfOk, Some, None, true, codes, map, option_map, string_bytes, ◌⊎◌};
+ghost use Rattle.std.specs.Prelude.{◌≡◌, ◌++◌, IfOk, OnOk, true, codes, map, string_bytes, ◌⊎◌};
 ghost use Rattle.toml_span_read.specs.Data.{depth_limit};
 ghost use Rattle.toml_span_tree.specs.Value.{view};
 ghost use Rattle.toml_span.specs.Parsing.{IsTree};
 ghost use Rattle.toml_span_edit.specs.Edited as spec;
+ghost use Rattle.toml_span_edit.specs.Kept as kept;
 ghost use Rattle.toml_span_edit.specs.declared.step.Spot.TheVariants.{Here, End};
 ghost use Rattle.toml_span_edit.specs.Made.{local};
 
-use crate::adding::{add, add_deep, add_table, names_array};
-use crate::document::{Document, written};
 use crate::edits::{Change, Edit};
-use crate::given::{check_value, no_value, probe_text};
-use crate::growing::{append, insert};
-use crate::items::bare;
-use crate::made::{Local, added, changed, child};
-use crate::moving::{cut_comments, moved_value, put_moved, rename_headers};
-use crate::plan::Plan;
+use crate::given::{no_value, probe_text};
+use crate::made::{Local, added, changed, child, value_at};
 use crate::reason::Reason;
-use crate::removing::remove;
-use crate::setting::{rename, set};
+use crate::texts::{edited_text, moved_text, text_without};
 use std::alloc::{AllocError, Global};
 use toml_span::value::Value;
 use toml_span::{Error, Stop, parse};
-use toml_span_read::{Section, read_sections};
 
-/// Where a given value is put: over what is at a path, under a name or at a position in it, or after its last element.
+/// Where a new value goes: to the path itself, to a name or position there, or to the end of the array there.
 #[derive(Clone, Copy)]
 pub(crate) enum Spot<'l> {
     Here,
@@ -32,14 +25,14 @@ pub(crate) enum Spot<'l> {
     End,
 }
 
-/// A fault of a text in words, after its line and column, counted from 1.
+/// Returns the message of an error after its line and column, both counted from 1. Fails if an allocation fails.
 fn fault_text(alloc: Global, fault: &Error<'_>) -> Result<String, AllocError> {
     let (line, column) = fault.line_info.unwrap_or((0, 0));
     let (line, column) = (line.saturating_add(1), column.saturating_add(1));
     format!(in alloc; "{line}:{column}: {fault}")
 }
 
-/// Returns the tree of a text, or its fault in words.
+/// Returns the tree of a text, or its error in words. Fails if an allocation fails.
 fn tree<'t>(alloc: Global, text: &'t str) -> Result<Result<Value<'t>, String>, AllocError>
     ensures { IfOk result (λ read. IfOk read (λ root. IsTree text.now depth_limit root)) }
 {
@@ -51,129 +44,6 @@ fn tree<'t>(alloc: Global, text: &'t str) -> Result<Result<Value<'t>, String>, A
             drop(fault);
             Ok(Err(told?))
         }
-    }
-}
-
-/// The sections of a text that is a document.
-fn sections_of<'t>(alloc: Global, text: &'t str) -> Result<Vec<Section<'t>>, AllocError> {
-    match read_sections(alloc, text, 128) {
-        Ok(sections) => Ok(sections),
-        Err(stop) => {
-            drop(stop.fault()?);
-            Ok(Vec::new(alloc))
-        }
-    }
-}
-
-/// What a change that is made at once replaces.
-fn plan_of(
-    document: Document<'_, '_>,
-    path: &[&str],
-    change: Change<'_>,
-) -> Result<Plan, Stop<Reason>> {
-    let mut plan = Plan::new(document.alloc);
-    match change {
-        Change::Set(value) => set(document, path, value, &mut plan)?,
-        Change::SetOrAdd(value) => {
-            if document.mentions(path)?.is_empty() {
-                add_deep(document, path, value, &mut plan)?
-            } else {
-                set(document, path, value, &mut plan)?
-            }
-        }
-        Change::Rename(name) => rename(document, path, name, &mut plan)?,
-        Change::Remove => remove(document, path, &mut plan)?,
-        Change::Add(value) => add(document, path, value, &mut plan)?,
-        Change::AddTable => add_table(document, path, &mut plan)?,
-        Change::Append(value) => append(document, path, value, &mut plan)?,
-        Change::Insert(value) => insert(document, path, bare(value), &mut plan)?,
-        Change::Replace(_) | Change::MoveTo(_) => {}
-    }
-    Ok(plan)
-}
-
-/// The text after a change that is made at once.
-fn changed_text(
-    alloc: Global,
-    text: &str,
-    path: &[&str],
-    change: Change<'_>,
-) -> Result<String, Stop<Reason>> {
-    let sections = sections_of(alloc, text)?;
-    let document = Document {
-        alloc,
-        text,
-        sections: sections.as_slice(),
-    };
-    let plan = plan_of(document, path, change)?;
-    plan.applied(text)
-}
-
-/// Whether a value is written at a path, and not by headers or dotted keys.
-fn is_written(alloc: Global, text: &str, path: &[&str]) -> Result<bool, AllocError> {
-    let sections = sections_of(alloc, text)?;
-    let document = Document {
-        alloc,
-        text,
-        sections: sections.as_slice(),
-    };
-    let mentions = document.mentions(path)?;
-    Ok(written(mentions.as_slice()).is_some())
-}
-
-/// Whether sections define an array of which a path names the only element.
-fn is_only_element(alloc: Global, text: &str, path: &[&str]) -> Result<bool, AllocError> {
-    let [front @ .., segment] = path else {
-        return Ok(false);
-    };
-    if front.is_empty() || *segment != "0" {
-        return Ok(false);
-    }
-    let sections = sections_of(alloc, text)?;
-    let document = Document {
-        alloc,
-        text,
-        sections: sections.as_slice(),
-    };
-    let (element, array) = (document.mentions(path)?, document.mentions(front)?);
-    Ok(names_array(array.as_slice()) && element.len() == array.len())
-}
-
-/// The text after a value is written over another one, also over one that headers or dotted keys define.
-fn replaced_text(
-    alloc: Global,
-    text: &str,
-    path: &[&str],
-    value: &str,
-) -> Result<String, Stop<Reason>> {
-    if is_written(alloc, text, path)? {
-        return changed_text(alloc, text, path, Change::Set(value));
-    }
-    check_value(alloc, value)?;
-    let without = changed_text(alloc, text, path, Change::Remove)?;
-    changed_text(alloc, without.as_str(), path, Change::SetOrAdd(value))
-}
-
-/// The text without the value at a path. An array of tables without its only element is `[]`.
-fn removed_text(alloc: Global, text: &str, path: &[&str]) -> Result<String, Stop<Reason>> {
-    match path {
-        [front @ .., _] => {
-            if is_only_element(alloc, text, path)? {
-                return replaced_text(alloc, text, front, "[]");
-            }
-            changed_text(alloc, text, path, Change::Remove)
-        }
-        [] => Err(Stop::Fault(Reason::WouldDiffer)),
-    }
-}
-
-/// Returns the text after an edit other than a move.
-fn edited_text(alloc: Global, text: &str, edit: Edit<'_>) -> Result<String, Stop<Reason>> {
-    let Edit { path, change } = edit;
-    match change {
-        Change::Replace(value) => replaced_text(alloc, text, path, value),
-        Change::Remove => removed_text(alloc, text, path),
-        _ => changed_text(alloc, text, path, change),
     }
 }
 
@@ -190,7 +60,7 @@ fn given_tree<'p>(alloc: Global, probe: &'p str, value: &str) -> Result<Value<'p
     }
 }
 
-/// Returns the change that a value makes where it is put.
+/// Returns the change that a value makes at this spot.
 fn local_of<'l, 'v, 'de>(spot: Spot<'l>, given: &'v Value<'de>) -> Local<'l, 'v, 'de>
     ensures { local result ≡ spec.goes spot.entry (view given.now) }
 {
@@ -201,7 +71,7 @@ fn local_of<'l, 'v, 'de>(spot: Spot<'l>, given: &'v Value<'de>) -> Local<'l, 'v,
     }
 }
 
-/// Whether a tree is another one with a given value put somewhere at a path.
+/// Returns whether the tree `new` is `old` with a new value at a spot.
 fn goes(
     alloc: Global,
     spot: Spot<'_>,
@@ -221,7 +91,7 @@ fn goes(
     }
 }
 
-/// Whether a tree is another one with a given value at a path, where there was none.
+/// Returns whether the tree `new` is `old` with a new value at a path where there was none.
 fn is_new(
     alloc: Global,
     value: &str,
@@ -240,7 +110,7 @@ fn is_new(
     }
 }
 
-/// Returns whether a tree is another one with an edit made, other than a move.
+/// Returns whether the tree `new` is `old` with this edit made, which is not a move.
 fn is_made(
     alloc: Global,
     edit: Edit<'_>,
@@ -265,7 +135,7 @@ fn is_made(
     }
 }
 
-/// Whether a tree is another one with a given value at a path, over another one or where there was none.
+/// Returns whether the tree `new` is `old` with a new value at a path, whether or not there was one.
 fn is_set_or_new(
     alloc: Global,
     value: &str,
@@ -283,7 +153,8 @@ fn is_set_or_new(
     goes(alloc, Spot::Here, value, path, old, new)
 }
 
-/// Whether a tree is another one with a given value as the last element of the array at a path, or in one that is new.
+/// Returns whether the tree `new` is `old` with a new element at the end of the array at a path, or with a new array
+/// that has only this element.
 fn is_appended(
     alloc: Global,
     value: &str,
@@ -304,7 +175,7 @@ fn is_appended(
     goes(alloc, Spot::End, value, path, old, new)
 }
 
-/// Whether a tree is another one with a given value put at a path, in a table or an array that was there.
+/// Returns whether the tree `new` is `old` with a new value at a path, in a table or array that existed.
 fn is_under(
     alloc: Global,
     value: &str,
@@ -321,7 +192,7 @@ fn is_under(
     }
 }
 
-/// Whether a tree is another one without what a path names.
+/// Returns whether the tree `new` is `old` without the value at a path.
 fn is_gone(path: &[&str], old: &Value<'_>, new: &Value<'_>) -> bool
     ensures { result ≡ true → spec.IsGone (map (λ s. s.now) path.now) (view old.now) (view new.now) }
 {
@@ -331,7 +202,7 @@ fn is_gone(path: &[&str], old: &Value<'_>, new: &Value<'_>) -> bool
     }
 }
 
-/// Whether a tree is another one with another name for the key that a path names.
+/// Returns whether the tree `new` is `old` with another name for the key at a path.
 fn is_renamed(new_name: &str, path: &[&str], old: &Value<'_>, new: &Value<'_>) -> bool
     ensures { result ≡ true
         → spec.IsRenamed new_name.now (map (λ s. s.now) path.now) (view old.now) (view new.now) }
@@ -342,7 +213,7 @@ fn is_renamed(new_name: &str, path: &[&str], old: &Value<'_>, new: &Value<'_>) -
     }
 }
 
-/// Whether a tree is another one with a value put at a path: as an element, or as an entry.
+/// Returns whether the tree `new` is `old` with a value inserted at a path, as an element or as an entry.
 fn is_put(path: &[&str], value: &Value<'_>, old: &Value<'_>, new: &Value<'_>) -> bool
     ensures { result ≡ true
         → spec.IsPut (map (λ s. s.now) path.now) (view value.now) (view old.now) (view new.now) }
@@ -356,62 +227,6 @@ fn is_put(path: &[&str], value: &Value<'_>, old: &Value<'_>, new: &Value<'_>) ->
     }
 }
 
-/// Returns the value at a path.
-fn value_at<'v, 'de>(path: &[&str], value: &'v Value<'de>) -> Option<&'v Value<'de>>
-    ensures { option_map (λ v. view v.now) result ≡ spec.found (map (λ s. s.now) path.now) (view value.now) }
-{
-    let [segment, rest @ ..] = path else {
-        return Some(value);
-    };
-    match child(value, *segment) {
-        Some(below) => value_at(rest, below),
-        None => None,
-    }
-}
-
-/// The text without the value at a path, and without its comments.
-fn text_without(alloc: Global, text: &str, path: &[&str]) -> Result<String, Stop<Reason>> {
-    let sections = sections_of(alloc, text)?;
-    let document = Document {
-        alloc,
-        text,
-        sections: sections.as_slice(),
-    };
-    let mut plan = Plan::new(alloc);
-    cut_comments(document, path, &mut plan)?;
-    remove(document, path, &mut plan)?;
-    plan.applied(text)
-}
-
-/// The text with the value at a path moved to another one. `without` is the text without that value.
-fn moved_text(
-    alloc: Global,
-    text: &str,
-    without: &str,
-    path: &[&str],
-    target: &[&str],
-) -> Result<String, Stop<Reason>> {
-    let sections = sections_of(alloc, text)?;
-    let document = Document {
-        alloc,
-        text,
-        sections: sections.as_slice(),
-    };
-    let mut plan = Plan::new(alloc);
-    let Some(moved) = moved_value(document, path)? else {
-        rename_headers(document, path, target, &mut plan)?;
-        return plan.applied(text);
-    };
-    let rest = sections_of(alloc, without)?;
-    let document = Document {
-        alloc,
-        text: without,
-        sections: rest.as_slice(),
-    };
-    put_moved(document, target, moved, &mut plan)?;
-    plan.applied(without)
-}
-
 /// The tree of the text that is edited, or the reason that there is none.
 pub(crate) fn old_tree<'t>(alloc: Global, text: &'t str) -> Result<Value<'t>, Stop<Reason>>
     ensures { IfOk result (λ root. IsTree text.now depth_limit root) }
@@ -422,7 +237,8 @@ pub(crate) fn old_tree<'t>(alloc: Global, text: &'t str) -> Result<Value<'t>, St
     }
 }
 
-/// The tree of the text that an edit made, or the reason to refuse it.
+/// Returns the tree of the text that an edit made. Fails with `WouldBeNone` if it is not valid TOML, or if an
+/// allocation fails.
 pub(crate) fn new_tree<'t>(alloc: Global, text: &'t str) -> Result<Value<'t>, Stop<Reason>>
     ensures { IfOk result (λ root. IsTree text.now depth_limit root) }
 {
@@ -432,40 +248,58 @@ pub(crate) fn new_tree<'t>(alloc: Global, text: &'t str) -> Result<Value<'t>, St
     }
 }
 
-/// Returns the text of an edit other than a move, if its tree is that of the text before with this edit made.
-fn made(alloc: Global, edit: Edit<'_>, old: &Value<'_>, new: String) -> Result<String, Stop<Reason>>
-    ensures { IfOk result (λ text. spec.IsMade edit.entry.change (map (λ s. s.now) edit.entry.path.now) (view old.now)
-        (string_bytes text)) }
+/// Checks that a text is a document whose tree is that of the text before with an edit made, other than a move.
+fn check_made(alloc: Global, edit: Edit<'_>, old: &Value<'_>, new: &str) -> Result<(), Stop<Reason>>
+    ensures { OnOk result (spec.IsMade edit.entry.change (map (λ s. s.now) edit.entry.path.now) (view old.now)
+        new.now) }
 {
-    let root = new_tree(alloc, new.as_str())?;
-    let holds = is_made(alloc, edit, old, &root)?;
-    drop(root);
-    if holds {
-        Ok(new)
+    let root = new_tree(alloc, new)?;
+    if is_made(alloc, edit, old, &root)? {
+        Ok(())
     } else {
         Err(Stop::Fault(Reason::WouldDiffer))
     }
 }
 
-/// Returns the text of a move, if its tree is that of the text without the value, which is put at its new path.
-fn put_back(
+/// Checks that a text is a document whose tree is that of the text without a value, which is put at its new path.
+fn check_put_back(
     alloc: Global,
     path: &[&str],
     value: &Value<'_>,
     rest: &Value<'_>,
-    new: String,
-) -> Result<String, Stop<Reason>>
-    ensures { IfOk result (λ text. spec.IsPutBack (map (λ s. s.now) path.now) (view value.now) (view rest.now)
-        (string_bytes text)) }
+    new: &str,
+) -> Result<(), Stop<Reason>>
+    ensures { OnOk result (spec.IsPutBack (map (λ s. s.now) path.now) (view value.now) (view rest.now) new.now) }
 {
-    let root = new_tree(alloc, new.as_str())?;
-    let holds = is_put(path, value, rest, &root);
-    drop(root);
-    if holds {
-        Ok(new)
+    let root = new_tree(alloc, new)?;
+    if is_put(path, value, rest, &root) {
+        Ok(())
     } else {
         Err(Stop::Fault(Reason::WouldDiffer))
     }
+}
+
+/// Checks that a text is a document whose tree is that of the text before with the value at a path moved to another
+/// one. `without` is the text without that value.
+fn check_moved(
+    alloc: Global,
+    without: &str,
+    path: &[&str],
+    target: &[&str],
+    old: &Value<'_>,
+    new: &str,
+) -> Result<(), Stop<Reason>>
+    ensures { OnOk result (spec.IsMoved (map (λ s. s.now) target.now) (map (λ s. s.now) path.now)
+        (view old.now) new.now) }
+{
+    let Some(value) = value_at(path, old) else {
+        return Err(Stop::Fault(Reason::Nothing));
+    };
+    let rest = new_tree(alloc, without)?;
+    if !is_gone(path, old, &rest) {
+        return Err(Stop::Fault(Reason::WouldDiffer));
+    }
+    check_put_back(alloc, target, value, &rest, new)
 }
 
 /// Moves the value at a path to another one.
@@ -476,29 +310,43 @@ fn move_value(
     target: &[&str],
     old: &Value<'_>,
 ) -> Result<String, Stop<Reason>>
-    ensures { IfOk result (λ new. spec.IsMoved (map (λ s. s.now) target.now) (map (λ s. s.now) path.now)
+    ensures moved { IfOk result (λ new. spec.IsMoved (map (λ s. s.now) target.now) (map (λ s. s.now) path.now)
         (view old.now) (string_bytes new)) }
+    ensures kept { IfOk result (λ new. kept.IsMovedText (map (λ s. s.now) path.now) (view old.now) text.now
+        (string_bytes new)) }
 {
-    let Some(value) = value_at(path, old) else {
-        return Err(Stop::Fault(Reason::Nothing));
-    };
-    let without = text_without(alloc, text, path)?;
-    let rest = new_tree(alloc, without.as_str())?;
-    if !is_gone(path, old, &rest) {
-        return Err(Stop::Fault(Reason::WouldDiffer));
-    }
+    let without = text_without(alloc, text, path, old)?;
     let new = moved_text(alloc, text, without.as_str(), path, target)?;
-    put_back(alloc, target, value, &rest, new)
+    check_moved(alloc, without.as_str(), path, target, old, new.as_str())?;
+    Ok(new)
+}
+
+/// Makes an edit other than a move.
+fn edited(
+    alloc: Global,
+    text: &str,
+    edit: Edit<'_>,
+    old: &Value<'_>,
+) -> Result<String, Stop<Reason>>
+    ensures made { IfOk result (λ new. spec.IsMade edit.entry.change (map (λ s. s.now) edit.entry.path.now)
+        (view old.now) (string_bytes new)) }
+    ensures kept { IfOk result (λ new. kept.Keeps edit.entry.change (map (λ s. s.now) edit.entry.path.now)
+        (view old.now) text.now (string_bytes new)) }
+{
+    let new = edited_text(alloc, text, edit, old)?;
+    check_made(alloc, edit, old, new.as_str())?;
+    Ok(new)
 }
 
 /// Makes an edit of a text, and returns the new one. The reason to refuse it is that the text is not a document, that
-/// the edit can't be made, or that the tree of the result would not be the old one with this edit alone.
+/// the edit can't be made, that the tree of the result would not be the old one with this edit alone, or that other
+/// bytes would change.
 pub(crate) fn step(alloc: Global, text: &str, edit: Edit<'_>) -> Result<String, Stop<Reason>>
     ensures { IfOk result (λ new. spec.EditMade edit.entry text.now (string_bytes new)) }
 {
     let old = old_tree(alloc, text)?;
     match edit.change {
         Change::MoveTo(target) => move_value(alloc, text, edit.path, target, &old),
-        _ => made(alloc, edit, &old, edited_text(alloc, text, edit)?),
+        _ => edited(alloc, text, edit, &old),
     }
 }

@@ -6,20 +6,20 @@ use std::alloc::{AllocError, Global};
 use toml_span::Stop;
 use toml_span_lines::run::BOUND;
 
-/// What to do at a path.
+/// What an edit does at the value that a pointer names. Values are written as TOML.
 #[derive(Clone, Copy)]
 pub enum Task<'w> {
-    /// Replace the value by this one, which is TOML.
+    /// Replaces the value by this one.
     Set(&'w str),
-    /// Rename the key, wherever it is written.
+    /// Renames the key at every place where it is written.
     Rename(&'w str),
-    /// Remove the key with its value, or the element of an array.
+    /// Removes the value with its key, or the element of an array.
     Remove,
-    /// Add a key with a value, which is TOML, to the table.
+    /// Adds this key with this value to the table.
     Add(&'w str, &'w str),
 }
 
-/// The path and the change of a task at a path.
+/// Returns the path and the change of a task at a path. Fails if an allocation fails.
 fn change_of<'w>(
     path: Vec<&'w str>,
     task: Task<'w>,
@@ -37,7 +37,8 @@ fn change_of<'w>(
     Ok((path, change))
 }
 
-/// Performs a task at the place that a pointer names. Returns the new text, or fails with the reason to refuse it.
+/// Carries out a task at the value that a pointer names. Returns the new text. Fails with the reason if the edit is
+/// refused, or if an allocation fails.
 fn perform(
     alloc: Global,
     text: &str,
@@ -60,9 +61,11 @@ fn perform(
     }
 }
 
-/// Returns the document with one change, at the value that a pointer such as `/a/b/0` names: `Edits` for one edit.
+/// Makes one edit of a document, as `Edits` does, at the value that a pointer such as `/a/b/0` names. Returns the new
+/// text.
 ///
-/// Takes at most 16 MiB. An error is a reason to refuse the edit, or out of memory.
+/// Fails with `TooLong` for a document of more than 16 MiB, with `NotUtf8` if it is not valid UTF-8, with the reason if
+/// the edit is refused, or if an allocation fails.
 pub fn edited(
     alloc: Global,
     document: &[u8],

@@ -1,4 +1,4 @@
-//! New texts of a document that are checked before they are returned.
+//! Checks new texts of a document before they are returned.
 ghost use Rattle.std.specs.Prelude.{◌≡◌, IfOk, string_bytes};
 ghost use Rattle.toml_span_edit.specs.Edited.{IsSameDocument};
 
@@ -8,11 +8,11 @@ use crate::step::{new_tree, old_tree};
 use std::alloc::Global;
 use toml_span::Stop;
 
-/// Returns a new text of a document, if both are documents with the same tree, except for spans: the same keys and
-/// values, where floats and dates have the same text. Blanks, comments, the order of entries and the spelling of
+/// Returns the new text of a document, if both are valid and have the same tree except for spans: the same keys and
+/// values, where floats and dates have the same texts. Blanks, comments, the order of entries, and the spelling of
 /// strings and integers may differ.
 ///
-/// The error is `NoDocument`, `WouldBeNone` or `WouldDiffer`, or out of memory.
+/// Fails with `NoDocument`, `WouldBeNone` or `WouldDiffer`, or if an allocation fails.
 pub fn validated(alloc: Global, text: &str, new: String) -> Result<String, Stop<Reason>>
     ensures same { IfOk result (λ out. IsSameDocument text.now (string_bytes out)) }
     ensures text { IfOk result (λ out. string_bytes out ≡ string_bytes new) }

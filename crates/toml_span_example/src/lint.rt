@@ -1,4 +1,4 @@
-//! A lint of a package's manifest by ten rules.
+//! A lint for the manifests of packages, with ten rules.
 use std::alloc::{AllocError, Global};
 use std::collections::BTreeMap;
 use toml_span::value::{Key, Table};
@@ -7,27 +7,27 @@ use toml_span_check::lints::{github_line, sarif_document, sarif_result};
 use toml_span_report::Severity::{Error, Warning};
 use toml_span_report::{Report, Severity, Style, nearest, render_all, reports_of};
 
-/// The name of the file in reports.
+/// The name of the file, for reports.
 const NAME: &str = "Cargo.toml";
 
-/// The tables of a manifest.
+/// The tables that a manifest may have.
 static TABLES: [&str; 4] = ["package", "dependencies", "features", "profile"];
 
-/// What a rule finds.
+/// A violation of a rule.
 #[derive(Clone, Copy)]
 struct Finding {
     severity: Severity,
     code: &'static str,
     message: &'static str,
-    /// The place, and what is said there.
+    /// The span to mark, and its label.
     place: (Span, &'static str),
     other: Option<(Span, &'static str)>,
     help: Option<&'static str>,
-    /// The name that may be meant.
+    /// The name that was probably meant.
     meant: Option<&'static str>,
 }
 
-/// Returns a finding with one place.
+/// Returns a finding that marks one place.
 fn new_finding(
     severity: Severity,
     code: &'static str,
@@ -45,7 +45,7 @@ fn new_finding(
     }
 }
 
-/// Tests the name of a table.
+/// Returns a finding if a table at the root has an unknown name. Fails if an allocation fails.
 fn unknown_table(alloc: Global, key: &Key) -> Result<Option<Finding>, AllocError> {
     if TABLES.contains(&key.name.as_str()) {
         return Ok(None);
@@ -56,7 +56,7 @@ fn unknown_table(alloc: Global, key: &Key) -> Result<Option<Finding>, AllocError
     Ok(Some(Finding { meant, ..found }))
 }
 
-/// Tests a package.
+/// Returns the findings for the table `package`.
 fn package(key: &Key, package: &Value) -> [Option<Finding>; 5] {
     let mut found = [None; 5];
     if !package.has_key("version") {
@@ -116,7 +116,7 @@ fn is_edition(edition: &Value) -> bool {
     matches!(edition.as_str(), Some("2015" | "2018" | "2021" | "2024"))
 }
 
-/// Tests a dependency.
+/// Returns the findings for a dependency.
 fn dependency(value: &Value) -> [Option<Finding>; 2] {
     let mut found = [None; 2];
     let version = value.pointer("/version").unwrap_or(value);
@@ -140,7 +140,7 @@ fn dependency(value: &Value) -> [Option<Finding>; 2] {
     found
 }
 
-/// Adds what rules found.
+/// Appends the findings that are there. Fails if an allocation fails.
 fn push_all(found: &[Option<Finding>], list: &mut Vec<Finding>) -> Result<(), AllocError> {
     for one in found {
         if let Some(finding) = one {
@@ -150,7 +150,7 @@ fn push_all(found: &[Option<Finding>], list: &mut Vec<Finding>) -> Result<(), Al
     Ok(())
 }
 
-/// Tests the keywords of a package.
+/// Checks the keywords of a package. Fails if an allocation fails.
 fn keywords(alloc: Global, package: &Value, list: &mut Vec<Finding>) -> Result<(), AllocError> {
     let Some(found) = package.pointer("/keywords") else {
         return Ok(());
@@ -176,7 +176,7 @@ fn keywords(alloc: Global, package: &Value, list: &mut Vec<Finding>) -> Result<(
     Ok(())
 }
 
-/// Tests a manifest.
+/// Checks a manifest, and appends the findings. Fails if an allocation fails.
 fn lint(alloc: Global, root: &Table, list: &mut Vec<Finding>) -> Result<(), AllocError> {
     for (key, value) in root.iter() {
         push_all(&[unknown_table(alloc, key)?], list)?;
@@ -196,7 +196,7 @@ fn lint(alloc: Global, root: &Table, list: &mut Vec<Finding>) -> Result<(), Allo
     Ok(())
 }
 
-/// Returns the report of a finding.
+/// Returns the report of a finding. Fails if an allocation fails.
 fn report_of(alloc: Global, found: Finding) -> Result<Report, AllocError> {
     let (span, label) = found.place;
     let bare = Report::new(alloc, found.severity, found.code, found.message)?;
@@ -213,7 +213,7 @@ fn report_of(alloc: Global, found: Finding) -> Result<Report, AllocError> {
     Ok(report)
 }
 
-/// Returns the reports of a manifest.
+/// Returns the reports of all findings in a manifest. Fails if an allocation fails.
 fn lint_reports(alloc: Global, root: &Value) -> Result<Vec<Report>, AllocError> {
     let mut list = Vec::new(alloc);
     if let Some(root) = root.as_table() {
@@ -226,7 +226,8 @@ fn lint_reports(alloc: Global, root: &Value) -> Result<Vec<Report>, AllocError> 
     Ok(reports)
 }
 
-/// Returns the reports of a text: that of its error, or else those of a manifest.
+/// Returns the reports for a text: that of its error or, if it is valid, those of the manifest. Fails if an allocation
+/// fails.
 fn text_reports(alloc: Global, text: &str) -> Result<Vec<Report>, AllocError> {
     match parse(alloc, text) {
         Ok(root) => lint_reports(alloc, &root),
@@ -237,7 +238,7 @@ fn text_reports(alloc: Global, text: &str) -> Result<Vec<Report>, AllocError> {
     }
 }
 
-/// Returns reports as commands of GitHub's workflows.
+/// Returns the reports as commands for GitHub workflows. Fails if an allocation fails.
 fn github(alloc: Global, reports: &[Report], text: &str) -> Result<String, AllocError> {
     let mut out = String::new(alloc);
     for report in reports {
@@ -246,7 +247,7 @@ fn github(alloc: Global, reports: &[Report], text: &str) -> Result<String, Alloc
     Ok(out)
 }
 
-/// Returns reports as a SARIF document.
+/// Returns the reports as a SARIF document. Fails if an allocation fails.
 fn sarif(alloc: Global, reports: &[Report], text: &str) -> Result<String, AllocError> {
     let mut results = String::new(alloc);
     for report in reports {
@@ -255,7 +256,8 @@ fn sarif(alloc: Global, reports: &[Report], text: &str) -> Result<String, AllocE
     sarif_document(alloc, "manifest-lint", results.as_str())
 }
 
-/// Returns what is wrong with a text, in the format `github` or `sarif`, or else as text, and whether nothing is.
+/// Returns what is wrong with a manifest, in the format `github` or `sarif` or otherwise as text, and whether nothing
+/// is. Fails if an allocation fails.
 pub fn shown(alloc: Global, text: &str, format: &str) -> Result<(String, bool), AllocError> {
     let reports = text_reports(alloc, text)?;
     let reports = reports.as_slice();

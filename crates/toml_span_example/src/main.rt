@@ -1,7 +1,8 @@
-//! Reads a document from the file that the first argument names, or else from standard input: a package's manifest,
-//! which begins with a header of one, or else the settings of a server. Prints what is wrong with it, and the settings.
-//! For a manifest, the second argument may be a format: `github` or `sarif`. The status is 1 if there is an error, or
-//! anything to say of a manifest.
+//! Reads the settings of a server, or the manifest of a package, and prints what is wrong with them.
+//!
+//! The document is in the file that the first argument names, or on standard input. It counts as a manifest if it
+//! begins with `[package]` or `[dependencies]`. Settings are printed if they can be read. For a manifest, the second
+//! argument may be a format: `github` or `sarif`. The status is 1 if there is an error or, for a manifest, any finding.
 #![tactic(auto)]
 
 mod lint;
@@ -12,7 +13,7 @@ use std::process::ExitCode;
 use std::{env, io};
 use toml_span_load::{LoadError, TextFile};
 
-/// Returns what is to be printed of a file, and whether there is nothing wrong with it.
+/// Returns what to print for a file, and whether nothing is wrong with it. Fails if an allocation fails.
 fn shown(alloc: Global, file: &TextFile, format: &str) -> Result<(String, bool), AllocError> {
     let text = file.text.as_str();
     if !text.starts_with("[package]") && !text.starts_with("[dependencies]") {
@@ -21,7 +22,7 @@ fn shown(alloc: Global, file: &TextFile, format: &str) -> Result<(String, bool),
     lint::shown(alloc, text, format)
 }
 
-/// Returns what is to be printed of a file, if it was read, or else the error.
+/// Returns what to print for a file or, if it could not be read, the error. Fails if an allocation fails.
 fn opened(
     alloc: Global,
     file: Result<TextFile, LoadError>,

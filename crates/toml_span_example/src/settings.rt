@@ -1,4 +1,4 @@
-//! The settings of a server, read with all that is wrong with them.
+//! The settings of a server, and what can be wrong with them.
 use std::alloc::{AllocError, Global};
 use toml_span::{
     DeserError, Deserialize, DeserializeWithWarnings, Error, Spanned, Stop, Value, read_name,
@@ -6,7 +6,7 @@ use toml_span::{
 };
 use toml_span_load::{LoadError, Loaded, TextFile};
 
-/// The settings. Other keys are refused.
+/// The settings of a server. Other keys are errors.
 #[derive(Debug, Drop)]
 struct Settings {
     max_body: u32,
@@ -17,7 +17,7 @@ struct Settings {
     mirrors: Vec<Mirror>,
 }
 
-/// How much is logged.
+/// How much to log.
 #[derive(Debug, Drop)]
 enum Level {
     Errors,
@@ -25,14 +25,14 @@ enum Level {
     All,
 }
 
-/// Where the log goes.
+/// Where to log.
 #[derive(Debug, Drop)]
 enum Log {
     Terminal,
     File { path: String, append: bool },
 }
 
-/// Where else the files are. No two have one name.
+/// Another server with the same files. No two mirrors have the same name.
 #[derive(Debug, Drop)]
 struct Mirror {
     name: Spanned<String>,
@@ -81,7 +81,8 @@ impl<'de> Deserialize<'de> for Mirror {
     }
 }
 
-/// Returns what is wrong with a file and the settings, and whether it has any.
+/// Returns the errors and warnings of a file and, if it can be read, its settings; and whether there are settings.
+/// Fails if an allocation fails.
 pub fn shown(alloc: Global, file: &TextFile) -> Result<(String, bool), AllocError> {
     match file.read_with_warnings::<Settings>(alloc) {
         Ok(Loaded { value, warnings }) => {

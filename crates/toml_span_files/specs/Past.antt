@@ -1,11 +1,11 @@
--- What an edit did to a file.
+-- What an edit has done to a file.
 use Rattle.std.specs.Prelude.{◌≡◌, ◌≤◌, ℕ, Bool, true, false, List, [], ◌∷◌, ◌++◌, length, Option, option_map}
 use Rattle.std.specs.Prelude.{Result, Ok, String, string_bytes}
 use Rattle.std.specs.Global.{Global}
 use Rattle.toml_span_files.specs.declared.TheConstants.{LIMIT}
 
--- The bytes that the last read of the file found, the new text that is held ready, and each replacement that was made
--- so far: the bytes read last before it, and the text that took the file's place.
+-- The bytes that the last read returned, the new text that is prepared, and each replacement so far: the bytes that
+-- were read last before it, and the text that replaced them.
 pub record Past : Type 0 where
   pub seen : List ℕ
   pub ready : List ℕ
@@ -17,23 +17,23 @@ with_seen bytes past = record past { seen = bytes }
 abbrev pub with_ready : List ℕ → Past → Past
 with_ready text past = record past { ready = text }
 
--- the text that is ready took the file's place
+-- the state after the prepared text has replaced the file's content
 abbrev pub with_replaced : Past → Past
 with_replaced past = record past { replaced = past.replaced ++ (past.seen, past.ready) ∷ [] }
 
 abbrev pub replacements : Option Past → Option (List (List ℕ × List ℕ))
 replacements past = option_map (λ p. p.replaced) past
 
--- nothing was replaced
+-- Nothing was replaced.
 abbrev pub Keeps : Option Past → Option Past → Type 0
 Keeps old new = replacements new ≡ replacements old
 
--- one replacement was made: of the file while it had these bytes, by this text
+-- There was one replacement: of these bytes by this text.
 abbrev pub Replaces : Option Past → Option Past → List ℕ → List ℕ → Type 0
 Replaces old new bytes text = replacements new ≡ option_map (λ all. all ++ (bytes, text) ∷ []) (replacements old)
 
--- An edit by a function was made: it was given the bytes of the file, and its text, within the limit, took the file's
--- place; or the text was those bytes, and nothing was replaced.
+-- The function was called with the bytes of the file. Its text, which is within the limit, has replaced them; or it
+-- equals them, and nothing was replaced.
 pub record Edits {X : Type 0} (makes : List ℕ → Result (String Global) X → Type 0) (is_changed : Bool)
     (old new : Option Past) : Type 0 where
   pub bytes : List ℕ

@@ -1,9 +1,9 @@
-//! The new file beside a file, which is also the lock.
+//! The new file beside the file that is edited. It is also the lock against other runs of this program.
 //!
-//! A run makes it under a name that follows from the file's, as a file that didn't exist (mode 0600), and locks it by
-//! the system's advisory lock, which ends with the run. Who has locked the file that the name leads to owns the name:
-//! it alone writes the file, renames it, and removes it. So a file of mode 0600 that nobody has locked was left by a
-//! run that was killed, and is removed. The mode is given last, just before the rename.
+//! A run creates it with mode 0600, under a name that follows from that of the file, and locks it with an advisory
+//! lock, which the system releases when the run ends. The run that has locked the file which this name leads to owns
+//! the name: only it writes, renames and removes the file. So if a file of mode 0600 is not locked, a run that was
+//! killed has left it behind, and it is removed. The new file gets its final mode last, just before it is renamed.
 use crate::failure::{Failure, unwritten};
 use std::fs::{File, Metadata, OpenOptions, TryLockError};
 use std::io::ErrorKind;
@@ -11,36 +11,36 @@ use std::os::unix::fs::{MetadataExt, OpenOptionsExt};
 use std::time::Duration;
 use std::{fs, io, thread};
 
-/// How many times a second a lock is tried.
+/// How many times per second to try to get a lock.
 const TRIES: u64 = 100;
 
-/// The mode of a new file until it gets that of the file which it replaces.
+/// The mode of the new file, until it gets that of the file that it replaces.
 const OWN_MODE: u32 = 0o600;
 
-/// The new file, which this run has locked.
+/// The new file, which this run has created and locked.
 #[derive(Drop)]
 pub(crate) struct Beside {
     pub(crate) name: String,
     pub(crate) file: File,
 }
 
-/// What came of a try to make and lock the new file.
+/// The result of an attempt to create and lock the new file.
 #[derive(Drop)]
 enum Try {
-    /// It is made and locked.
+    /// The new file was created and locked.
     Locked(File),
-    /// Another run has it, or it was left and is now removed.
+    /// Another run has locked it, or a run that was killed has left it and it has now been removed. Try again.
     Busy,
-    /// There is a file of this name of which it isn't known whether a run left it.
+    /// There is a file of this name, and it is not clear whether a run has left it.
     Left,
 }
 
-/// Returns whether these are the same file.
+/// Returns whether these are of the same file.
 pub(crate) fn is_same(one: &Metadata, other: &Metadata) -> bool {
     one.dev() == other.dev() && one.ino() == other.ino()
 }
 
-/// Returns whether a name leads to an open file, and not by a link.
+/// Returns whether a name leads to this open file, without a link.
 fn is_at(rt: &HostRuntime, name: &str, file: &File) -> bool {
     match (fs::symlink_metadata(rt, name), file.metadata()) {
         (Ok(named), Ok(open)) => is_same(&named, &open),
@@ -48,14 +48,14 @@ fn is_at(rt: &HostRuntime, name: &str, file: &File) -> bool {
     }
 }
 
-/// Makes the new file, which must not exist.
+/// Creates the new file, which must not exist.
 fn create(rt: &HostRuntime, name: &str) -> io::Result<File> {
     let mut options = OpenOptions::new();
     options.read(true).write(true).create_new(true);
     options.mode(OWN_MODE).open(rt, name)
 }
 
-/// Locks a new file. Where the system has no locks, that it was made is the lock.
+/// Locks a file that was just created. If the system has no locks, having created it is enough.
 fn claim(rt: &HostRuntime, name: &str, file: File) -> Try {
     if let Err(TryLockError::WouldBlock) = file.try_lock() {
         return Try::Busy;
@@ -67,12 +67,12 @@ fn claim(rt: &HostRuntime, name: &str, file: File) -> Try {
     }
 }
 
-/// Returns whether a file is as a run makes it.
+/// Returns whether a file looks like one that a run has created.
 fn is_own(found: &Metadata) -> bool {
     found.is_file() && found.mode() & 0o7777 == OWN_MODE && found.nlink() == 1
 }
 
-/// Removes the file of this name if it is as a run makes it and nobody has locked it.
+/// Removes the file of this name if it looks like one that a run has created, and nobody has locked it.
 fn clear(rt: &HostRuntime, name: &str) -> io::Result<Try> {
     let Ok(found) = fs::symlink_metadata(rt, name) else {
         return Ok(Try::Busy);
@@ -95,7 +95,7 @@ fn clear(rt: &HostRuntime, name: &str) -> io::Result<Try> {
     }
 }
 
-/// Makes and locks the new file, if that can be done now.
+/// Creates and locks the new file, if that is possible now.
 fn try_lock(rt: &HostRuntime, name: &str) -> io::Result<Try> {
     match create(rt, name) {
         Ok(file) => Ok(claim(rt, name, file)),
@@ -104,13 +104,13 @@ fn try_lock(rt: &HostRuntime, name: &str) -> io::Result<Try> {
     }
 }
 
-/// Waits until a lock is tried again.
+/// Waits before the next attempt to get a lock.
 fn rest(rt: &HostRuntime) {
     thread::sleep(rt, Duration::from_millis(1000 / TRIES));
 }
 
-/// Locks an open file. Waits this many seconds for other runs. Returns whether none has it; where the system has no
-/// locks, that isn't known.
+/// Locks an open file, and waits up to `wait` seconds if another run has locked it. Returns whether it was locked; if
+/// the system has no locks, returns true.
 pub(crate) fn waited(rt: &HostRuntime, file: &File, wait: u64) -> bool {
     for _ in 0..wait.saturating_mul(TRIES).saturating_add(1) {
         match file.try_lock() {
@@ -121,7 +121,8 @@ pub(crate) fn waited(rt: &HostRuntime, file: &File, wait: u64) -> bool {
     false
 }
 
-/// Makes and locks the new file of this name. Waits this many seconds for other runs.
+/// Creates and locks the new file of this name, and waits up to `wait` seconds if another run has it. Fails with `Busy`
+/// or `Left` if that is not enough.
 pub(crate) fn lock(rt: &HostRuntime, name: String, wait: u64) -> Result<Beside, Failure> {
     let mut is_left = false;
     for _ in 0..wait.saturating_mul(TRIES).saturating_add(1) {

@@ -1,4 +1,4 @@
-//! The difference of two texts, line by line.
+//! Compares two texts line by line.
 ghost use Rattle.std.specs.Prelude.{◌≡◌, IfOk, IsTrue, string_bytes};
 ghost use Rattle.std.specs.List.{flat_map};
 ghost use Rattle.toml_span_files.specs.Diff.{Splits};
@@ -6,21 +6,21 @@ ghost use Rattle.toml_span_files.specs.Diff as spec;
 
 use std::alloc::{AllocError, Global};
 
-/// How many lines are compared at most to find where two texts go on alike.
+/// The maximum number of lines to look ahead for a line that both texts have.
 const WINDOW: usize = 256;
 
-/// One or more lines of two texts.
+/// One or more lines, and which text has them.
 #[derive(Clone, Copy)]
 pub enum Part<'t> {
-    /// Both have them.
+    /// Lines of both texts.
     Same(&'t str),
-    /// Only the old text has them.
+    /// Lines of the old text only.
     Old(&'t str),
-    /// Only the new text has them.
+    /// Lines of the new text only.
     New(&'t str),
 }
 
-/// Returns the old text of parts.
+/// Joins the parts that the old text has. Fails if an allocation fails.
 fn old_text(alloc: Global, parts: &[Part<'_>]) -> Result<String, AllocError>
     ensures { IfOk result (λ text. string_bytes text ≡ flat_map spec.old_part parts.now) }
 {
@@ -34,7 +34,7 @@ fn old_text(alloc: Global, parts: &[Part<'_>]) -> Result<String, AllocError>
     Ok(text)
 }
 
-/// Returns the new text of parts.
+/// Joins the parts that the new text has. Fails if an allocation fails.
 fn new_text(alloc: Global, parts: &[Part<'_>]) -> Result<String, AllocError>
     ensures { IfOk result (λ text. string_bytes text ≡ flat_map spec.new_part parts.now) }
 {
@@ -48,7 +48,7 @@ fn new_text(alloc: Global, parts: &[Part<'_>]) -> Result<String, AllocError>
     Ok(text)
 }
 
-/// Returns how many bytes of both texts are the same lines at the start.
+/// Returns the length in bytes of the lines that both texts have in common at the beginning.
 fn shared_front(old: &str, new: &str) -> usize {
     let mut length = 0usize;
     for (one, other) in old.split_inclusive('\n').zip(new.split_inclusive('\n')) {
@@ -60,7 +60,7 @@ fn shared_front(old: &str, new: &str) -> usize {
     length
 }
 
-/// Returns how many lines at the end are the same.
+/// Returns the number of lines that both texts have in common at the end.
 fn shared_back(old: &[&str], new: &[&str]) -> usize {
     let mut count = 0usize;
     for (one, other) in old.iter().rev().zip(new.iter().rev()) {
@@ -72,7 +72,7 @@ fn shared_back(old: &[&str], new: &[&str]) -> usize {
     count
 }
 
-/// Returns whether texts go on alike: with the same line, and the same one after it if the first is short.
+/// Returns whether both texts continue with the same line and, if that is short, with the same line after it.
 fn go_on_alike(old: &[&str], new: &[&str]) -> bool {
     match (old, new) {
         ([one, old_rest @ ..], [other, new_rest @ ..]) => {
@@ -82,7 +82,8 @@ fn go_on_alike(old: &[&str], new: &[&str]) -> bool {
     }
 }
 
-/// Returns after how many lines of each text they go on alike: the fewest in all, within the window.
+/// Returns how many lines of each text to skip until both continue with the same line, or `None` if that is not within
+/// the window. The sum of both numbers is the lowest possible.
 fn next_alike(old: &[&str], new: &[&str]) -> Option<(usize, usize)> {
     for passed in 1..=WINDOW {
         for of_old in 0..=passed {
@@ -99,7 +100,7 @@ fn next_alike(old: &[&str], new: &[&str]) -> Option<(usize, usize)> {
     None
 }
 
-/// Adds lines that one text has and the other one hasn't.
+/// Appends lines of the old text and lines of the new text. Fails if an allocation fails.
 fn push_changed<'t>(
     old: &[&'t str],
     new: &[&'t str],
@@ -114,7 +115,7 @@ fn push_changed<'t>(
     Ok(())
 }
 
-/// Adds the parts of two lists of lines.
+/// Compares two lists of lines, and appends the parts. Fails if an allocation fails.
 fn push_lines<'t>(
     old: &[&'t str],
     new: &[&'t str],
@@ -143,7 +144,8 @@ fn push_lines<'t>(
     Ok(())
 }
 
-/// Returns parts that should be those of two texts.
+/// Compares two texts. That the parts join to these texts is not proved here, but checked by `splits`. Fails if an
+/// allocation fails.
 fn guessed<'t>(alloc: Global, old: &'t str, new: &'t str) -> Result<Vec<Part<'t>>, AllocError> {
     let front = shared_front(old, new);
     let (same, old) = old.split_at_checked(front).unwrap_or(("", old));
@@ -168,7 +170,7 @@ fn guessed<'t>(alloc: Global, old: &'t str, new: &'t str) -> Result<Vec<Part<'t>
     Ok(parts)
 }
 
-/// Returns whether the parts, joined, are exactly the old text and the new one. Fails if an allocation fails.
+/// Returns whether the parts join to the old text and to the new one. Fails if an allocation fails.
 fn splits(alloc: Global, old: &str, new: &str, parts: &[Part<'_>]) -> Result<bool, AllocError>
     ensures { IfOk result (λ does. IsTrue does → Splits old.now new.now parts.now) }
 {
@@ -177,7 +179,8 @@ fn splits(alloc: Global, old: &str, new: &str, parts: &[Part<'_>]) -> Result<boo
     Ok(has_old && has_new)
 }
 
-/// Returns the parts of two texts, in order: those that are the same, and lines that only one of them has.
+/// Compares two texts, and returns their lines in order: those that both have, and those that only one has. Fails only
+/// if an allocation fails.
 pub fn parts<'t>(alloc: Global, old: &'t str, new: &'t str) -> Result<Vec<Part<'t>>, AllocError>
     ensures spelled { IfOk result (λ parts. Splits old.now new.now parts.items) }
 {

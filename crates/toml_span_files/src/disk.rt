@@ -1,4 +1,4 @@
-//! A file of the system.
+//! Reads and replaces a file of the file system.
 ghost use Rattle.std.specs.Prelude.{None};
 
 use crate::LIMIT;
@@ -12,21 +12,21 @@ use std::io::{ErrorKind, Read, Seek, SeekFrom, Write};
 use std::os::unix::fs::{MetadataExt, PermissionsExt, fchown};
 use std::{fs, io};
 
-/// How a file is edited.
+/// How to edit a file.
 #[derive(Clone, Copy)]
 pub struct Options {
-    /// How many seconds to wait for another run.
+    /// How many seconds to wait for another run that edits the same file.
     pub wait: u64,
-    /// Edit a read-only file too, and one whose owner or group can't be kept.
+    /// Whether to edit a read-only file, and a file whose owner or group can't be kept.
     pub is_forced: bool,
-    /// Write into the file itself: it keeps its owner, its other names, its access control list and its extended
-    /// attributes, and its folder need not be writable. A run that is killed while it writes leaves a part of each
-    /// text.
+    /// Whether to write into the file itself. It then keeps its owner, its hard links, its access control list and its
+    /// extended attributes, and its directory need not be writable. But a run that is killed while it writes leaves a
+    /// part of the old text and a part of the new one.
     pub is_in_place: bool,
 }
 
 impl Options {
-    /// Waits for 5 seconds, refuses what `is_forced` allows, and doesn't write in place.
+    /// Waits for 5 seconds, and sets neither `is_forced` nor `is_in_place`.
     pub const USUAL: Options = Options {
         wait: 5,
         is_forced: false,
@@ -34,17 +34,17 @@ impl Options {
     };
 }
 
-/// A file of the system that an edit reads and replaces.
+/// A file of the file system, as an edit reads and replaces it.
 ///
-/// The new text is written into a file beside it, which replaces it. Access control lists and extended attributes
-/// can't be seen from here, and are lost, except in place.
+/// The new text is written to a new file in the same directory, which then replaces the file. Access control lists and
+/// extended attributes are lost, unless the file is written in place, since this program can't read them.
 #[derive(Drop)]
 pub struct Disk<'r> {
     rt: &'r HostRuntime,
-    /// The file's name, without links at its end.
+    /// The path of the file, after all links have been followed.
     place: String,
     options: Options,
-    /// The file as it was at the first read.
+    /// The file, as it was when it was first read.
     found: Option<Metadata>,
     beside: Option<Beside>,
     /// The file itself and the new text, to be written in place.
@@ -52,7 +52,7 @@ pub struct Disk<'r> {
     ready: Vec<u8>,
 }
 
-/// Refuses anything but a regular file.
+/// Fails unless this is a regular file.
 fn check_kind(found: &Metadata) -> Result<(), Failure> {
     if found.is_dir() {
         Err(Failure::Directory)
@@ -63,7 +63,8 @@ fn check_kind(found: &Metadata) -> Result<(), Failure> {
     }
 }
 
-/// Refuses a file that can't be replaced by one of its kind.
+/// Fails if the file may not be edited with these options: unless it is a writable regular file without other hard
+/// links.
 fn check(found: &Metadata, options: Options) -> Result<(), Failure> {
     check_kind(found)?;
     if found.permissions().readonly() && !options.is_forced {
@@ -75,7 +76,7 @@ fn check(found: &Metadata, options: Options) -> Result<(), Failure> {
     Ok(())
 }
 
-/// Returns whether a failure says that nothing can be made in the folder.
+/// Returns whether a failure means that no file can be created in the directory.
 fn is_closed(failure: &Failure) -> bool {
     match failure {
         Failure::Unwritten(error) => matches!(
@@ -86,7 +87,7 @@ fn is_closed(failure: &Failure) -> bool {
     }
 }
 
-/// Returns the new file, or None where none can be made beside a file that is written in place.
+/// Returns the new file, or `None` if none can be created and the file is written in place anyway.
 fn beside_or_none(
     locked: Result<Beside, Failure>,
     options: Options,
@@ -103,8 +104,8 @@ fn beside_or_none(
     }
 }
 
-/// Gives a new file the owner and the group of another one. Returns the mode for it: without set-id bits if it has
-/// another owner or group.
+/// Gives a new file the owner and group of the old one. Returns the mode to give it. With `is_forced`, it may keep
+/// another owner or group, and then gets no set-id bits.
 fn keep_owner(file: &File, found: &Metadata, is_forced: bool) -> Result<u32, Failure> {
     let new = file.metadata().map_err(unwritten)?;
     let mode = found.permissions().mode();
@@ -118,7 +119,7 @@ fn keep_owner(file: &File, found: &Metadata, is_forced: bool) -> Result<u32, Fai
     }
 }
 
-/// Writes a new file, and gives it the owner, the group and at last the mode of another one.
+/// Writes the text to a new file, and gives it the owner, the group and the mode of the old one.
 fn fill(file: &mut File, found: &Metadata, text: &[u8], is_forced: bool) -> Result<(), Failure> {
     file.write_all(text).map_err(unwritten)?;
     file.sync_all().map_err(unwritten)?;
@@ -127,7 +128,7 @@ fn fill(file: &mut File, found: &Metadata, text: &[u8], is_forced: bool) -> Resu
         .map_err(unwritten)
 }
 
-/// Reads a file to its end, or until there are more bytes than an edited file may have.
+/// Reads a file, up to its end or until it is longer than `LIMIT`.
 fn front_of(alloc: Global, file: &mut File) -> Result<Vec<u8>, Failure> {
     let mut bytes = Vec::new(alloc);
     let mut buf = [0u8; 8192];
@@ -145,8 +146,8 @@ fn front_of(alloc: Global, file: &mut File) -> Result<Vec<u8>, Failure> {
     Ok(bytes)
 }
 
-/// Writes the part of a text that is longer than a file after the file's end, so that a full disk is noticed while the
-/// file still has all of its bytes. After an error it has them alone.
+/// If the text is longer than the file, appends the rest of it to the file, so that a full disk is noticed while the
+/// file still has its old bytes. After an error, the file is as before.
 fn extend(file: &mut File, text: &[u8]) -> io::Result<()> {
     let length = file.metadata()?.len();
     let tail = text
@@ -160,7 +161,7 @@ fn extend(file: &mut File, text: &[u8]) -> io::Result<()> {
     written
 }
 
-/// Writes a text over a file that is at least as long.
+/// Overwrites a file with a text. The file is at least as long as the text.
 fn overwrite(file: &mut File, text: &[u8]) -> io::Result<()> {
     file.seek(SeekFrom::Start(0))?;
     file.write_all(text)?;
@@ -169,7 +170,7 @@ fn overwrite(file: &mut File, text: &[u8]) -> io::Result<()> {
 }
 
 impl<'r> Disk<'r> {
-    /// Returns the file of this name. Links are followed: the file that they lead to is edited.
+    /// Returns the file with this path, or the one that links at this path lead to. Fails if links can't be followed.
     pub fn new(rt: &'r HostRuntime, name: &str, options: Options) -> Result<Disk<'r>, Failure> {
         Ok(Disk {
             rt,
@@ -182,7 +183,7 @@ impl<'r> Disk<'r> {
         })
     }
 
-    /// Opens the file for writing in place, and locks it, since there may be no new file.
+    /// Opens the file to write it in place, and locks it, since there may be no new file to lock.
     fn open_in_place(&mut self) -> Result<(), Failure> {
         let mut options = OpenOptions::new();
         let open = options
@@ -197,7 +198,7 @@ impl<'r> Disk<'r> {
         Ok(())
     }
 
-    /// Remembers the file at the first read, and later refuses another one.
+    /// Records the file when it is first read. Fails with `Changed` if it is another file later.
     fn recognize(&mut self, found: Metadata) -> Result<(), Failure> {
         check_kind(&found)?;
         if let Some(first) = &self.found
@@ -253,7 +254,7 @@ impl Steps for Disk<'_> {
         };
         fs::rename(self.rt, beside.name.as_str(), self.place.as_str()).map_err(unwritten)?;
         self.beside = None;
-        // (the file is replaced by now, whether or not its folder can be synced)
+        // (the file has been replaced at this point, whether or not its directory can be synced)
         if let Ok(open) = File::open(self.rt, folder(self.place.as_str())) {
             let _synced = open.sync_all();
         }
@@ -262,7 +263,7 @@ impl Steps for Disk<'_> {
 
     fn discard(&mut self) {
         if let Some(beside) = self.beside.take() {
-            // (a failure here adds nothing to the error that is reported)
+            // (a failure here would add nothing to the error that is reported)
             let _removed = fs::remove_file(self.rt, beside.name.as_str());
         }
         self.open = None;

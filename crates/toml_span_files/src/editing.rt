@@ -1,4 +1,4 @@
-//! One edit of a file.
+//! Edits a file step by step.
 ghost use Rattle.std.specs.Prelude.{IfOk, OnOk, OnErr, None};
 ghost use Rattle.std.specs.Fn.{FnOnceReturnsAt};
 ghost use Rattle.toml_span_files.specs.Past.{Edits, Keeps, Replaces};
@@ -8,7 +8,7 @@ use crate::disk::{Disk, Options};
 use crate::failure::{Failed, Failure};
 use crate::steps::Steps;
 
-/// Puts a text in the place of a file that still has these bytes.
+/// Replaces the content of a file by a text. Fails with `Changed` if the file no longer has these bytes.
 fn replace<S: Steps>(steps: &mut S, bytes: &[u8], text: &[u8]) -> Result<(), Failure>
     ensures ok { OnOk result (Replaces (S.past steps.old) (S.past steps.new) bytes.now text.now) }
     ensures err { OnErr result (Keeps (S.past steps.old) (S.past steps.new)) }
@@ -21,7 +21,7 @@ fn replace<S: Steps>(steps: &mut S, bytes: &[u8], text: &[u8]) -> Result<(), Fai
     steps.replace()
 }
 
-/// Reads the file, and puts what a function makes of its bytes in its place. Returns whether that differs.
+/// Reads the file, calls `make` on its bytes, and replaces the content by the result. Returns whether that differs.
 fn attempt<S: Steps, X, F: FnOnce(&[u8]) -> Result<String, X>>(
     steps: &mut S,
     make: F,
@@ -50,7 +50,7 @@ fn attempt<S: Steps, X, F: FnOnce(&[u8]) -> Result<String, X>>(
     }
 }
 
-/// Puts a text in the place of a file, which has these bytes.
+/// Replaces the content of a file, which has these bytes, by a text.
 fn put_read<S: Steps>(steps: &mut S, bytes: &[u8], text: &str) -> Result<(), Failure>
     ensures ok { OnOk result (Replaces (S.past steps.old) (S.past steps.new) bytes.now text.now) }
     ensures err { OnErr result (Keeps (S.past steps.old) (S.past steps.new)) }
@@ -64,8 +64,10 @@ fn put_read<S: Steps>(steps: &mut S, bytes: &[u8], text: &str) -> Result<(), Fai
     replace(steps, bytes, text.as_bytes())
 }
 
-/// Edits a file: locks it, reads it, and puts what `make` returns for its bytes in its place. Returns whether that
-/// differs from the bytes; else the file is not written. After an error the file is as before, except after
+/// Edits a file: locks and reads it, calls `make` on its bytes, and replaces the content by the result. Returns whether
+/// that differs from the bytes. If it does not, nothing is written.
+///
+/// Fails with the error of `make`, or with that of a step. After an error the file is as before, except after
 /// `Failure::Damaged`.
 pub fn edit<S: Steps, X, F: FnOnce(&[u8]) -> Result<String, X>>(
     steps: &mut S,
@@ -85,7 +87,7 @@ pub fn edit<S: Steps, X, F: FnOnce(&[u8]) -> Result<String, X>>(
     result
 }
 
-/// Edits the file of this name (see `edit` and `Disk`): `edit_file(&rt, "a.toml", options, |bytes| ..)`.
+/// Edits the file with this path, as `edit` does: `edit_file(&rt, "a.toml", options, |bytes| ..)`.
 pub fn edit_file<X, F: FnOnce(&[u8]) -> Result<String, X>>(
     rt: &HostRuntime,
     name: &str,
@@ -99,8 +101,9 @@ pub fn edit_file<X, F: FnOnce(&[u8]) -> Result<String, X>>(
     edit(&mut disk, make)
 }
 
-/// Puts a text in the place of the bytes that were read of a file earlier. Refuses (`Failure::Changed`) if the file has
-/// other bytes now. After an error the file is as before, except after `Failure::Damaged`.
+/// Replaces the content of a file, which was read earlier, by a text. `bytes` is what was read; fails with
+/// `Failure::Changed` if the file has other bytes now. After an error the file is as before, except after
+/// `Failure::Damaged`.
 pub fn put<S: Steps>(steps: &mut S, bytes: &[u8], text: &str) -> Result<(), Failure>
     ensures ok { OnOk result (Replaces (S.past steps.old) (S.past steps.new) bytes.now text.now) }
     ensures err { OnErr result (Keeps (S.past steps.old) (S.past steps.new)) }
@@ -114,7 +117,7 @@ pub fn put<S: Steps>(steps: &mut S, bytes: &[u8], text: &str) -> Result<(), Fail
     result
 }
 
-/// The same for the file of this name (see `Disk`).
+/// Replaces the content of the file with this path, as `put` does.
 pub fn put_file(
     rt: &HostRuntime,
     name: &str,

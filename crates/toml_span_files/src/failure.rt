@@ -1,48 +1,49 @@
-//! Why a file is not edited.
+//! Why a file could not be edited.
 use std::alloc::{AllocError, AllocFailed};
 use std::fmt::{Display, Formatter, Write};
 use std::io::ErrorKind;
 use std::{fmt, io};
 
-/// Why a file is not edited. Except for `Damaged` the file is as before.
+/// Why a file could not be edited. It is as before, except after `Damaged`.
 #[derive(Debug, Drop)]
 pub enum Failure {
-    /// Out of memory.
+    /// An allocation failed.
     Memory,
     /// The file can't be found, opened or read.
     Unread(io::Error),
-    /// It is a directory.
+    /// The path leads to a directory.
     Directory,
-    /// It is a pipe, a device or a socket.
+    /// The path leads to a pipe, a device or a socket.
     NotRegular,
-    /// It is longer than 16 MiB.
+    /// The file is longer than 16 MiB.
     TooLong,
     /// The new text is longer than 16 MiB.
     ResultTooLong,
-    /// Nobody may write it.
+    /// The file is read-only.
     ReadOnly,
-    /// It has other names (hard links), which would keep the old text.
+    /// The file has other hard links, which would keep the old text.
     Linked,
-    /// The new file can't get the owner or the group of the old one.
+    /// The new file can't be given the owner or group of the old one.
     Owner(io::Error),
-    /// Another run holds the new file, of this name, longer than the time to wait.
+    /// Another run has locked the new file, whose path this is, for longer than the time to wait.
     Busy(String),
-    /// There is a file of the new file's name, which no run holds and which is not certainly left by one.
+    /// There is a file with the path of the new file. It is not locked, and it is not clear whether a run has left it.
     Left(String),
-    /// Another program changed the file in the meantime.
+    /// Another program has changed the file in the meantime.
     Changed,
     /// The new text can't be written.
     Unwritten(io::Error),
-    /// Writing the file in place broke off: it may have a part of the new text and a part of the old one.
+    /// An error occurred while the file was written in place: it may have a part of the new text and a part of the old
+    /// one.
     Damaged(io::Error),
 }
 
 /// Why an edit was not made.
 #[derive(Drop)]
 pub enum Failed<X> {
-    /// Because of the file.
+    /// The file could not be read or replaced.
     File(Failure),
-    /// The function that makes the new text refused.
+    /// The function that makes the new text failed.
     Edit(X),
 }
 
@@ -64,7 +65,7 @@ impl<T: Drop> From<AllocFailed<T>> for Failure {
     }
 }
 
-/// Returns the failure for an error of a read.
+/// Converts the error of a read.
 pub(crate) fn unread(error: io::Error) -> Failure {
     match error.kind() {
         ErrorKind::OutOfMemory => Failure::Memory,
@@ -72,7 +73,7 @@ pub(crate) fn unread(error: io::Error) -> Failure {
     }
 }
 
-/// Returns the failure for an error of a write.
+/// Converts the error of a write.
 pub(crate) fn unwritten(error: io::Error) -> Failure {
     match error.kind() {
         ErrorKind::OutOfMemory => Failure::Memory,
@@ -80,8 +81,8 @@ pub(crate) fn unwritten(error: io::Error) -> Failure {
     }
 }
 
-/// One sentence without a full stop. Errors of the system are in its words. Names in it are as they are, and may have
-/// control characters.
+/// Writes the reason without a full stop. For an error of the system, this is its message. Paths are not escaped, so
+/// they may have control characters.
 impl Display for Failure {
     fn fmt<W: Write>(&self, f: &mut Formatter<W>) -> fmt::Result {
         match self {

@@ -1,47 +1,49 @@
-//! Differences in the unified format.
+//! Formats differences in the unified format.
 use crate::diff::{Part, parts};
 use std::alloc::{AllocError, Global};
 use std::fmt::Write;
 
-/// How many lines that both texts have are shown on each side of a change.
+/// The number of unchanged lines to show before and after a change.
 const CONTEXT: usize = 3;
 
-/// The lines of one text that a hunk shows.
+/// The lines of one text in a hunk.
 #[derive(Clone, Copy)]
 struct Range {
-    /// How many lines are before them.
+    /// The number of lines before them.
     before: usize,
     count: usize,
 }
 
-/// Hunks, while lines are added to them.
+/// Hunks under construction.
 #[derive(Drop)]
 struct Hunks<'t> {
-    /// The hunks that are complete.
+    /// The complete hunks.
     out: String,
-    /// The lines of the last one.
+    /// The lines of the current hunk.
     body: String,
-    /// Whether the last one has a change.
+    /// Whether the current hunk has a change.
     is_open: bool,
-    /// The lines since the last change that both texts have: the last ones if no hunk is open.
+    /// The unchanged lines since the last change or, if no hunk is open, the last three of them. At most seven wait, so
+    /// taking the first one out moves few.
     waiting: Vec<&'t str>,
     old: Range,
     new: Range,
 }
 
 impl Range {
-    /// Counts a line of the hunk.
+    /// Counts one more line of the hunk.
     fn count(&mut self) {
         self.count = self.count.saturating_add(1);
     }
 
-    /// Passes the lines of the hunk, and one more if it is given.
+    /// Moves on to the next hunk: `more` lines after the end of this one.
     fn pass(&mut self, more: usize) {
         self.before = self.before.saturating_add(self.count).saturating_add(more);
         self.count = 0;
     }
 
-    /// Adds the range as `diff` writes it: the first line, counted from 1, and the number of lines.
+    /// Appends the range in the form of `diff`: the number of the first line, counted from 1, and the number of lines.
+    /// Fails if an allocation fails.
     fn push(self, out: &mut String) -> Result<(), AllocError> {
         let first = if self.count == 0 {
             self.before
@@ -54,7 +56,7 @@ impl Range {
 }
 
 impl<'t> Hunks<'t> {
-    /// Adds a line to the hunk.
+    /// Appends a line with its mark to the hunk. Fails if an allocation fails.
     fn push(&mut self, mark: char, line: &str) -> Result<(), AllocError> {
         if mark != '+' {
             self.old.count();
@@ -70,7 +72,7 @@ impl<'t> Hunks<'t> {
         Ok(())
     }
 
-    /// Adds the first of the lines that wait, at most this many.
+    /// Appends the first of the waiting lines to the hunk, at most `most` of them. Fails if an allocation fails.
     fn push_waiting(&mut self, most: usize) -> Result<(), AllocError> {
         for _ in 0..most {
             if self.waiting.is_empty() {
@@ -82,14 +84,14 @@ impl<'t> Hunks<'t> {
         Ok(())
     }
 
-    /// Adds a line that only one of the texts has.
+    /// Appends a line of only one of the texts. Fails if an allocation fails.
     fn change(&mut self, mark: char, line: &str) -> Result<(), AllocError> {
         self.push_waiting(usize::MAX)?;
         self.is_open = true;
         self.push(mark, line)
     }
 
-    /// Ends the hunk.
+    /// Ends the hunk, and appends it to the output. Fails if an allocation fails.
     fn close(&mut self) -> Result<(), AllocError> {
         self.push_waiting(CONTEXT)?;
         self.out.push_str("@@ -")?;
@@ -105,7 +107,7 @@ impl<'t> Hunks<'t> {
         Ok(())
     }
 
-    /// Adds a line that both texts have.
+    /// Appends a line of both texts. Fails if an allocation fails.
     fn same(&mut self, line: &'t str) -> Result<(), AllocError> {
         self.waiting.push(line)?;
         if self.is_open && self.waiting.len() > CONTEXT * 2 {
@@ -119,7 +121,7 @@ impl<'t> Hunks<'t> {
         Ok(())
     }
 
-    /// Adds the lines of a part.
+    /// Appends the lines of a part. Fails if an allocation fails.
     fn part(&mut self, part: Part<'t>) -> Result<(), AllocError> {
         match part {
             Part::Same(lines) => {
@@ -143,8 +145,8 @@ impl<'t> Hunks<'t> {
 }
 
 /// Returns the difference of two texts in the unified format, with three lines of context, or an empty text if they are
-/// the same. The name is that of the file in both head lines. All is as it is in the texts, which may have control
-/// characters.
+/// equal. `name` is written as the path in both head lines. Nothing is escaped, so the result may have control
+/// characters. Fails only if an allocation fails.
 pub fn unified(alloc: Global, name: &str, old: &str, new: &str) -> Result<String, AllocError> {
     let parts = parts(alloc, old, new)?;
     let none = Range {

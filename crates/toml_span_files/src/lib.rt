@@ -1,5 +1,5 @@
-//! Edits one file: locks it against other runs, reads it, and replaces it whole or not at all. Shows what an edit
-//! changes.
+//! Edits one file: locks it against other runs, reads it, and replaces it as a whole or not at all. Also shows the
+//! lines that an edit changes.
 #![tactic(auto)]
 
 mod beside;
@@ -18,5 +18,5 @@ pub use failure::{Failed, Failure};
 pub use hunks::unified;
 pub use steps::Steps;
 
-/// The most bytes that a file may have before and after an edit: 16 MiB.
+/// The maximum length of a file, before and after an edit: 16 MiB.
 pub const LIMIT: usize = 16_777_216;

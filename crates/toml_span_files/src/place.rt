@@ -1,19 +1,19 @@
-//! Names of files.
+//! Paths of files.
 use crate::failure::{Failure, unread};
 use std::alloc::{AllocError, Global};
 use std::io::ErrorKind;
 use std::{fs, io};
 
-/// The most links that are followed one after another, as on Linux.
+/// The maximum number of links to follow one after the other, as on Linux.
 const LINKS: usize = 40;
 
-/// What the name of a new file ends in.
+/// The suffix of the name of a new file.
 const ENDING: &str = ".toml-span";
 
-/// The most bytes of a file's name that the name of the new file begins with.
+/// How many bytes of the file's name the name of the new file begins with, at most.
 const KEPT: usize = 128;
 
-/// Returns the part of a name up to its last slash, and the rest.
+/// Splits a path after its last slash.
 fn split(name: &str) -> (&str, &str) {
     match name.rsplit_once('/') {
         Some((folder, rest)) => (
@@ -24,7 +24,7 @@ fn split(name: &str) -> (&str, &str) {
     }
 }
 
-/// Returns the folder of a file, as a name that can be opened.
+/// Returns the directory of a file, as a path that can be opened.
 pub(crate) fn folder(place: &str) -> &str {
     match split(place).0 {
         "" => ".",
@@ -32,7 +32,8 @@ pub(crate) fn folder(place: &str) -> &str {
     }
 }
 
-/// Returns the name to which a link leads, read from the folder of the link.
+/// Returns the path that a link leads to, given the path of the link and what it contains. Fails if an allocation
+/// fails.
 fn led_to(alloc: Global, link: &str, target: &str) -> Result<String, AllocError> {
     if target.starts_with('/') {
         return String::from_str(alloc, target);
@@ -42,7 +43,7 @@ fn led_to(alloc: Global, link: &str, target: &str) -> Result<String, AllocError>
     Ok(place)
 }
 
-/// Follows the links of a name. Returns the name of what it leads to at last.
+/// Follows the links of a path. Returns the path of what they finally lead to.
 pub(crate) fn place_of(rt: &HostRuntime, name: &str) -> Result<String, Failure> {
     let mut place = String::from_str(rt.alloc(), name)?;
     for _ in 0..LINKS {
@@ -56,7 +57,8 @@ pub(crate) fn place_of(rt: &HostRuntime, name: &str) -> Result<String, Failure> 
     Err(Failure::Unread(io::Error::from(ErrorKind::FilesystemLoop)))
 }
 
-/// Returns the name of the new file beside a file: the file's name, or the first bytes of a long one, and `.toml-span`.
+/// Returns the path of the new file beside a file: the file's name, or its beginning if it is long, and `.toml-span`.
+/// Fails if an allocation fails.
 pub(crate) fn beside(alloc: Global, place: &str) -> Result<String, AllocError> {
     let (folder, name) = split(place);
     let mut new = String::from_str(alloc, folder)?;

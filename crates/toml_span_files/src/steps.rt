@@ -1,35 +1,36 @@
-//! The steps of an edit.
+//! The steps by which a file is edited.
 ghost use Rattle.std.specs.Prelude.{◌≡◌, IfOk, OnErr, OnOk, Option, option_map};
 ghost use Rattle.toml_span_files.specs.Past.{Past, with_ready, with_replaced, with_seen};
 
 use crate::failure::Failure;
 
-/// A file that an edit reads and replaces. The steps are made in the order of this list; `discard` ends an edit that
-/// is given up after any of them.
+/// A file that can be read and replaced step by step. The steps are made in the order of their declaration. `discard`
+/// ends an edit that is given up after any of them.
 pub trait Steps {
-    /// What was read, made ready and replaced, where that is known.
+    /// What has been read, prepared and replaced so far, if it is known.
     ghost past: { Self → Option Past };
 
-    /// Locks the file against other runs, and opens what the new text is written to.
+    /// Locks the file against other runs, and creates what the new text is written to.
     fn begin(&mut self) -> Result<(), Failure>
         ensures { past self.new ≡ past self.old };
 
-    /// Returns the bytes of the file, as they are now. Of one that is longer than `LIMIT`, more than that are enough.
+    /// Returns the bytes of the file as they are now. Of a file that is longer than `LIMIT`, any part longer than that
+    /// is enough.
     fn read(&mut self) -> Result<Vec<u8>, Failure>
         ensures bytes { IfOk result (λ bytes. past self.new ≡ option_map (with_seen bytes.items) (past self.old)) }
         ensures err { OnErr result (past self.new ≡ past self.old) };
 
-    /// Makes a new text ready: written whole, beside the file. The file stays as it is.
+    /// Writes the new text to where it is kept until `replace`. The file stays as it is.
     fn prepare(&mut self, text: &[u8]) -> Result<(), Failure>
         ensures ready { OnOk result (past self.new ≡ option_map (with_ready text.now) (past self.old)) }
         ensures err { OnErr result (past self.new ≡ past self.old) };
 
-    /// Puts the text that is ready in the file's place.
+    /// Replaces the content of the file by the text of `prepare`.
     fn replace(&mut self) -> Result<(), Failure>
         ensures replaced { OnOk result (past self.new ≡ option_map with_replaced (past self.old)) }
         ensures err { OnErr result (past self.new ≡ past self.old) };
 
-    /// Removes what the edit made beside the file, and unlocks it.
+    /// Removes what the edit has created beside the file, and unlocks the file.
     fn discard(&mut self)
         ensures { past self.new ≡ past self.old };
 }

@@ -3,25 +3,25 @@ use Rattle.std.specs.Prelude.{◌≡◌, ℕ, List, [], ◌∷◌, ◌++◌, len
 use Rattle.std.specs.Str.{IsTrimAsciiEnd}
 use Rattle.toml_span_lex.specs.declared.span.Span.{Span}
 use Rattle.toml_span_lex.specs.Text.{FirstPlace}
-use Rattle.toml_span_lex.specs.Tokens.{Lexeme, comment, Stands}
+use Rattle.toml_span_lex.specs.Tokens.{Lexeme, comment, IsLexeme}
 
 abbrev pub IsNoComment : Lexeme → Type 0
 IsNoComment (comment s) = ⊥
 IsNoComment l = Unit {0}
 
--- The tokens from i on have these comments, each without the white space at its end.
+-- The tokens from i on have these comments, each without trailing white space.
 pub data CommentsFrom (text : List ℕ) : ℕ → List (List ℕ) → Type 0 where
   ends : (i : ℕ) → i ≡ length text → CommentsFrom text i []
-  skips : (i j : ℕ) (span : Span) (l : Lexeme) (ts : List (List ℕ)) → Stands text i j span l → IsNoComment l
+  skips : (i j : ℕ) (span : Span) (l : Lexeme) (ts : List (List ℕ)) → IsLexeme text i j span l → IsNoComment l
       → CommentsFrom text j ts → CommentsFrom text i ts
-  finds : (i j : ℕ) (span : Span) (s t : List ℕ) (ts : List (List ℕ)) → Stands text i j span (comment s)
+  finds : (i j : ℕ) (span : Span) (s t : List ℕ) (ts : List (List ℕ)) → IsLexeme text i j span (comment s)
       → IsTrimAsciiEnd s t → CommentsFrom text j ts → CommentsFrom text i (t ∷ ts)
 
--- what a token adds to the comments before it
+-- the comments after a token, given those before it
 abbrev pub Adds : Lexeme → List (List ℕ) → List (List ℕ) → Type 0
 Adds (comment s) before after = (t : List ℕ) × IsTrimAsciiEnd s t × (after ≡ before ++ (t ∷ []))
 Adds l before after = after ≡ before
 
--- These are the comments of a text, in its order.
+-- These are the comments of a text, in order.
 abbrev pub HasComments : List ℕ → List (List ℕ) → Type 0
 HasComments text ts = (i : ℕ) × FirstPlace text i × CommentsFrom text i ts

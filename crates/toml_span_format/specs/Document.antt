@@ -4,8 +4,8 @@ use Rattle.std.specs.Global.{Global}
 use Rattle.toml_span_lex.specs.declared.stop.Stop.{Stop}
 use Rattle.toml_span_lex.specs.declared.stop.Stop.TheVariants as stops
 use Rattle.toml_span_tree.specs.Error.{content_of}
-use Rattle.toml_span_read.specs.Data.{Block, block, depth_limit}
-use Rattle.toml_span_read.specs.Faults.{Tells}
+use Rattle.toml_span_read.specs.Data.{ParsedSection, parsed_section, depth_limit}
+use Rattle.toml_span_read.specs.Faults.{ReportsFault}
 use Rattle.toml_span_read.specs.Read.{document}
 use Rattle.toml_span_read.specs.declared.fault.Fault.{Fault}
 use Rattle.toml_span_read.specs.declared.section.Section.{Section}
@@ -16,18 +16,18 @@ use Rattle.toml_span_format.specs.Same.{bare_section}
 use Rattle.toml_span_format.specs.declared.errors.FormatError.{FormatError}
 use Rattle.toml_span_format.specs.declared.errors.FormatError.TheVariants as errors
 
--- the sections of a text, or the fault of reading
+-- the sections of a text, or its first fault
 abbrev pub ReadsSections : List ℕ → Result (Vec Section Global) (Stop FormatError) → Type 0
-ReadsSections text (Ok found) = document text depth_limit (Ok (map block found.items))
+ReadsSections text (Ok found) = document text depth_limit (Ok (map parsed_section found.items))
 ReadsSections text (Err (stops.Memory e)) = Unit {0}
 ReadsSections text (Err (stops.Fault (errors.Invalid error))) =
-    (fault : Fault) × document text depth_limit (Err fault) × Tells text fault (content_of error)
+    (fault : Fault) × document text depth_limit (Err fault) × ReportsFault text fault (content_of error)
 ReadsSections text (Err (stops.Fault errors.WouldDiffer)) = ⊥
 
 -- Both texts have the same sections in the same order: the same headers, and the same keys in the same order with the
 -- same values.
 abbrev pub SameSections : List ℕ → List ℕ → Type 0
-SameSections old new = (bs : List Block) × (cs : List Block) × document old depth_limit (Ok bs)
+SameSections old new = (bs : List ParsedSection) × (cs : List ParsedSection) × document old depth_limit (Ok bs)
     × document new depth_limit (Ok cs) × (map bare_section bs ≡ map bare_section cs)
 
 -- Both texts have the same comments in the same order.
@@ -47,16 +47,16 @@ PermutedComments old new = (us : List (List ℕ)) × CommentsPermuted old us × 
 
 -- Both texts have the same sections, except for the order of the assignments in each, and such comments.
 abbrev pub PermutedDocument : List ℕ → List ℕ → Type 0
-PermutedDocument old new = ((bs : List Block) × (cs : List Block) × document old depth_limit (Ok bs)
+PermutedDocument old new = ((bs : List ParsedSection) × (cs : List ParsedSection) × document old depth_limit (Ok bs)
     × document new depth_limit (Ok cs) × PermutedSections bs cs) × PermutedComments old new
 
--- a text that keeps something of this one, or the fault of reading
+-- a text that keeps this of the document, or the first fault of the document
 abbrev pub Keeps : (List ℕ → List ℕ → Type 0) → List ℕ → Result (String Global) (Stop FormatError) → Type 0
 Keeps P text (Ok new) = P text (string_bytes new)
 Keeps P text (Err (stops.Memory e)) = Unit {0}
 Keeps P text (Err (stops.Fault (errors.Invalid error))) =
-    (fault : Fault) × document text depth_limit (Err fault) × Tells text fault (content_of error)
-Keeps P text (Err (stops.Fault errors.WouldDiffer)) = (bs : List Block) × document text depth_limit (Ok bs)
+    (fault : Fault) × document text depth_limit (Err fault) × ReportsFault text fault (content_of error)
+Keeps P text (Err (stops.Fault errors.WouldDiffer)) = (bs : List ParsedSection) × document text depth_limit (Ok bs)
 
 -- the same sections and comments
 abbrev pub Formats : List ℕ → Result (String Global) (Stop FormatError) → Type 0

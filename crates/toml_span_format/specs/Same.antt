@@ -2,9 +2,10 @@
 use Rattle.std.specs.Prelude.{map}
 use Rattle.toml_span_lex.specs.declared.span.Span.{Span}
 use Rattle.toml_span_read.specs.Data.{SimpleKey, ParsedValue, parsed, ParsedInner, scalar, array, inline, ParsedItems}
-use Rattle.toml_span_read.specs.Data.{no_items, item, ParsedPairs, no_pairs, pair, KeyValue, Block, from_to}
+use Rattle.toml_span_read.specs.Data.{no_items, item, ParsedPairs, no_pairs, pair, ParsedAssignment, ParsedSection}
+use Rattle.toml_span_read.specs.Data.{from_to}
 
--- ---- what is read, without spans: each is 0..0
+-- ---- what was read, without spans: each span is 0..0
 
 abbrev pub no_span : Span
 no_span = from_to 0 0
@@ -29,14 +30,14 @@ abbrev mutual
   bare_pairs no_pairs = no_pairs
   bare_pairs (pair ks v extent ps) = pair (map bare_key ks) (bare_value v) no_span (bare_pairs ps)
 
-abbrev pub bare_assignment : KeyValue → KeyValue
+abbrev pub bare_assignment : ParsedAssignment → ParsedAssignment
 bare_assignment p = record { parts = map bare_key p.parts; value = bare_value p.value; extent = no_span }
 
-abbrev pub bare_section : Block → Block
+abbrev pub bare_section : ParsedSection → ParsedSection
 bare_section b = record {
   header = map bare_key b.header;
   array = b.array;
   header_span = no_span;
   extent = no_span;
-  key_values = map bare_assignment b.key_values;
+  assignments = map bare_assignment b.assignments;
 }

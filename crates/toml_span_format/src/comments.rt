@@ -1,4 +1,4 @@
-//! The comments of a text.
+//! Lists the comments of a text.
 ghost use Rattle.std.specs.Prelude.{IfOk, OnOk, map};
 ghost use Rattle.toml_span_lex.specs.Tokens.{lexeme};
 ghost use Rattle.toml_span_format.specs.Comments.{Adds, HasComments};
@@ -8,7 +8,7 @@ use toml_span_lex::stop::Stop;
 use toml_span_lex::tokenizer::Tokenizer;
 use toml_span_lex::tokens::{Error, Token};
 
-/// Adds a token if it is a comment, without the white space at its end.
+/// Appends the token without trailing white space, if it is a comment. Fails if an allocation fails.
 fn push_comment<'t>(token: &Token<'t>, found: &mut Vec<&'t str>) -> Result<(), AllocError>
     ensures { OnOk result (Adds (lexeme token.now) (map (λ t. t.now) found.old.items)
         (map (λ t. t.now) found.new.items)) }
@@ -34,9 +34,9 @@ fn push_comment<'t>(token: &Token<'t>, found: &mut Vec<&'t str>) -> Result<(), A
     }
 }
 
-/// Returns the comments of a text in its order, each from its `#` to its last character that is no space or tab.
+/// Returns the comments of a text in order, each from its `#` on, without trailing spaces and tabs.
 ///
-/// The error is the first fault of the tokens.
+/// Fails with the first fault of the tokenizer, or if an allocation fails.
 pub fn comments_of<'t>(alloc: Global, text: &'t str) -> Result<Vec<&'t str>, Stop<Error>>
     ensures { IfOk result (λ found. HasComments text.now (map (λ t. t.now) found.items)) }
 {

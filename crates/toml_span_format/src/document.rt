@@ -1,6 +1,6 @@
 //! Formats a document.
 ghost use Rattle.std.specs.Prelude.{◌≡◌, ◌↔◌, IfOk, IfSome, IsTrue, Ok, map};
-ghost use Rattle.toml_span_read.specs.Data.{block, depth_limit};
+ghost use Rattle.toml_span_read.specs.Data.{parsed_section, depth_limit};
 ghost use Rattle.toml_span_read.specs.Read.{document};
 ghost use Rattle.toml_span_format.specs.Comments.{HasComments};
 ghost use Rattle.toml_span_format.specs.Document as spec;
@@ -15,7 +15,7 @@ use std::alloc::{AllocError, Global};
 use toml_span_lex::stop::Stop;
 use toml_span_read::{Section, read_sections};
 
-/// Reads the sections of a text.
+/// Reads the sections of a text. Fails with `FormatError::Invalid`, or if an allocation fails.
 pub(crate) fn sections_of<'t>(
     alloc: Global,
     text: &'t str,
@@ -29,7 +29,7 @@ pub(crate) fn sections_of<'t>(
     }
 }
 
-/// Returns the byte order mark of a text, or nothing.
+/// Returns the byte order mark at the start of the text, or an empty string.
 pub(crate) fn mark_of(text: &str) -> &'static str {
     if text.starts_with('\u{feff}') {
         "\u{feff}"
@@ -38,7 +38,7 @@ pub(crate) fn mark_of(text: &str) -> &'static str {
     }
 }
 
-/// Lays a document out.
+/// Returns the text in its new layout. Fails if an allocation fails.
 fn laid_out(alloc: Global, text: &str, options: Options) -> Result<String, AllocError> {
     let read = pieces_of(alloc, text)?;
     print(
@@ -50,7 +50,7 @@ fn laid_out(alloc: Global, text: &str, options: Options) -> Result<String, Alloc
     )
 }
 
-/// Returns the comments of a text, or None if its tokens have a fault.
+/// Returns the comments of a text, or `None` if it can't be split into tokens. Fails if an allocation fails.
 pub(crate) fn comments_read<'t>(
     alloc: Global,
     text: &'t str,
@@ -65,14 +65,14 @@ pub(crate) fn comments_read<'t>(
     }
 }
 
-/// Returns whether two lists of texts are the same.
+/// Returns whether two lists of texts are equal.
 pub(crate) fn same_texts(a: &[&str], b: &[&str]) -> bool
     ensures { IsTrue result ↔ (map (λ t. t.now) a.now ≡ map (λ t. t.now) b.now) }
 {
     a == b
 }
 
-/// Returns whether two texts have the same comments.
+/// Returns whether two texts have the same comments in the same order. Fails if an allocation fails.
 fn same_comments(alloc: Global, old: &str, new: &str) -> Result<bool, AllocError>
     ensures { IfOk result (λ same. IsTrue same → spec.SameComments old.now new.now) }
 {
@@ -85,14 +85,15 @@ fn same_comments(alloc: Global, old: &str, new: &str) -> Result<bool, AllocError
     Ok(same_texts(before.as_slice(), after.as_slice()))
 }
 
-/// Returns whether a text has the sections and comments of another one.
+/// Returns whether the text `new` has these sections, without regard to spans, and the comments of `text`. Fails if an
+/// allocation fails.
 fn is_same(
     alloc: Global,
     text: &str,
     sections: &[Section<'_>],
     new: &str,
 ) -> Result<bool, AllocError>
-    requires { document text.now depth_limit (Ok (map block sections.now)) }
+    requires { document text.now depth_limit (Ok (map parsed_section sections.now)) }
     ensures { IfOk result (λ same. IsTrue same → spec.SameDocument text.now new.now) }
 {
     let read = match sections_of(alloc, new) {
@@ -108,12 +109,13 @@ fn is_same(
 
 /// Formats a document.
 ///
-/// The result has the same sections, with the same keys in the same order and the same values, and the same comments
-/// in the same order. Spaces and tabs at the end of a comment are no part of it.
+/// The result has the same sections, keys, values and comments as `text`, all in the same order. Only white space, line
+/// ends and commas differ. Spaces and tabs at the end of a comment do not count as part of it.
 ///
 /// # Errors
 ///
-/// The text can't be read as TOML, or an allocation failed. `FormatError::WouldDiffer` is a bug of the formatter.
+/// `FormatError::Invalid` if the text can't be read as TOML, or `Stop::Memory` if an allocation fails.
+/// `FormatError::WouldDiffer` is a bug of the formatter.
 pub fn format<'t>(
     alloc: Global,
     text: &'t str,

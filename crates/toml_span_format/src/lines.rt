@@ -1,9 +1,9 @@
-//! Puts the lines of a document in the order of their keys.
+//! Sorts the lines of a document by their keys.
 use crate::pieces::{Gap, Kind, Piece};
 use std::alloc::{AllocError, Global};
 use toml_span_read::{DottedKey, Section};
 
-/// Returns the names of the parts of a key.
+/// Returns the names of the parts of a key. Fails if an allocation fails.
 pub(crate) fn names_of<'s>(
     alloc: Global,
     key: &'s DottedKey<'_>,
@@ -16,34 +16,34 @@ pub(crate) fn names_of<'s>(
     Ok(names)
 }
 
-/// An assignment of a section with the comments that belong to it. Entries are compared by their keys.
+/// An assignment and the comments that move with it. Entries are ordered by the names of their keys.
 #[derive(Drop)]
 #[derive_where(PartialEq, Eq, PartialOrd, Ord)]
 struct Entry<'s> {
     names: Vec<&'s str>,
-    /// The indices of its first piece, and of the first piece after it.
+    /// The position of its first piece, and that of the first piece after it.
     #[derive_where(skip(EqHashOrd))]
     start: usize,
     #[derive_where(skip(EqHashOrd))]
     end: usize,
 }
 
-/// What is sorted so far.
+/// A sort in progress: the pieces so far.
 #[derive(Drop)]
 struct Sorter<'p, 't, 's> {
     pieces: &'p [Piece<'t>],
     sorted: Vec<Piece<'t>>,
-    /// The entries since the last blank line or header.
+    /// The entries since the last blank line or header, not sorted yet.
     run: Vec<Entry<'s>>,
-    /// The index of the first piece after the run, and the key of the assignment there, if it has begun.
+    /// The position of the first piece after these entries. If an assignment begins there, `key` has its names.
     start: usize,
     key: Option<Vec<&'s str>>,
-    /// Whether all pieces after the run are comments.
+    /// Whether all pieces from `start` on are comments.
     is_comment: bool,
 }
 
 impl Sorter<'_, '_, '_> {
-    /// Adds pieces, of which the first one gets another gap.
+    /// Appends the pieces from `start` to `end` to the result, the first with this gap. Fails if an allocation fails.
     fn copy(&mut self, start: usize, end: usize, gap: Gap) -> Result<(), AllocError> {
         for (at, piece) in self
             .pieces
@@ -61,7 +61,7 @@ impl Sorter<'_, '_, '_> {
         Ok(())
     }
 
-    /// Returns the gap before a piece.
+    /// Returns the gap before the piece at a position.
     fn gap_at(&self, at: usize) -> Gap {
         match self.pieces.get(at) {
             Some(piece) => piece.gap,
@@ -69,7 +69,7 @@ impl Sorter<'_, '_, '_> {
         }
     }
 
-    /// Ends the run: adds its entries in their order.
+    /// Ends a run of entries: sorts them, and appends their pieces to the result. Fails if an allocation fails.
     fn end_run(&mut self, alloc: Global) -> Result<(), AllocError> {
         let mut run = Vec::new(alloc);
         run.append(&mut self.run)?;
@@ -85,7 +85,8 @@ impl Sorter<'_, '_, '_> {
         Ok(())
     }
 
-    /// Ends what follows the run before a piece: an assignment joins the run, and others end it.
+    /// Ends what began at `self.start`, up to the position `end`: adds an assignment to the run, or ends the run and
+    /// appends comments or a header to the result. Fails if an allocation fails.
     fn end_entry(&mut self, alloc: Global, end: usize) -> Result<(), AllocError> {
         let start = self.start;
         self.start = end;
@@ -102,7 +103,8 @@ impl Sorter<'_, '_, '_> {
         }
     }
 
-    /// Begins a line with a piece: a header, a comment, or an assignment, to which comments right above it belong.
+    /// Begins a line at the position `at`. Comments belong to an assignment that begins right below them. Fails if an
+    /// allocation fails.
     fn begin_line(&mut self, alloc: Global, at: usize) -> Result<(), AllocError> {
         let Some(piece) = self.pieces.get(at) else {
             return Ok(());
@@ -119,8 +121,7 @@ impl Sorter<'_, '_, '_> {
     }
 }
 
-/// Returns the pieces of a document with the assignments of each run of lines sorted by their keys, as
-/// `format_sorted` says.
+/// Returns the pieces of a document with its assignments sorted as `format_sorted` says. Fails if an allocation fails.
 pub(crate) fn sorted_lines<'t>(
     alloc: Global,
     sections: &[Section<'_>],

@@ -1,17 +1,17 @@
 //! The options of the formatter.
 ghost use Rattle.std.specs.Prelude.{◌≡◌};
 
-/// How `format` lays out a document. `Options::new()` has the defaults.
+/// How `format` lays a document out. `Options::new()` returns the defaults.
 #[derive(Clone, Copy, PartialEq, Eq, Debug)]
 pub struct Options {
-    /// The columns that an array on one line may take, in characters, with what precedes it on the line.
+    /// The width of a line in characters: an array goes on one line if the line is then at most this wide.
     pub width: usize,
-    /// The spaces by which an element on a line of its own is indented.
+    /// The number of spaces by which elements on lines of their own are indented, per level.
     pub indent: usize,
 }
 
 impl Options {
-    /// Returns the default options: 80 columns and 4 spaces.
+    /// Returns the defaults: 80 columns and 4 spaces.
     pub fn new() -> Self
         ensures { result ≡ record { width = 80; indent = 4 } }
     {
@@ -21,7 +21,7 @@ impl Options {
         }
     }
 
-    /// Sets the columns that an array on one line may take.
+    /// Sets the width of a line, in characters.
     pub fn with_width(mut self, columns: usize) -> Self
         ensures { result ≡ record self { width = columns } }
     {
@@ -29,7 +29,7 @@ impl Options {
         self
     }
 
-    /// Sets the spaces by which an element on a line of its own is indented.
+    /// Sets the number of spaces per level of indentation.
     pub fn with_indent(mut self, spaces: usize) -> Self
         ensures { result ≡ record self { indent = spaces } }
     {

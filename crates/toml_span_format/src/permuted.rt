@@ -1,7 +1,7 @@
-//! Compares sections whose assignments may be in another order.
+//! Compares sections without regard to the order of their assignments.
 ghost use Rattle.std.specs.Prelude.{◌≡◌, ◌↔◌, IfOk, IsTrue, map};
 ghost use Rattle.std.specs.List.Sorted.{IsPermutation};
-ghost use Rattle.toml_span_read.specs.Data.{block, key_value};
+ghost use Rattle.toml_span_read.specs.Data.{parsed_section, parsed_assignment};
 ghost use Rattle.toml_span_format.specs.Same.{bare_assignment};
 ghost use Rattle.toml_span_format.specs.Permuted as spec;
 
@@ -10,7 +10,7 @@ use crate::same::{same_keys, same_pair};
 use std::alloc::{AllocError, Global};
 use toml_span_read::{Assignment, Section};
 
-/// An assignment, compared by the names of its key.
+/// An assignment with the names of its key, by which it is ordered.
 #[derive(Drop)]
 #[derive_where(PartialEq, Eq, PartialOrd, Ord)]
 struct Named<'s, 't> {
@@ -19,13 +19,13 @@ struct Named<'s, 't> {
     assignment: &'s Assignment<'t>,
 }
 
-/// Returns assignments in the order of their keys.
+/// Returns the assignments, sorted by the names of their keys. Fails if an allocation fails.
 fn sorted<'s, 't>(
     alloc: Global,
     assignments: &'s [Assignment<'t>],
 ) -> Result<Vec<Named<'s, 't>>, AllocError>
-    ensures { IfOk result (λ found. IsPermutation (map key_value assignments.now)
-        (map (λ n. key_value n.assignment.now) found.items)) }
+    ensures { IfOk result (λ found. IsPermutation (map parsed_assignment assignments.now)
+        (map (λ n. parsed_assignment n.assignment.now) found.items)) }
 {
     let mut found = Vec::new(alloc);
     for assignment in assignments {
@@ -36,10 +36,10 @@ fn sorted<'s, 't>(
     Ok(found)
 }
 
-/// Returns whether two lists of assignments are the same.
+/// Returns whether two sorted lists have equal assignments, without regard to spans.
 fn same_named(a: &[Named<'_, '_>], b: &[Named<'_, '_>]) -> bool
-    ensures { IsTrue result ↔ (map bare_assignment (map (λ n. key_value n.assignment.now) a.now)
-        ≡ map bare_assignment (map (λ n. key_value n.assignment.now) b.now)) }
+    ensures { IsTrue result ↔ (map bare_assignment (map (λ n. parsed_assignment n.assignment.now) a.now)
+        ≡ map bare_assignment (map (λ n. parsed_assignment n.assignment.now) b.now)) }
 {
     if a.len() != b.len() {
         return false;
@@ -52,24 +52,25 @@ fn same_named(a: &[Named<'_, '_>], b: &[Named<'_, '_>]) -> bool
     true
 }
 
-/// Returns whether two lists have the same assignments. If the order of those with the same key differs, it may be
-/// false.
+/// Returns whether two lists have equal assignments, in any order, without regard to spans. May return `false` if
+/// assignments with the same key are in another order. Fails if an allocation fails.
 fn permuted_pairs(
     alloc: Global,
     a: &[Assignment<'_>],
     b: &[Assignment<'_>],
 ) -> Result<bool, AllocError>
-    ensures { IfOk result (λ same. IsTrue same → IsPermutation (map bare_assignment (map key_value a.now))
-        (map bare_assignment (map key_value b.now))) }
+    ensures { IfOk result (λ same. IsTrue same → IsPermutation (map bare_assignment (map parsed_assignment a.now))
+        (map bare_assignment (map parsed_assignment b.now))) }
 {
     let before = sorted(alloc, a)?;
     let after = sorted(alloc, b)?;
     Ok(same_named(before.as_slice(), after.as_slice()))
 }
 
-/// Returns whether two sections are the same, except for the order of their assignments.
+/// Returns whether two sections are equal, without regard to spans and the order of their assignments. Fails if an
+/// allocation fails.
 fn permuted_section(alloc: Global, a: &Section<'_>, b: &Section<'_>) -> Result<bool, AllocError>
-    ensures { IfOk result (λ same. IsTrue same → spec.PermutedSection (block a.now) (block b.now)) }
+    ensures { IfOk result (λ same. IsTrue same → spec.PermutedSection (parsed_section a.now) (parsed_section b.now)) }
 {
     if a.array != b.array || !same_keys(a.header.as_slice(), b.header.as_slice()) {
         return Ok(false);
@@ -77,13 +78,15 @@ fn permuted_section(alloc: Global, a: &Section<'_>, b: &Section<'_>) -> Result<b
     permuted_pairs(alloc, a.assignments.as_slice(), b.assignments.as_slice())
 }
 
-/// Returns whether two lists of sections are the same, except for the order of the assignments in each.
+/// Returns whether two lists of sections are equal, without regard to spans and the order of the assignments in each
+/// section. Fails if an allocation fails.
 pub(crate) fn permuted_sections(
     alloc: Global,
     a: &[Section<'_>],
     b: &[Section<'_>],
 ) -> Result<bool, AllocError>
-    ensures { IfOk result (λ same. IsTrue same → spec.PermutedSections (map block a.now) (map block b.now)) }
+    ensures { IfOk result (λ same. IsTrue same
+        → spec.PermutedSections (map parsed_section a.now) (map parsed_section b.now)) }
 {
     if a.len() != b.len() {
         return Ok(false);

@@ -1,18 +1,18 @@
-//! What a document consists of besides white space, line ends and commas.
+//! The pieces of a document: everything except white space, line ends and commas.
 
-/// What is between a piece and the one before it, in the source. Commas count as nothing.
+/// What separates a piece from the one before it in the source. Commas do not count.
 #[derive(Clone, Copy, PartialEq, Eq)]
 pub(crate) enum Gap {
     /// No line end.
     SameLine,
     /// One line end.
     NextLine,
-    /// A blank line, or several.
+    /// At least one blank line.
     BlankLine,
 }
 
 impl Gap {
-    /// Returns the gap with one more line end.
+    /// Returns the gap after one more line end.
     pub(crate) fn with_line_end(self) -> Gap {
         match self {
             Gap::SameLine => Gap::NextLine,
@@ -20,7 +20,7 @@ impl Gap {
         }
     }
 
-    /// Returns the gap, with one line end if it has none.
+    /// Returns this gap, or `NextLine` if it has no line end.
     pub(crate) fn on_new_line(self) -> Gap {
         match self {
             Gap::SameLine => Gap::NextLine,
@@ -29,51 +29,51 @@ impl Gap {
     }
 }
 
-/// How an array or an inline table is written.
+/// How an array or inline table is to be written.
 #[derive(Clone, Copy, PartialEq, Eq)]
 pub(crate) enum Form {
-    /// On one line if this many columns are free, else one element a line.
+    /// On one line if that needs no more than this many columns, otherwise one element per line.
     IfFits(usize),
-    /// On one line, except for the arrays in it.
+    /// On one line, except for arrays in it that are written one element per line.
     OneLine,
-    /// One element a line.
+    /// One element per line.
     Lines,
 }
 
 /// The kind of a piece.
 #[derive(Clone, Copy, PartialEq, Eq)]
 pub(crate) enum Kind {
-    /// The first bracket of a header.
+    /// The bracket or brackets that begin a header.
     Header,
     /// The first part of a key.
     Key,
-    /// A dot or a later part of a key, or the rest of a header.
+    /// A dot, a later part of a key, or the rest of a header.
     Part,
     Equals,
-    /// A string, a number, a date or a boolean.
+    /// A string, number, date or boolean.
     Scalar,
     /// The opening bracket of an array.
     OpenArray(Form),
     /// The opening brace of an inline table.
     OpenTable(Form),
-    /// The closing bracket or brace of either.
+    /// The closing bracket of an array, or the closing brace of an inline table.
     Close,
     Comment,
 }
 
-/// A piece of a document.
+/// A piece of a document, and what separates it from the one before it.
 #[derive(Clone, Copy)]
 pub(crate) struct Piece<'t> {
     pub(crate) kind: Kind,
-    /// How it is written.
+    /// The text to write.
     pub(crate) text: &'t str,
-    /// Its byte offset in the document.
+    /// The byte offset of the piece in the document.
     pub(crate) start: usize,
     pub(crate) gap: Gap,
 }
 
 impl Piece<'_> {
-    /// Returns whether this is a comment on a line of its own.
+    /// Returns whether this is a comment that begins a line.
     pub(crate) fn is_own_comment(&self) -> bool {
         self.kind == Kind::Comment && self.gap != Gap::SameLine
     }

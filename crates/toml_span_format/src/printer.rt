@@ -1,50 +1,50 @@
-//! Prints pieces.
+//! Prints pieces in their new layout.
 use crate::options::Options;
 use crate::pieces::{Form, Gap, Kind, Piece, columns};
 use std::alloc::{AllocError, Global};
 
-/// How an open array or inline table is printed.
+/// How an open array or inline table is being printed.
 #[derive(Clone, Copy, PartialEq, Eq)]
 enum Mode {
-    /// On one line, with all that is in it.
+    /// On one line, with everything in it.
     Flat,
-    /// On one line, except for the arrays in it.
+    /// On one line, except for arrays in it that are printed one element per line.
     OneLine,
-    /// One element a line.
+    /// One element per line.
     Lines,
 }
 
-/// An array or an inline table that is not closed yet.
+/// An array or inline table that has been opened and not closed.
 #[derive(Clone, Copy)]
 struct Frame {
     mode: Mode,
     is_table: bool,
     is_empty: bool,
-    /// The columns that must be free after an array in it.
+    /// The number of columns that must stay free after an array in it, for closing brackets and commas.
     reserved: usize,
 }
 
-/// What is printed so far.
+/// A printer: the output so far, and what is open.
 #[derive(Drop)]
 struct Printer {
     out: String,
     options: Options,
     line_end: &'static str,
     open: Vec<Frame>,
-    /// The spaces at the start of a line.
+    /// The number of spaces to begin a line with.
     spaces: usize,
-    /// The offset in `out` up to which the columns of the last line are counted, and their number.
+    /// The offset in `out` up to which `column` counts the columns of the current line.
     counted: usize,
     column: usize,
-    /// Whether a line is begun.
+    /// Whether anything has been printed.
     is_begun: bool,
-    /// Whether the last piece is an opening bracket, a comment after one, or an equals sign.
+    /// Whether the last piece is an opening bracket or a comment after one, and whether it is an equals sign.
     is_after_open: bool,
     is_after_equals: bool,
 }
 
 impl Printer {
-    /// Ends the line.
+    /// Writes a line end. Fails if an allocation fails.
     fn end_line(&mut self) -> Result<(), AllocError> {
         self.out.push_str(self.line_end)?;
         self.counted = self.out.len();
@@ -52,7 +52,8 @@ impl Printer {
         Ok(())
     }
 
-    /// Begins a line, after a blank line if there was one. There is none at the start, nor after an opening bracket.
+    /// Begins a line, after a blank line if the gap has one, except at the start and after an opening bracket. Fails if
+    /// an allocation fails.
     fn begin_line(&mut self, gap: Gap) -> Result<(), AllocError> {
         if self.is_begun {
             self.end_line()?;
@@ -62,14 +63,14 @@ impl Printer {
         }
         self.is_begun = true;
         self.is_after_open = false;
-        // (so that a line is no longer for each further level, and the text not larger without limit)
+        // (at most the width, so that deep nesting does not make the output grow without limit)
         for _ in 0..self.spaces.min(self.options.width) {
             self.out.push(' ')?;
         }
         Ok(())
     }
 
-    /// Returns the columns of the last line.
+    /// Returns the number of columns of the current line.
     fn column(&mut self) -> usize {
         let more = columns(self.out.as_str().get(self.counted..).unwrap_or(""));
         self.counted = self.out.len();
@@ -77,7 +78,7 @@ impl Printer {
         self.column
     }
 
-    /// Begins an element of the array or inline table around.
+    /// Begins an element of the innermost open array or inline table. Fails if an allocation fails.
     fn begin_element(&mut self, gap: Gap) -> Result<(), AllocError> {
         let Some(frame) = self.open.last_mut() else {
             return Ok(());
@@ -92,7 +93,7 @@ impl Printer {
         }
     }
 
-    /// Begins a value, which is an element, or follows an equals sign.
+    /// Begins a value, which follows an equals sign or is an element. Fails if an allocation fails.
     fn begin_value(&mut self, gap: Gap) -> Result<(), AllocError> {
         if self.is_after_equals {
             self.is_after_equals = false;
@@ -101,7 +102,7 @@ impl Printer {
         self.begin_element(gap)
     }
 
-    /// Ends an element of the array or inline table around.
+    /// Ends an element of the innermost open array or inline table. Fails if an allocation fails.
     fn end_element(&mut self) -> Result<(), AllocError> {
         match self.open.last() {
             Some(
@@ -114,7 +115,7 @@ impl Printer {
         }
     }
 
-    /// Prints a comment, on the line of what is before it or on its own.
+    /// Prints a comment, on a line of its own or at the end of the current line. Fails if an allocation fails.
     fn comment(&mut self, piece: &Piece<'_>) -> Result<(), AllocError> {
         if piece.is_own_comment() {
             self.begin_line(piece.gap)?;
@@ -124,7 +125,7 @@ impl Printer {
         self.out.push_str(piece.text.trim_ascii_end())
     }
 
-    /// Prints the first part of a key.
+    /// Prints the first part of a key. Fails if an allocation fails.
     fn key(&mut self, piece: &Piece<'_>) -> Result<(), AllocError> {
         if self.open.is_empty() {
             self.begin_line(piece.gap)?;
@@ -134,7 +135,7 @@ impl Printer {
         self.out.push_str(piece.text)
     }
 
-    /// Prints a string, a number, a date or a boolean.
+    /// Prints a string, number, date or boolean. Fails if an allocation fails.
     fn scalar(&mut self, piece: &Piece<'_>) -> Result<(), AllocError> {
         self.begin_value(piece.gap)?;
         let start = self.out.len();
@@ -146,7 +147,7 @@ impl Printer {
         self.end_element()
     }
 
-    /// Returns how an array or inline table is printed that begins here.
+    /// Returns how to print an array or inline table that begins here and has this form.
     fn mode_of(&mut self, form: Form) -> Mode {
         let (is_flat, reserved) = match self.open.last() {
             Some(frame) => (frame.mode == Mode::Flat, frame.reserved),
@@ -167,7 +168,7 @@ impl Printer {
         }
     }
 
-    /// Prints an opening bracket.
+    /// Prints an opening bracket or brace. Fails if an allocation fails.
     fn begin(&mut self, piece: &Piece<'_>, is_table: bool, form: Form) -> Result<(), AllocError> {
         self.begin_value(piece.gap)?;
         let mode = self.mode_of(form);
@@ -192,7 +193,7 @@ impl Printer {
         self.out.push_str(piece.text)
     }
 
-    /// Prints a closing bracket.
+    /// Prints a closing bracket or brace. Fails if an allocation fails.
     fn close(&mut self, piece: &Piece<'_>) -> Result<(), AllocError> {
         match self.open.pop() {
             Some(frame) if frame.mode == Mode::Lines => {
@@ -206,7 +207,7 @@ impl Printer {
         self.end_element()
     }
 
-    /// Prints a piece.
+    /// Prints a piece. Fails if an allocation fails.
     fn piece(&mut self, piece: &Piece<'_>) -> Result<(), AllocError> {
         match piece.kind {
             Kind::Header => {
@@ -228,7 +229,7 @@ impl Printer {
     }
 }
 
-/// Returns the text of pieces.
+/// Prints all pieces after a byte order mark, if `mark` is one, and returns the text. Fails if an allocation fails.
 pub(crate) fn print(
     alloc: Global,
     mark: &str,

@@ -1,4 +1,4 @@
-//! Reads a document into pieces.
+//! Splits a document into pieces.
 use crate::pieces::{Form, Gap, Kind, Piece, columns};
 use std::alloc::{AllocError, Global};
 use toml_span_lex::span::Span;
@@ -6,7 +6,7 @@ use toml_span_lex::stop::Stop;
 use toml_span_lex::tokenizer::Tokenizer;
 use toml_span_lex::tokens::{Error, Token};
 
-/// What the tokens that follow belong to.
+/// What the next tokens belong to.
 #[derive(Clone, Copy, PartialEq, Eq)]
 enum Place {
     /// A header, or the key of a line.
@@ -16,26 +16,26 @@ enum Place {
     Value,
 }
 
-/// An array or an inline table that is not closed yet.
+/// An array or inline table that has been opened and not closed.
 #[derive(Drop)]
 struct Frame {
     is_table: bool,
-    /// The index of its opening bracket among the pieces.
+    /// The position of the piece that opens it.
     at: usize,
-    /// The columns of its elements, with the equals signs of its pairs but without commas.
+    /// The number of columns of its elements, with the equals signs of pairs but without commas.
     width: usize,
     elements: usize,
-    /// Whether a comma is the last thing in it.
+    /// Whether a comma follows its last element.
     ends_in_comma: bool,
     has_comment: bool,
-    /// Whether it has a line end outside of its elements, or is a table with such a table in it.
+    /// Whether there is a line end in it, outside its elements or, in an inline table, in an inline table in it.
     has_line_end: bool,
-    /// Whether an element has more than one line.
+    /// Whether an element takes more than one line.
     has_lines: bool,
 }
 
 impl Frame {
-    /// Returns the columns that all of it takes on one line.
+    /// Returns the number of columns that the whole takes on one line.
     fn whole_width(&self) -> usize {
         let brackets = if self.is_table && self.elements > 0 {
             4
@@ -46,9 +46,9 @@ impl Frame {
         self.width.saturating_add(commas).saturating_add(brackets)
     }
 
-    /// Returns how it is to be written.
+    /// Returns the form in which to write it.
     ///
-    /// An inline table that was on one line stays on one line, since TOML 1.0 has no others.
+    /// An inline table on one line stays on one line, because TOML 1.0 allows no line ends in inline tables.
     fn form(&self) -> Form {
         if self.has_comment || self.ends_in_comma {
             Form::Lines
@@ -62,35 +62,35 @@ impl Frame {
     }
 }
 
-/// The pieces that are read so far.
+/// A reader: the pieces so far, and what is open.
 #[derive(Drop)]
 struct Reader<'t> {
     text: &'t str,
     pieces: Vec<Piece<'t>>,
-    /// The key of a pair whose value has not begun. Comments before the value go before the key.
+    /// The pieces of a pair's key, until its value begins: comments between the two are moved before the key.
     key: Vec<Piece<'t>>,
     open: Vec<Frame>,
     place: Place,
-    /// Whether the last piece is a scalar that may go on.
+    /// Whether the last piece is a scalar that the next token may continue.
     in_scalar: bool,
-    /// What is between the last piece and the next token.
+    /// What separates the next token from the last piece.
     gap: Gap,
-    /// Whether a comma is on the current line. Such a line is not blank.
+    /// Whether there is a comma on the current line. Such a line does not count as blank.
     has_comma: bool,
-    /// The first line end outside of strings.
+    /// The first line end of the text, outside strings.
     line_end: Option<&'static str>,
 }
 
-/// A text in pieces.
+/// The pieces of a text.
 #[derive(Drop)]
 pub(crate) struct Pieces<'t> {
     pub(crate) pieces: Vec<Piece<'t>>,
-    /// The first line end outside of strings, or a line feed.
+    /// The first line end outside strings, or LF if there is none.
     pub(crate) line_end: &'static str,
 }
 
 impl<'t> Reader<'t> {
-    /// Returns the piece of a token, and what is between pieces begins anew.
+    /// Returns the piece of a token with the current gap, and starts a new gap.
     fn piece(&mut self, kind: Kind, text: &'t str, start: usize) -> Piece<'t> {
         let gap = self.gap;
         self.gap = Gap::SameLine;
@@ -103,21 +103,21 @@ impl<'t> Reader<'t> {
         }
     }
 
-    /// Adds columns to the array or inline table around.
+    /// Adds to the number of columns of the innermost open array or inline table.
     fn widen(&mut self, by: usize) {
         if let Some(frame) = self.open.last_mut() {
             frame.width = frame.width.saturating_add(by);
         }
     }
 
-    /// Adds the columns of a text to the array or inline table around.
+    /// Adds the columns of a text to those of the innermost open array or inline table.
     fn widen_by(&mut self, text: &str) {
         if let Some(frame) = self.open.last_mut() {
             frame.width = frame.width.saturating_add(columns(text));
         }
     }
 
-    /// Counts an element of the array or inline table around.
+    /// Counts an element of the innermost open array or inline table.
     fn count(&mut self) {
         if let Some(frame) = self.open.last_mut() {
             frame.elements = frame.elements.saturating_add(1);
@@ -125,7 +125,7 @@ impl<'t> Reader<'t> {
         }
     }
 
-    /// Returns whether the innermost bracket that is open is a brace.
+    /// Returns whether an inline table is the innermost thing that is open.
     fn is_in_table(&self) -> bool {
         match self.open.last() {
             Some(frame) => frame.is_table,
@@ -133,7 +133,7 @@ impl<'t> Reader<'t> {
         }
     }
 
-    /// Adds a line end.
+    /// Processes a line end.
     fn line_end(&mut self, span: Span) {
         self.gap = if self.has_comma {
             self.gap.on_new_line()
@@ -154,7 +154,7 @@ impl<'t> Reader<'t> {
         }
     }
 
-    /// Adds a comment.
+    /// Processes a comment. Fails if an allocation fails.
     fn comment(&mut self, text: &'t str, start: usize) -> Result<(), AllocError> {
         let mut piece = self.piece(Kind::Comment, text, start);
         if let Some(key) = self.key.first_mut() {
@@ -168,7 +168,8 @@ impl<'t> Reader<'t> {
         Ok(())
     }
 
-    /// Begins a header: it gets a blank line before it and the comments right above it.
+    /// Begins a header, with a blank line before it and before the comments right above it. Fails if an allocation
+    /// fails.
     fn header(&mut self, start: usize) -> Result<(), AllocError> {
         let piece = self.piece(Kind::Header, "[", start);
         self.place = Place::Header;
@@ -191,7 +192,7 @@ impl<'t> Reader<'t> {
         Ok(())
     }
 
-    /// Adds a dot or a part of a key.
+    /// Processes a dot or a part of a key. Fails if an allocation fails.
     fn part(&mut self, text: &'t str, start: usize) -> Result<(), AllocError> {
         self.widen_by(text);
         if self.key.is_empty() {
@@ -206,7 +207,7 @@ impl<'t> Reader<'t> {
         Ok(())
     }
 
-    /// Adds the equals sign.
+    /// Processes an equals sign. Fails if an allocation fails.
     fn equals(&mut self, start: usize) -> Result<(), AllocError> {
         self.widen(3);
         self.place = Place::Value;
@@ -216,7 +217,7 @@ impl<'t> Reader<'t> {
         Ok(())
     }
 
-    /// Begins a value: its key, if it has one, comes before it.
+    /// Begins a value: appends its key first, if it has one. Fails if an allocation fails.
     fn begin_value(&mut self) -> Result<(), AllocError> {
         if self.key.is_empty() {
             self.count();
@@ -224,7 +225,7 @@ impl<'t> Reader<'t> {
         self.pieces.append(&mut self.key)
     }
 
-    /// Adds a scalar, or a part of one.
+    /// Processes a scalar, or a token that continues one. Fails if an allocation fails.
     fn scalar(&mut self, text: &'t str, start: usize) -> Result<(), AllocError> {
         if !self.in_scalar {
             self.begin_value()?;
@@ -240,13 +241,13 @@ impl<'t> Reader<'t> {
         };
         let before = last.text.len();
         last.text = self.text.get(last.start..end).unwrap_or("");
-        // (what is not a string has a column for each byte)
+        // (all bytes are ASCII here, so each is one column)
         let more = last.text.len().saturating_sub(before);
         self.widen(more);
         Ok(())
     }
 
-    /// Opens an array or an inline table.
+    /// Begins an array or inline table. Fails if an allocation fails.
     fn begin(&mut self, is_table: bool, start: usize) -> Result<(), AllocError> {
         self.begin_value()?;
         let at = self.pieces.len();
@@ -270,7 +271,7 @@ impl<'t> Reader<'t> {
         Ok(())
     }
 
-    /// Tells the array or inline table around what is in it now.
+    /// Updates the innermost open array or inline table for one of this form that was closed in it.
     fn hold(&mut self, frame: &Frame, form: Form) {
         self.widen(frame.whole_width());
         if let Some(outer) = self.open.last_mut() {
@@ -279,7 +280,7 @@ impl<'t> Reader<'t> {
         }
     }
 
-    /// Closes an array or an inline table.
+    /// Closes the innermost array or inline table. Fails if an allocation fails.
     fn close(&mut self, text: &'t str, start: usize) -> Result<(), AllocError> {
         self.in_scalar = false;
         self.place = Place::Value;
@@ -300,7 +301,7 @@ impl<'t> Reader<'t> {
         Ok(())
     }
 
-    /// Adds a comma.
+    /// Processes a comma.
     fn comma(&mut self) {
         self.in_scalar = false;
         self.has_comma = true;
@@ -312,7 +313,7 @@ impl<'t> Reader<'t> {
         }
     }
 
-    /// Adds a part of a key, a header or a scalar.
+    /// Processes a bare word: a part of a key, a header or a scalar. Fails if an allocation fails.
     fn word(&mut self, text: &'t str, start: usize) -> Result<(), AllocError> {
         match self.place {
             Place::Line | Place::Key => self.part(text, start),
@@ -325,7 +326,7 @@ impl<'t> Reader<'t> {
         }
     }
 
-    /// Adds a string.
+    /// Processes a string. Fails if an allocation fails.
     fn string(&mut self, src: &'t str, start: usize, multiline: bool) -> Result<(), AllocError> {
         self.word(src, start)?;
         if multiline && src.contains('\n') {
@@ -336,7 +337,7 @@ impl<'t> Reader<'t> {
         Ok(())
     }
 
-    /// Adds an opening bracket.
+    /// Processes an opening bracket. Fails if an allocation fails.
     fn left_bracket(&mut self, start: usize) -> Result<(), AllocError> {
         match self.place {
             Place::Line => self.header(start),
@@ -345,7 +346,7 @@ impl<'t> Reader<'t> {
         }
     }
 
-    /// Adds a closing bracket.
+    /// Processes a closing bracket. Fails if an allocation fails.
     fn right_bracket(&mut self, start: usize) -> Result<(), AllocError> {
         match self.place {
             Place::Header => self.word("]", start),
@@ -353,7 +354,7 @@ impl<'t> Reader<'t> {
         }
     }
 
-    /// Adds a token.
+    /// Processes a token. Fails if an allocation fails.
     fn token(&mut self, span: Span, token: Token<'t>) -> Result<(), AllocError> {
         let start = span.start;
         match token {
@@ -381,7 +382,8 @@ impl<'t> Reader<'t> {
     }
 }
 
-/// Returns the pieces of a text that is read as TOML. Of another one they are anything, up to the first fault.
+/// Returns the pieces of a text that can be read as TOML. For any other text they are unspecified. Fails if an
+/// allocation fails.
 pub(crate) fn pieces_of<'t>(alloc: Global, text: &'t str) -> Result<Pieces<'t>, AllocError> {
     let mut tokenizer = Tokenizer::new(text);
     let mut reader = Reader {

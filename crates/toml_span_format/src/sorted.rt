@@ -1,6 +1,6 @@
 //! Formats a document with its keys sorted.
 ghost use Rattle.std.specs.Prelude.{IfOk, IfSome, IsTrue, Ok, map};
-ghost use Rattle.toml_span_read.specs.Data.{block, depth_limit};
+ghost use Rattle.toml_span_read.specs.Data.{parsed_section, depth_limit};
 ghost use Rattle.toml_span_read.specs.Read.{document};
 ghost use Rattle.toml_span_format.specs.Document as spec;
 
@@ -15,7 +15,7 @@ use std::alloc::{AllocError, Global};
 use toml_span_lex::stop::Stop;
 use toml_span_read::Section;
 
-/// Lays a document out with its keys sorted.
+/// Returns the text in its new layout, with its keys sorted. Fails if an allocation fails.
 fn laid_out_sorted(
     alloc: Global,
     text: &str,
@@ -33,7 +33,8 @@ fn laid_out_sorted(
     )
 }
 
-/// Returns the comments of a text in the order of their bytes, or None if its tokens have a fault.
+/// Returns the comments of a text, sorted by their bytes, or `None` if it can't be split into tokens. Fails if an
+/// allocation fails.
 fn sorted_comments<'t>(alloc: Global, text: &'t str) -> Result<Option<Vec<&'t str>>, AllocError>
     ensures { IfOk result (λ read. IfSome read (λ found.
         spec.CommentsPermuted text.now (map (λ t. t.now) found.items))) }
@@ -45,7 +46,7 @@ fn sorted_comments<'t>(alloc: Global, text: &'t str) -> Result<Option<Vec<&'t st
     Ok(Some(found))
 }
 
-/// Returns whether two texts have the same comments, except for their order.
+/// Returns whether two texts have the same comments, in any order. Fails if an allocation fails.
 fn permuted_comments(alloc: Global, old: &str, new: &str) -> Result<bool, AllocError>
     ensures { IfOk result (λ same. IsTrue same → spec.PermutedComments old.now new.now) }
 {
@@ -58,15 +59,15 @@ fn permuted_comments(alloc: Global, old: &str, new: &str) -> Result<bool, AllocE
     Ok(same_texts(before.as_slice(), after.as_slice()))
 }
 
-/// Returns whether a text has the sections and comments of another one, except for the order of the assignments in each
-/// section, and of the comments.
+/// Returns whether the text `new` has these sections, without regard to spans and the order of the assignments in each
+/// section, and the comments of `text`, in any order. Fails if an allocation fails.
 fn is_permuted(
     alloc: Global,
     text: &str,
     sections: &[Section<'_>],
     new: &str,
 ) -> Result<bool, AllocError>
-    requires { document text.now depth_limit (Ok (map block sections.now)) }
+    requires { document text.now depth_limit (Ok (map parsed_section sections.now)) }
     ensures { IfOk result (λ same. IsTrue same → spec.PermutedDocument text.now new.now) }
 {
     let read = match sections_of(alloc, new) {
@@ -80,18 +81,18 @@ fn is_permuted(
     permuted_comments(alloc, text, new)
 }
 
-/// Formats a document with its keys sorted.
+/// Formats a document, and sorts its keys.
 ///
-/// In each section, the assignments between two blank lines are in the order of their keys: part by part, by the bytes
-/// of the names. Those with the same key stay in their order. A comment on a line of its own moves with the assignment
-/// right below it, and one at the end of an assignment with that. Everything else is as `format` does it: keys in
-/// inline tables, elements and sections are not sorted.
+/// In each section, the assignments between two blank lines are sorted by their keys: part by part, by the bytes of the
+/// names. Assignments with the same key keep their order. A comment on its own line moves with the assignment right
+/// below it, and a comment at the end of a line moves with that line. Keys in inline tables, elements of arrays, and
+/// sections are not sorted.
 ///
-/// The result has the same sections in the same order, with the same assignments in each, and the same comments.
+/// The result has the same sections in the same order, the same assignments in each of them, and the same comments.
 ///
 /// # Errors
 ///
-/// As `format`.
+/// Those of `format`.
 pub fn format_sorted<'t>(
     alloc: Global,
     text: &'t str,

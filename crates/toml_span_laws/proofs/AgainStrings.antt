@@ -6,7 +6,7 @@ use Rattle.toml_span_lex.specs.Text.{is_crlf, LineEnd}
 use Rattle.toml_span_lex.specs.Tokens.{RunAt}
 use Rattle.toml_span_read.specs.Gaps.{GapPiece, begins_gap, GapBy, MaximalGap, Dot, NoDot, Separator, Closes}
 use Rattle.toml_span_read.proofs.Places.{run_some}
-use Rattle.toml_span_read.proofs.Moves.{Moves, either, said, Copied, At, behind, nothing, byte, stays, first, run, same_range, further, room, between}
+use Rattle.toml_span_read.proofs.Moves.{Moves, either, said, Copied, At, in_sequence, nothing, byte, stays, first, run, same_range, further, room, between}
 use Rattle.toml_span_lex.specs.declared.span.Span.{Span}
 use Rattle.toml_span_lex.specs.declared.pieces.Piece.{Piece}
 use Rattle.toml_span_lex.specs.declared.pieces.Piece.TheVariants as pieces
@@ -78,7 +78,7 @@ module _ {a b : List ℕ} {s t : ℕ} (w : Copied a b s t (length b) 0) where
 
   gap_pieces : (ns : List ℕ) → Moves (At s t (length b) 0) (λ i j. GapBy a i ns j) (λ k l. (ms : List ℕ) × GapBy b k ms l)
   gap_pieces [] = said (λ i j h. sym h) (λ k l h. ([], sym h)) nothing
-  gap_pieces (n ∷ ns) = said (λ i j h. (n, h.0, h.1)) (λ k l h. (h.0 ∷ h.2.0, (h.1, h.2.1))) (behind gap_piece (gap_pieces ns))
+  gap_pieces (n ∷ ns) = said (λ i j h. (n, h.0, h.1)) (λ k l h. (h.0 ∷ h.2.0, (h.1, h.2.1))) (in_sequence gap_piece (gap_pieces ns))
 
   pub gap : Alike 0 MaximalGap
   gap = record {
@@ -91,13 +91,13 @@ module _ {a b : List ℕ} {s t : ℕ} (w : Copied a b s t (length b) 0) where
   -- ---- signs
 
   pub sign : (c : ℕ) → Alike 0 (Separator c)
-  sign c = said (λ i j h. (h.at, h.before, (h.here, h.behind))) (λ k l h. record { at = h.0; before = h.1; here = h.2.0; behind = h.2.1 }) (behind gap (first w (λ x. x) c gap))
+  sign c = said (λ i j h. (h.at, h.before, (h.here, h.after))) (λ k l h. record { at = h.0; before = h.1; here = h.2.0; after = h.2.1 }) (in_sequence gap (first w (λ x. x) c gap))
 
   pub closes : (c : ℕ) → Alike 0 (Closes c)
-  closes c = said (λ i j h. (h.at, h.before, (h.here, h.ends))) (λ k l h. record { at = h.0; before = h.1; here = h.2.0; ends = h.2.1 }) (behind gap (first w (λ x. x) c nothing))
+  closes c = said (λ i j h. (h.at, h.before, (h.here, h.ends))) (λ k l h. record { at = h.0; before = h.1; here = h.2.0; ends = h.2.1 }) (in_sequence gap (first w (λ x. x) c nothing))
 
   pub dot : Alike 0 Dot
-  dot = said (λ i j h. (h.at, h.before, (h.here, h.behind))) (λ k l h. record { at = h.0; before = h.1; here = h.2.0; behind = h.2.1 }) (behind (runs is_blank) (first w (λ x. x) 46 (runs is_blank)))
+  dot = said (λ i j h. (h.at, h.before, (h.here, h.after))) (λ k l h. record { at = h.0; before = h.1; here = h.2.0; after = h.2.1 }) (in_sequence (runs is_blank) (first w (λ x. x) 46 (runs is_blank)))
 
   pub no_dot : {i k : ℕ} → At s t (length b) 0 i k → NoDot a i → NoDot b k
   no_dot {i} {k} u h = (let r = run_cut is_blank i h.at k u h.before in no_dot_at r.0 r.1 r.2)
@@ -148,7 +148,7 @@ module _ {a b : List ℕ} {s t : ℕ} (w : Copied a b s t (length b) 0) where
   }
 
   dropped : Alike w 1 IsDropped
-  dropped = said (λ i j h. (h.0, h.2, (h.1, h.3, h.4))) (λ k l h. (h.0, h.2.0, h.1, h.2.1, h.2.2)) (behind (runs w is_blank) (behind (line w) dropped_gap))
+  dropped = said (λ i j h. (h.0, h.2, (h.1, h.3, h.4))) (λ k l h. (h.0, h.2.0, h.1, h.2.1, h.2.2)) (in_sequence (runs w is_blank) (in_sequence (line w) dropped_gap))
 
   -- ---- escapes
 

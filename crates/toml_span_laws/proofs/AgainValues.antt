@@ -6,14 +6,14 @@ use Rattle.toml_span_tree.specs.Node.{Scalar, text as text_scalar, integer, floa
 use Rattle.toml_span_read.specs.Dates.{is_date_byte, begins_date, continues_date, IsCandidate}
 use Rattle.toml_span_read.specs.Numbers.{IsNumber}
 use Rattle.toml_span_read.specs.Grammar.{SpellsScalar, truth_text, Spells, InnerWith, ItemsWith, PairsWith}
-use Rattle.toml_span_read.proofs.Moves.{Moves, also, Copied, At, further, same_range, either, said, given, behind, nothing, first}
+use Rattle.toml_span_read.proofs.Moves.{Moves, also, Copied, At, further, same_range, either, said, given, in_sequence, nothing, first}
 use Rattle.toml_span_read.proofs.NumbersMove.{number}
 use Rattle.toml_span_read.proofs.DatesMove.{date_carried}
 use Rattle.toml_span_laws.specs.Again.{moved_span, moved_parts, moved, moved_inner, moved_items, moved_pairs}
 use Rattle.toml_span_laws.proofs.AgainStrings.{runs, worded, gap, sign, closes, dot, no_dot, string, string_on, spans, equal_moved}
 use Rattle.toml_span_read.specs.Gaps.{Separator, MaximalGap}
 use Rattle.toml_span_read.specs.Keys.{SpellsSimpleKey, Onward, SpellsKey}
-use Rattle.toml_span_read.specs.Data.{SimpleKey, ParsedValue, parsed, ParsedInner, scalar, array, inline, ParsedItems, no_items, item, ParsedPairs, no_pairs, pair, KeyValue, from_to}
+use Rattle.toml_span_read.specs.Data.{SimpleKey, ParsedValue, parsed, ParsedInner, scalar, array, inline, ParsedItems, no_items, item, ParsedPairs, no_pairs, pair, ParsedAssignment, from_to}
 use Rattle.toml_span_read.specs.Earlier.{part_names, NoneAt, NoneThrough, Clear}
 
 -- ---- numbers, booleans and dates
@@ -88,14 +88,14 @@ moved_part s t p = record { name = p.name; span = moved_span s t p.span }
 
 -- ---- keys that go through earlier values
 
-abbrev moved_key_value : ℕ → ℕ → KeyValue → KeyValue
-moved_key_value s t e = record { parts = moved_parts s t e.parts; value = moved s t e.value; extent = moved_span s t e.extent }
+abbrev moved_assignment : ℕ → ℕ → ParsedAssignment → ParsedAssignment
+moved_assignment s t e = record { parts = moved_parts s t e.parts; value = moved s t e.value; extent = moved_span s t e.extent }
 
 path_moved : (s t : ℕ) (ps : List SimpleKey) → part_names (moved_parts s t ps) ≡ part_names ps
 path_moved s t [] = refl
 path_moved s t (p ∷ ps) = ap (λ (ns : List (List ℕ)). p.name ∷ ns) (path_moved s t ps)
 
-none_moved : (s t : ℕ) (names : List (List ℕ)) (es : List KeyValue) → NoneAt names es → NoneAt names (map (moved_key_value s t) es)
+none_moved : (s t : ℕ) (names : List (List ℕ)) (es : List ParsedAssignment) → NoneAt names es → NoneAt names (map (moved_assignment s t) es)
 none_moved s t names [] h = tt
 none_moved s t names (e ∷ es) (h, more) = ((λ x. h (sym (path_moved s t e.parts) ∙ x)), none_moved s t names es more)
 
@@ -103,31 +103,31 @@ none_moved s t names (e ∷ es) (h, more) = ((λ x. h (sym (path_moved s t e.par
 record CutAt (ps xs : List SimpleKey) (y : SimpleKey) (ys : List SimpleKey) : Type 0 where
   before : List SimpleKey
   here : SimpleKey
-  behind : List SimpleKey
-  is : ps ≡ before ++ (here ∷ behind)
+  after : List SimpleKey
+  is : ps ≡ before ++ (here ∷ after)
   first : part_names before ≡ part_names xs
   path : part_names (before ++ (here ∷ [])) ≡ part_names (xs ++ (y ∷ []))
-  last : part_names behind ≡ part_names ys
+  last : part_names after ≡ part_names ys
 
 cut_alike : (ps xs : List SimpleKey) (y : SimpleKey) (ys : List SimpleKey) → part_names (xs ++ (y ∷ ys)) ≡ part_names ps → CutAt ps xs y ys
 cut_alike [] [] y ys e = absurd (cc)
 cut_alike [] (x ∷ xs) y ys e = absurd (cc)
-cut_alike (p ∷ ps) [] y ys e = record { before = []; here = p; behind = ps; is = refl; first = refl; path = cc; last = cc }
+cut_alike (p ∷ ps) [] y ys e = record { before = []; here = p; after = ps; is = refl; first = refl; path = cc; last = cc }
 cut_alike (p ∷ ps) (x ∷ xs) y ys e =
     let c = cut_alike ps xs y ys cc in
-    record { before = p ∷ c.before; here = c.here; behind = c.behind; is = cc (c.is); first = cc; path = cc; last = c.last }
+    record { before = p ∷ c.before; here = c.here; after = c.after; is = cc (c.is); first = cc; path = cc; last = c.last }
 
-through_moved : (s t : ℕ) (ps qs : List SimpleKey) (es : List KeyValue) → part_names qs ≡ part_names ps → NoneThrough ps es → NoneThrough qs (map (moved_key_value s t) es)
+through_moved : (s t : ℕ) (ps qs : List SimpleKey) (es : List ParsedAssignment) → part_names qs ≡ part_names ps → NoneThrough ps es → NoneThrough qs (map (moved_assignment s t) es)
 through_moved s t ps qs es m h outer p rest e = grind (arith, nat_tests, common_steps, cut_alike ps outer p rest, none_moved s t (part_names (outer ++ (p ∷ []))) es)
 
 none_of : (ps : List SimpleKey) → part_names ps ≡ [] → ps ≡ []
 none_of [] e = refl
 none_of (p ∷ ps) e = absurd (cc)
 
-clear_moved : (s t : ℕ) (es : List KeyValue) (next : KeyValue) → Clear es next → Clear (map (moved_key_value s t) es) (moved_key_value s t next)
+clear_moved : (s t : ℕ) (es : List ParsedAssignment) (next : ParsedAssignment) → Clear es next → Clear (map (moved_assignment s t) es) (moved_assignment s t next)
 clear_moved s t es next h inner last e =
     let c = cut_alike next.parts inner last [] (sym (ap (λ (l : List SimpleKey). part_names l) e) ∙ path_moved s t next.parts) in
-    through_moved s t c.before inner es (sym c.first) (h c.before c.here (subst (λ (l : List SimpleKey). next.parts ≡ c.before ++ (c.here ∷ l)) (none_of c.behind c.last) c.is))
+    through_moved s t c.before inner es (sym c.first) (h c.before c.here (subst (λ (l : List SimpleKey). next.parts ≡ c.before ++ (c.here ∷ l)) (none_of c.after c.last) c.is))
 
 length_moved : (s t : ℕ) (ss : List SimpleKey) → length (moved_parts s t ss) ≡ length ss
 length_moved s t ss = length-map ss _
@@ -146,23 +146,23 @@ module _ {a b : List ℕ} {s t : ℕ} (w : Copied a b s t (length b) 0) where
 
   onward : (ps : List SimpleKey) → To (Onward ps a) (Onward (moved_parts s t ps) b)
   onward [] = also nothing (λ i j k l o u v e h. no_dot w u h)
-  onward (p ∷ ps) = said (λ i j h. (h.0, h.2, (h.1, h.3, h.4))) (λ k l h. (h.0, h.2.0, h.1, h.2.1, h.2.2)) (behind (dot w) (behind (key p) (onward ps)))
+  onward (p ∷ ps) = said (λ i j h. (h.0, h.2, (h.1, h.3, h.4))) (λ k l h. (h.0, h.2.0, h.1, h.2.1, h.2.2)) (in_sequence (dot w) (in_sequence (key p) (onward ps)))
 
   dotted : (ps : List SimpleKey) → To (SpellsKey ps a) (SpellsKey (moved_parts s t ps) b)
   dotted [] = record { on = λ i j h. absurd h; to = λ i j k l u v h. absurd h }
-  dotted (p ∷ ps) = behind (key p) (onward ps)
+  dotted (p ∷ ps) = in_sequence (key p) (onward ps)
 
   -- a key, an equals sign and a value
   front : (ss : List SimpleKey) (v : ParsedValue) (x : Span) (limit c d : ℕ) → To (Spells v a limit (d + length ss)) (Spells (moved s t v) b limit (c + length (moved_parts s t ss)))
       → To (λ i m. (y z : ℕ) × SpellsKey ss a i y × (length ss ≤ limit) × Separator 61 a y z × Spells v a limit (d + length ss) z m × (x ≡ from_to i m))
       (λ k m. (y z : ℕ) × SpellsKey (moved_parts s t ss) b k y × (length (moved_parts s t ss) ≤ limit) × Separator 61 b y z × Spells (moved s t v) b limit (c + length (moved_parts s t ss)) z m × (moved_span s t x ≡ from_to k m))
   front ss v x limit c d again = said (λ i j h. ((h.0, h.2, (h.1, h.4, h.5)), (h.3, h.6))) (λ k l h. (h.0.0, h.0.2.0, h.0.1, h.1.0, h.0.2.1, h.0.2.2, h.1.1))
-      (also {P = λ i j. (length ss ≤ limit) × (x ≡ from_to i j)} {Q = λ k l. (length (moved_parts s t ss) ≤ limit) × (moved_span s t x ≡ from_to k l)} (behind (dotted ss) (behind (sign w 61) again)) (λ i j k l o u v h z. (omega (arith, length_moved s t ss, z.0), spans w u v z.1)))
+      (also {P = λ i j. (length ss ≤ limit) × (x ≡ from_to i j)} {Q = λ k l. (length (moved_parts s t ss) ≤ limit) × (moved_span s t x ≡ from_to k l)} (in_sequence (dotted ss) (in_sequence (sign w 61) again)) (λ i j k l o u v h z. (omega (arith, length_moved s t ss, z.0), spans w u v z.1)))
 
   -- a bracket, and what follows it
   opened : (c : ℕ) (span : Span) {R S : ℕ → ℕ → Type 0} → To R S
       → To (λ i j. (get_or a i 0 ≡ c) × (span ≡ from_to i j) × (k : ℕ) × MaximalGap a (i + 1) k × R k j) (λ i j. (get_or b i 0 ≡ c) × (moved_span s t span ≡ from_to i j) × (k : ℕ) × MaximalGap b (i + 1) k × S k j)
-  opened c span x = said (λ i j h. ((h.0, (h.2, h.3, h.4)), h.1)) (λ k l h. (h.0.0, h.1, h.0.1.0, h.0.1.1, h.0.1.2)) (also (first w (λ x. x) c (behind (gap w) x)) (λ i j k l o u v h z. spans w u v z))
+  opened c span x = said (λ i j h. ((h.0, (h.2, h.3, h.4)), h.1)) (λ k l h. (h.0.0, h.1, h.0.1.0, h.0.1.1, h.0.1.2)) (also (first w (λ x. x) c (in_sequence (gap w) x)) (λ i j k l o u v h z. spans w u v z))
 
   mutual
     pub value_copied : (v : ParsedValue) (limit c d : ℕ) → c ≤ d → To (Spells v a limit d) (Spells (moved s t v) b limit c)
@@ -176,14 +176,14 @@ module _ {a b : List ℕ} {s t : ℕ} (w : Copied a b s t (length b) 0) where
     items_copied : (vs : ParsedItems) (limit c d : ℕ) → c ≤ d → To (ItemsWith SpellsScalar vs a limit d) (ItemsWith SpellsScalar (moved_items s t vs) b limit c)
     items_copied no_items limit c d q = first w (λ x. x) 93 nothing
     items_copied (item v vs) limit c d q =
-        behind (value_copied v limit c d q) (either (given (λ z. ap (λ (r : ParsedItems). moved_items s t r) z) (closes w 93)) (behind (sign w 44) (items_copied vs limit c d q)))
+        in_sequence (value_copied v limit c d q) (either (given (λ z. ap (λ (r : ParsedItems). moved_items s t r) z) (closes w 93)) (in_sequence (sign w 44) (items_copied vs limit c d q)))
 
-    pairs_copied : (ps : ParsedPairs) (es : List KeyValue) (limit c d : ℕ) → c ≤ d → To (PairsWith SpellsScalar ps es a limit d) (PairsWith SpellsScalar (moved_pairs s t ps) (map (moved_key_value s t) es) b limit c)
+    pairs_copied : (ps : ParsedPairs) (es : List ParsedAssignment) (limit c d : ℕ) → c ≤ d → To (PairsWith SpellsScalar ps es a limit d) (PairsWith SpellsScalar (moved_pairs s t ps) (map (moved_assignment s t) es) b limit c)
     pairs_copied no_pairs es limit c d q = first w (λ x. x) 125 nothing
     pairs_copied (pair ss v x ps) es limit c d q =
-        let e : KeyValue = record { parts = ss; value = v; extent = x } in
-        let more : To (PairsWith SpellsScalar ps (es ++ (e ∷ [])) a limit d) (PairsWith SpellsScalar (moved_pairs s t ps) (map (moved_key_value s t) es ++ (moved_key_value s t e ∷ [])) b limit c) =
-        subst (λ (fs : List KeyValue). To (PairsWith SpellsScalar ps (es ++ (e ∷ [])) a limit d) (PairsWith SpellsScalar (moved_pairs s t ps) fs b limit c)) (map-append (moved_key_value s t) es (e ∷ [])) (pairs_copied ps (es ++ (e ∷ [])) limit c d q) in
+        let e : ParsedAssignment = record { parts = ss; value = v; extent = x } in
+        let more : To (PairsWith SpellsScalar ps (es ++ (e ∷ [])) a limit d) (PairsWith SpellsScalar (moved_pairs s t ps) (map (moved_assignment s t) es ++ (moved_assignment s t e ∷ [])) b limit c) =
+        subst (λ (fs : List ParsedAssignment). To (PairsWith SpellsScalar ps (es ++ (e ∷ [])) a limit d) (PairsWith SpellsScalar (moved_pairs s t ps) fs b limit c)) (map-append (moved_assignment s t) es (e ∷ [])) (pairs_copied ps (es ++ (e ∷ [])) limit c d q) in
         said (λ i j h. (h.0, h.1, (h.2, h.3))) (λ k l h. (h.0, h.1, h.2.0, h.2.1))
-        (behind (front ss v x limit c d (value_copied v limit (c + length (moved_parts s t ss)) (d + length ss) (omega (arith, length_moved s t ss))))
-        (given (λ z. clear_moved s t es e z) (either (given (λ z. ap (λ (r : ParsedPairs). moved_pairs s t r) z) (closes w 125)) (behind (sign w 44) more))))
+        (in_sequence (front ss v x limit c d (value_copied v limit (c + length (moved_parts s t ss)) (d + length ss) (omega (arith, length_moved s t ss))))
+        (given (λ z. clear_moved s t es e z) (either (given (λ z. ap (λ (r : ParsedPairs). moved_pairs s t r) z) (closes w 125)) (in_sequence (sign w 44) more))))

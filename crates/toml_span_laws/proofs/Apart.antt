@@ -5,9 +5,9 @@ use Rattle.toml_span_tree.specs.Path.{Path, key, Place, place_at}
 use Rattle.toml_span_tree.specs.Value.{view}
 use Rattle.toml_span_tree.specs.declared.value.Value.{Value}
 use Rattle.toml_span_read.proofs.ReadSound.{document_sound}
-use Rattle.toml_span_read.specs.Data.{Block}
+use Rattle.toml_span_read.specs.Data.{ParsedSection}
 use Rattle.toml_span_read.specs.Grammar.{SpellsDocument}
-use Rattle.toml_span.specs.declared.claims.Sort.TheVariants.{TableElement}
+use Rattle.toml_span.specs.declared.claims.ClaimKind.TheVariants.{TableElement}
 use Rattle.toml_span.specs.Claims.{Claim, Claims, no_claims, claimed, scope, claims}
 use Rattle.toml_span.specs.Flat.{all_claims, flat}
 use Rattle.toml_span_laws.specs.Clashing.{IsIn}
@@ -58,7 +58,7 @@ each-in (scope inner cs) l f = grind (arith, nat_tests, common_steps, each-in in
 
 -- the claim starts after the other, or it is that of an entry
 abbrev pub IsLater : Claim → Claim → Type 0
-IsLater c d = (claim_start c < claim_start d) ⊎ (d.mark.sort ≡ TableElement)
+IsLater c d = (claim_start c < claim_start d) ⊎ (d.info.kind ≡ TableElement)
 
 onward-later : (c d : Claim) (ds : List Claim) (j : ℕ) → Onward c ds j → IsIn d ds → IsLater c d
 onward-later c d [] j h i = absurd i
@@ -80,11 +80,11 @@ rising-keyed c [] i j r h = absurd h
 rising-keyed c (d ∷ ds) i j r (inl same) = rw same (onward-keyed d ds j r.1)
 rising-keyed c (d ∷ ds) i j r (inr later) = rising-keyed c ds (claim_start d) j (onward-rest d ds j r.1) later
 
-pub strictly : (c d : Claim) → IsLater c d → (d.mark.sort ≡ TableElement → ⊥) → claim_start c < claim_start d
+pub strictly : (c d : Claim) → IsLater c d → (d.info.kind ≡ TableElement → ⊥) → claim_start c < claim_start d
 strictly c d h plain = grind (arith, nat_tests, common_steps)
 
 -- two claims that start at the same offset are the same, if neither is that of an entry
-one-claim : (c d : Claim) (l : List Claim) → Pairs IsLater l → IsIn c l → IsIn d l → (c.mark.sort ≡ TableElement → ⊥) → (d.mark.sort ≡ TableElement → ⊥) → claim_start c ≡ claim_start d → c ≡ d
+one-claim : (c d : Claim) (l : List Claim) → Pairs IsLater l → IsIn c l → IsIn d l → (c.info.kind ≡ TableElement → ⊥) → (d.info.kind ≡ TableElement → ⊥) → claim_start c ≡ claim_start d → c ≡ d
 one-claim c d [] r h g f e at = absurd h
 one-claim c d (x ∷ xs) r h g f e at = grind (arith, nat_tests, common_steps, one-claim c d xs)
 
@@ -108,7 +108,7 @@ key-claimed n cs (s ∷ p) k h =
 one-key : (l : List Claim) (i j : ℕ) (p q : Path) (k m : Span) → Rising l i j → ClaimAt l p k → ClaimAt l q m → k.start ≡ m.start → p ≡ q
 one-key l i j p q k m r a b e = grind (arith, nat_tests, common_steps, one-claim, rising-keyed, rising-later)
 
-pub flat-apart : (text : List ℕ) (limit n : ℕ) (bs : List Block) → SpellsDocument bs text limit → KeysApart (flat n (claims bs))
+pub flat-apart : (text : List ℕ) (limit n : ℕ) (bs : List ParsedSection) → SpellsDocument bs text limit → KeysApart (flat n (claims bs))
 flat-apart text limit n bs h p q k l is at e =
     one-key (all_claims (claims bs)) 0 (length text) p q k l (document-rises bs text limit h) (key-claimed n (claims bs) p k is) (key-claimed n (claims bs) q l at) e
 
@@ -123,6 +123,6 @@ tree-apart text limit root h p q k l is at e =
 same-name : (p : Path) (a b : List ℕ) → p ++ (key a ∷ []) ≡ p ++ (key b ∷ []) → a ≡ b
 same-name p a b h = grind (arith, nat_tests, common_steps)
 
-pub names-apart : (text : List ℕ) (limit n : ℕ) (bs : List Block) (p : Path) (a b : List ℕ) (k l : Span) → SpellsDocument bs text limit
+pub names-apart : (text : List ℕ) (limit n : ℕ) (bs : List ParsedSection) (p : Path) (a b : List ℕ) (k l : Span) → SpellsDocument bs text limit
     → key_at (flat n (claims bs)) (p ++ (key a ∷ [])) ≡ Some k → key_at (flat n (claims bs)) (p ++ (key b ∷ [])) ≡ Some l → (a ≡ b → ⊥) → k.start ≡ l.start → ⊥
 names-apart text limit n bs p a b k l h is at other same = other (same-name p a b (flat-apart text limit n bs h (p ++ (key a ∷ [])) (p ++ (key b ∷ [])) k l is at same))

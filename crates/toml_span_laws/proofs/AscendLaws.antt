@@ -1,9 +1,9 @@
 -- In a text that spells a document, its headers, keys and values follow each other, and their starts ascend.
 use Rattle.toml_span_lex.proofs.Common.{◌≡◌, ◌⊎◌, inl, inr, refl, ℕ, ◌+◌, ◌≤◌, Bool, false, List, [], ◌∷◌, ◌++◌, length, arith, zero, suc, ◌<◌, get_or, IsStrictlyIncreasing, nat_tests, common_steps}
-use Rattle.toml_span_read.specs.Data.{KeyValue, Block, ParsedValue, parsed, scalar, array, inline, ParsedItems, no_items, item, ParsedPairs, no_pairs, pair, last_end, first_block, SimpleKey}
+use Rattle.toml_span_read.specs.Data.{ParsedAssignment, ParsedSection, ParsedValue, parsed, scalar, array, inline, ParsedItems, no_items, item, ParsedPairs, no_pairs, pair, last_end, headerless_section, SimpleKey}
 use Rattle.toml_span_read.specs.Places.{Ascend}
-use Rattle.toml_span_read.specs.Grammar.{SpellsHeader, SpellsDocument, Spells, KeyValuesWith, SectionsWith, ItemsWith, PairsWith, SpellsScalar}
-use Rattle.toml_span_laws.specs.Places.{KeyValuesAscend, BlocksAscend, part_starts, key_starts, item_key_starts, pair_key_starts, key_value_key_starts, block_key_starts, starts, item_starts, pair_starts, key_value_starts, header_starts, block_starts}
+use Rattle.toml_span_read.specs.Grammar.{SpellsHeader, SpellsDocument, Spells, AssignmentsWith, SectionsWith, ItemsWith, PairsWith, SpellsScalar}
+use Rattle.toml_span_laws.specs.Places.{AssignmentsAscend, SectionsAscend, part_starts, key_starts, item_key_starts, pair_key_starts, assignment_key_starts, section_key_starts, starts, item_starts, pair_starts, assignment_starts, header_starts, section_starts}
 use Rattle.toml_span_read.proofs.InsideLemmas.{tail_inside, opens_on, shuts_on}
 use Rattle.toml_span_read.proofs.KeyOrder.{dotted_ascend}
 use Rattle.toml_span_read.proofs.SpanLaws.{value_lies}
@@ -15,54 +15,54 @@ ascend_wide [] h i j k a b x = omega (arith, a, b, x)
 ascend_wide (p ∷ ps) h i j k a b (x, y, z) = (omega (arith, a, x), y, ascend_wide ps p.span.end p.span.end j k (omega arith) b z)
 
 -- the assignments from i on, which begin at n or after it
-key_values_ascend : (es before : List KeyValue) (text : List ℕ) (limit n i j : ℕ) → n ≤ i → KeyValuesWith SpellsScalar es before text limit i j → KeyValuesAscend es n (last_end n es) × (last_end n es ≤ j)
-key_values_ascend [] before text limit n i j l h = (omega arith, omega (arith, l, h))
-key_values_ascend (e ∷ es) before text limit n i j l (m, q, k, h, t, c, g, r) =
+assignments_ascend : (es before : List ParsedAssignment) (text : List ℕ) (limit n i j : ℕ) → n ≤ i → AssignmentsWith SpellsScalar es before text limit i j → AssignmentsAscend es n (last_end n es) × (last_end n es ≤ j)
+assignments_ascend [] before text limit n i j l h = (omega arith, omega (arith, l, h))
+assignments_ascend (e ∷ es) before text limit n i j l (m, q, k, h, t, c, g, r) =
     let a = dotted_ascend e.parts text i h.key_end h.key in
     let v = value_lies e.value text limit (length e.parts) h.from m h.spelled in
-    let s : h.key_end ≤ h.from = omega (arith, h.sign.before.forward, h.sign.behind.forward) in
+    let s : h.key_end ≤ h.from = omega (arith, h.sign.before.forward, h.sign.after.forward) in
     let f : m ≤ k = omega (arith, (tail_inside text m q t).0, g.forward) in
-    let more = key_values_ascend es (before ++ (e ∷ [])) text limit m k j f r in
+    let more = assignments_ascend es (before ++ (e ∷ [])) text limit m k j f r in
     rw h.extent ((l, h.from, ascend_wide e.parts i i h.key_end h.from (omega arith) s a.0, v.0, more.0), more.1)
 
 header_ascend : (ps : List SimpleKey) (many : Bool) (text : List ℕ) (limit i j : ℕ) → SpellsHeader ps many text limit i j → Ascend ps (i + 1) j
 header_ascend ps many text limit i j h =
     let f = h.front in
     ascend_wide ps (i + 1) f.start f.end j (omega (arith, opens_on many text i f.inside f.opens, f.before.forward))
-    (omega (arith, f.behind.forward, shuts_on many text h.close h.end h.shuts, (tail_inside text h.end j h.rest).0)) (dotted_ascend ps text f.start f.end f.key).0
+    (omega (arith, f.after.forward, shuts_on many text h.close h.end h.shuts, (tail_inside text h.end j h.rest).0)) (dotted_ascend ps text f.start f.end f.key).0
 
-sections_ascend : (bs : List Block) (text : List ℕ) (limit n i : ℕ) → n ≤ i → SectionsWith SpellsScalar bs text limit i → BlocksAscend bs n (length text)
+sections_ascend : (bs : List ParsedSection) (text : List ℕ) (limit n i : ℕ) → n ≤ i → SectionsWith SpellsScalar bs text limit i → SectionsAscend bs n (length text)
 sections_ascend [] text limit n i l h = omega (arith, l, h)
 sections_ascend (b ∷ bs) text limit n i l (j, s, r) =
-    let e = key_values_ascend b.key_values [] text limit s.end s.lines.0 j (s.lines.1.forward) s.lines.2 in
-    rw (s.header_span, s.extent) (l, ascend_wide b.header i (i + 1) s.end s.end (omega arith) (omega arith) (header_ascend b.header b.array text limit i s.end s.header), e.0, sections_ascend bs text limit (last_end s.end b.key_values) j e.1 r)
+    let e = assignments_ascend b.assignments [] text limit s.end s.lines.0 j (s.lines.1.forward) s.lines.2 in
+    rw (s.header_span, s.extent) (l, ascend_wide b.header i (i + 1) s.end s.end (omega arith) (omega arith) (header_ascend b.header b.array text limit i s.end s.header), e.0, sections_ascend bs text limit (last_end s.end b.assignments) j e.1 r)
 
-first_ascend : (es : List KeyValue) (text : List ℕ) (limit k i j : ℕ) (bs : List Block) → KeyValuesWith SpellsScalar es [] text limit k j → SectionsWith SpellsScalar bs text limit j → BlocksAscend (first_block es ++ bs) 0 (length text)
+first_ascend : (es : List ParsedAssignment) (text : List ℕ) (limit k i j : ℕ) (bs : List ParsedSection) → AssignmentsWith SpellsScalar es [] text limit k j → SectionsWith SpellsScalar bs text limit j → SectionsAscend (headerless_section es ++ bs) 0 (length text)
 first_ascend [] text limit k i j bs h r = sections_ascend bs text limit 0 j (omega arith) r
 first_ascend (e ∷ es) text limit k i j bs h r =
-    grind (arith, nat_tests, common_steps, key_values_ascend (e ∷ es) [] text limit 0 k j (omega arith) h, sections_ascend bs text limit (last_end e.extent.end es) j)
+    grind (arith, nat_tests, common_steps, assignments_ascend (e ∷ es) [] text limit 0 k j (omega arith) h, sections_ascend bs text limit (last_end e.extent.end es) j)
 
-pub document_ascends : (bs : List Block) (text : List ℕ) (limit : ℕ) → SpellsDocument bs text limit → BlocksAscend bs 0 (length text)
+pub document_ascends : (bs : List ParsedSection) (text : List ℕ) (limit : ℕ) → SpellsDocument bs text limit → SectionsAscend bs 0 (length text)
 document_ascends bs text limit x = rw x.all (first_ascend x.first text limit x.lines.0 x.start x.end x.rest x.lines.2 x.sections)
 
 -- ---- the sections of a document, with and without a header
 
 -- the parts of a header, after its bracket; or none
-abbrev pub HeaderFrom : Block → ℕ → ℕ → Type 0
+abbrev pub HeaderFrom : ParsedSection → ℕ → ℕ → Type 0
 HeaderFrom b i j = ((b.header ≡ []) × (i ≤ j)) ⊎ ((i ≤ b.header_span.start) × Ascend b.header (b.header_span.start + 1) j)
 
-pub header_from : (b : Block) (i j : ℕ) → HeaderFrom b i j → Ascend b.header i j
+pub header_from : (b : ParsedSection) (i j : ℕ) → HeaderFrom b i j → Ascend b.header i j
 header_from b i j h = elim h [ inl (none, on) ↦ rw none on | inr (on, a) ↦ ascend_wide b.header i (b.header_span.start + 1) j j (omega (arith, on)) (omega arith) a ]
 
 -- Between i and n there are these sections: each has its header, if it has one, and assignments.
-abbrev pub AreBlocks : List Block → List ℕ → ℕ → ℕ → ℕ → Type 0
-AreBlocks [] text limit i n = i ≤ n
-AreBlocks (b ∷ bs) text limit i n =
-    (s k j : ℕ) × HeaderFrom b i s × (length b.header ≤ limit) × (b.header ≡ [] → b.array ≡ false) × (s ≤ k) × KeyValuesWith SpellsScalar b.key_values [] text limit k j × AreBlocks bs text limit j n
+abbrev pub AreParsedSections : List ParsedSection → List ℕ → ℕ → ℕ → ℕ → Type 0
+AreParsedSections [] text limit i n = i ≤ n
+AreParsedSections (b ∷ bs) text limit i n =
+    (s k j : ℕ) × HeaderFrom b i s × (length b.header ≤ limit) × (b.header ≡ [] → b.array ≡ false) × (s ≤ k) × AssignmentsWith SpellsScalar b.assignments [] text limit k j × AreParsedSections bs text limit j n
 
-section_blocks : (bs : List Block) (text : List ℕ) (limit h i : ℕ) → h ≤ i → SectionsWith SpellsScalar bs text limit i → AreBlocks bs text limit h (length text)
-section_blocks [] text limit h i l x = omega (arith, l, x)
-section_blocks (b ∷ bs) text limit h i l (j, s, rest) = (
+section_parsed : (bs : List ParsedSection) (text : List ℕ) (limit h i : ℕ) → h ≤ i → SectionsWith SpellsScalar bs text limit i → AreParsedSections bs text limit h (length text)
+section_parsed [] text limit h i l x = omega (arith, l, x)
+section_parsed (b ∷ bs) text limit h i l (j, s, rest) = (
   s.end,
   s.lines.0,
   j,
@@ -71,16 +71,16 @@ section_blocks (b ∷ bs) text limit h i l (j, s, rest) = (
   some_part b.array text s.header.front.start s.header.front.end b.header s.header.front.key,
   s.lines.1.forward,
   s.lines.2,
-  section_blocks bs text limit j j (omega arith) rest,
+  section_parsed bs text limit j j (omega arith) rest,
 )
 
 -- the assignments before the first header, and sections from j on
-pub first_blocks : (es : List KeyValue) (bs : List Block) (text : List ℕ) (limit i j n : ℕ) → KeyValuesWith SpellsScalar es [] text limit i j → ((h : ℕ) → h ≤ j → AreBlocks bs text limit h n) → AreBlocks (first_block es ++ bs) text limit 0 n
-first_blocks [] bs text limit i j n h rest = rest 0 (omega arith)
-first_blocks (e ∷ es) bs text limit i j n h rest = (0, i, j, inl (refl, omega arith), omega arith, (λ none. refl), omega arith, h, rest j (omega arith))
+pub first_sections : (es : List ParsedAssignment) (bs : List ParsedSection) (text : List ℕ) (limit i j n : ℕ) → AssignmentsWith SpellsScalar es [] text limit i j → ((h : ℕ) → h ≤ j → AreParsedSections bs text limit h n) → AreParsedSections (headerless_section es ++ bs) text limit 0 n
+first_sections [] bs text limit i j n h rest = rest 0 (omega arith)
+first_sections (e ∷ es) bs text limit i j n h rest = (0, i, j, inl (refl, omega arith), omega arith, (λ none. refl), omega arith, h, rest j (omega arith))
 
-pub document_blocks : (bs : List Block) (text : List ℕ) (limit : ℕ) → SpellsDocument bs text limit → AreBlocks bs text limit 0 (length text)
-document_blocks bs text limit x = rw x.all (first_blocks x.first x.rest text limit x.lines.0 x.end (length text) x.lines.2 (λ h l. section_blocks x.rest text limit h x.end l x.sections))
+pub document_sections : (bs : List ParsedSection) (text : List ℕ) (limit : ℕ) → SpellsDocument bs text limit → AreParsedSections bs text limit 0 (length text)
+document_sections bs text limit x = rw x.all (first_sections x.first x.rest text limit x.lines.0 x.end (length text) x.lines.2 (λ h l. section_parsed x.rest text limit h x.end l x.sections))
 
 -- ---- the starts of headers, keys, arrays and inline tables
 
@@ -126,44 +126,44 @@ mutual
   item_starts_rise no_items text limit d i j h = omega (arith, h.1)
   item_starts_rise (item v vs) text limit d i j h = grind (arith, nat_tests, common_steps, item_starts_rise vs, starts_rise v, rising_on, rising_wide)
 
-  pair_starts_rise : (ps : ParsedPairs) (es : List KeyValue) (text : List ℕ) (limit d i j : ℕ) → PairsWith SpellsScalar ps es text limit d i j → Rising (pair_starts ps) i j
+  pair_starts_rise : (ps : ParsedPairs) (es : List ParsedAssignment) (text : List ℕ) (limit d i j : ℕ) → PairsWith SpellsScalar ps es text limit d i j → Rising (pair_starts ps) i j
   pair_starts_rise no_pairs es text limit d i j h = omega (arith, h.1)
   pair_starts_rise (pair ss v x ps) es text limit d i j (m, (a, b, key, few, sign, h, extent), clear, then) =
       rising_on (part_starts ss) (starts v ++ pair_starts ps) i a j (parts_rise ss i a (dotted_ascend ss text i a key).0)
-      (rising_wide (starts v ++ pair_starts ps) a b j j (omega (arith, sign.before.forward, sign.behind.forward)) (omega arith)
+      (rising_wide (starts v ++ pair_starts ps) a b j j (omega (arith, sign.before.forward, sign.after.forward)) (omega arith)
       (rising_on (starts v) (pair_starts ps) b m j (starts_rise v text limit (d + length ss) b m h) (elim then [
         | inl (e, close) ↦ rw e (omega (arith, close.before.forward, close.ends))
         | inr (p, comma, rest) ↦
-            rising_wide (pair_starts ps) m p j j (omega (arith, comma.before.forward, comma.behind.forward)) (omega arith)
+            rising_wide (pair_starts ps) m p j j (omega (arith, comma.before.forward, comma.after.forward)) (omega arith)
             (pair_starts_rise ps (es ++ (record { parts = ss; value = v; extent = x } ∷ [])) text limit d p j rest)
       ])))
 
-key_values_starts_rise : (es before : List KeyValue) (text : List ℕ) (limit i j : ℕ) → KeyValuesWith SpellsScalar es before text limit i j → Rising (key_value_starts es) i j
-key_values_starts_rise [] before text limit i j h = omega (arith, h)
-key_values_starts_rise (e ∷ es) before text limit i j (m, n, k, h, tail, clear, gap, rest) =
+assignments_starts_rise : (es before : List ParsedAssignment) (text : List ℕ) (limit i j : ℕ) → AssignmentsWith SpellsScalar es before text limit i j → Rising (assignment_starts es) i j
+assignments_starts_rise [] before text limit i j h = omega (arith, h)
+assignments_starts_rise (e ∷ es) before text limit i j (m, n, k, h, tail, clear, gap, rest) =
     let a = dotted_ascend e.parts text i h.key_end h.key in
-    let s : h.key_end ≤ h.from = omega (arith, h.sign.before.forward, h.sign.behind.forward) in
+    let s : h.key_end ≤ h.from = omega (arith, h.sign.before.forward, h.sign.after.forward) in
     let f : m ≤ k = omega (arith, (tail_inside text m n tail).0, gap.forward) in
-    rising_on (part_starts e.parts) (starts e.value ++ key_value_starts es) i h.from j
+    rising_on (part_starts e.parts) (starts e.value ++ assignment_starts es) i h.from j
     (rising_wide (part_starts e.parts) i i h.key_end h.from (omega arith) s (parts_rise e.parts i h.key_end a.0))
-    (rising_on (starts e.value) (key_value_starts es) h.from m j (starts_rise e.value text limit (length e.parts) h.from m h.spelled)
-    (rising_wide (key_value_starts es) m k j j f (omega arith) (key_values_starts_rise es (before ++ (e ∷ [])) text limit k j rest)))
+    (rising_on (starts e.value) (assignment_starts es) h.from m j (starts_rise e.value text limit (length e.parts) h.from m h.spelled)
+    (rising_wide (assignment_starts es) m k j j f (omega arith) (assignments_starts_rise es (before ++ (e ∷ [])) text limit k j rest)))
 
-header_starts_rise : (b : Block) (parts : List SimpleKey) (i j : ℕ) → b.header ≡ parts → HeaderFrom b i j → Rising (header_starts b.header b.header_span) i j
+header_starts_rise : (b : ParsedSection) (parts : List SimpleKey) (i j : ℕ) → b.header ≡ parts → HeaderFrom b i j → Rising (header_starts b.header b.header_span) i j
 header_starts_rise b parts i j is h = grind (arith, nat_tests, common_steps, header_from, parts_rise)
 
-blocks_starts_rise : (bs : List Block) (text : List ℕ) (limit i : ℕ) → AreBlocks bs text limit i (length text) → Rising (block_starts bs) i (length text)
-blocks_starts_rise [] text limit i h = h
-blocks_starts_rise (b ∷ bs) text limit i (s, k, j, header, few, plain, on, lines, rest) =
-    rising_on (header_starts b.header b.header_span) (key_value_starts b.key_values ++ block_starts bs) i s (length text) (header_starts_rise b b.header i s refl header)
-    (rising_on (key_value_starts b.key_values) (block_starts bs) s j (length text)
-    (rising_wide (key_value_starts b.key_values) s k j j on (omega arith) (key_values_starts_rise b.key_values [] text limit k j lines)) (blocks_starts_rise bs text limit j rest))
+sections_starts_rise : (bs : List ParsedSection) (text : List ℕ) (limit i : ℕ) → AreParsedSections bs text limit i (length text) → Rising (section_starts bs) i (length text)
+sections_starts_rise [] text limit i h = h
+sections_starts_rise (b ∷ bs) text limit i (s, k, j, header, few, plain, on, lines, rest) =
+    rising_on (header_starts b.header b.header_span) (assignment_starts b.assignments ++ section_starts bs) i s (length text) (header_starts_rise b b.header i s refl header)
+    (rising_on (assignment_starts b.assignments) (section_starts bs) s j (length text)
+    (rising_wide (assignment_starts b.assignments) s k j j on (omega arith) (assignments_starts_rise b.assignments [] text limit k j lines)) (sections_starts_rise bs text limit j rest))
 
-document_starts_rise : (bs : List Block) (text : List ℕ) (limit : ℕ) → SpellsDocument bs text limit → Rising (block_starts bs) 0 (length text)
-document_starts_rise bs text limit d = blocks_starts_rise bs text limit 0 (document_blocks bs text limit d)
+document_starts_rise : (bs : List ParsedSection) (text : List ℕ) (limit : ℕ) → SpellsDocument bs text limit → Rising (section_starts bs) 0 (length text)
+document_starts_rise bs text limit d = sections_starts_rise bs text limit 0 (document_sections bs text limit d)
 
-pub document_starts_increase : (bs : List Block) (text : List ℕ) (limit : ℕ) → SpellsDocument bs text limit → IsStrictlyIncreasing (block_starts bs)
-document_starts_increase bs text limit d = rising_increases (block_starts bs) 0 (length text) (document_starts_rise bs text limit d)
+pub document_starts_increase : (bs : List ParsedSection) (text : List ℕ) (limit : ℕ) → SpellsDocument bs text limit → IsStrictlyIncreasing (section_starts bs)
+document_starts_increase bs text limit d = rising_increases (section_starts bs) 0 (length text) (document_starts_rise bs text limit d)
 
 -- ---- keys only
 
@@ -178,14 +178,14 @@ rising_split (n ∷ ns) ms i k (x, r) = let (j, a, b) = rising_split ns ms (n + 
 fewer_on : (ms ns ls ks : List ℕ) → Fewer ms ns → Fewer ls ks → Fewer (ms ++ ls) (ns ++ ks)
 fewer_on ms ns ls ks f g i k r = let (j, a, b) = rising_split ns ks i k r in rising_on ms ls i j k (f i j a) (g j k b)
 
-behind_first : (n : ℕ) (ns : List ℕ) → Fewer ns (n ∷ ns)
-behind_first n ns i j (x, r) = rising_wide ns i (n + 1) j j (omega (arith, x)) (omega arith) r
+after_first : (n : ℕ) (ns : List ℕ) → Fewer ns (n ∷ ns)
+after_first n ns i j (x, r) = rising_wide ns i (n + 1) j j (omega (arith, x)) (omega arith) r
 
 mutual
   value_keys : (v : ParsedValue) → Fewer (key_starts v) (starts v)
   value_keys (parsed (scalar y) s) = λ i j r. r
-  value_keys (parsed (array vs) s) = λ i j r. item_keys vs i j (behind_first s.start (item_starts vs) i j r)
-  value_keys (parsed (inline ps) s) = λ i j r. pair_keys ps i j (behind_first s.start (pair_starts ps) i j r)
+  value_keys (parsed (array vs) s) = λ i j r. item_keys vs i j (after_first s.start (item_starts vs) i j r)
+  value_keys (parsed (inline ps) s) = λ i j r. pair_keys ps i j (after_first s.start (pair_starts ps) i j r)
 
   item_keys : (vs : ParsedItems) → Fewer (item_key_starts vs) (item_starts vs)
   item_keys no_items = λ i j r. r
@@ -195,16 +195,16 @@ mutual
   pair_keys no_pairs = λ i j r. r
   pair_keys (pair ss v x ps) = grind (arith, nat_tests, common_steps, pair_keys ps, value_keys v, fewer_on)
 
-key_value_keys : (es : List KeyValue) → Fewer (key_value_key_starts es) (key_value_starts es)
-key_value_keys [] = λ i j r. r
-key_value_keys (e ∷ es) = grind (arith, nat_tests, common_steps, key_value_keys es, fewer_on, value_keys)
+assignment_keys : (es : List ParsedAssignment) → Fewer (assignment_key_starts es) (assignment_starts es)
+assignment_keys [] = λ i j r. r
+assignment_keys (e ∷ es) = grind (arith, nat_tests, common_steps, assignment_keys es, fewer_on, value_keys)
 
 header_keys : (ps : List SimpleKey) (span : Span) → Fewer (part_starts ps) (header_starts ps span)
 header_keys ps span = grind (arith, nat_tests, common_steps)
 
-block_keys : (bs : List Block) → Fewer (block_key_starts bs) (block_starts bs)
-block_keys [] = λ i j r. r
-block_keys (b ∷ bs) = grind (arith, nat_tests, common_steps, block_keys bs, fewer_on, header_keys, key_value_keys)
+section_keys : (bs : List ParsedSection) → Fewer (section_key_starts bs) (section_starts bs)
+section_keys [] = λ i j r. r
+section_keys (b ∷ bs) = grind (arith, nat_tests, common_steps, section_keys bs, fewer_on, header_keys, assignment_keys)
 
-pub document_keys_increase : (bs : List Block) (text : List ℕ) (limit : ℕ) → SpellsDocument bs text limit → IsStrictlyIncreasing (block_key_starts bs)
-document_keys_increase bs text limit d = rising_increases (block_key_starts bs) 0 (length text) (block_keys bs 0 (length text) (document_starts_rise bs text limit d))
+pub document_keys_increase : (bs : List ParsedSection) (text : List ℕ) (limit : ℕ) → SpellsDocument bs text limit → IsStrictlyIncreasing (section_key_starts bs)
+document_keys_increase bs text limit d = rising_increases (section_key_starts bs) 0 (length text) (section_keys bs 0 (length text) (document_starts_rise bs text limit d))

@@ -2,7 +2,7 @@
 use Rattle.toml_span_lex.proofs.Common.{◌≡◌, ℕ, ◌+◌, ◌-◌, zero, suc, ◌<◌, ◌≤◌, ◌⊎◌, true, false, List, [], ◌∷◌, ◌++◌, length, get_or, arith, inl, inr, sym, refl, ◌==◌, nat_tests, common_steps}
 use Rattle.toml_span_lex.specs.Bytes.{is_blank, is_printed, MaximalRun}
 use Rattle.toml_span_lex.specs.Text.{LineEnd}
-use Rattle.toml_span_read.specs.Gaps.{GapPiece, GapBy, MaximalGap, begins_gap, Skipped, Tail, BlankLines, BehindLines}
+use Rattle.toml_span_read.specs.Gaps.{GapPiece, GapBy, MaximalGap, begins_gap, Skipped, Tail, BlankLines, AfterLines}
 use Rattle.toml_span_read.proofs.InsideLemmas.{tail_inside}
 
 -- blank lines, and the spaces and tabs after them
@@ -31,7 +31,7 @@ line_tail text i n h = grind (arith, nat_tests, common_steps)
 comment_skipped : (text : List ℕ) (i n : ℕ) → get_or text i 0 ≡ 35 → MaximalRun is_printed text i n → Skipped text i n
 comment_skipped text i n h r = grind (arith, nat_tests, common_steps)
 
-add_comment : (text : List ℕ) (i n j : ℕ) → get_or text i 0 ≡ 35 → MaximalRun is_printed text i n → BehindLines text j → Blank text n j → Blank text i j
+add_comment : (text : List ℕ) (i n j : ℕ) → get_or text i 0 ≡ 35 → MaximalRun is_printed text i n → AfterLines text j → Blank text n j → Blank text i j
 add_comment text i n j h r d ([], k, e, run) =
     let run' : MaximalRun is_blank text n j = rw (sym e) at run in
     let z : n ≡ length text = grind (arith, nat_tests, common_steps) in
@@ -40,14 +40,14 @@ add_comment text i n j h r d (m ∷ ms, k, ((q, s, e), l), run) =
     let f : q ≡ n = grind (arith, nat_tests, common_steps) in
     (m ∷ ms, k, ((n, comment_skipped text i n h r, (rw f at e)), l), run)
 
-blank_of : (ks : List ℕ) (text : List ℕ) (i j : ℕ) → GapBy text i ks j → begins_gap text j ≡ false → BehindLines text j → j ≤ length text → Blank text i j
+blank_of : (ks : List ℕ) (text : List ℕ) (i j : ℕ) → GapBy text i ks j → begins_gap text j ≡ false → AfterLines text j → j ≤ length text → Blank text i j
 blank_of [] text i j e n d l = ([], i, refl, rw e (empty_run text j l (grind (arith, nat_tests, common_steps))))
 blank_of (k ∷ ks) text i j (inl (b, e), rest) n d l = add_blank text i j b (rw e at (blank_of ks text k j rest n d l))
 blank_of (k ∷ ks) text i j (inr (inl h), rest) n d l =
     let r = blank_of ks text k j rest n d l in (k ∷ r.0, r.1, (line_tail text i k h, r.2), r.3)
 blank_of (k ∷ ks) text i j (inr (inr (h, r)), rest) n d l = add_comment text i k j h r d (blank_of ks text k j rest n d l)
 
-pub gap_lines : (text : List ℕ) (i j : ℕ) → MaximalGap text i j → BehindLines text j → (ks : List ℕ) × (k : ℕ) × BlankLines text i ks k × MaximalRun is_blank text k j
+pub gap_lines : (text : List ℕ) (i j : ℕ) → MaximalGap text i j → AfterLines text j → (ks : List ℕ) × (k : ℕ) × BlankLines text i ks k × MaximalRun is_blank text k j
 gap_lines text i j g d = blank_of g.ends text i j g.pieces g.stops d (grind (arith, nat_tests, common_steps))
 
 -- ---- and conversely

@@ -5,7 +5,7 @@ use Rattle.std.proofs.lemmas.List.{get_or-drop}
 use Rattle.toml_span_lex.proofs.PieceLemmas.{slice_join}
 use Rattle.toml_span_tree.specs.Node.{float, finite}
 use Rattle.toml_span_read.specs.Numbers.{Digits, Exponent, Fraction, FloatLiteral}
-use Rattle.toml_span_read.specs.Numerals.{is_digit_in, is_figure, behind_sign, is_exponent, cleaned}
+use Rattle.toml_span_read.specs.Numerals.{is_digit_in, is_figure, after_sign, is_exponent, cleaned}
 use Rattle.toml_span_read.proofs.NumberLemmas.{clash, sign_on, digits_on, slice_cons}
 use Rattle.toml_span_read.specs.Again.{IsFloatText}
 use Rattle.toml_span_read.proofs.NumbersMove.{Plain, plain_in}
@@ -84,13 +84,13 @@ IsSign s = (s ≡ []) ⊎ (s ≡ 45 ∷ [])
 one_byte : (text : List ℕ) (a : ℕ) → a < length text → slice_range text a (a + 1) ≡ get_or text a 0 ∷ []
 one_byte text a l = slice_cons text a (a + 1) (omega arith) (omega arith) ∙ (rw (empty_range text (a + 1)) refl)
 
-clean_sign : (text : List ℕ) (a : ℕ) → a < length text → IsSign (cleaned (slice_range text a (behind_sign text a)))
+clean_sign : (text : List ℕ) (a : ℕ) → a < length text → IsSign (cleaned (slice_range text a (after_sign text a)))
 clean_sign text a l = grind (arith, nat_tests, common_steps)
 
 -- ---- the stored text, unchanged
 
 -- after a sign, if there is one, a digit
-signed_in : {text rest : List ℕ} {i j : ℕ} (s : List ℕ) → IsSign s → Part text s rest i j → is_digit_in 10 (get_or text j 0) ≡ true → behind_sign text i ≡ j
+signed_in : {text rest : List ℕ} {i j : ℕ} (s : List ℕ) → IsSign s → Part text s rest i j → is_digit_in 10 (get_or text j 0) ≡ true → after_sign text i ≡ j
 signed_in s h g other = grind (arith, nat_tests, common_steps)
 
 -- a letter or a dot, which is kept
@@ -104,7 +104,7 @@ mark_kept : (c : ℕ) → Mark c → (kept c ≡ true) × (is_figure 10 (capital
 mark_kept c h = grind (arith, nat_tests, common_steps)
 
 exponent_on : (text : List ℕ) (a b : ℕ) → Exponent text a b → a < b
-exponent_on text a b h = omega (arith, (sign_on text (a + 1)).0, digits_on 10 text (behind_sign text (a + 1)) b h.digits)
+exponent_on text a b h = omega (arith, (sign_on text (a + 1)).0, digits_on 10 text (after_sign text (a + 1)) b h.digits)
 
 fraction_on : (text : List ℕ) (a b : ℕ) → Fraction text a b → a < b
 fraction_on text a b h = omega (arith, digits_on 10 text (a + 1) b h.digits)
@@ -151,11 +151,11 @@ module _ (text : List ℕ) (i j : ℕ) (fits : j ≤ length text) where
   digits : (m n : ℕ) → i ≤ m → n ≤ j → IsEnd n → Digits 10 text m n → Digits 10 (Clean i j) (To m) (To n)
   digits m n o u e h = let l = digits_on 10 text m n h in plain_in (Clean m n) (clean_digits text m n h).plain (off n (omega arith) e) (split m n o (omega arith) u)
 
-  signed : (m n : ℕ) → i ≤ m → n ≤ j → IsEnd n → Digits 10 text (behind_sign text m) n → behind_sign (Clean i j) (To m) ≡ To (behind_sign text m)
+  signed : (m n : ℕ) → i ≤ m → n ≤ j → IsEnd n → Digits 10 text (after_sign text m) n → after_sign (Clean i j) (To m) ≡ To (after_sign text m)
   signed m n o u e h =
       let on = (sign_on text m).0 in
-      let l = digits_on 10 text (behind_sign text m) n h in
-      signed_in (Clean m (behind_sign text m)) (clean_sign text m (omega arith)) (split m (behind_sign text m) o on (omega arith)) (digits (behind_sign text m) n (omega arith) u e h).begins
+      let l = digits_on 10 text (after_sign text m) n h in
+      signed_in (Clean m (after_sign text m)) (clean_sign text m (omega arith)) (split m (after_sign text m) o on (omega arith)) (digits (after_sign text m) n (omega arith) u e h).begins
 
   exponent : (m : ℕ) → i ≤ m → Exponent text m j → Exponent (Clean i j) (To m) (To j)
   exponent m o h =
@@ -164,7 +164,7 @@ module _ (text : List ℕ) (i j : ℕ) (fits : j ≤ length text) where
       let k = letter_kept (get_or text m 0) h.letter in
       let b = byte m o l k.0 in
       let s = signed (m + 1) j (omega arith) (omega arith) (inl refl) h.digits in
-      record { letter = rw (b.0, k.1) refl; digits = rw (sym b.1, s) (digits (behind_sign text (m + 1)) j (omega arith) (omega arith) (inl refl) h.digits) }
+      record { letter = rw (b.0, k.1) refl; digits = rw (sym b.1, s) (digits (after_sign text (m + 1)) j (omega arith) (omega arith) (inl refl) h.digits) }
 
   fraction : (m n : ℕ) → i ≤ m → n ≤ j → IsEnd n → Fraction text m n → Fraction (Clean i j) (To m) (To n)
   fraction m n o u e h =
@@ -183,14 +183,14 @@ module _ (text : List ℕ) (i j : ℕ) (fits : j ≤ length text) where
   literal : FloatLiteral text i j → FloatLiteral (Clean i j) 0 (length (Clean i j))
   literal h =
       let on = (sign_on text i).0 in
-      let b = behind_sign text i in
+      let b = after_sign text i in
       let e = h.integer_end in
       let l = digits_on 10 text b e h.integer_part.digits in
       let r = rest_on text e j h.rest in
       let d = clean_digits text b e h.integer_part.digits in
       let p = split b e on (omega arith) (omega arith) in
       let z : To i ≡ 0 = ap (λ (x : List ℕ). length (cleaned x)) (empty_range text i) in
-      let s : behind_sign (Clean i j) 0 ≡ To b = rw z at (signed i e (omega arith) (omega arith) (inr r) h.integer_part.digits) in
+      let s : after_sign (Clean i j) 0 ≡ To b = rw z at (signed i e (omega arith) (omega arith) (inr r) h.integer_part.digits) in
       let same : get_or (Clean i j) (To b) 0 ≡ get_or (Clean b e) 0 0 = first p d.plain.some in
       record {
         integer_end = To e;

@@ -6,18 +6,18 @@ use Rattle.toml_span_lex.specs.Tokens.{string, RunAt, keylike}
 use Rattle.toml_span_lex.specs.declared.span.Span.{Span}
 use Rattle.toml_span_lex.proofs.Unique.{or_true}
 use Rattle.toml_span_tree.specs.Node.{Scalar, text as text_scalar, integer, float, boolean, datetime, finite, infinite, not_a_number}
-use Rattle.toml_span_read.specs.declared.fault.Due.{Due}
-use Rattle.toml_span_read.specs.Data.{ParsedValue, parsed, scalar, array, inline, ParsedItems, no_items, item, onto, ParsedPairs, no_pairs, pair, pairs_onto, KeyValue, Block, from_to, first_block, SimpleKey}
+use Rattle.toml_span_read.specs.declared.fault.ExpectedToken.{ExpectedToken}
+use Rattle.toml_span_read.specs.Data.{ParsedValue, parsed, scalar, array, inline, ParsedItems, no_items, item, onto, ParsedPairs, no_pairs, pair, pairs_onto, ParsedAssignment, ParsedSection, from_to, headerless_section, SimpleKey}
 use Rattle.toml_span_read.specs.Dates.{begins_date}
 use Rattle.toml_span_read.specs.Faults.{begins_bare, begins_number}
 use Rattle.toml_span_read.specs.Gaps.{MaximalGap, Closes, Separator}
-use Rattle.toml_span_read.specs.Grammar.{truth_text, SpellsScalar, Spells, SpellsLines, ClosesHeader, SpellsHeader, SpellsSection, SpellsDocument, ItemsWith, PairsWith, KeyValueWith, KeyValuesWith, SectionsWith}
+use Rattle.toml_span_read.specs.Grammar.{truth_text, SpellsScalar, Spells, SpellsLines, ClosesHeader, SpellsHeader, SpellsSection, SpellsDocument, ItemsWith, PairsWith, AssignmentWith, AssignmentsWith, SectionsWith}
 use Rattle.toml_span_read.specs.Keys.{opens_string, SpellsKey, SpellsSimpleKey, Onward}
 use Rattle.toml_span_read.specs.Numbers.{IsNumber, SpecialFloat, UnsignedDecimal}
-use Rattle.toml_span_read.specs.Numerals.{behind_sign}
+use Rattle.toml_span_read.specs.Numerals.{after_sign}
 use Rattle.toml_span_read.specs.Numerals.{special}
 use Rattle.toml_span_read.specs.Read as read
-use Rattle.toml_span_read.specs.Read.{Reading, token, ValueEnd, Loop, ends, goes_on, on, done, key_of, Parts, onward}
+use Rattle.toml_span_read.specs.Read.{Reading, token, ValueEnd, Loop, ends, goes_on, on, done, key_result, Parts, onward}
 use Rattle.toml_span_read.proofs.NumberLemmas.{is_false, byte_is, same_byte, clash, here, run_is}
 use Rattle.toml_span_read.proofs.NumberReads.{word_keylike, word_first, zero_first}
 use Rattle.toml_span_read.proofs.NumberComplete.{number_complete}
@@ -38,22 +38,22 @@ pub simple_complete : (s : SimpleKey) (text : List ℕ) (i m : ℕ) → SpellsSi
 simple_complete s text i m (inl h) = (token s.span (keylike s.name) m, h, refl)
 simple_complete s text i m (inr (source, h)) = (token s.span (string source s.name false) m, h, refl)
 
-behind_complete : (ss : List SimpleKey) (header : Bool) (text : List ℕ) (left : ℕ) (ps : List SimpleKey) (m j : ℕ) → Onward ss text m j → length ss ≤ left → onward text ps m (read.key header text left ps) (Ok (ps ++ ss, j))
+after_complete : (ss : List SimpleKey) (header : Bool) (text : List ℕ) (left : ℕ) (ps : List SimpleKey) (m j : ℕ) → Onward ss text m j → length ss ≤ left → onward text ps m (read.key header text left ps) (Ok (ps ++ ss, j))
 unfolding read.key
-behind_complete [] header text left ps m j (e, none) few = inl (none, rw (e, append-nil ps) refl)
-behind_complete (s ∷ ss) header text zero ps m j h few = absurd (omega arith)
-behind_complete (s ∷ ss) header text (suc n) ps m j (p, q, d, k, rest) few =
-    inr (p, d, inl ((s, q), simple_complete s text p q k, (rw (append_assoc ps (s ∷ []) ss) at (behind_complete ss header text n (ps ++ (s ∷ [])) q j rest (omega arith)))))
+after_complete [] header text left ps m j (e, none) few = inl (none, rw (e, append-nil ps) refl)
+after_complete (s ∷ ss) header text zero ps m j h few = absurd (omega arith)
+after_complete (s ∷ ss) header text (suc n) ps m j (p, q, d, k, rest) few =
+    inr (p, d, inl ((s, q), simple_complete s text p q k, (rw (append_assoc ps (s ∷ []) ss) at (after_complete ss header text n (ps ++ (s ∷ [])) q j rest (omega arith)))))
 
 pub key_complete : (ss : List SimpleKey) (header : Bool) (text : List ℕ) (limit i j : ℕ) → SpellsKey ss text i j → length ss ≤ limit → read.key header text limit [] i (Ok (ss, j))
 unfolding read.key
 key_complete [] header text limit i j h few = absurd h
 key_complete (s ∷ ss) header text zero i j h few = absurd (omega arith)
-key_complete (s ∷ ss) header text (suc n) i j (m, k, rest) few = inl ((s, m), simple_complete s text i m k, behind_complete ss header text n (s ∷ []) m j rest (omega arith))
+key_complete (s ∷ ss) header text (suc n) i j (m, k, rest) few = inl ((s, m), simple_complete s text i m k, after_complete ss header text n (s ∷ []) m j rest (omega arith))
 
 -- ---- numbers
 
-is_signed : (t : List ℕ) (i : ℕ) → (begins_number (get_or t i 0) ≡ true) ⊎ (behind_sign t i ≡ i)
+is_signed : (t : List ℕ) (i : ℕ) → (begins_number (get_or t i 0) ≡ true) ⊎ (after_sign t i ≡ i)
 is_signed t i = grind (arith, nat_tests, common_steps)
 
 -- a number begins here, and not another word
@@ -63,7 +63,7 @@ Begins t i = ((begins_number (get_or t i 0) || is_some (special false (read.run_
 begins_here : (t : List ℕ) (i : ℕ) → begins_number (get_or t i 0) ≡ true → Begins t i
 begins_here t i b = grind (arith, nat_tests, common_steps)
 
-unsigned_begins : (t : List ℕ) (i j : ℕ) → UnsignedDecimal t (behind_sign t i) j → Begins t i
+unsigned_begins : (t : List ℕ) (i j : ℕ) → UnsignedDecimal t (after_sign t i) j → Begins t i
 unsigned_begins t i j h = grind (arith, nat_tests, common_steps)
 
 letters_begin : (t word : List ℕ) (i j : ℕ) → list_all is_keylike word ≡ true → is_some (special false word) ≡ true → SpecialFloat word t i j → Begins t i
@@ -121,24 +121,24 @@ scalar_value s span t limit left i j h = grind (arith, nat_tests, common_steps, 
 
 -- ---- separators
 
-closes : {S A : Type 0} (close : ℕ) (due : Due) (text : List ℕ) (m j : ℕ) (next : ℕ → S) (end : ℕ → A) → (close == 44) ≡ false → Closes close text m j → read.separator close due text m next end (Ok (done (end j)))
-closes close due text m j next end n c = (c.at, c.before, inr (rw c.here n, inl (same_byte _ close c.here, rw c.ends refl)))
+closes : {S A : Type 0} (close : ℕ) (expected : ExpectedToken) (text : List ℕ) (m j : ℕ) (next : ℕ → S) (end : ℕ → A) → (close == 44) ≡ false → Closes close text m j → read.separator close expected text m next end (Ok (done (end j)))
+closes close expected text m j next end n c = (c.at, c.before, inr (rw c.here n, inl (same_byte _ close c.here, rw c.ends refl)))
 
-comma : {S A : Type 0} (close : ℕ) (due : Due) (text : List ℕ) (m p : ℕ) (next : ℕ → S) (end : ℕ → A) → Separator 44 text m p → read.separator close due text m next end (Ok (on (next p)))
-comma close due text m p next end s = (s.at, s.before, inl (same_byte _ 44 s.here, (p, s.behind, refl)))
+comma : {S A : Type 0} (close : ℕ) (expected : ExpectedToken) (text : List ℕ) (m p : ℕ) (next : ℕ → S) (end : ℕ → A) → Separator 44 text m p → read.separator close expected text m next end (Ok (on (next p)))
+comma close expected text m p next end s = (s.at, s.before, inl (same_byte _ 44 s.here, (p, s.after, refl)))
 
 -- ---- pairs of a key and a value
 
-key_value_complete : (e : KeyValue) (text : List ℕ) (limit left : ℕ) (skipped : ℕ → ℕ → Type 0) (i a n b j : ℕ) → SpellsKey e.parts text i a → length e.parts ≤ limit → skipped a n → get_or text n 0 ≡ 61 → skipped (n + 1) b
+parsed_assignment_complete : (e : ParsedAssignment) (text : List ℕ) (limit left : ℕ) (skipped : ℕ → ℕ → Type 0) (i a n b j : ℕ) → SpellsKey e.parts text i a → length e.parts ≤ limit → skipped a n → get_or text n 0 ≡ 61 → skipped (n + 1) b
     → read.value text limit (left - length e.parts) zero b (Ok (e.value, j)) → e.extent ≡ from_to i j → read.keyval text limit skipped (read.value text limit left) i (Ok (e, j))
-key_value_complete e text limit left skipped i a n b j k few s h t v x =
+parsed_assignment_complete e text limit left skipped i a n b j k few s h t v x =
     let under = levels text limit left (length e.parts) b (Ok (e.value, j)) v in
     inl ((e.parts, a), key_complete e.parts false text limit i a k few, (n, s, inl (same_byte _ 61 h, (b, t, inl ((e.value, j), under, ap (λ z. Ok (record { parts = e.parts; value = e.value; extent = z }, j)) x)))))
 
 -- the pair, if its value is read
-pair_given : (e : KeyValue) (text : List ℕ) (limit left d i j : ℕ) → (p : SpellsPair e text limit d i j) → read.value text limit (left - length e.parts) zero p.1 (Ok (e.value, j))
+pair_given : (e : ParsedAssignment) (text : List ℕ) (limit left d i j : ℕ) → (p : SpellsPair e text limit d i j) → read.value text limit (left - length e.parts) zero p.1 (Ok (e.value, j))
     → read.keyval text limit (MaximalGap text) (read.value text limit left) i (Ok (e, j))
-pair_given e text limit left d i j (a, b, k, few, s, h, x) v = key_value_complete e text limit left (MaximalGap text) i a s.at b j k few s.before s.here s.behind v x
+pair_given e text limit left d i j (a, b, k, few, s, h, x) v = parsed_assignment_complete e text limit left (MaximalGap text) i a s.at b j k few s.before s.here s.after v x
 
 -- ---- values
 
@@ -170,11 +170,11 @@ mutual
       goes_on (acc, i) (acc ++ (v ∷ []), p) _ (inr (no_bracket v text limit d i m a, inl ((v, m), value_complete v text limit left d i m e a, comma 93 _ text m p _ (read.array_end (acc ++ (v ∷ []))) c)))
       (rw (onto_more acc v vs) at (items_complete vs (acc ++ (v ∷ [])) text limit left d p j e r))
 
-  pairs_complete : (ps : ParsedPairs) (acc : List KeyValue) (text : List ℕ) (limit left d i j : ℕ) → left ≡ limit + 1 - d → PairsWith SpellsScalar ps acc text limit d i j
+  pairs_complete : (ps : ParsedPairs) (acc : List ParsedAssignment) (text : List ℕ) (limit left d i j : ℕ) → left ≡ limit + 1 - d → PairsWith SpellsScalar ps acc text limit d i j
       → Loop (read.next_pair text limit (read.value text limit left)) (acc, i) (Ok (inline (pairs_onto acc ps), j))
   pairs_complete no_pairs acc text limit left d i j e h = ends (acc, i) _ (inl (same_byte _ 125 h.0, rw h.1 refl))
   pairs_complete (pair ss v x ps) acc text limit left d i j e (m, p, clear, o) =
-      let f : KeyValue = record { parts = ss; value = v; extent = x } in
+      let f : ParsedAssignment = record { parts = ss; value = v; extent = x } in
       let none = no_brace ss text i p.0 p.2 in
       let kv = pair_given f text limit left d i m p (value_complete v text limit (left - length ss) (d + length ss) p.1 m (omega arith) p.5) in
       elim o [
@@ -186,20 +186,20 @@ mutual
 
 -- ---- lines
 
-assignment_complete : (e : KeyValue) (text : List ℕ) (limit i j : ℕ) → KeyValueWith SpellsScalar e text limit i j → read.keyval text limit (MaximalRun is_blank text) (read.value text limit (limit + 1)) i (Ok (e, j))
+assignment_complete : (e : ParsedAssignment) (text : List ℕ) (limit i j : ℕ) → AssignmentWith SpellsScalar e text limit i j → read.keyval text limit (MaximalRun is_blank text) (read.value text limit (limit + 1)) i (Ok (e, j))
 assignment_complete e text limit i j h =
     let n : ℕ = length e.parts in
     let v = value_complete e.value text limit (limit + 1 - n) n h.from j refl h.spelled in
-    key_value_complete e text limit (limit + 1) (MaximalRun is_blank text) i h.key_end h.sign.at h.from j h.key h.few h.sign.before h.sign.here h.sign.behind v h.extent
+    parsed_assignment_complete e text limit (limit + 1) (MaximalRun is_blank text) i h.key_end h.sign.at h.from j h.key h.few h.sign.before h.sign.here h.sign.after v h.extent
 
-key_values_complete : (es acc : List KeyValue) (text : List ℕ) (limit i j : ℕ) → KeyValuesWith SpellsScalar es acc text limit i j → read.ends_lines text j ≡ true → Loop (read.next_assignment text limit) (acc, i) (Ok (acc ++ es, j))
-key_values_complete [] acc text limit i j e t = ends (acc, i) _ (inl (rw e at t, rw (e, append-nil acc) refl))
-key_values_complete (e ∷ es) acc text limit i j (m, n, k, h, t, clear, g, r) s =
+assignments_complete : (es acc : List ParsedAssignment) (text : List ℕ) (limit i j : ℕ) → AssignmentsWith SpellsScalar es acc text limit i j → read.ends_lines text j ≡ true → Loop (read.next_assignment text limit) (acc, i) (Ok (acc ++ es, j))
+assignments_complete [] acc text limit i j e t = ends (acc, i) _ (inl (rw e at t, rw (e, append-nil acc) refl))
+assignments_complete (e ∷ es) acc text limit i j (m, n, k, h, t, clear, g, r) s =
     goes_on (acc, i) (acc ++ (e ∷ []), k) _ (inr (grind (arith, nat_tests, common_steps), inl ((e, m), assignment_complete e text limit i m h, inl (n, inl (n, t, refl), inl (acc ++ (e ∷ []), inl (clear, refl), (k, g, refl))))))
-    (rw (append_assoc acc (e ∷ []) es) at (key_values_complete es (acc ++ (e ∷ [])) text limit k j r s))
+    (rw (append_assoc acc (e ∷ []) es) at (assignments_complete es (acc ++ (e ∷ [])) text limit k j r s))
 
-lines_complete : (es : List KeyValue) (text : List ℕ) (limit i j : ℕ) → SpellsLines es text limit i j → read.ends_lines text j ≡ true → read.lines text limit i (Ok (es, j))
-lines_complete es text limit i j (k, g, h) s = (k, g, key_values_complete es [] text limit k j h s)
+lines_complete : (es : List ParsedAssignment) (text : List ℕ) (limit i j : ℕ) → SpellsLines es text limit i j → read.ends_lines text j ≡ true → read.assignment_lines text limit i (Ok (es, j))
+lines_complete es text limit i j (k, g, h) s = (k, g, assignments_complete es [] text limit k j h s)
 
 -- ---- headers
 
@@ -210,7 +210,7 @@ closing_complete true text i j (a, b, e) = let f : j ≡ i + 1 + 1 = omega arith
 heading_complete : (ps : List SimpleKey) (double : Bool) (text : List ℕ) (limit i k j : ℕ) → (h : SpellsHeader ps double text limit i j) → h.front.inside ≡ k → read.heading double text limit k (Ok (record { parts = ps; array = double; end = j }))
 heading_complete ps double text limit i k j h e =
     let f = h.front in
-    (f.start, rw e at f.before, inl ((ps, f.end), key_complete ps true text limit f.start f.end f.key f.few, (h.close, f.behind, inl (h.end, closing_complete double text h.close h.end h.shuts, inl (j, inl (j, h.rest, refl), refl)))))
+    (f.start, rw e at f.before, inl ((ps, f.end), key_complete ps true text limit f.start f.end f.key f.few, (h.close, f.after, inl (h.end, closing_complete double text h.close h.end h.shuts, inl (j, inl (j, h.rest, refl), refl)))))
 
 pub header_complete : (ps : List SimpleKey) (double : Bool) (text : List ℕ) (limit i j : ℕ) → SpellsHeader ps double text limit i j → read.header text limit i (Ok (record { parts = ps; array = double; end = j }))
 header_complete ps false text limit i j h = inr (h.front.opens.1, heading_complete ps false text limit i (i + 1) j h h.front.opens.2)
@@ -221,23 +221,23 @@ header_byte ps double text limit i j h = grind (arith, nat_tests, common_steps)
 
 -- ---- sections and the document
 
-section_complete : (b : Block) (text : List ℕ) (limit i j : ℕ) → SpellsSection b text limit i j → read.ends_lines text j ≡ true → read.section text limit i (Ok (b, j))
+section_complete : (b : ParsedSection) (text : List ℕ) (limit i j : ℕ) → SpellsSection b text limit i j → read.ends_lines text j ≡ true → read.section text limit i (Ok (b, j))
 section_complete b text limit i j s t =
-    grind (arith, nat_tests, common_steps, header_complete b.header b.array text limit i s.end s.header, lines_complete b.key_values text limit s.end j s.lines t)
+    grind (arith, nat_tests, common_steps, header_complete b.header b.array text limit i s.end s.header, lines_complete b.assignments text limit s.end j s.lines t)
 
-sections_stop : (bs : List Block) (text : List ℕ) (limit i : ℕ) → SectionsWith SpellsScalar bs text limit i → read.ends_lines text i ≡ true
+sections_stop : (bs : List ParsedSection) (text : List ℕ) (limit i : ℕ) → SectionsWith SpellsScalar bs text limit i → read.ends_lines text i ≡ true
 sections_stop [] text limit i e = rw (same_byte i (length text) e) refl
 sections_stop (b ∷ bs) text limit i (j, s, r) = rw (header_byte b.header b.array text limit i s.end s.header, or_true) refl
 
-sections_complete : (bs acc : List Block) (text : List ℕ) (limit i : ℕ) → SectionsWith SpellsScalar bs text limit i → Loop (read.next_section text limit) (acc, i) (Ok (acc ++ bs))
+sections_complete : (bs acc : List ParsedSection) (text : List ℕ) (limit i : ℕ) → SectionsWith SpellsScalar bs text limit i → Loop (read.next_section text limit) (acc, i) (Ok (acc ++ bs))
 sections_complete [] acc text limit i e = ends (acc, i) _ (inl (same_byte i (length text) e, rw (append-nil acc) refl))
 sections_complete (b ∷ bs) acc text limit i (j, s, r) =
     let none = not_end (λ c. c == 91) text i refl (same_byte _ 91 (header_byte b.header b.array text limit i s.end s.header)) in
     goes_on (acc, i) (acc ++ (b ∷ []), j) _ (inr (none, inl ((b, j), section_complete b text limit i j s (sections_stop bs text limit j r), refl)))
     (rw (append_assoc acc (b ∷ []) bs) at (sections_complete bs (acc ++ (b ∷ [])) text limit j r))
 
-pub document_complete : (bs : List Block) (text : List ℕ) (limit : ℕ) → SpellsDocument bs text limit → read.document text limit (Ok bs)
+pub document_complete : (bs : List ParsedSection) (text : List ℕ) (limit : ℕ) → SpellsDocument bs text limit → read.document text limit (Ok bs)
 unfolding read.document
 document_complete bs text limit h =
     let l = lines_complete h.first text limit h.start h.end h.lines (sections_stop h.rest text limit h.end h.sections) in
-    inl ((first_block h.first, h.end), (h.start, h.begins, inl (_, l, refl)), rw h.all (sections_complete h.rest (first_block h.first) text limit h.end h.sections))
+    inl ((headerless_section h.first, h.end), (h.start, h.begins, inl (_, l, refl)), rw h.all (sections_complete h.rest (headerless_section h.first) text limit h.end h.sections))

@@ -1,20 +1,20 @@
 -- What is spelled is within the limit, and so are the keys and the steps of the paths of a document.
 use Rattle.toml_span_lex.proofs.Common.{◌≡◌, ℕ, ◌+◌, List, [], ◌∷◌, ◌++◌, length, map, sym, ◌∙◌, subst, arith, nat_tests, common_steps, suc, ◌*◌, ◌≤◌, false, length-append, Some, None, option_map, refl, ap}
 use Rattle.toml_span_lex.specs.declared.span.Span.{Span}
-use Rattle.toml_span_read.specs.Data.{ParsedValue, parsed, ParsedInner, scalar, array, inline, ParsedItems, no_items, item, ParsedPairs, no_pairs, pair, KeyValue, block, Block, first_block, SimpleKey}
+use Rattle.toml_span_read.specs.Data.{ParsedValue, parsed, ParsedInner, scalar, array, inline, ParsedItems, no_items, item, ParsedPairs, no_pairs, pair, ParsedAssignment, parsed_section, ParsedSection, headerless_section, SimpleKey}
 use Rattle.toml_span_read.specs.declared.section.Section.{Section}
-use Rattle.toml_span_read.specs.Limits.{Within, WithinInner, WithinItems, WithinPairs, WithinKeyValues, WithinSection, WithinSections}
-use Rattle.toml_span_read.specs.Grammar.{Spells, SpellsLines, SpellsSection, SpellsDocument, InnerWith, ItemsWith, PairsWith, KeyValuesWith, SpellsScalar}
+use Rattle.toml_span_read.specs.Limits.{Within, WithinInner, WithinItems, WithinPairs, WithinAssignments, WithinSection, WithinSections}
+use Rattle.toml_span_read.specs.Grammar.{Spells, SpellsLines, SpellsSection, SpellsDocument, InnerWith, ItemsWith, PairsWith, AssignmentsWith, SpellsScalar}
 use Rattle.toml_span_read.proofs.ReadSound.{document_sound}
-use Rattle.toml_span_laws.proofs.AscendLaws.{AreBlocks, document_blocks, first_blocks}
+use Rattle.toml_span_laws.proofs.AscendLaws.{AreParsedSections, document_sections, first_sections}
 use Rattle.toml_span_tree.specs.Node as tree
 use Rattle.toml_span_tree.specs.Path.{Path, key, position, Place, reached, place_of, node_at}
 use Rattle.toml_span_tree.specs.Value.{view}
 use Rattle.toml_span_tree.specs.declared.value.Value.{Value}
 use Rattle.toml_span_laws.proofs.FirstClash.{mapped}
-use Rattle.toml_span.specs.declared.claims.Head.{Head}
+use Rattle.toml_span.specs.declared.claims.HeaderInfo.{HeaderInfo}
 use Rattle.toml_span.specs.Paths.{elements_added, opened_by, section_path, enter, target, with_key, with_position}
-use Rattle.toml_span.specs.Claims.{Claim, Claims, key_claims, value_claims, inner_claims, item_claims, pair_claims, key_value_claims, end_claims, header_claims, section_claims, claims_behind, claims, head_of}
+use Rattle.toml_span.specs.Claims.{Claim, Claims, key_claims, value_claims, inner_claims, item_claims, pair_claims, assignments_claims, end_claims, header_claims, section_claims, claims_after, claims, header_info}
 use Rattle.toml_span.specs.Flat.{flat}
 use Rattle.toml_span_laws.specs.Laws.{keys_in}
 use Rattle.toml_span.specs.Parsing.{IsTree}
@@ -33,31 +33,31 @@ mutual
   items_within no_items text limit d i j h = tt
   items_within (item v vs) text limit d i j h = grind (arith, nat_tests, common_steps, items_within vs, value_within v)
 
-  pairs_within : (ps : ParsedPairs) (es : List KeyValue) (text : List ℕ) (limit d i j : ℕ) → PairsWith SpellsScalar ps es text limit d i j → WithinPairs limit d ps
+  pairs_within : (ps : ParsedPairs) (es : List ParsedAssignment) (text : List ℕ) (limit d i j : ℕ) → PairsWith SpellsScalar ps es text limit d i j → WithinPairs limit d ps
   pairs_within no_pairs es text limit d i j h = tt
   pairs_within (pair ss v x ps) es text limit d i j h = grind (arith, nat_tests, common_steps, pairs_within ps, value_within v)
 
 -- ---- documents
 
-key_values_within : (evs earlier : List KeyValue) (text : List ℕ) (limit i j : ℕ) → KeyValuesWith SpellsScalar evs earlier text limit i j → WithinKeyValues limit evs
-key_values_within [] earlier text limit i j h = tt
-key_values_within (ev ∷ evs) earlier text limit i j (m, n, k, h, t, c, g, r) =
+assignments_within : (evs earlier : List ParsedAssignment) (text : List ℕ) (limit i j : ℕ) → AssignmentsWith SpellsScalar evs earlier text limit i j → WithinAssignments limit evs
+assignments_within [] earlier text limit i j h = tt
+assignments_within (ev ∷ evs) earlier text limit i j (m, n, k, h, t, c, g, r) =
     let zero : 0 + length ev.parts ≡ length ev.parts = omega arith in
-    ((h.few, rw zero (value_within ev.value text limit (length ev.parts) h.from m h.spelled)), key_values_within evs (earlier ++ (ev ∷ [])) text limit k j r)
+    ((h.few, rw zero (value_within ev.value text limit (length ev.parts) h.from m h.spelled)), assignments_within evs (earlier ++ (ev ∷ [])) text limit k j r)
 
-pub section_within : (s : Section) (text : List ℕ) (limit i j : ℕ) → SpellsSection (block s) text limit i j → WithinSection limit s
-section_within s text limit i j h = grind (arith, nat_tests, common_steps, key_values_within)
+pub section_within : (s : Section) (text : List ℕ) (limit i j : ℕ) → SpellsSection (parsed_section s) text limit i j → WithinSection limit s
+section_within s text limit i j h = grind (arith, nat_tests, common_steps, assignments_within)
 
-blocks_within : (ss : List Section) (text : List ℕ) (limit i n : ℕ) → AreBlocks (map block ss) text limit i n → WithinSections limit ss
-blocks_within [] text limit i n h = tt
-blocks_within (s ∷ ss) text limit i n h = grind (arith, nat_tests, common_steps, blocks_within ss, key_values_within)
+sections_within : (ss : List Section) (text : List ℕ) (limit i n : ℕ) → AreParsedSections (map parsed_section ss) text limit i n → WithinSections limit ss
+sections_within [] text limit i n h = tt
+sections_within (s ∷ ss) text limit i n h = grind (arith, nat_tests, common_steps, sections_within ss, assignments_within)
 
-pub first_sections_within : (ss : List Section) (evs : List KeyValue) (text : List ℕ) (limit i j : ℕ) → SpellsLines evs text limit i j → map block ss ≡ first_block evs → WithinSections limit ss
+pub first_sections_within : (ss : List Section) (evs : List ParsedAssignment) (text : List ℕ) (limit i j : ℕ) → SpellsLines evs text limit i j → map parsed_section ss ≡ headerless_section evs → WithinSections limit ss
 first_sections_within ss evs text limit i j (k, gap, h) is =
-    grind (arith, nat_tests, common_steps, blocks_within ss text limit 0 j, first_blocks evs [] text limit k j j)
+    grind (arith, nat_tests, common_steps, sections_within ss text limit 0 j, first_sections evs [] text limit k j j)
 
-pub document_within : (ss : List Section) (text : List ℕ) (limit : ℕ) → SpellsDocument (map block ss) text limit → WithinSections limit ss
-document_within ss text limit h = blocks_within ss text limit 0 (length text) (document_blocks (map block ss) text limit h)
+pub document_within : (ss : List Section) (text : List ℕ) (limit : ℕ) → SpellsDocument (map parsed_section ss) text limit → WithinSections limit ss
+document_within ss text limit h = sections_within ss text limit 0 (length text) (document_sections (map parsed_section ss) text limit h)
 
 -- ---- keys and steps of paths
 
@@ -105,7 +105,7 @@ unfolding target
 target-fits limit e p k [] room = let here = below p k in (omega (arith, room.0, here.0), omega (arith, room.1, here.1))
 target-fits limit e p k (l ∷ more) room = target-fits limit e (enter (e (with_key p k)) (with_key p k)) l more (passes limit e p k (l ∷ more) room)
 
-section-fits : (limit : ℕ) (e : Path → ℕ) (b : Block) (parts : List SimpleKey) → b.header ≡ parts → (b.header ≡ [] → b.array ≡ false) → length parts ≤ limit → Fits limit 0 (section_path e b)
+section-fits : (limit : ℕ) (e : Path → ℕ) (b : ParsedSection) (parts : List SimpleKey) → b.header ≡ parts → (b.header ≡ [] → b.array ≡ false) → length parts ≤ limit → Fits limit 0 (section_path e b)
 unfolding target
 section-fits limit e b [] is plain few = rw (plain is, is) (omega arith, omega arith)
 section-fits limit e b (k ∷ parts) is plain few =
@@ -153,20 +153,20 @@ mutual
       each-followed (IsWithin limit) (key_claims p parts v (value_claims v)) (pair_claims rest p)
       (key-depth limit d p parts v (value_claims v) fits (deep limit (d + length parts) v h.1) (λ q f. value-depth limit (d + length parts) v q f h.1)) (pair-depth limit d rest p fits h.2)
 
-key_values-depth : (limit : ℕ) (es before : List KeyValue) (p : Path) (text : List ℕ) (i j : ℕ) → Fits limit 0 p → KeyValuesWith SpellsScalar es before text limit i j → Each (IsWithin limit) (key_value_claims es p)
-unfolding key_value_claims
-key_values-depth limit [] before p text i j fits h = tt
-key_values-depth limit (e ∷ es) before p text i j fits (m, o, k, h, tail, clear, gap, rest) =
-    each-followed (IsWithin limit) (key_claims p e.parts e.value (value_claims e.value)) (key_value_claims es p)
+assignments-depth : (limit : ℕ) (es before : List ParsedAssignment) (p : Path) (text : List ℕ) (i j : ℕ) → Fits limit 0 p → AssignmentsWith SpellsScalar es before text limit i j → Each (IsWithin limit) (assignments_claims es p)
+unfolding assignments_claims
+assignments-depth limit [] before p text i j fits h = tt
+assignments-depth limit (e ∷ es) before p text i j fits (m, o, k, h, tail, clear, gap, rest) =
+    each-followed (IsWithin limit) (key_claims p e.parts e.value (value_claims e.value)) (assignments_claims es p)
     (key-depth limit 0 p e.parts e.value (value_claims e.value) fits (omega (arith, h.few))
     (λ q f. value-depth limit (length e.parts) e.value q (fits-on limit (0 + length e.parts) (length e.parts) q f (omega arith)) (value_within e.value text limit (length e.parts) h.from m h.spelled)))
-    (key_values-depth limit es (before ++ (e ∷ [])) p text k j fits rest)
+    (assignments-depth limit es (before ++ (e ∷ [])) p text k j fits rest)
 
-end-depth : (limit : ℕ) (h : Head) (p : Path) (k : SimpleKey) (entries : ℕ) → keys_in p ≤ limit → length p + 1 ≤ 2 * limit → Each (IsWithin limit) (end_claims h p k entries)
+end-depth : (limit : ℕ) (h : HeaderInfo) (p : Path) (k : SimpleKey) (entries : ℕ) → keys_in p ≤ limit → length p + 1 ≤ 2 * limit → Each (IsWithin limit) (end_claims h p k entries)
 unfolding end_claims
 end-depth limit h p k entries few short = grind (arith, nat_tests, common_steps, at)
 
-header-depth : (limit : ℕ) (e : Path → ℕ) (h : Head) (p : Path) (parts : List SimpleKey) → HasRoom limit p parts → Each (IsWithin limit) (header_claims e h p parts)
+header-depth : (limit : ℕ) (e : Path → ℕ) (h : HeaderInfo) (p : Path) (parts : List SimpleKey) → HasRoom limit p parts → Each (IsWithin limit) (header_claims e h p parts)
 unfolding header_claims
 header-depth limit e h p [] room = tt
 header-depth limit e h p (k ∷ []) room = let here = below p k in end-depth limit h (with_key p k) k (e (with_key p k)) (omega (arith, room.0, here.0)) (omega (arith, room.1, here.1))
@@ -177,31 +177,31 @@ header-depth limit e h p (k ∷ l ∷ more) room =
 
 -- ---- documents
 
-blocks-depth : (limit : ℕ) (earlier bs : List Block) (text : List ℕ) (i : ℕ) → AreBlocks bs text limit i (length text) → Each (IsWithin limit) (claims_behind earlier bs)
-unfolding claims_behind section_claims
-blocks-depth limit earlier [] text i h = tt
-blocks-depth limit earlier (b ∷ bs) text i (s, k, j, start, few, plain, on, lines, rest) =
+sections-depth : (limit : ℕ) (earlier bs : List ParsedSection) (text : List ℕ) (i : ℕ) → AreParsedSections bs text limit i (length text) → Each (IsWithin limit) (claims_after earlier bs)
+unfolding claims_after section_claims
+sections-depth limit earlier [] text i h = tt
+sections-depth limit earlier (b ∷ bs) text i (s, k, j, start, few, plain, on, lines, rest) =
     let e = elements_added (opened_by earlier) in
     let P = IsWithin limit in
-    each-followed P (section_claims e b) (claims_behind (b ∷ earlier) bs)
-    (each-followed P (header_claims e (head_of b) [] b.header) (key_value_claims b.key_values (section_path e b))
-    (header-depth limit e (head_of b) [] b.header (omega (arith, few), omega (arith, few)))
-    (key_values-depth limit b.key_values [] (section_path e b) text k j (section-fits limit e b b.header refl plain few) lines))
-    (blocks-depth limit (b ∷ earlier) bs text j rest)
+    each-followed P (section_claims e b) (claims_after (b ∷ earlier) bs)
+    (each-followed P (header_claims e (header_info b) [] b.header) (assignments_claims b.assignments (section_path e b))
+    (header-depth limit e (header_info b) [] b.header (omega (arith, few), omega (arith, few)))
+    (assignments-depth limit b.assignments [] (section_path e b) text k j (section-fits limit e b b.header refl plain few) lines))
+    (sections-depth limit (b ∷ earlier) bs text j rest)
 
 -- No path of the flat document has more keys than a header and an assignment together. Its other steps are the
 -- positions of entries of arrays of tables and of elements of arrays.
-flat-fits : (text : List ℕ) (limit l : ℕ) (bs : List Block) (p : Path) (x : Place) → SpellsDocument bs text limit → flat l (claims bs) p ≡ Some x → Fits limit limit p
+flat-fits : (text : List ℕ) (limit l : ℕ) (bs : List ParsedSection) (p : Path) (x : Place) → SpellsDocument bs text limit → flat l (claims bs) p ≡ Some x → Fits limit limit p
 flat-fits text limit l bs [] x spelled is = (omega arith, omega arith)
 flat-fits text limit l bs (s ∷ p) x spelled is =
-    let each = blocks-depth limit [] bs text 0 (document_blocks bs text limit spelled) in
+    let each = sections-depth limit [] bs text 0 (document_sections bs text limit spelled) in
     let decides = flat-decides (IsWithin limit) l (claims bs) s p x each is in
     subst (Fits limit limit) decides.on decides.holds
 
-pub flat-keys : (text : List ℕ) (limit l : ℕ) (bs : List Block) (p : Path) (x : Place) → SpellsDocument bs text limit → flat l (claims bs) p ≡ Some x → keys_in p ≤ 2 * limit
+pub flat-keys : (text : List ℕ) (limit l : ℕ) (bs : List ParsedSection) (p : Path) (x : Place) → SpellsDocument bs text limit → flat l (claims bs) p ≡ Some x → keys_in p ≤ 2 * limit
 flat-keys text limit l bs p x spelled is = omega (arith, (flat-fits text limit l bs p x spelled is).0)
 
-pub flat-steps : (text : List ℕ) (limit l : ℕ) (bs : List Block) (p : Path) (x : Place) → SpellsDocument bs text limit → flat l (claims bs) p ≡ Some x → length p ≤ 3 * limit
+pub flat-steps : (text : List ℕ) (limit l : ℕ) (bs : List ParsedSection) (p : Path) (x : Place) → SpellsDocument bs text limit → flat l (claims bs) p ≡ Some x → length p ≤ 3 * limit
 flat-steps text limit l bs p x spelled is = omega (arith, (flat-fits text limit l bs p x spelled is).1)
 
 -- ---- the tree

@@ -5,17 +5,17 @@ use Rattle.toml_span_lex.specs.declared.span.Span.{Span}
 use Rattle.toml_span_tree.specs.Node as tree
 use Rattle.toml_span_tree.specs.Node.{integer}
 use Rattle.toml_span_tree.specs.Path.{Path, key, position, Shape, shape_scalar, shape_table, Place, place_at}
-use Rattle.toml_span_read.specs.Data.{ParsedValue, parsed, scalar, KeyValue, Block, last_end, SimpleKey}
-use Rattle.toml_span.specs.declared.claims.Sort.{Sort}
-use Rattle.toml_span.specs.declared.claims.Sort.TheVariants.{Passed, StandardTable, Dotted, Assigned}
+use Rattle.toml_span_read.specs.Data.{ParsedValue, parsed, scalar, ParsedAssignment, ParsedSection, last_end, SimpleKey}
+use Rattle.toml_span.specs.declared.claims.ClaimKind.{ClaimKind}
+use Rattle.toml_span.specs.declared.claims.ClaimKind.TheVariants.{Passed, StandardTable, Dotted, Assigned}
 use Rattle.toml_span.specs.Paths.{same_path, enter, target, opened_by}
-use Rattle.toml_span.specs.Claims.{Claim, Claims, no_claims, claimed, table_claim, followed, key_claims, value_claims, inner_claims, item_claims, pair_claims, key_value_claims, end_claims, header_claims, section_claims, claims_behind, claims}
-use Rattle.toml_span.specs.Clashes.{Resolves, clash, clash_among, clash_behind}
+use Rattle.toml_span.specs.Claims.{Claim, Claims, no_claims, claimed, table_claim, followed, key_claims, value_claims, inner_claims, item_claims, pair_claims, assignments_claims, end_claims, header_claims, section_claims, claims_after, claims}
+use Rattle.toml_span.specs.Clashes.{Resolves, clash, clash_among, clash_after}
 use Rattle.toml_span.specs.Flat.{all_claims, claims_at, first_claim_by_header, flat}
 
 -- what the example evaluates
 computed : ⊤
-unfolding same_path enter target opened_by followed key_claims value_claims inner_claims item_claims pair_claims key_value_claims end_claims header_claims section_claims claims_behind clash clash_among clash_behind all_claims claims_at first_claim_by_header flat
+unfolding same_path enter target opened_by followed key_claims value_claims inner_claims item_claims pair_claims assignments_claims end_claims header_claims section_claims claims_after clash clash_among clash_after all_claims claims_at first_claim_by_header flat
 computed = tt
 
 -- ---- how sections are written
@@ -32,14 +32,14 @@ abbrev digit : ℕ → ℕ → ParsedValue
 digit n i = parsed (scalar (integer (pos n))) (at i (i + 1))
 
 -- an assignment from i to j
-abbrev key_value : ℕ → ℕ → List SimpleKey → ParsedValue → KeyValue
-key_value i j parts v = record { parts = parts; value = v; extent = at i j }
+abbrev parsed_assignment : ℕ → ℕ → List SimpleKey → ParsedValue → ParsedAssignment
+parsed_assignment i j parts v = record { parts = parts; value = v; extent = at i j }
 
 -- a header whose line is from i to j, in double brackets or not, and the assignments after it
-abbrev header : Bool → ℕ → ℕ → List SimpleKey → List KeyValue → Block
-header double i j parts key_values = record { header = parts; array = double; header_span = at i j; extent = at i (last_end j key_values); key_values = key_values }
+abbrev header : Bool → ℕ → ℕ → List SimpleKey → List ParsedAssignment → ParsedSection
+header double i j parts assignments = record { header = parts; array = double; header_span = at i j; extent = at i (last_end j assignments); assignments = assignments }
 
-abbrev headed : ℕ → ℕ → List SimpleKey → List KeyValue → Block
+abbrev headed : ℕ → ℕ → List SimpleKey → List ParsedAssignment → ParsedSection
 headed = header false
 
 -- ---- names and paths
@@ -78,9 +78,9 @@ abbrev /a/0 : Path
 
 -- a table or an array, claimed at a path by a key: the span of the key, the line of the header and the span of the
 -- place
-abbrev claims_table : Sort → Path → List ℕ → Span → Span → Span → Claim
-claims_table sort path name k line extent =
-    table_claim path (record { name = name; span = k }) (record { sort = sort; key = k; line = line; extent = extent })
+abbrev claims_table : ClaimKind → Path → List ℕ → Span → Span → Span → Claim
+claims_table kind path name k line extent =
+    table_claim path (record { name = name; span = k }) (record { kind = kind; key = k; line = line; extent = extent })
 
 -- a value: the span of its key, its shape and its span
 abbrev claims_value : Path → List ℕ → Span → Shape → Span → Claim
@@ -88,7 +88,7 @@ claims_value path name k shape span =
     record {
       path = path;
       name = name;
-      mark = record { sort = Assigned; key = k; line = span; extent = span };
+      info = record { kind = Assigned; key = k; line = span; extent = span };
       place = record { shape = shape; key_span = Some k; span = span };
     }
 
@@ -116,10 +116,10 @@ one span = tree.node (tree.scalar (integer (pos 1))) span
 
 -- ---- `[a.b.c]` LF `[a]` LF `b.d = 1` LF
 
-abbrev abc : List Block
+abbrev abc : List ParsedSection
 abc =
     headed 0 8 (part a 1 ∷ part b 3 ∷ part c 5 ∷ []) []
-    ∷ headed 8 12 (part a 9 ∷ []) (key_value 12 19 (part b 12 ∷ part d 14 ∷ []) (digit 1 18) ∷ [])
+    ∷ headed 8 12 (part a 9 ∷ []) (parsed_assignment 12 19 (part b 12 ∷ part d 14 ∷ []) (digit 1 18) ∷ [])
     ∷ []
 
 abbrev abc_claims : List Claim

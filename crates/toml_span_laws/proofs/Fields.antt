@@ -7,7 +7,7 @@ use Rattle.toml_span_tree.specs.declared.error.Error.{Error}
 use Rattle.toml_span_tree.specs.Error.{ErrorContent}
 use Rattle.toml_span_tree.specs.Node.{Node, node, table, Members, no_members, member, entry_at}
 use Rattle.toml_span_tree.specs.Path.{Path, key, Place, shape_table, place_of}
-use Rattle.toml_span.specs.Flat.{Shows}
+use Rattle.toml_span.specs.Flat.{ShowsExactly}
 use Rattle.toml_span.specs.Ordered.{EachName, MembersOrdered}
 use Rattle.toml_span_typed.specs.Errors.{Errors}
 use Rattle.toml_span.proofs.Grafts.{same_step-self}
@@ -45,7 +45,7 @@ ordered-without name (member other at n ms) h = grind (arith, nat_tests, common_
 hidden : (b : Bool) (o : Option At) (p : Path) (t : Option Place) → shown o p ≡ t → shown (cond b None o) p ≡ cond b None t
 hidden b o p t is = grind (arith, nat_tests, common_steps)
 
-shows-without : (name : List ℕ) (ms : Members) (at : Span) (places : Path → Option Place) → MembersOrdered ms → Shows (node (table ms) at) places → Shows (node (table (without name ms)) at) (hide name places)
+shows-without : (name : List ℕ) (ms : Members) (at : Span) (places : Path → Option Place) → MembersOrdered ms → ShowsExactly (node (table ms) at) places → ShowsExactly (node (table (without name ms)) at) (hide name places)
 shows-without name ms at places ordered shows = grind (arith, nat_tests, common_steps, entry-without, hidden, shown)
 
 except-more : (names : List (List ℕ)) (name : List ℕ) (places : Path → Option Place) (p : Path) → except (names ++ name ∷ []) places p ≡ hide name (except names places) p
@@ -113,23 +113,23 @@ tried-over reads places name before after (Err error) h answer = starved-over pl
 
 -- ---- the end
 
-first-left : (other : List ℕ) (s : Span) (n : Node) (ms : Members) (at : Span) (places : Path → Option Place) → Shows (node (table (member other s n ms)) at) places
+first-left : (other : List ℕ) (s : Span) (n : Node) (ms : Members) (at : Span) (places : Path → Option Place) → ShowsExactly (node (table (member other s n ms)) at) places
     → places (key other ∷ []) ≡ Some (place_of (Some s, n))
 first-left other s n ms at places shows = sym (shows (key other ∷ [])) ∙ ap (λ o. shown o []) (first-entry other s n ms)
 
-left-filled : (ms : Members) (at : Span) (places : Path → Option Place) → Shows (node (table ms) at) places → is_filled ms ≡ true → (name : List ℕ) × (place : Place) × (places (key name ∷ []) ≡ Some place)
+left-filled : (ms : Members) (at : Span) (places : Path → Option Place) → ShowsExactly (node (table ms) at) places → is_filled ms ≡ true → (name : List ℕ) × (place : Place) × (places (key name ∷ []) ≡ Some place)
 left-filled no_members at places shows h = cc
 left-filled (member other s n ms) at places shows h = (other, place_of (Some s, n), first-left other s n ms at places shows)
 
-all-told : (ms : Members) (at : Span) (places : Path → Option Place) (faults : List ErrorContent) → Shows (node (table ms) at) places → ((name : List ℕ) → places (key name ∷ []) ≡ None) → where_filled ms faults ≡ []
-all-told no_members at places faults shows none = refl
-all-told (member other s n ms) at places faults shows none = grind (arith, nat_tests, common_steps, first-left other s n ms at places shows)
+all-reported : (ms : Members) (at : Span) (places : Path → Option Place) (faults : List ErrorContent) → ShowsExactly (node (table ms) at) places → ((name : List ℕ) → places (key name ∷ []) ≡ None) → where_filled ms faults ≡ []
+all-reported no_members at places faults shows none = refl
+all-reported (member other s n ms) at places faults shows none = grind (arith, nat_tests, common_steps, first-left other s n ms at places shows)
 
 pub ends-ok : (places : Path → Option Place) (s : State) (answer : Result (Unit {0}) Unfinished) → IsOver places s → Refuses s answer
     → IsOk answer ↔ ((s.errors ≡ []) × HasNoKeyBut s.asked places)
 ends-ok places s (Ok done) h refuses = grind (arith, nat_tests, common_steps)
 ends-ok places s (Err (unfinished.Faults faults)) h refuses =
-    grind (arith, nat_tests, common_steps, all-told s.members s.span (except s.asked places) (unexpected_entries s ∷ []) h.1)
+    grind (arith, nat_tests, common_steps, all-reported s.members s.span (except s.asked places) (unexpected_entries s ∷ []) h.1)
 ends-ok places s (Err (unfinished.Memory helper)) h refuses =
     grind (arith, nat_tests, common_steps, left-filled s.members s.span (except s.asked places) h.1 refuses.0)
 

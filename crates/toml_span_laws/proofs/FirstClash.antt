@@ -1,7 +1,7 @@
 -- Claims without clashes, form by form.
 use Rattle.toml_span_lex.proofs.Common.{⊤, ◌≡◌, List, [], ◌∷◌, ◌++◌, Option, Some, None, option_map, refl, ◌⊎◌, inl, inr, arith, nat_tests, common_steps}
 use Rattle.toml_span.specs.Claims.{Claim, Claims, no_claims, claimed, scope}
-use Rattle.toml_span.specs.Clashes.{or_else, clash_among, clash_behind}
+use Rattle.toml_span.specs.Clashes.{first_some, clash_among, clash_after}
 
 -- none of the earlier claims clashes with it
 abbrev pub IsFree : List Claim → Claim → Type 0
@@ -20,17 +20,17 @@ cases_option (Some x) = inr (x, refl)
 pub mapped : {A B : Type 0} (f : A → B) (o : Option A) (y : B) → option_map f o ≡ Some y → (x : A) × (o ≡ Some x) × (f x ≡ y)
 mapped f o y h = grind (arith, nat_tests, common_steps)
 
-both-none : {A : Type 0} (x y : Option A) → or_else x y ≡ None → (x ≡ None) × (y ≡ None)
+both-none : {A : Type 0} (x y : Option A) → first_some x y ≡ None → (x ≡ None) × (y ≡ None)
 both-none x y h = grind (arith, nat_tests, common_steps)
 
-pub are-free : (earlier : List Claim) (cs : Claims) → clash_behind earlier cs ≡ None → AreFree earlier cs
-unfolding clash_behind
+pub are-free : (earlier : List Claim) (cs : Claims) → clash_after earlier cs ≡ None → AreFree earlier cs
+unfolding clash_after
 are-free earlier no_claims none = tt
 are-free earlier (claimed c cs) none = grind (arith, nat_tests, common_steps, are-free (earlier ++ (c ∷ [])) cs, both-none)
 are-free earlier (scope inner cs) none = grind (arith, nat_tests, common_steps, are-free [] inner, are-free earlier cs)
 
-pub none-behind : (earlier : List Claim) (cs : Claims) → AreFree earlier cs → clash_behind earlier cs ≡ None
-unfolding clash_behind
-none-behind earlier no_claims free = refl
-none-behind earlier (claimed c cs) free = rw (free.0) (none-behind (earlier ++ (c ∷ [])) cs free.1)
-none-behind earlier (scope inner cs) free = rw (none-behind [] inner free.0) (none-behind earlier cs free.1)
+pub none-after : (earlier : List Claim) (cs : Claims) → AreFree earlier cs → clash_after earlier cs ≡ None
+unfolding clash_after
+none-after earlier no_claims free = refl
+none-after earlier (claimed c cs) free = rw (free.0) (none-after (earlier ++ (c ∷ [])) cs free.1)
+none-after earlier (scope inner cs) free = rw (none-after [] inner free.0) (none-after earlier cs free.1)

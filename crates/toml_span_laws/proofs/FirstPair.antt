@@ -1,11 +1,11 @@
 -- The clash that is reported is the first one by the offsets of the keys.
 use Rattle.toml_span_lex.proofs.Common.{◌≡◌, ℕ, ◌<◌, ◌⊎◌, List, [], ◌∷◌, ◌++◌, Some, length, arith, refl, sym, ap, ◌∙◌, append_assoc, inl, inr, none-some, nat_tests, common_steps}
-use Rattle.toml_span_read.specs.Data.{Block}
+use Rattle.toml_span_read.specs.Data.{ParsedSection}
 use Rattle.toml_span_read.specs.Grammar.{SpellsDocument}
-use Rattle.toml_span.specs.declared.claims.Blame.{Blame}
-use Rattle.toml_span.specs.declared.claims.Sort.TheVariants.{TableElement}
+use Rattle.toml_span.specs.declared.claims.ClashKind.{ClashKind}
+use Rattle.toml_span.specs.declared.claims.ClaimKind.TheVariants.{TableElement}
 use Rattle.toml_span.specs.Claims.{Claim, Claims, no_claims, claimed, scope, claims}
-use Rattle.toml_span.specs.Clashes.{NamedClash, blame, clash, clash_among, clash_behind, first_clash}
+use Rattle.toml_span.specs.Clashes.{NamedClash, clash_kind, clash, clash_among, clash_after, first_clash}
 use Rattle.toml_span.specs.Flat.{all_claims}
 use Rattle.toml_span.proofs.EachClaim.{same_path-eq}
 use Rattle.toml_span_laws.specs.Clashing.{IsIn, DoClash, IsPair, IsFirstPair}
@@ -16,16 +16,16 @@ use Rattle.toml_span_laws.proofs.Order.{document-rises}
 
 -- ---- claims that clash are not those of entries
 
--- two claims that clash are on the same path, and their sorts clash
-pub clash-blames : (c d : Claim) → DoClash c d → (c.path ≡ d.path) × ((b : Blame) × (blame c.mark.sort d.mark.sort ≡ Some b))
+-- two claims that clash are on the same path, and their kinds clash
+pub clash-blames : (c d : Claim) → DoClash c d → (c.path ≡ d.path) × ((b : ClashKind) × (clash_kind c.info.kind d.info.kind ≡ Some b))
 unfolding clash
 clash-blames c d (t, h) = grind (arith, nat_tests, common_steps, mapped, same_path-eq)
 
-pub later-plain : (c d : Claim) → DoClash c d → d.mark.sort ≡ TableElement → ⊥
-later-plain c d h is = let (same, (b, blames)) = clash-blames c d h in none-some b (sym (grind (arith, nat_tests, common_steps)) ∙ sym (ap (blame c.mark.sort) is) ∙ blames)
+pub later-plain : (c d : Claim) → DoClash c d → d.info.kind ≡ TableElement → ⊥
+later-plain c d h is = let (same, (b, blames)) = clash-blames c d h in none-some b (sym (grind (arith, nat_tests, common_steps)) ∙ sym (ap (clash_kind c.info.kind) is) ∙ blames)
 
-earlier-plain : (c d : Claim) → DoClash c d → c.mark.sort ≡ TableElement → ⊥
-earlier-plain c d h is = let (same, (b, blames)) = clash-blames c d h in none-some b (ap (λ s. blame s d.mark.sort) (sym is) ∙ blames)
+earlier-plain : (c d : Claim) → DoClash c d → c.info.kind ≡ TableElement → ⊥
+earlier-plain c d h is = let (same, (b, blames)) = clash-blames c d h in none-some b (ap (λ s. clash_kind s d.info.kind) (sym is) ∙ blames)
 
 -- ---- pairs
 
@@ -37,7 +37,7 @@ pair-is earlier (scope inner cs) c d h = grind (arith, nat_tests, common_steps, 
 
 -- a pair after a claim
 pub pair-late : (earlier : List Claim) (cs : Claims) (x c d : Claim) → ((e : Claim) → IsIn e (all_claims cs) → IsLater x e) → IsPair earlier cs c d → claim_start x < claim_start d
-pair-late earlier cs x c d behind h = let (among, clashes) = pair-is earlier cs c d h in strictly x d (behind d among) (later-plain c d clashes)
+pair-late earlier cs x c d beyond h = let (among, clashes) = pair-is earlier cs c d h in strictly x d (beyond d among) (later-plain c d clashes)
 
 pub free-clash : (earlier : List Claim) (c d : Claim) → IsFree earlier d → IsIn c earlier → DoClash c d → ⊥
 unfolding clash_among
@@ -64,7 +64,7 @@ Pair earlier cs t = (c d : Claim) × IsFirstPair earlier cs c d × (clash c d �
 -- a first pair, if all others come later
 pair-wide : (l m : List Claim) (cs ds : Claims) (t : NamedClash) (p : Pair l cs t) → ((e f : Claim) → IsPair l cs e f → IsPair m ds e f)
     → ((e f : Claim) → IsPair m ds e f → IsPair l cs e f ⊎ (claim_start p.1 < claim_start f)) → Pair m ds t
-pair-wide l m cs ds t (c, d, is, told) into out = grind (arith, nat_tests, common_steps)
+pair-wide l m cs ds t (c, d, is, reported) into out = grind (arith, nat_tests, common_steps)
 
 -- the earliest partner
 partner : (earlier : List Claim) (d : Claim) (t : NamedClash) → clash_among earlier d ≡ Some t → Pairs IsLater earlier
@@ -79,18 +79,18 @@ partner (x ∷ l) d t is r = elim (cases_option (clash x d)) [
       (x, inl refl, clashes ∙ (rw clashes at is), λ e h met. elim h [ inl same ↦ inl same | inr more ↦ inr (strictly x e (r.0 e more) (earlier-plain e d met)) ])
 ]
 
-told-pair : (earlier : List Claim) (cs : Claims) (t : NamedClash) → clash_behind earlier cs ≡ Some t → Pairs IsLater (earlier ++ all_claims cs) → Pair earlier cs t
-unfolding all_claims clash_behind
-told-pair earlier no_claims t is r = absurd (none-some t is)
-told-pair earlier (claimed d cs) t is r = elim (cases_option (clash_among earlier d)) [
+reported-pair : (earlier : List Claim) (cs : Claims) (t : NamedClash) → clash_after earlier cs ≡ Some t → Pairs IsLater (earlier ++ all_claims cs) → Pair earlier cs t
+unfolding all_claims clash_after
+reported-pair earlier no_claims t is r = absurd (none-some t is)
+reported-pair earlier (claimed d cs) t is r = elim (cases_option (clash_among earlier d)) [
   | inl none ↦
       let on = earlier ++ (d ∷ []) in
-      pair-wide on earlier cs (claimed d cs) t (told-pair on cs t (rw none at is) (rw (append_assoc earlier (d ∷ []) (all_claims cs)) r)) (λ e f h. inr h)
+      pair-wide on earlier cs (claimed d cs) t (reported-pair on cs t (rw none at is) (rw (append_assoc earlier (d ∷ []) (all_claims cs)) r)) (λ e f h. inr h)
       (λ e f h. grind (arith, nat_tests, common_steps, free-clash))
   | inr (u, found) ↦
-      let (rises, behind, across) = pairs-split IsLater earlier (d ∷ all_claims cs) r in
+      let (rises, beyond, across) = pairs-split IsLater earlier (d ∷ all_claims cs) r in
       let (c, here, clashes, first) = partner earlier d t (found ∙ (rw found at is)) rises in
-      let late = λ (e f : Claim) (h : IsPair (earlier ++ (d ∷ [])) cs e f). pair-late (earlier ++ (d ∷ [])) cs d e f behind.0 h in (
+      let late = λ (e f : Claim) (h : IsPair (earlier ++ (d ∷ [])) cs e f). pair-late (earlier ++ (d ∷ [])) cs d e f beyond.0 h in (
         c,
         d,
         record {
@@ -101,16 +101,16 @@ told-pair earlier (claimed d cs) t is r = elim (cases_option (clash_among earlie
         clashes,
       )
 ]
-told-pair earlier (scope inner cs) t is r =
+reported-pair earlier (scope inner cs) t is r =
     let (before, all, across) = pairs-split IsLater earlier (all_claims inner ++ all_claims cs) r in
-    let (inside, behind, apart) = pairs-split IsLater (all_claims inner) (all_claims cs) all in
-    elim (cases_option (clash_behind [] inner)) [
+    let (inside, beyond, apart) = pairs-split IsLater (all_claims inner) (all_claims cs) all in
+    elim (cases_option (clash_after [] inner)) [
       | inl none ↦
           pair-wide earlier earlier cs (scope inner cs) t
-          (told-pair earlier cs t (rw none at is) (pairs-join IsLater earlier (all_claims cs) before behind (λ c d h g. across c d h (in-right d (all_claims inner) (all_claims cs) g))))
+          (reported-pair earlier cs t (rw none at is) (pairs-join IsLater earlier (all_claims cs) before beyond (λ c d h g. across c d h (in-right d (all_claims inner) (all_claims cs) g))))
           (λ e f h. inr h) (λ e f h. elim h [ inl now ↦ absurd (no-pair [] inner e f (are-free [] inner none) now) | inr more ↦ inl more ])
       | inr (u, found) ↦
-          let p = told-pair [] inner t (found ∙ (rw found at is)) inside in
+          let p = reported-pair [] inner t (found ∙ (rw found at is)) inside in
           pair-wide [] earlier inner (scope inner cs) t p (λ e f h. inl h) (λ e f h. elim h [
             | inl now ↦ inl now
             | inr more ↦ inr (pair-late earlier cs p.1 e f (λ y g. apart p.1 y (pair-is [] inner p.0 p.1 p.2.pair).0 g) more)
@@ -124,9 +124,9 @@ one-pair earlier cs c d e f a b = grind (arith, nat_tests, common_steps)
 
 -- ---- documents
 
-pub first-pair : (text : List ℕ) (limit : ℕ) (bs : List Block) (t : NamedClash) → SpellsDocument bs text limit → first_clash (claims bs) ≡ Some t → Pair [] (claims bs) t
-first-pair text limit bs t h is = told-pair [] (claims bs) t is (rising-later (all_claims (claims bs)) 0 (length text) (document-rises bs text limit h))
+pub first-pair : (text : List ℕ) (limit : ℕ) (bs : List ParsedSection) (t : NamedClash) → SpellsDocument bs text limit → first_clash (claims bs) ≡ Some t → Pair [] (claims bs) t
+first-pair text limit bs t h is = reported-pair [] (claims bs) t is (rising-later (all_claims (claims bs)) 0 (length text) (document-rises bs text limit h))
 
-pub told-first : (text : List ℕ) (limit : ℕ) (bs : List Block) (t : NamedClash) → SpellsDocument bs text limit → Pair [] (claims bs) t → first_clash (claims bs) ≡ Some t
-told-first text limit bs t h (c, d, is, told) =
+pub reported-first : (text : List ℕ) (limit : ℕ) (bs : List ParsedSection) (t : NamedClash) → SpellsDocument bs text limit → Pair [] (claims bs) t → first_clash (claims bs) ≡ Some t
+reported-first text limit bs t h (c, d, is, reported) =
     grind (arith, nat_tests, common_steps, are-free [] (claims bs), cases_option (first_clash (claims bs)), first-pair text limit bs, no-pair [] (claims bs) c d, one-pair [] (claims bs))

@@ -19,8 +19,10 @@ pub mod FirstPair
 pub mod Scoped
 pub mod OneScope
 pub mod ThroughValue
+pub mod AfterValues
 pub mod SpelledClaims
 pub mod ReadAgain
+pub mod WrittenOver
 pub mod CleanedFloats
 pub mod FloatTexts
 pub mod SpelledLine
@@ -31,3 +33,10 @@ pub mod Fields
 pub mod Examples
 pub mod OneText
 pub mod OneAnswer
+pub mod KeptBytes
+pub mod KeptForms
+pub mod KeptNumbers
+pub mod KeptScalars
+pub mod KeptReading
+pub mod SameFault
+pub mod NumberRows

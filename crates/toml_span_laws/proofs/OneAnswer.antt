@@ -7,7 +7,7 @@ use Rattle.toml_span_tree.specs.declared.error.Error.{Error}
 use Rattle.toml_span.specs.Claims.{claims}
 use Rattle.toml_span.specs.Flat.{flat}
 use Rattle.toml_span.specs.Parsing.{IsRefusal, resolved}
-use Rattle.toml_span_laws.proofs.Answered.{blocks-one, decides, one-refusal}
+use Rattle.toml_span_laws.proofs.Answered.{sections-one, decides, one-refusal}
 use Rattle.toml_span_lines.specs.Lines.{error_line}
 use Rattle.toml_span_lines.specs.Run.{bound, IsShown, IsAnswer, Runs}
 use Rattle.toml_span_lines.specs.Shown.{ShowsDocument, ShowsRefusal, ShowsPlaces}
@@ -15,14 +15,14 @@ use Rattle.toml_span_laws.proofs.OneText.{one-text}
 
 pub one-shown : (bytes : List ℕ) (limit : ℕ) (text other : List ℕ) → ShowsDocument bytes limit text → ShowsDocument bytes limit other → text ≡ other
 one-shown bytes limit text other d e =
-    let same = blocks-one bytes limit e.blocks d.blocks e.read d.read in
-    one-text (flat (length bytes) (claims d.blocks)) text other d.shown (subst (λ l. ShowsPlaces (flat (length bytes) (claims l)) other) same e.shown)
+    let same = sections-one bytes limit e.sections d.sections e.read d.read in
+    one-text (flat (length bytes) (claims d.sections)) text other d.shown (subst (λ l. ShowsPlaces (flat (length bytes) (claims l)) other) same e.shown)
 
 pub not-refused : (bytes : List ℕ) (limit : ℕ) (text other : List ℕ) → ShowsDocument bytes limit text → ShowsRefusal bytes limit other → ⊥
-not-refused bytes limit text other d (error, refusal, is) = decides bytes limit (resolved d.blocks) (Err (stops.Fault error)) (d.read, d.resolves) refusal
+not-refused bytes limit text other d (error, refusal, is) = decides bytes limit (resolved d.sections) (Err (stops.Fault error)) (d.read, d.resolves) refusal
 
-pub one-told : (bytes : List ℕ) (limit : ℕ) (error : Error) (text : List ℕ) → IsRefusal bytes limit (stops.Fault error) → ShowsRefusal bytes limit text → text ≡ error_line (content_of error)
-one-told bytes limit error text c (other, refusal, is) = is ∙ ap (λ f. error_line f) (one-refusal bytes limit other error refusal c)
+pub one-reported : (bytes : List ℕ) (limit : ℕ) (error : Error) (text : List ℕ) → IsRefusal bytes limit (stops.Fault error) → ShowsRefusal bytes limit text → text ≡ error_line (content_of error)
+one-reported bytes limit error text c (other, refusal, is) = is ∙ ap (λ f. error_line f) (one-refusal bytes limit other error refusal c)
 
 pub one-refused : (bytes : List ℕ) (limit : ℕ) (text other : List ℕ) → ShowsRefusal bytes limit text → ShowsRefusal bytes limit other → text ≡ other
 one-refused bytes limit text other (e, a, is) (f, b, at) = is ∙ ap (λ x. error_line x) (one-refusal bytes limit e f a b) ∙ sym at

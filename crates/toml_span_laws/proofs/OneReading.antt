@@ -2,23 +2,23 @@
 use Rattle.toml_span_lex.proofs.Common.{◌≡◌, ℕ, zero, suc, ◌+◌, ◌<◌, Bool, true, false, List, length, arith, inl, inr, refl, sym, ap, ◌∙◌, Result, Ok, Err, nat_tests, common_steps, [], ◌∷◌, ◌++◌, get_or, ◌==◌, false≢true, ◌⊎◌, ◌&&◌}
 use Rattle.toml_span_lex.specs.declared.span.Span.{Span}
 use Rattle.toml_span_lex.specs.declared.tokens.Error.{Error}
-use Rattle.toml_span_lex.specs.Tokens.{Lexeme, Stands, IsNoToken}
+use Rattle.toml_span_lex.specs.Tokens.{Lexeme, IsLexeme, IsNoToken}
 use Rattle.toml_span_lex.proofs.NoFault.{token_or_fault}
 pub use Rattle.toml_span_lex.proofs.One.{One, one_is, one_where, one_given, one_either}
 use Rattle.toml_span_lex.proofs.OneFault.{fault_unique, char_unique, char_within}
 use Rattle.toml_span_lex.proofs.OneToken.{token_unique}
 use Rattle.toml_span_lex.proofs.Within.{fault_within}
 use Rattle.toml_span_read.specs.declared.fault.Fault.{Fault}
-use Rattle.toml_span_read.specs.Read.{Reading, after, Standing, token, text_end, no_token, StandsAt, choice, Turn, on, done, Loop, ends, stops, goes_on, key_of, Parts, onward, ValueEnd, Elements, Pairs, Blocks}
+use Rattle.toml_span_read.specs.Read.{Reading, after, NextToken, token, text_end, no_token, IsNextToken, choice, LoopStep, on, done, Loop, ends, stops, goes_on, key_result, Parts, onward, ValueEnd, Elements, Pairs, ParsedSections}
 use Rattle.toml_span_lex.specs.Bytes.{is_blank, is_printed, MaximalRun}
 use Rattle.toml_span_read.specs.Gaps.{GapPiece, begins_gap, GapBy, MaximalGap, Dot, NoDot, Skipped, Tail, NoTail}
-use Rattle.toml_span_read.specs.Data.{SimpleKey, KeyValue}
+use Rattle.toml_span_read.specs.Data.{SimpleKey, ParsedAssignment}
 use Rattle.toml_span_read.specs.Read as read
 use Rattle.toml_span_read.proofs.NumberLemmas.{same_byte}
 use Rattle.toml_span_lex.specs.Text.{LineEnd, NoLineEnd, CharAt}
 use Rattle.toml_span_lex.specs.Text.{FirstPlace}
 use Rattle.toml_span_lex.proofs.Unique.{run_unique, line_unique}
-use Rattle.toml_span_read.specs.declared.fault.Due.{Due}
+use Rattle.toml_span_read.specs.declared.fault.ExpectedToken.{ExpectedToken}
 use Rattle.toml_span_read.specs.Dates.{is_date_byte, continues_date}
 use Rattle.toml_span_laws.proofs.EarlierLaws.{clear_crossing, crossing_one}
 
@@ -30,13 +30,13 @@ one_choice one other = one_either (one_where one) (one_where other) (λ r s (t, 
 
 -- ---- tokens
 
-no_token_at_end : (text : List ℕ) (i j : ℕ) (s : Span) (l : Lexeme) → i ≡ length text → Stands text i j s l → ⊥
+no_token_at_end : (text : List ℕ) (i j : ℕ) (s : Span) (l : Lexeme) → i ≡ length text → IsLexeme text i j s l → ⊥
 no_token_at_end text i j s l e h = grind (arith, nat_tests, common_steps)
 
 no_fault_at_end : (text : List ℕ) (i j : ℕ) (x : Error) → i ≡ length text → IsNoToken text i j x → ⊥
 no_fault_at_end text i j x e h = let w = fault_within text i j x h in omega (arith, e, w.0, w.1)
 
-pub one_stands : (text : List ℕ) (i : ℕ) (a b : Standing) → StandsAt text i a → StandsAt text i b → a ≡ b
+pub one_stands : (text : List ℕ) (i : ℕ) (a b : NextToken) → IsNextToken text i a → IsNextToken text i b → a ≡ b
 one_stands text i (token s l j) (token t m k) h g = let u = token_unique text i j k s t l m h g in rw (u.1, u.2, u.0) refl
 one_stands text i (token s l j) text_end h g = absurd (no_token_at_end text i j s l g h)
 one_stands text i (token s l j) (no_token x) h (k, g) = absurd (token_or_fault text i j k s l x h g)
@@ -48,24 +48,24 @@ one_stands text i (no_token x) text_end (k, h) g = absurd (no_fault_at_end text 
 one_stands text i (no_token x) (no_token y) (j, h) (k, g) = ap (λ z. no_token z) (fault_unique text i j k x y h g).1
 
 -- the result for what is at i
-pub one_standing : {A : Type 0} (text : List ℕ) (i : ℕ) {f : Standing → Result A Fault} → One (λ r. (t : Standing) × StandsAt text i t × (r ≡ f t))
+pub one_standing : {A : Type 0} (text : List ℕ) (i : ℕ) {f : NextToken → Result A Fault} → One (λ r. (t : NextToken) × IsNextToken text i t × (r ≡ f t))
 one_standing text i = one_given (one_stands text i) (λ t. one_is)
 
 -- ---- loops
 
-loops_one : {S A : Type 0} (turn : S → Reading (Turn S A)) → ((s : S) → One (turn s)) → {s : S} {r q : Result A Fault} → Loop turn s r → Loop turn s q → r ≡ q
-loops_one turn one (ends s a h) (ends s' b g) = let x = one s (Ok (done a)) (Ok (done b)) h g in cc
-loops_one turn one (ends s a h) (stops s' e g) = let x = one s (Ok (done a)) (Err e) h g in absurd (cc)
-loops_one turn one (ends s a h) (goes_on s' t q g m) = let x = one s (Ok (done a)) (Ok (on t)) h g in absurd (cc)
-loops_one turn one (stops s e h) (ends s' b g) = let x = one s (Err e) (Ok (done b)) h g in absurd (cc)
-loops_one turn one (stops s e h) (stops s' f g) = let x = one s (Err e) (Err f) h g in cc
-loops_one turn one (stops s e h) (goes_on s' t q g m) = let x = one s (Err e) (Ok (on t)) h g in absurd (cc)
-loops_one turn one (goes_on s t r h l) (ends s' b g) = let x = one s (Ok (on t)) (Ok (done b)) h g in absurd (cc)
-loops_one turn one (goes_on s t r h l) (stops s' e g) = let x = one s (Ok (on t)) (Err e) h g in absurd (cc)
-loops_one turn one (goes_on s t r h l) (goes_on s' u q g m) = let x = one s (Ok (on t)) (Ok (on u)) h g in let e : u ≡ t = cc in loops_one turn one {s = t} {r = r} {q = q} l (rw e at m)
+loops_one : {S A : Type 0} (step : S → Reading (LoopStep S A)) → ((s : S) → One (step s)) → {s : S} {r q : Result A Fault} → Loop step s r → Loop step s q → r ≡ q
+loops_one step one (ends s a h) (ends s' b g) = let x = one s (Ok (done a)) (Ok (done b)) h g in cc
+loops_one step one (ends s a h) (stops s' e g) = let x = one s (Ok (done a)) (Err e) h g in absurd (cc)
+loops_one step one (ends s a h) (goes_on s' t q g m) = let x = one s (Ok (done a)) (Ok (on t)) h g in absurd (cc)
+loops_one step one (stops s e h) (ends s' b g) = let x = one s (Err e) (Ok (done b)) h g in absurd (cc)
+loops_one step one (stops s e h) (stops s' f g) = let x = one s (Err e) (Err f) h g in cc
+loops_one step one (stops s e h) (goes_on s' t q g m) = let x = one s (Err e) (Ok (on t)) h g in absurd (cc)
+loops_one step one (goes_on s t r h l) (ends s' b g) = let x = one s (Ok (on t)) (Ok (done b)) h g in absurd (cc)
+loops_one step one (goes_on s t r h l) (stops s' e g) = let x = one s (Ok (on t)) (Err e) h g in absurd (cc)
+loops_one step one (goes_on s t r h l) (goes_on s' u q g m) = let x = one s (Ok (on t)) (Ok (on u)) h g in let e : u ≡ t = cc in loops_one step one {s = t} {r = r} {q = q} l (rw e at m)
 
-pub one_loop : {S A : Type 0} (turn : S → Reading (Turn S A)) → ((s : S) → One (turn s)) → (s : S) → One (Loop turn s)
-one_loop turn one s r q h g = loops_one turn one {s = s} {r = r} {q = q} h g
+pub one_loop : {S A : Type 0} (step : S → Reading (LoopStep S A)) → ((s : S) → One (step s)) → (s : S) → One (Loop step s)
+one_loop step one s r q h g = loops_one step one {s = s} {r = r} {q = q} h g
 
 -- a byte that both is c and is not
 pub not_here : (b c : ℕ) → b ≡ c → (b == c) ≡ false → ⊥
@@ -153,25 +153,25 @@ string_one text i = one_standing text i
 
 -- ---- arrays, inline tables and values
 
-separator_one : {S A : Type 0} (close : ℕ) (due : Due) (text : List ℕ) (m : ℕ) (next : ℕ → S) (end : ℕ → A) → One (read.separator close due text m next end)
-separator_one close due text m next end =
+separator_one : {S A : Type 0} (close : ℕ) (expected : ExpectedToken) (text : List ℕ) (m : ℕ) (next : ℕ → S) (end : ℕ → A) → One (read.separator close expected text m next end)
+separator_one close expected text m next end =
     one_given (gap_unique text m) (λ k. one_choice (one_given (gap_unique text (k + 1)) (λ p. one_is)) (one_choice one_is (one_standing text k)))
 
 element_one : (text : List ℕ) (value : ℕ → Reading ValueEnd) → ((i : ℕ) → One (value i)) → (s : Elements) → One (read.next_element text value s)
 element_one text value one (vs, i) = one_choice one_is (one_after (one i) (λ (v, m). separator_one _ _ text m _ (read.array_end (vs ++ (v ∷ [])))))
 
-key_value_one : (text : List ℕ) (limit : ℕ) (skipped : ℕ → ℕ → Type 0) (value : ℕ → ℕ → Reading ValueEnd) (i : ℕ) → ((i j k : ℕ) → skipped i j → skipped i k → j ≡ k) → ((n b : ℕ) → One (value n b)) → One (read.keyval text limit skipped value i)
-key_value_one text limit skipped value i unique one =
+parsed_assignment_one : (text : List ℕ) (limit : ℕ) (skipped : ℕ → ℕ → Type 0) (value : ℕ → ℕ → Reading ValueEnd) (i : ℕ) → ((i j k : ℕ) → skipped i j → skipped i k → j ≡ k) → ((n b : ℕ) → One (value n b)) → One (read.keyval text limit skipped value i)
+parsed_assignment_one text limit skipped value i unique one =
     one_after (key_one false text limit [] i) (λ (ps, a). one_given (unique a)
     (λ n. one_choice (one_given (unique (n + 1)) (λ b. one_after (one (length ps) b) (λ f. one_is))) (one_standing text n)))
 
-joined_one : (es : List KeyValue) (e : KeyValue) → One (read.added es e)
+joined_one : (es : List ParsedAssignment) (e : ParsedAssignment) → One (read.added es e)
 joined_one es e = one_either (one_where one_is) (one_given (crossing_one es e) (λ f. one_is)) (λ r s clear f. clear_crossing es e f.0 clear.0 f.1)
 
 pair_one : (text : List ℕ) (limit : ℕ) (value : ℕ → ℕ → Reading ValueEnd) → ((n b : ℕ) → One (value n b)) → (s : Pairs) → One (read.next_pair text limit value s)
 pair_one text limit value one (es, i) =
     one_choice one_is
-    (one_after (key_value_one text limit _ value i (gap_unique text) one) (λ (e, m). one_after (joined_one es e) (λ fs. separator_one _ _ text m _ (read.table_end fs))))
+    (one_after (parsed_assignment_one text limit _ value i (gap_unique text) one) (λ (e, m). one_after (joined_one es e) (λ fs. separator_one _ _ text m _ (read.table_end fs))))
 
 pub value_one : (text : List ℕ) (limit left n i : ℕ) → One (read.value text limit left n i)
 unfolding read.value
@@ -188,13 +188,13 @@ pub tail_one : (text : List ℕ) (i : ℕ) → One (read.tail text i)
 tail_one text i = one_either (one_given (rest_one text i) (λ j. one_is)) (one_given (λ j k a b. skipped_one text i j k a.0 b.0) (λ k. one_standing text k)) (λ r s a b. rest_or_none text i a.0 b.0 a.1 b.1)
 
 pub assignment_one : (text : List ℕ) (limit i : ℕ) → One (read.keyval text limit (MaximalRun is_blank text) (read.value text limit (limit + 1)) i)
-assignment_one text limit i = key_value_one text limit _ (read.value text limit (limit + 1)) i (run_unique is_blank text) (value_one text limit (limit + 1))
+assignment_one text limit i = parsed_assignment_one text limit _ (read.value text limit (limit + 1)) i (run_unique is_blank text) (value_one text limit (limit + 1))
 
 line_one : (text : List ℕ) (limit : ℕ) (s : Pairs) → One (read.next_assignment text limit s)
 line_one text limit (es, i) =
     one_choice one_is (one_after (assignment_one text limit i) (λ (e, m). one_after (tail_one text m) (λ n. one_after (joined_one es e) (λ fs. one_given (gap_unique text n) (λ k. one_is)))))
 
-lines_one : (text : List ℕ) (limit i : ℕ) → One (read.lines text limit i)
+lines_one : (text : List ℕ) (limit i : ℕ) → One (read.assignment_lines text limit i)
 lines_one text limit i = one_given (gap_unique text i) (λ k. one_loop (read.next_assignment text limit) (line_one text limit) ([], k))
 
 -- ---- headers, sections and the document
@@ -214,7 +214,7 @@ heading_one array text limit i =
 pub header_one : (text : List ℕ) (limit i : ℕ) → One (read.header text limit i)
 header_one text limit i = one_choice (heading_one true text limit (i + 2)) (heading_one false text limit (i + 1))
 
-next_one : (text : List ℕ) (limit : ℕ) (s : Blocks) → One (read.next_section text limit s)
+next_one : (text : List ℕ) (limit : ℕ) (s : ParsedSections) → One (read.next_section text limit s)
 next_one text limit (bs, i) =
     one_choice one_is (one_after (one_after (header_one text limit i) (λ h. one_after (lines_one text limit h.end) (λ f. one_is))) (λ f. one_is))
 

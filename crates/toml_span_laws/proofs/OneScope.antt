@@ -2,9 +2,9 @@
 -- never decides.
 use Rattle.toml_span_lex.proofs.Common.{◌≡◌, ◌⊎◌, ℕ, true, List, [], ◌∷◌, ◌++◌, Option, Some, None, refl, sym, ap, ◌∙◌, subst, inl, inr, ⊤, none-some, arith, nat_tests, common_steps, append_assoc, append-nil}
 use Rattle.toml_span_tree.specs.Path.{Path, position}
-use Rattle.toml_span_read.specs.Data.{Block}
+use Rattle.toml_span_read.specs.Data.{ParsedSection}
 use Rattle.toml_span_read.specs.Grammar.{SpellsDocument}
-use Rattle.toml_span.specs.declared.claims.Sort.TheVariants.{Passed, TableElement, Assigned}
+use Rattle.toml_span.specs.declared.claims.ClaimKind.TheVariants.{Passed, TableElement, Assigned}
 use Rattle.toml_span.specs.Claims.{Claim, Claims, no_claims, claimed, scope, claims}
 use Rattle.toml_span.specs.Flat.{all_claims, claims_at, first_claim, first_claim_by_header, deciding_claim}
 use Rattle.toml_span.specs.Paths.{same_path}
@@ -14,10 +14,10 @@ use Rattle.toml_span.proofs.Refusals.{spelled-headed}
 use Rattle.toml_span_laws.proofs.Apart.{in-cases, Pairs, in-left, in-right, pairs-join, pairs-split}
 use Rattle.toml_span_laws.proofs.FirstClash.{cases_option, IsFree, AreFree, are-free}
 use Rattle.toml_span_laws.proofs.Scoped.{Has, Scoped, document-scoped, passed-entered, Fits, IsFrom, IsUnder, entry-value, fits-on, from-cases, from-under, on-one-way, under-from}
-use Rattle.toml_span.specs.declared.claims.Blame.{Blame}
-use Rattle.toml_span.specs.declared.claims.Blame.TheVariants.{DuplicateKey}
-use Rattle.toml_span.specs.declared.claims.Sort.{Sort}
-use Rattle.toml_span.specs.Clashes.{named, blame, meeting, clash, Resolves}
+use Rattle.toml_span.specs.declared.claims.ClashKind.{ClashKind}
+use Rattle.toml_span.specs.declared.claims.ClashKind.TheVariants.{DuplicateKey}
+use Rattle.toml_span.specs.declared.claims.ClaimKind.{ClaimKind}
+use Rattle.toml_span.specs.Clashes.{with_name, clash_kind, clash_info, clash, Resolves}
 use Rattle.toml_span_laws.specs.Clashing.{IsIn, DoClash, own, ShareScope}
 use Rattle.toml_span_laws.proofs.FirstPair.{free-clash}
 
@@ -36,17 +36,17 @@ at-append q (c ∷ xs) ys = grind (arith, nat_tests, common_steps, at-append q x
 -- Among these claims on the path, a header passes through only if S holds, or after an entry.
 abbrev Entered : Path → Type 0 → List Claim → Type 0
 Entered q S [] = ⊤
-Entered q S (c ∷ cs) = (c.mark.sort ≡ Passed → c.path ≡ q → S) × Entered q (S ⊎ ((c.mark.sort ≡ TableElement) × (c.path ≡ q))) cs
+Entered q S (c ∷ cs) = (c.info.kind ≡ Passed → c.path ≡ q → S) × Entered q (S ⊎ ((c.info.kind ≡ TableElement) × (c.path ≡ q))) cs
 
 entered-more : (q : Path) (S T : Type 0) (l : List Claim) → (S → T) → Entered q S l → Entered q T l
 entered-more q S T [] f h = tt
 entered-more q S T (c ∷ l) f h =
-    grind (arith, nat_tests, common_steps, entered-more q (S ⊎ ((c.mark.sort ≡ TableElement) × (c.path ≡ q))) (T ⊎ ((c.mark.sort ≡ TableElement) × (c.path ≡ q))) l)
+    grind (arith, nat_tests, common_steps, entered-more q (S ⊎ ((c.info.kind ≡ TableElement) × (c.path ≡ q))) (T ⊎ ((c.info.kind ≡ TableElement) × (c.path ≡ q))) l)
 
 entered-append : (q : Path) (S : Type 0) (xs ys : List Claim) → Entered q S xs → Entered q S ys → Entered q S (xs ++ ys)
 entered-append q S [] ys h g = g
 entered-append q S (c ∷ xs) ys h g =
-    let T = S ⊎ ((c.mark.sort ≡ TableElement) × (c.path ≡ q)) in
+    let T = S ⊎ ((c.info.kind ≡ TableElement) × (c.path ≡ q)) in
     (h.0, entered-append q T xs ys h.1 (entered-more q S T ys (λ s. inl s) g))
 
 scoped-entered : (p : Path) (n : ℕ) (S : Type 0) (base : Path) (earlier : List Claim) (last : Option Claim) (cs : Claims) → Scoped base earlier last cs
@@ -55,7 +55,7 @@ unfolding all_claims
 scoped-entered p n S base earlier last no_claims scoped f = tt
 scoped-entered p n S base earlier last (claimed c cs) scoped f = (
   λ is on. f (subst (Has earlier TableElement) on (passed-entered base earlier c p n scoped.0 is on)),
-  scoped-entered p n (S ⊎ ((c.mark.sort ≡ TableElement) × (c.path ≡ p ++ (position n ∷ [])))) base (earlier ++ (c ∷ [])) (Some c) cs scoped.1
+  scoped-entered p n (S ⊎ ((c.info.kind ≡ TableElement) × (c.path ≡ p ++ (position n ∷ [])))) base (earlier ++ (c ∷ [])) (Some c) cs scoped.1
       (λ (e, here, is, on). grind (arith, nat_tests, common_steps, in-cases e earlier (c ∷ []) here)),
 )
 scoped-entered p n S base earlier None (scope inner cs) scoped f = absurd scoped
@@ -63,19 +63,19 @@ scoped-entered p n S base earlier (Some a) (scope inner cs) scoped f =
     grind (arith, nat_tests, common_steps, scoped-entered p n S a.path [] None inner, scoped-entered p n S base earlier None cs, entered-append)
 
 -- the first header does not pass through
-first-passes : (q : Path) (S : Type 0) (l : List Claim) (c : Claim) → Entered q S l → first_claim_by_header (claims_at q l) ≡ Some c → c.mark.sort ≡ Passed → S
+first-passes : (q : Path) (S : Type 0) (l : List Claim) (c : Claim) → Entered q S l → first_claim_by_header (claims_at q l) ≡ Some c → c.info.kind ≡ Passed → S
 unfolding claims_at first_claim_by_header
 first-passes q S [] c h is passed = absurd (none-some c is)
 first-passes q S (x ∷ l) c h is passed =
-    let T = S ⊎ ((x.mark.sort ≡ TableElement) × (x.path ≡ q)) in
+    let T = S ⊎ ((x.info.kind ≡ TableElement) × (x.path ≡ q)) in
     grind (arith, nat_tests, common_steps, path-self q, same_path-eq x.path q, first-passes q T l c h.1)
 
-first-plain : (l : List Claim) → first_claim_by_header l ≡ None → (c : Claim) → first_claim l ≡ Some c → c.mark.sort ≡ Passed → ⊥
+first-plain : (l : List Claim) → first_claim_by_header l ≡ None → (c : Claim) → first_claim l ≡ Some c → c.info.kind ≡ Passed → ⊥
 unfolding first_claim_by_header
 first-plain l none c is passed = grind (arith, nat_tests, common_steps)
 
-pub no-passage : (text : List ℕ) (limit : ℕ) (bs : List Block) (p : Path) (n : ℕ) (c : Claim) → SpellsDocument bs text limit → deciding_claim (claims_at (p ++ (position n ∷ [])) (all_claims (claims bs))) ≡ Some c
-    → c.mark.sort ≡ Passed → ⊥
+pub no-passage : (text : List ℕ) (limit : ℕ) (bs : List ParsedSection) (p : Path) (n : ℕ) (c : Claim) → SpellsDocument bs text limit → deciding_claim (claims_at (p ++ (position n ∷ [])) (all_claims (claims bs))) ≡ Some c
+    → c.info.kind ≡ Passed → ⊥
 no-passage text limit bs p n c h is passed =
     let q = p ++ (position n ∷ []) in
     let l = all_claims (claims bs) in
@@ -88,12 +88,12 @@ no-passage text limit bs p n c h is passed =
 
 -- ---- claims that clash
 
-pub do-clash : (c d : Claim) (b : Blame) → c.path ≡ d.path → blame c.mark.sort d.mark.sort ≡ Some b → DoClash c d
+pub do-clash : (c d : Claim) (b : ClashKind) → c.path ≡ d.path → clash_kind c.info.kind d.info.kind ≡ Some b → DoClash c d
 unfolding clash
-do-clash c d b same is = (named d.name (meeting c.mark d.mark b), rw (same, path-self d.path, is) refl)
+do-clash c d b same is = (with_name d.name (clash_info c.info d.info b), rw (same, path-self d.path, is) refl)
 
 -- a value and any other claim on the same path clash, whichever comes first, except for an entry
-value-clashes : (s : Sort) → (s ≡ TableElement) ⊎ ((blame Assigned s ≡ Some DuplicateKey) × (blame s Assigned ≡ Some DuplicateKey))
+value-clashes : (s : ClaimKind) → (s ≡ TableElement) ⊎ ((clash_kind Assigned s ≡ Some DuplicateKey) × (clash_kind s Assigned ≡ Some DuplicateKey))
 value-clashes s = grind (arith, nat_tests, common_steps)
 
 -- ---- lists of claims of which none clashes with a later one
@@ -111,9 +111,9 @@ peaceful-across xs ys c d h = (pairs-split (λ x y. DoClash x y → ⊥) xs ys h
 abbrev pub Two : List Claim → Claim → Claim → Type 0
 Two l c d = (xs ys : List Claim) × (l ≡ xs ++ ys) × ((IsIn c xs × IsIn d ys) ⊎ (IsIn d xs × IsIn c ys))
 
-pub two-of : (l : List Claim) (c d : Claim) → IsIn c l → IsIn d l → (c.mark.sort ≡ d.mark.sort → ⊥) → Two l c d
+pub two-of : (l : List Claim) (c d : Claim) → IsIn c l → IsIn d l → (c.info.kind ≡ d.info.kind → ⊥) → Two l c d
 two-of [] c d a b differ = absurd a
-two-of (x ∷ l) c d (inl same) (inl other) differ = absurd (differ (ap (λ y. y.mark.sort) (same ∙ sym other)))
+two-of (x ∷ l) c d (inl same) (inl other) differ = absurd (differ (ap (λ y. y.info.kind) (same ∙ sym other)))
 two-of (x ∷ l) c d (inl same) (inr more) differ = (x ∷ [], l, refl, inl (inl same, more))
 two-of (x ∷ l) c d (inr more) (inl other) differ = (x ∷ [], l, refl, inr (inl other, more))
 two-of (x ∷ l) c d (inr more) (inr also) differ =
@@ -134,29 +134,29 @@ abbrev pub Calm : Path → List Claim → Type 0
 Calm base l = ((c : Claim) → IsIn c l → Fits base l c) × Peaceful l
 
 -- a value and another claim are not on the same path
-value-apart : (base : Path) (l : List Claim) (a e : Claim) → Calm base l → Two l a e → a.mark.sort ≡ Assigned → a.path ≡ e.path → ⊥
+value-apart : (base : Path) (l : List Claim) (a e : Claim) → Calm base l → Two l a e → a.info.kind ≡ Assigned → a.path ≡ e.path → ⊥
 value-apart base l a e (fit, peace) two value same =
     let (here, there) = two-in l a e two in
-    elim (value-clashes e.mark.sort) [
+    elim (value-clashes e.info.kind) [
       | inl entry ↦ entry-value base l a e (fit a here) (fit e there) value entry same
       | inr (first, last) ↦
-          peaceful-two l a e peace two (do-clash a e DuplicateKey same (ap (λ s. blame s e.mark.sort) value ∙ first))
-          (do-clash e a DuplicateKey (sym same) (ap (blame e.mark.sort) value ∙ last))
+          peaceful-two l a e peace two (do-clash a e DuplicateKey same (ap (λ s. clash_kind s e.info.kind) value ∙ first))
+          (do-clash e a DuplicateKey (sym same) (ap (clash_kind e.info.kind) value ∙ last))
     ]
 
 -- there is nothing inside a value: the way there would lead through its path
-below-none : (base : Path) (l : List Claim) (a c : Claim) → Calm base l → IsIn a l → IsIn c l → a.mark.sort ≡ Assigned → IsUnder a.path c.path → ⊥
+below-none : (base : Path) (l : List Claim) (a c : Claim) → Calm base l → IsIn a l → IsIn c l → a.info.kind ≡ Assigned → IsUnder a.path c.path → ⊥
 below-none base l a c calm here there value under =
     let (fit, peace) = calm in
     let (e, among, makes, on) = (fit c there).above.1 a.path (fit a here).above.0 under in
     value-apart base l a e calm (two-of l a e here among (λ s. makes (sym s ∙ value))) value (sym on)
 
-none-from : (base : Path) (l : List Claim) (a e : Claim) → Calm base l → Two l a e → a.mark.sort ≡ Assigned → IsFrom a.path e.path → ⊥
+none-from : (base : Path) (l : List Claim) (a e : Claim) → Calm base l → Two l a e → a.info.kind ≡ Assigned → IsFrom a.path e.path → ⊥
 none-from base l a e calm two value from =
     grind (arith, nat_tests, common_steps, below-none base l a e calm, from-cases a.path e.path from, two-in l a e two, value-apart base l a e calm two value)
 
 -- two values have nothing in common on their paths or below
-both-none : (base : Path) (l : List Claim) (a b : Claim) (q : Path) → Calm base l → Two l a b → a.mark.sort ≡ Assigned → b.mark.sort ≡ Assigned → IsFrom a.path q → IsFrom b.path q → ⊥
+both-none : (base : Path) (l : List Claim) (a b : Claim) (q : Path) → Calm base l → Two l a b → a.info.kind ≡ Assigned → b.info.kind ≡ Assigned → IsFrom a.path q → IsFrom b.path q → ⊥
 both-none base l a b q calm (xs, ys, is, two) value other (r, under) (u, below) =
     grind (arith, nat_tests, common_steps, none-from base l a b calm (xs, ys, is, two) value, none-from base l b a calm, on-one-way a.path b.path r u (sym under ∙ below))
 
@@ -179,7 +179,7 @@ latest (Some a) = a ∷ []
 
 -- a claim belongs to the outer scope, or is inside a value: the last one before these claims, or one of them
 origin : (base : Path) (earlier : List Claim) (last : Option Claim) (cs : Claims) (d : Claim) → Scoped base earlier last cs → IsIn d (all_claims cs)
-    → IsIn d (own cs) ⊎ ((a : Claim) × IsIn a (latest last ++ own cs) × (a.mark.sort ≡ Assigned) × IsUnder a.path d.path)
+    → IsIn d (own cs) ⊎ ((a : Claim) × IsIn a (latest last ++ own cs) × (a.info.kind ≡ Assigned) × IsUnder a.path d.path)
 unfolding all_claims
 origin base earlier last no_claims d scoped h = absurd h
 origin base earlier last (claimed x cs) d scoped (inl same) = inl (inl same)
@@ -229,21 +229,21 @@ outside base earlier a inner cs d h more from =
     let calm = all-calm base earlier None cs (scene-after base earlier a inner cs h) in
     let here = h.met a (inl refl) in
     elim (origin base earlier None cs d h.scoped.3 more) [
-      | inl behind ↦ none-from base (earlier ++ own cs) a d calm (earlier, own cs, refl, inl (here, behind)) h.scoped.0 from
-      | inr (b, behind, other, under) ↦ both-none base (earlier ++ own cs) a b d.path calm (earlier, own cs, refl, inl (here, behind)) h.scoped.0 other from (from-under b.path d.path under)
+      | inl beyond ↦ none-from base (earlier ++ own cs) a d calm (earlier, own cs, refl, inl (here, beyond)) h.scoped.0 from
+      | inr (b, beyond, other, under) ↦ both-none base (earlier ++ own cs) a b d.path calm (earlier, own cs, refl, inl (here, beyond)) h.scoped.0 other from (from-under b.path d.path under)
     ]
 
 -- a claim inside a value is neither on the path of a later value nor below it
 pub scope-before : (base : Path) (earlier : List Claim) (a : Claim) (inner cs : Claims) (c d : Claim) → Scene base earlier (Some a) (scope inner cs) → IsIn c (all_claims cs) → IsIn d (all_claims inner)
-    → c.mark.sort ≡ Assigned → IsFrom c.path d.path → ⊥
+    → c.info.kind ≡ Assigned → IsFrom c.path d.path → ⊥
 scope-before base earlier a inner cs c d h more inside value from =
     let under = scoped-under a.path [] None inner d h.scoped.2 inside in
-    let none = λ (b : Claim) (behind : IsIn b (own cs)) (other : b.mark.sort ≡ Assigned) (below : IsFrom b.path d.path).
-    both-none base (earlier ++ own cs) a b d.path (all-calm base earlier None cs (scene-after base earlier a inner cs h)) (earlier, own cs, refl, inl (h.met a (inl refl), behind)) h.scoped.0 other
+    let none = λ (b : Claim) (beyond : IsIn b (own cs)) (other : b.info.kind ≡ Assigned) (below : IsFrom b.path d.path).
+    both-none base (earlier ++ own cs) a b d.path (all-calm base earlier None cs (scene-after base earlier a inner cs h)) (earlier, own cs, refl, inl (h.met a (inl refl), beyond)) h.scoped.0 other
     (from-under a.path d.path under) below in
     elim (origin base earlier None cs c h.scoped.3 more) [
-      | inl behind ↦ none c behind value from
-      | inr (b, behind, other, above) ↦ none b behind other (from-under b.path d.path (under-from b.path c.path d.path above from))
+      | inl beyond ↦ none c beyond value from
+      | inr (b, beyond, other, above) ↦ none b beyond other (from-under b.path d.path (under-from b.path c.path d.path above from))
     ]
 
 -- a claim of the scope is not inside a value after it
@@ -256,7 +256,7 @@ beside base earlier last x cs d h more from = elim (origin base (earlier ++ (x �
 ]
 
 -- it is neither on the path of a later value nor below it
-pub claim-before : (base : Path) (earlier : List Claim) (last : Option Claim) (x : Claim) (cs : Claims) (c : Claim) → Scene base earlier last (claimed x cs) → IsIn c (all_claims cs) → c.mark.sort ≡ Assigned
+pub claim-before : (base : Path) (earlier : List Claim) (last : Option Claim) (x : Claim) (cs : Claims) (c : Claim) → Scene base earlier last (claimed x cs) → IsIn c (all_claims cs) → c.info.kind ≡ Assigned
     → IsFrom c.path x.path → ⊥
 claim-before base earlier last x cs c h more value from =
     none-from base (earlier ++ (x ∷ own cs)) c x (all-calm base earlier last (claimed x cs) h)
@@ -293,10 +293,10 @@ together base earlier (Some x) (scope inner cs) c d h a b same =
       ]
     ]
 
-pub document-scene : (text : List ℕ) (limit : ℕ) (bs : List Block) → SpellsDocument bs text limit → Resolves (claims bs) → Scene [] [] None (claims bs)
+pub document-scene : (text : List ℕ) (limit : ℕ) (bs : List ParsedSection) → SpellsDocument bs text limit → Resolves (claims bs) → Scene [] [] None (claims bs)
 document-scene text limit bs h ok =
     grind (arith, nat_tests, common_steps, are-free [] (claims bs) ok, document-scoped bs (spelled-headed bs text limit h), spelled-headed bs text limit h)
 
-pub one-scope : (text : List ℕ) (limit : ℕ) (bs : List Block) (c d : Claim) → SpellsDocument bs text limit → Resolves (claims bs) → IsIn c (all_claims (claims bs)) → IsIn d (all_claims (claims bs)) → c.path ≡ d.path
+pub one-scope : (text : List ℕ) (limit : ℕ) (bs : List ParsedSection) (c d : Claim) → SpellsDocument bs text limit → Resolves (claims bs) → IsIn c (all_claims (claims bs)) → IsIn d (all_claims (claims bs)) → c.path ≡ d.path
     → ShareScope (claims bs) c d
 one-scope text limit bs c d h ok a b same = together [] [] None (claims bs) c d (document-scene text limit bs h ok) a b same

@@ -7,7 +7,7 @@ use Rattle.toml_span_tree.specs.Node.{Scalar}
 use Rattle.toml_span_tree.specs.declared.error.Error.{Error}
 use Rattle.toml_span_read.specs.declared.fault.Fault.{Fault}
 use Rattle.toml_span_read.specs.declared.section.Section.{Section}
-use Rattle.toml_span_read.specs.Data.{ParsedValue, Block, block, SimpleKey}
+use Rattle.toml_span_read.specs.Data.{ParsedValue, ParsedSection, parsed_section, SimpleKey}
 use Rattle.toml_span_read.specs.Grammar.{Spells, SpellsHeader, SpellsDocument}
 use Rattle.toml_span_read.specs.Keys.{SpellsKey}
 use Rattle.toml_span_read.specs.Numbers.{IsNumber}
@@ -26,8 +26,8 @@ same_read m a b one h g = let e = one (Ok a) (Ok b) h g in cc
 same_place : {A : Type 0} (m : Reading (A × ℕ)) (a b : A) (j k : ℕ) → One m → m (Ok (a, j)) → m (Ok (b, k)) → (a ≡ b) × (j ≡ k)
 same_place m a b j k one h g = let e = same_read m (a, j) (b, k) one h g in (ap (λ p. p.0) e, ap (λ p. p.1) e)
 
-pub not_told : {A : Type 0} (m : Reading A) (a : A) (e : Fault) → One m → m (Ok a) → m (Err e) → ⊥
-not_told m a e one h g = let x = one (Ok a) (Err e) h g in absurd cc
+pub not_reported : {A : Type 0} (m : Reading A) (a : A) (e : Fault) → One m → m (Ok a) → m (Err e) → ⊥
+not_reported m a e one h g = let x = one (Ok a) (Err e) h g in absurd cc
 
 -- ---- one form
 
@@ -51,20 +51,20 @@ header_unique text limit i j k ps qs b c x y =
     let e : g ≡ h = same_read (read.header text limit i) g h (header_one text limit i) (header_complete ps b text limit i j x) (header_complete qs c text limit i k y) in
     (ap (λ z. z.parts) e, ap (λ z. z.array) e, ap (λ z. z.end) e)
 
-pub document_unique : (text : List ℕ) (limit : ℕ) (bs cs : List Block) → SpellsDocument bs text limit → SpellsDocument cs text limit → bs ≡ cs
+pub document_unique : (text : List ℕ) (limit : ℕ) (bs cs : List ParsedSection) → SpellsDocument bs text limit → SpellsDocument cs text limit → bs ≡ cs
 document_unique text limit bs cs x y = same_read (read.document text limit) bs cs (document_one text limit) (document_complete bs text limit x) (document_complete cs text limit y)
 
 -- ---- or a fault
 
 pub header_excluded : (text : List ℕ) (limit i j : ℕ) (ps : List SimpleKey) (b : Bool) (e : Fault) → SpellsHeader ps b text limit i j → read.header text limit i (Err e) → ⊥
-header_excluded text limit i j ps b e x h = not_told (read.header text limit i) (record { parts = ps; array = b; end = j }) e (header_one text limit i) (header_complete ps b text limit i j x) h
+header_excluded text limit i j ps b e x h = not_reported (read.header text limit i) (record { parts = ps; array = b; end = j }) e (header_one text limit i) (header_complete ps b text limit i j x) h
 
-pub document_excluded : (text : List ℕ) (limit : ℕ) (bs : List Block) (e : Fault) → SpellsDocument bs text limit → read.document text limit (Err e) → ⊥
-document_excluded text limit bs e x h = not_told (read.document text limit) bs e (document_one text limit) (document_complete bs text limit x) h
+pub document_excluded : (text : List ℕ) (limit : ℕ) (bs : List ParsedSection) (e : Fault) → SpellsDocument bs text limit → read.document text limit (Err e) → ⊥
+document_excluded text limit bs e x h = not_reported (read.document text limit) bs e (document_one text limit) (document_complete bs text limit x) h
 
 -- a spelled document is read
-pub document_read : (text : List ℕ) (limit : ℕ) (r : Result (Vec Section Global) (Stop Error)) (bs : List Block) → ReadsDocument text limit r → SpellsDocument bs text limit → AreRead bs r
+pub document_read : (text : List ℕ) (limit : ℕ) (r : Result (Vec Section Global) (Stop Error)) (bs : List ParsedSection) → ReadsDocument text limit r → SpellsDocument bs text limit → AreRead bs r
 document_read text limit (Ok found) bs h x =
-    same_read (read.document text limit) (map block found.items) bs (document_one text limit) h (document_complete bs text limit x)
+    same_read (read.document text limit) (map parsed_section found.items) bs (document_one text limit) h (document_complete bs text limit x)
 document_read text limit (Err (stops.Memory e)) bs h x = tt
-document_read text limit (Err (stops.Fault error)) bs (fault, told, t) x = document_excluded text limit bs fault x told
+document_read text limit (Err (stops.Fault error)) bs (fault, reported, t) x = document_excluded text limit bs fault x reported

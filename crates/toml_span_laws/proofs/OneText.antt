@@ -43,8 +43,8 @@ later : (e f : PlaceAt) (es fs : List PlaceAt) → PathsAscend (e ∷ es) → e 
 later e f es fs a same h x i = elim (h x (inr i)) [
   | inl is ↦
       let here : x ≡ e = is ∙ sym same in
-      let behind = subst (λ (y : PlaceAt). IsPathBefore e.0 y.0) here (at-entry e.0 es x a.0 i) in
-      absurd (path-one-way e.0 e.0 behind behind)
+      let after = subst (λ (y : PlaceAt). IsPathBefore e.0 y.0) here (at-entry e.0 es x a.0 i) in
+      absurd (path-one-way e.0 e.0 after after)
   | inr j ↦ j
 ]
 

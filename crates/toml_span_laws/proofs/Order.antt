@@ -2,16 +2,16 @@
 use Rattle.toml_span_lex.proofs.Common.{◌≡◌, ℕ, suc, ◌+◌, ◌<◌, ◌≤◌, List, [], ◌∷◌, ◌++◌, Some, None, length, arith, refl, sym, ap, ◌∙◌, append_assoc, inl, inr, none-some, same_Some, nat_tests, common_steps}
 use Rattle.toml_span_lex.specs.declared.span.Span.{Span}
 use Rattle.toml_span_tree.specs.Path.{Path}
-use Rattle.toml_span_read.specs.Data.{ParsedValue, parsed, ParsedInner, scalar, array, inline, ParsedItems, no_items, item, ParsedPairs, no_pairs, pair, KeyValue, Block, from_to, SimpleKey}
-use Rattle.toml_span_read.specs.Grammar.{Spells, SpellsDocument, InnerWith, ItemsWith, PairsWith, KeyValuesWith, SpellsScalar}
+use Rattle.toml_span_read.specs.Data.{ParsedValue, parsed, ParsedInner, scalar, array, inline, ParsedItems, no_items, item, ParsedPairs, no_pairs, pair, ParsedAssignment, ParsedSection, from_to, SimpleKey}
+use Rattle.toml_span_read.specs.Grammar.{Spells, SpellsDocument, InnerWith, ItemsWith, PairsWith, AssignmentsWith, SpellsScalar}
 use Rattle.toml_span_read.specs.Places.{Ascend}
-use Rattle.toml_span_laws.proofs.AscendLaws.{AreBlocks, document_blocks, header_from}
+use Rattle.toml_span_laws.proofs.AscendLaws.{AreParsedSections, document_sections, header_from}
 use Rattle.toml_span_read.proofs.InsideLemmas.{tail_inside}
 use Rattle.toml_span_read.proofs.KeyOrder.{dotted_ascend}
 use Rattle.toml_span_read.proofs.SpanLaws.{value_lies}
-use Rattle.toml_span.specs.declared.claims.Sort.TheVariants.{Passed, TableElement}
-use Rattle.toml_span.specs.declared.claims.Head.{Head}
-use Rattle.toml_span.specs.Claims.{Claim, Claims, no_claims, claimed, scope, followed, key_claims, value_claims, inner_claims, item_claims, pair_claims, assignment_claims, key_value_claims, element, dotted, head_of, header_claim, end_claims, header_claims, section_claims, claims_behind, claims}
+use Rattle.toml_span.specs.declared.claims.ClaimKind.TheVariants.{Passed, TableElement}
+use Rattle.toml_span.specs.declared.claims.HeaderInfo.{HeaderInfo}
+use Rattle.toml_span.specs.Claims.{Claim, Claims, no_claims, claimed, scope, followed, key_claims, value_claims, inner_claims, item_claims, pair_claims, assignment_claims, assignments_claims, element, dotted, header_info, header_claim, end_claims, header_claims, section_claims, claims_after, claims}
 use Rattle.toml_span.specs.Flat.{all_claims}
 use Rattle.toml_span_laws.specs.Order.{claim_start, Follows, Ascends}
 use Rattle.toml_span.specs.Paths.{with_key, with_position, enter, elements_added, opened_by, section_path}
@@ -20,7 +20,7 @@ use Rattle.toml_span.specs.Paths.{with_key, with_position, enter, elements_added
 
 -- a place with a key has the key by which it is claimed; an entry has none
 abbrev pub IsKeyed : Claim → Type 0
-IsKeyed c = (k : Span) → c.place.key_span ≡ Some k → (k ≡ c.mark.key) × (c.mark.sort ≡ TableElement → ⊥)
+IsKeyed c = (k : Span) → c.place.key_span ≡ Some k → (k ≡ c.info.key) × (c.info.kind ≡ TableElement → ⊥)
 
 -- after this claim these ones ascend, and start before j
 abbrev pub Onward : Claim → List Claim → ℕ → Type 0
@@ -96,8 +96,8 @@ rise-scope cs i j r = rising-append (all_claims cs) [] i j j r (omega arith)
 
 -- ---- keys and values
 
-keyed : (c : Claim) → c.place.key_span ≡ Some c.mark.key → (c.mark.sort ≡ TableElement → ⊥) → IsKeyed c
-keyed c is plain k h = (sym (same_Some c.mark.key k (sym is ∙ h)), plain)
+keyed : (c : Claim) → c.place.key_span ≡ Some c.info.key → (c.info.kind ≡ TableElement → ⊥) → IsKeyed c
+keyed c is plain k h = (sym (same_Some c.info.key k (sym is ∙ h)), plain)
 
 unkeyed : (c : Claim) → c.place.key_span ≡ None → IsKeyed c
 unkeyed c is k h = absurd (none-some k (sym is ∙ h))
@@ -143,36 +143,36 @@ mutual
       element-rises v (with_position q n) (item_claims vs (suc n) q) text limit d i m j h
       (grind (arith, nat_tests, common_steps, rise-none (m + 1) j, rising-wide (all_claims (item_claims vs (suc n) q)) (m + 1), items-rise vs (suc n) q text limit d))
 
-  pairs-rise : (ps : ParsedPairs) (es : List KeyValue) (q : Path) (text : List ℕ) (limit d i j : ℕ) → PairsWith SpellsScalar ps es text limit d i j → Rise (pair_claims ps q) i j
+  pairs-rise : (ps : ParsedPairs) (es : List ParsedAssignment) (q : Path) (text : List ℕ) (limit d i j : ℕ) → PairsWith SpellsScalar ps es text limit d i j → Rise (pair_claims ps q) i j
   pairs-rise no_pairs es q text limit d i j h = rise-none i j (omega (arith, h.1))
   pairs-rise (pair ss v x ps) es q text limit d i j (m, (a, b, key, few, sign, h, extent), clear, then) =
       rise-followed (key_claims q ss v (value_claims v)) (pair_claims ps q) i m j
       (key-rises q ss v (value_claims v) i a m (dotted_ascend ss text i a key).0
-      (λ r. rising-wide (all_claims (value_claims v r)) a b m m (omega (arith, sign.before.forward, sign.behind.forward)) (omega arith) (value-rises v r text limit (d + length ss) b m h)))
+      (λ r. rising-wide (all_claims (value_claims v r)) a b m m (omega (arith, sign.before.forward, sign.after.forward)) (omega arith) (value-rises v r text limit (d + length ss) b m h)))
       (elim then [
         | inl (e, close) ↦ rw e (rise-none m j (omega (arith, close.before.forward, close.ends)))
         | inr (p, comma, rest) ↦
-            rising-wide (all_claims (pair_claims ps q)) m p j j (omega (arith, comma.before.forward, comma.behind.forward)) (omega arith)
+            rising-wide (all_claims (pair_claims ps q)) m p j j (omega (arith, comma.before.forward, comma.after.forward)) (omega arith)
             (pairs-rise ps (es ++ (record { parts = ss; value = v; extent = x } ∷ [])) q text limit d p j rest)
       ])
 
-key_values-rise : (es before : List KeyValue) (q : Path) (text : List ℕ) (limit i j : ℕ) → KeyValuesWith SpellsScalar es before text limit i j → Rise (key_value_claims es q) i j
-unfolding key_value_claims
-key_values-rise [] before q text limit i j h = rise-none i j (omega (arith, h))
-key_values-rise (e ∷ es) before q text limit i j (m, n, k, h, tail, clear, gap, rest) =
-    rise-followed (assignment_claims e q) (key_value_claims es q) i m j
+assignments-rise : (es before : List ParsedAssignment) (q : Path) (text : List ℕ) (limit i j : ℕ) → AssignmentsWith SpellsScalar es before text limit i j → Rise (assignments_claims es q) i j
+unfolding assignments_claims
+assignments-rise [] before q text limit i j h = rise-none i j (omega (arith, h))
+assignments-rise (e ∷ es) before q text limit i j (m, n, k, h, tail, clear, gap, rest) =
+    rise-followed (assignment_claims e q) (assignments_claims es q) i m j
     (key-rises q e.parts e.value (value_claims e.value) i h.key_end m (dotted_ascend e.parts text i h.key_end h.key).0
-    (λ r. rising-wide (all_claims (value_claims e.value r)) h.key_end h.from m m (omega (arith, h.sign.before.forward, h.sign.behind.forward)) (omega arith)
+    (λ r. rising-wide (all_claims (value_claims e.value r)) h.key_end h.from m m (omega (arith, h.sign.before.forward, h.sign.after.forward)) (omega arith)
     (value-rises e.value r text limit (length e.parts) h.from m h.spelled)))
-    (rising-wide (all_claims (key_value_claims es q)) m k j j (omega (arith, (tail_inside text m n tail).0, gap.forward)) (omega arith) (key_values-rise es (before ++ (e ∷ [])) q text limit k j rest))
+    (rising-wide (all_claims (assignments_claims es q)) m k j j (omega (arith, (tail_inside text m n tail).0, gap.forward)) (omega arith) (assignments-rise es (before ++ (e ∷ [])) q text limit k j rest))
 
 -- ---- sections
 
-end-rises : (h : Head) (q : Path) (k : SimpleKey) (n i j : ℕ) → i ≤ k.span.start → k.span.start < j → Rise (end_claims h q k n) i j
+end-rises : (h : HeaderInfo) (q : Path) (k : SimpleKey) (n i j : ℕ) → i ≤ k.span.start → k.span.start < j → Rise (end_claims h q k n) i j
 unfolding end_claims all_claims
 end-rises h q k n i j a b = grind (arith, nat_tests, common_steps)
 
-header-rises : (e : Path → ℕ) (h : Head) (q : Path) (parts : List SimpleKey) (i j : ℕ) → Ascend parts i j → Rise (header_claims e h q parts) i j
+header-rises : (e : Path → ℕ) (h : HeaderInfo) (q : Path) (parts : List SimpleKey) (i j : ℕ) → Ascend parts i j → Rise (header_claims e h q parts) i j
 unfolding header_claims
 header-rises e h q [] i j a = rise-none i j a
 header-rises e h q (k ∷ []) i j a = end-rises h (with_key q k) k (e (with_key q k)) i j a.0 (omega (arith, a.1, a.2))
@@ -180,19 +180,19 @@ header-rises e h q (k ∷ l ∷ more) i j a =
     let next = enter (e (with_key q k)) (with_key q k) in
     rise-claimed (header_claim h Passed next k) (header_claims e h next (l ∷ more)) i k.span.end j (keyed (header_claim h Passed next k) refl (λ e. cc)) a.0 a.1 (header-rises e h next (l ∷ more) k.span.end j a.2)
 
-blocks-rise : (earlier bs : List Block) (text : List ℕ) (limit i : ℕ) → AreBlocks bs text limit i (length text) → Rise (claims_behind earlier bs) i (length text)
-unfolding claims_behind section_claims
-blocks-rise earlier [] text limit i h = rise-none i (length text) h
-blocks-rise earlier (b ∷ bs) text limit i (s, k, j, header, few, plain, on, lines, rest) =
+sections-rise : (earlier bs : List ParsedSection) (text : List ℕ) (limit i : ℕ) → AreParsedSections bs text limit i (length text) → Rise (claims_after earlier bs) i (length text)
+unfolding claims_after section_claims
+sections-rise earlier [] text limit i h = rise-none i (length text) h
+sections-rise earlier (b ∷ bs) text limit i (s, k, j, header, few, plain, on, lines, rest) =
     let e = elements_added (opened_by earlier) in
     let q = section_path e b in
-    rise-followed (section_claims e b) (claims_behind (b ∷ earlier) bs) i j (length text)
-    (rise-followed (header_claims e (head_of b) [] b.header) (key_value_claims b.key_values q) i s j (header-rises e (head_of b) [] b.header i s (header_from b i s header))
-    (rising-wide (all_claims (key_value_claims b.key_values q)) s k j j on (omega arith) (key_values-rise b.key_values [] q text limit k j lines)))
-    (blocks-rise (b ∷ earlier) bs text limit j rest)
+    rise-followed (section_claims e b) (claims_after (b ∷ earlier) bs) i j (length text)
+    (rise-followed (header_claims e (header_info b) [] b.header) (assignments_claims b.assignments q) i s j (header-rises e (header_info b) [] b.header i s (header_from b i s header))
+    (rising-wide (all_claims (assignments_claims b.assignments q)) s k j j on (omega arith) (assignments-rise b.assignments [] q text limit k j lines)))
+    (sections-rise (b ∷ earlier) bs text limit j rest)
 
-pub document-rises : (bs : List Block) (text : List ℕ) (limit : ℕ) → SpellsDocument bs text limit → Rise (claims bs) 0 (length text)
-document-rises bs text limit x = blocks-rise [] bs text limit 0 (document_blocks bs text limit x)
+pub document-rises : (bs : List ParsedSection) (text : List ℕ) (limit : ℕ) → SpellsDocument bs text limit → Rise (claims bs) 0 (length text)
+document-rises bs text limit x = sections-rise [] bs text limit 0 (document_sections bs text limit x)
 
-pub document-ascends : (bs : List Block) (text : List ℕ) (limit : ℕ) → SpellsDocument bs text limit → Ascends (all_claims (claims bs))
+pub document-ascends : (bs : List ParsedSection) (text : List ℕ) (limit : ℕ) → SpellsDocument bs text limit → Ascends (all_claims (claims bs))
 document-ascends bs text limit x = rising-ascends (all_claims (claims bs)) 0 (length text) (document-rises bs text limit x)

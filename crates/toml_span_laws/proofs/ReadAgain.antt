@@ -7,7 +7,7 @@ use Rattle.toml_span_tree.specs.Value.{view}
 use Rattle.toml_span_tree.specs.declared.value.Value.{Value}
 use Rattle.toml_span_read.proofs.ReadSound.{document_sound}
 use Rattle.toml_span_laws.specs.Again.{ScalarReadsAgain}
-use Rattle.toml_span_read.specs.Data.{ParsedValue, parsed, scalar, array, inline, parsed_span, Block}
+use Rattle.toml_span_read.specs.Data.{ParsedValue, parsed, scalar, array, inline, parsed_span, ParsedSection}
 use Rattle.toml_span_read.specs.Grammar.{SpellsDocument}
 pub use Rattle.toml_span_laws.proofs.AgainLaws.{at-span, scalar-again}
 use Rattle.toml_span.specs.Claims.{Claim, parsed_inner, value_shape, claims, Claims, no_claims, claimed, scope, followed, value_claims}
@@ -15,7 +15,7 @@ use Rattle.toml_span.specs.Flat.{flat}
 use Rattle.toml_span.specs.Parsing.{IsTree}
 use Rattle.toml_span.proofs.EachClaim.{flat-decides}
 use Rattle.toml_span_laws.proofs.SpelledClaims.{Spelled, OfText, document-of_text, AllSpelled, Assigns, Makes, document-spelled}
-use Rattle.toml_span.specs.declared.claims.Sort.TheVariants.{Assigned}
+use Rattle.toml_span.specs.declared.claims.ClaimKind.TheVariants.{Assigned}
 use Rattle.toml_span_laws.specs.Laws.{AssignsAgain, ValueReadsAgain, ShowsString}
 use Rattle.toml_span_lex.specs.Bytes.{quotation_mark}
 use Rattle.toml_span_lex.specs.Strings.{content_span, ContentFrom, HasChange, IsEmptyOnOneLine}
@@ -28,10 +28,16 @@ use Rattle.toml_span_laws.proofs.StringLaws.{span_cuts, unchanged}
 abbrev pub HasScalar : List ℕ → ℕ → Scalar → Span → Type 0
 HasScalar text limit s span = Spelled text limit (parsed (scalar s) span)
 
-scalar-claimed : (text : List ℕ) (limit : ℕ) (c : Claim) (s : Scalar) → OfText text limit c → c.place.shape ≡ shape_scalar s → HasScalar text limit s c.place.span
-scalar-claimed text limit c s h is = grind (arith, nat_tests, common_steps)
+of-value : (text : List ℕ) (limit : ℕ) (s : Scalar) (v : ParsedValue) (span : Span) → Spelled text limit v → value_shape (parsed_inner v) ≡ shape_scalar s → span ≡ parsed_span v → HasScalar text limit s span
+of-value text limit s (parsed (scalar t) at) span h e f = let same : t ≡ s = cc in rw (f, sym same) h
+of-value text limit s (parsed (array vs) at) span h e f = absurd (cc)
+of-value text limit s (parsed (inline ps) at) span h e f = absurd (cc)
 
-pub flat-scalar : (text : List ℕ) (limit n : ℕ) (bs : List Block) (p : Path) (x : Place) (s : Scalar) → SpellsDocument bs text limit → flat n (claims bs) p ≡ Some x → x.shape ≡ shape_scalar s
+scalar-claimed : (text : List ℕ) (limit : ℕ) (c : Claim) (s : Scalar) → OfText text limit c → c.place.shape ≡ shape_scalar s → HasScalar text limit s c.place.span
+scalar-claimed text limit c s (inl a) is = of-value text limit s a.value c.place.span a.spelled (sym a.shape ∙ is) a.span
+scalar-claimed text limit c s (inr made) is = absurd (made.shape s is)
+
+pub flat-scalar : (text : List ℕ) (limit n : ℕ) (bs : List ParsedSection) (p : Path) (x : Place) (s : Scalar) → SpellsDocument bs text limit → flat n (claims bs) p ≡ Some x → x.shape ≡ shape_scalar s
     → HasScalar text limit s x.span
 unfolding flat
 flat-scalar text limit n bs [] x s h at is = grind (arith, nat_tests, common_steps)
@@ -39,7 +45,7 @@ flat-scalar text limit n bs (t ∷ p) x s h at is =
     let d = flat-decides (OfText text limit) n (claims bs) t p x (document-of_text bs text limit h) at in
     subst (λ (y : Place). HasScalar text limit s y.span) d.place (scalar-claimed text limit d.claim s d.holds (ap (λ y. y.shape) d.place ∙ is))
 
-pub flat-again : (text : List ℕ) (limit n : ℕ) (bs : List Block) (p : Path) (x : Place) (s : Scalar) → SpellsDocument bs text limit → flat n (claims bs) p ≡ Some x → x.shape ≡ shape_scalar s
+pub flat-again : (text : List ℕ) (limit n : ℕ) (bs : List ParsedSection) (p : Path) (x : Place) (s : Scalar) → SpellsDocument bs text limit → flat n (claims bs) p ≡ Some x → x.shape ≡ shape_scalar s
     → ScalarReadsAgain text limit s x.span
 flat-again text limit n bs p x s h at is =
     let v = flat-scalar text limit n bs p x s h at is in scalar-again s x.span text limit v.depth v.from v.to v.deep v.spells
@@ -63,17 +69,17 @@ spelled-again text limit (parsed (scalar s) span) h = scalar-again s span text l
 spelled-again text limit (parsed (array vs) span) h = at-span (parsed (array vs) span) text limit h.depth h.from h.to h.deep h.spells h.spells.1.1
 spelled-again text limit (parsed (inline ps) span) h = at-span (parsed (inline ps) span) text limit h.depth h.from h.to h.deep h.spells h.spells.1.1
 
-claim-again : (text : List ℕ) (limit : ℕ) (c : Claim) (cs : Claims) → ((a : Assigns text limit c) × (rest : Claims) × (cs ≡ followed (value_claims a.value c.path) rest)) ⊎ Makes c → c.mark.sort ≡ Assigned
+claim-again : (text : List ℕ) (limit : ℕ) (c : Claim) (cs : Claims) → ((a : Assigns text limit c) × (rest : Claims) × (cs ≡ followed (value_claims a.value c.path) rest)) ⊎ Makes c → c.info.kind ≡ Assigned
     → (v : ParsedValue) × (rest : Claims) × ValueReadsAgain text limit v × (c.place.shape ≡ value_shape (parsed_inner v)) × (c.place.span ≡ parsed_span v) × (cs ≡ followed (value_claims v c.path) rest)
-claim-again text limit c cs (inl (a, rest, behind)) is = (a.value, rest, spelled-again text limit a.value a.spelled, a.shape, a.span, behind)
-claim-again text limit c cs (inr made) is = absurd (made.sort is)
+claim-again text limit c cs (inl (a, rest, beyond)) is = (a.value, rest, spelled-again text limit a.value a.spelled, a.shape, a.span, beyond)
+claim-again text limit c cs (inr made) is = absurd (made.kind is)
 
 all-again : (text : List ℕ) (limit : ℕ) (cs : Claims) → AllSpelled text limit cs → AssignsAgain text limit cs
 all-again text limit no_claims h = tt
 all-again text limit (claimed c cs) h = (claim-again text limit c cs h.0, all-again text limit cs h.1)
 all-again text limit (scope inner cs) h = (all-again text limit inner h.0, all-again text limit cs h.1)
 
-pub document-again : (bs : List Block) (text : List ℕ) (limit : ℕ) → SpellsDocument bs text limit → AssignsAgain text limit (claims bs)
+pub document-again : (bs : List ParsedSection) (text : List ℕ) (limit : ℕ) → SpellsDocument bs text limit → AssignsAgain text limit (claims bs)
 document-again bs text limit h = all-again text limit (claims bs) (document-spelled bs text limit h)
 
 -- ---- two quotes with nothing between them
@@ -98,7 +104,7 @@ shows text limit v span h =
       opening = λ two. let e = two-quotes multi text h.from h.to s.from s.to v s.begins f.0 f.1 two in (e.0, s.span_is ∙ e.1);
     }
 
-pub flat-string : (text : List ℕ) (limit n : ℕ) (bs : List Block) (p : Path) (x : Place) (v : List ℕ) → SpellsDocument bs text limit → flat n (claims bs) p ≡ Some x
+pub flat-string : (text : List ℕ) (limit n : ℕ) (bs : List ParsedSection) (p : Path) (x : Place) (v : List ℕ) → SpellsDocument bs text limit → flat n (claims bs) p ≡ Some x
     → x.shape ≡ shape_scalar (text_scalar v) → ShowsString text v x.span
 flat-string text limit n bs p x v h at is = shows text limit v x.span (flat-scalar text limit n bs p x (text_scalar v) h at is)
 

@@ -2,11 +2,11 @@
 -- assigns.
 use Rattle.toml_span_lex.proofs.Common.{◌≡◌, ℕ, zero, suc, ◌<◌, ◌⊎◌, Bool, true, false, List, [], ◌∷◌, ◌++◌, Option, Some, None, arith, refl, sym, ap, ◌∙◌, subst, append_assoc, append-nil, inl, inr, ⊤, if◌then◌else◌, cases_Bool, cases_lt, nat_tests, common_steps}
 use Rattle.toml_span_tree.specs.Path.{Path, Step, key, position}
-use Rattle.toml_span_read.specs.Data.{ParsedValue, parsed, scalar, array, inline, ParsedItems, no_items, item, ParsedPairs, no_pairs, pair, KeyValue, Block, SimpleKey}
-use Rattle.toml_span.specs.declared.claims.Sort.{Sort}
-use Rattle.toml_span.specs.declared.claims.Sort.TheVariants.{Passed, StandardTable, ArrayOfTables, TableElement, Assigned}
-use Rattle.toml_span.specs.declared.claims.Head.{Head}
-use Rattle.toml_span.specs.Claims.{Claim, Claims, no_claims, claimed, scope, followed, key_claims, value_claims, inner_claims, item_claims, pair_claims, key_value_claims, element, assigned, dotted, head_of, header_claim, array_claims, end_claims, header_claims, section_claims, claims_behind, claims}
+use Rattle.toml_span_read.specs.Data.{ParsedValue, parsed, scalar, array, inline, ParsedItems, no_items, item, ParsedPairs, no_pairs, pair, ParsedAssignment, ParsedSection, SimpleKey}
+use Rattle.toml_span.specs.declared.claims.ClaimKind.{ClaimKind}
+use Rattle.toml_span.specs.declared.claims.ClaimKind.TheVariants.{Passed, StandardTable, ArrayOfTables, TableElement, Assigned}
+use Rattle.toml_span.specs.declared.claims.HeaderInfo.{HeaderInfo}
+use Rattle.toml_span.specs.Claims.{Claim, Claims, no_claims, claimed, scope, followed, key_claims, value_claims, inner_claims, item_claims, pair_claims, assignments_claims, element, assigned, dotted, header_info, header_claim, array_claims, end_claims, header_claims, section_claims, claims_after, claims}
 use Rattle.toml_span.specs.Paths.{same_path, with_key, with_position, enter, target, elements_added, opened_by, section_path}
 use Rattle.toml_span.specs.code.Placing.{AreSections}
 use Rattle.toml_span.proofs.EachClaim.{same_path-eq}
@@ -87,27 +87,27 @@ along-child M base p x on here =
 
 -- ---- one claim
 
--- one of the claims has this sort and this path
-abbrev pub Has : List Claim → Sort → Path → Type 0
-Has l sort p = (e : Claim) × IsIn e l × (e.mark.sort ≡ sort) × (e.path ≡ p)
+-- one of the claims has this kind and this path
+abbrev pub Has : List Claim → ClaimKind → Path → Type 0
+Has l kind p = (e : Claim) × IsIn e l × (e.info.kind ≡ kind) × (e.path ≡ p)
 
 -- one that does not assign has this path
 abbrev pub Makes : List Claim → Path → Type 0
-Makes l p = (e : Claim) × IsIn e l × (e.mark.sort ≡ Assigned → ⊥) × (e.path ≡ p)
+Makes l p = (e : Claim) × IsIn e l × (e.info.kind ≡ Assigned → ⊥) × (e.path ≡ p)
 
 -- the claim of a key
 abbrev Keyed : Claim → Type 0
-Keyed c = ((p : Path) × (k : List ℕ) × (c.path ≡ p ++ (key k ∷ []))) × (c.mark.sort ≡ TableElement → ⊥)
+Keyed c = ((p : Path) × (k : List ℕ) × (c.path ≡ p ++ (key k ∷ []))) × (c.info.kind ≡ TableElement → ⊥)
 
 -- the claim of an element, in an array at the base
 abbrev Element : Path → Claim → Type 0
-Element base c = (n : ℕ) × (c.path ≡ base ++ (position n ∷ [])) × (c.mark.sort ≡ Assigned)
+Element base c = (n : ℕ) × (c.path ≡ base ++ (position n ∷ [])) × (c.info.kind ≡ Assigned)
 
 -- a header's claim on an entry, or on one through which it passes
 abbrev Entry : Path → List Claim → Claim → Type 0
 Entry base earlier c =
-    (base ≡ []) × ((p : Path) × (k : List ℕ) × (n : ℕ) × (c.path ≡ (p ++ (key k ∷ [])) ++ (position n ∷ []))) × (c.mark.sort ≡ Assigned → ⊥)
-    × (c.mark.sort ≡ Passed → Has earlier TableElement c.path)
+    (base ≡ []) × ((p : Path) × (k : List ℕ) × (n : ℕ) × (c.path ≡ (p ++ (key k ∷ [])) ++ (position n ∷ []))) × (c.info.kind ≡ Assigned → ⊥)
+    × (c.info.kind ≡ Passed → Has earlier TableElement c.path)
 
 -- A claim of a scope with this base, after these earlier ones of the scope, which create the tables between them.
 pub record Fits (base : Path) (earlier : List Claim) (c : Claim) : Type 0 where
@@ -120,32 +120,32 @@ Scoped base earlier last no_claims = ⊤
 Scoped base earlier last (claimed c cs) = Fits base earlier c × Scoped base (earlier ++ (c ∷ [])) (Some c) cs
 Scoped base earlier None (scope inner cs) = ⊥
 Scoped base earlier (Some a) (scope inner cs) =
-    (a.mark.sort ≡ Assigned) × IsUnder base a.path × Scoped a.path [] None inner × Scoped base earlier None cs
+    (a.info.kind ≡ Assigned) × IsUnder base a.path × Scoped a.path [] None inner × Scoped base earlier None cs
 
 -- ---- claims after others
 
-pub has-on : (l more : List Claim) (sort : Sort) (p : Path) → Has l sort p → Has (l ++ more) sort p
-has-on l more sort p (e, here, is, on) = (e, in-left e l more here, is, on)
+pub has-on : (l more : List Claim) (kind : ClaimKind) (p : Path) → Has l kind p → Has (l ++ more) kind p
+has-on l more kind p (e, here, is, on) = (e, in-left e l more here, is, on)
 
 makes-on : (l more : List Claim) (p : Path) → Makes l p → Makes (l ++ more) p
 makes-on l more p (e, here, is, on) = (e, in-left e l more here, is, on)
 
-makes-of : (l : List Claim) (sort : Sort) (p : Path) → (sort ≡ Assigned → ⊥) → Has l sort p → Makes l p
-makes-of l sort p plain (e, here, is, on) = (e, here, (λ no. plain (sym is ∙ no)), on)
+makes-of : (l : List Claim) (kind : ClaimKind) (p : Path) → (kind ≡ Assigned → ⊥) → Has l kind p → Makes l p
+makes-of l kind p plain (e, here, is, on) = (e, here, (λ no. plain (sym is ∙ no)), on)
 
 -- the last of the claims creates its path
-last-makes : (l : List Claim) (c : Claim) → (c.mark.sort ≡ Assigned → ⊥) → Makes (l ++ (c ∷ [])) c.path
+last-makes : (l : List Claim) (c : Claim) → (c.info.kind ≡ Assigned → ⊥) → Makes (l ++ (c ∷ [])) c.path
 last-makes l c plain = (c, in-right c l (c ∷ []) (inl refl), plain, refl)
 
 pub fits-on : (base : Path) (l more : List Claim) (c : Claim) → Fits base l c → Fits base (l ++ more) c
 fits-on base l more c f = grind (arith, nat_tests, common_steps, above-on, has-on, makes-on)
 
 -- a header passes through at a position only if there is an entry
-pub passed-entered : (base : Path) (l : List Claim) (c : Claim) (p : Path) (n : ℕ) → Fits base l c → c.mark.sort ≡ Passed → c.path ≡ p ++ (position n ∷ []) → Has l TableElement c.path
+pub passed-entered : (base : Path) (l : List Claim) (c : Claim) (p : Path) (n : ℕ) → Fits base l c → c.info.kind ≡ Passed → c.path ≡ p ++ (position n ∷ []) → Has l TableElement c.path
 passed-entered base l c p n f is on = grind (arith, nat_tests, common_steps)
 
 -- an entry and a value are never on the same path
-pub entry-value : (base : Path) (l : List Claim) (a e : Claim) → Fits base l a → Fits base l e → a.mark.sort ≡ Assigned → e.mark.sort ≡ TableElement → a.path ≡ e.path → ⊥
+pub entry-value : (base : Path) (l : List Claim) (a e : Claim) → Fits base l a → Fits base l e → a.info.kind ≡ Assigned → e.info.kind ≡ TableElement → a.path ≡ e.path → ⊥
 entry-value base l a e fits there value is same = grind (arith, nat_tests, common_steps)
 
 scoped-loose : (base : Path) (earlier : List Claim) (last : Option Claim) (cs : Claims) → Scoped base earlier None cs → Scoped base earlier last cs
@@ -171,7 +171,7 @@ stands-on : (base : Path) (l more : List Claim) (p : Path) → Stands base l p �
 stands-on base l more p stands = along-on (Makes l) (Makes (l ++ more)) base p (makes-on l more) stands
 
 -- a claim of a table at a key
-table-fits : (base : Path) (earlier : List Claim) (p : Path) (k : List ℕ) (c : Claim) → Stands base earlier p → c.path ≡ p ++ (key k ∷ []) → (c.mark.sort ≡ TableElement → ⊥) → Fits base earlier c
+table-fits : (base : Path) (earlier : List Claim) (p : Path) (k : List ℕ) (c : Claim) → Stands base earlier p → c.path ≡ p ++ (key k ∷ []) → (c.info.kind ≡ TableElement → ⊥) → Fits base earlier c
 table-fits base earlier p k c stands on plain = record { above = rw on (above-child (Makes earlier) base p (key k) stands); kind = inl ((p, k, on), plain) }
 
 key-scoped : (base : Path) (earlier : List Claim) (p : Path) (parts : List SimpleKey) (v : ParsedValue) (inside : Path → Claims) → Stands base earlier p
@@ -194,7 +194,7 @@ element-fits p earlier n v = record { above = above-child (Makes earlier) p p (p
 mutual
   unfolding value_claims inner_claims item_claims pair_claims
 
-  value-scoped : (v : ParsedValue) (base : Path) (earlier : List Claim) (a : Claim) → a.mark.sort ≡ Assigned → IsUnder base a.path → Scoped base earlier (Some a) (value_claims v a.path)
+  value-scoped : (v : ParsedValue) (base : Path) (earlier : List Claim) (a : Claim) → a.info.kind ≡ Assigned → IsUnder base a.path → Scoped base earlier (Some a) (value_claims v a.path)
   value-scoped (parsed (scalar s) span) base earlier a is under = tt
   value-scoped (parsed (array vs) span) base earlier a is under = (is, under, items-scoped vs 0 a.path [], tt)
   value-scoped (parsed (inline ps) span) base earlier a is under = (is, under, pairs-scoped ps a.path [], tt)
@@ -212,15 +212,15 @@ mutual
       (λ k q l under. value-scoped v p l (assigned (with_key q k) k v) refl under))
       (pairs-scoped ps p (earlier ++ own front))
 
-key_values-scoped : (es : List KeyValue) (base : Path) (earlier : List Claim) (p : Path) → Stands base earlier p → Scoped base earlier None (key_value_claims es p)
-unfolding key_value_claims
-key_values-scoped [] base earlier p stands = tt
-key_values-scoped (e ∷ es) base earlier p stands =
+assignments-scoped : (es : List ParsedAssignment) (base : Path) (earlier : List Claim) (p : Path) → Stands base earlier p → Scoped base earlier None (assignments_claims es p)
+unfolding assignments_claims
+assignments-scoped [] base earlier p stands = tt
+assignments-scoped (e ∷ es) base earlier p stands =
     let front = key_claims p e.parts e.value (value_claims e.value) in
-    scoped-followed base earlier None front (key_value_claims es p)
+    scoped-followed base earlier None front (assignments_claims es p)
     (key-scoped base earlier p e.parts e.value (value_claims e.value) stands
     (λ k q l under. value-scoped e.value base l (assigned (with_key q k) k e.value) refl under))
-    (key_values-scoped es base (earlier ++ own front) p (stands-on base earlier (own front) p stands))
+    (assignments-scoped es base (earlier ++ own front) p (stands-on base earlier (own front) p stands))
 
 -- ---- claims, and what holds after them
 
@@ -261,13 +261,13 @@ array-stands l p k stands made = along-child (Makes l) [] p (key k.name) stands 
 
 -- a claim at a position of an array of tables of the document
 entry-fits : (earlier : List Claim) (p : Path) (k : SimpleKey) (n : ℕ) (c : Claim) → Stands [] earlier p → Has earlier ArrayOfTables (with_key p k) → c.path ≡ with_position (with_key p k) n
-    → (c.mark.sort ≡ Assigned → ⊥) → (c.mark.sort ≡ Passed → Has earlier TableElement (with_position (with_key p k) n)) → Fits [] earlier c
+    → (c.info.kind ≡ Assigned → ⊥) → (c.info.kind ≡ Passed → Has earlier TableElement (with_position (with_key p k) n)) → Fits [] earlier c
 entry-fits earlier p k n c stands made on plain passed = record {
   above = rw on (above-child (Makes earlier) [] (with_key p k) (position n) (array-stands earlier p k stands made));
   kind = inr (inr (refl, (p, k.name, n, on), plain, λ is. rw on (passed is)));
 }
 
-passed-fits : (n : ℕ) (earlier : List Claim) (h : Head) (p : Path) (k : SimpleKey) → Stands [] earlier p → HasEntries earlier (with_key p k) n → Fits [] earlier (header_claim h Passed (enter n (with_key p k)) k)
+passed-fits : (n : ℕ) (earlier : List Claim) (h : HeaderInfo) (p : Path) (k : SimpleKey) → Stands [] earlier p → HasEntries earlier (with_key p k) n → Fits [] earlier (header_claim h Passed (enter n (with_key p k)) k)
 unfolding enter
 passed-fits zero earlier h p k stands few = table-fits [] earlier p k.name (header_claim h Passed (with_key p k) k) stands refl (λ e. cc)
 passed-fits (suc n) earlier h p k stands few =
@@ -289,7 +289,7 @@ ends-entry l p k n stands made entry =
     (made, entry, along-child (Makes l) [] (with_key p k) (position n) (array-stands l p k stands made) (makes-of l TableElement (with_position (with_key p k) n) (λ e. cc) entry))
 
 -- a header's claims fit, and its end is claimed
-added : (n : ℕ) (earlier : List Claim) (h : Head) (p : Path) (k : SimpleKey) → Stands [] earlier p → HasEntries earlier (with_key p k) n
+added : (n : ℕ) (earlier : List Claim) (h : HeaderInfo) (p : Path) (k : SimpleKey) → Stands [] earlier p → HasEntries earlier (with_key p k) n
     → Walk Of (λ l. Ends true l (with_key p k) n) earlier (array_claims h (with_key p k) k n (claimed (header_claim h TableElement (with_position (with_key p k) n) k) no_claims))
 added zero earlier h p k stands few =
     let q = with_key p k in
@@ -310,7 +310,7 @@ added (suc n) earlier h p k stands few =
       all = ends-entry (earlier ++ (c ∷ [])) p k (suc n) (stands-on [] earlier (c ∷ []) p stands) (has-on earlier (c ∷ []) ArrayOfTables q found) (c, in-right c earlier (c ∷ []) (inl refl), refl, refl);
     }
 
-end-header : (n : ℕ) (earlier : List Claim) (h : Head) (p : Path) (k : SimpleKey) → Stands [] earlier p → HasEntries earlier (with_key p k) n → Walk Of (λ l. Ends h.array l (with_key p k) n) earlier (end_claims h (with_key p k) k n)
+end-header : (n : ℕ) (earlier : List Claim) (h : HeaderInfo) (p : Path) (k : SimpleKey) → Stands [] earlier p → HasEntries earlier (with_key p k) n → Walk Of (λ l. Ends h.array l (with_key p k) n) earlier (end_claims h (with_key p k) k n)
 unfolding end_claims
 end-header n earlier h p k stands few = elim (cases_Bool h.array) [
   | inl arr ↦ rw arr (added n earlier h p k stands few)
@@ -324,7 +324,7 @@ end-header n earlier h p k stands few = elim (cases_Bool h.array) [
 abbrev Counted : List Claim → (Path → ℕ) → Type 0
 Counted l e = (p : Path) → HasEntries l p (e p)
 
-header-scoped : (e : Path → ℕ) (earlier : List Claim) (h : Head) (p : Path) (k : SimpleKey) (parts : List SimpleKey) → Stands [] earlier p → Counted earlier e
+header-scoped : (e : Path → ℕ) (earlier : List Claim) (h : HeaderInfo) (p : Path) (k : SimpleKey) (parts : List SimpleKey) → Stands [] earlier p → Counted earlier e
     → Walk Of (λ l. Ends h.array l (target e p (k ∷ parts)) (e (target e p (k ∷ parts)))) earlier (header_claims e h p (k ∷ parts))
 unfolding header_claims target
 header-scoped e earlier h p k [] stands counted = end-header (e (with_key p k)) earlier h p k stands (counted (with_key p k))
@@ -367,48 +367,48 @@ counted-end true l before t counted ends = counted-array l before t counted ends
 counted-end false l before t counted ends = counted
 
 -- what the header of a section opens
-abbrev Opened : Block → List Block → List Claim → Type 0
-Opened b blocks l = Stands [] l (section_path (elements_added (opened_by blocks)) b) × Counted l (elements_added (opened_by (b ∷ blocks)))
+abbrev Opened : ParsedSection → List ParsedSection → List Claim → Type 0
+Opened b sections l = Stands [] l (section_path (elements_added (opened_by sections)) b) × Counted l (elements_added (opened_by (b ∷ sections)))
 
-opened : (earlier : List Claim) (b : Block) (blocks : List Block) (parts : List SimpleKey) → b.header ≡ parts → (b.header ≡ [] → b.array ≡ false) → Counted earlier (elements_added (opened_by blocks))
-    → Walk Of (Opened b blocks) earlier (header_claims (elements_added (opened_by blocks)) (head_of b) [] b.header)
+opened : (earlier : List Claim) (b : ParsedSection) (sections : List ParsedSection) (parts : List SimpleKey) → b.header ≡ parts → (b.header ≡ [] → b.array ≡ false) → Counted earlier (elements_added (opened_by sections))
+    → Walk Of (Opened b sections) earlier (header_claims (elements_added (opened_by sections)) (header_info b) [] b.header)
 unfolding header_claims target opened_by
-opened earlier b blocks [] is headers counted =
-    record { tree = rw is tt; all = rw (is, headers is) (along-base (Makes (earlier ++ [])) [], counted-on earlier [] (elements_added (opened_by blocks)) counted) }
-opened earlier b blocks (k ∷ parts) is headers counted =
-    let e = elements_added (opened_by blocks) in
+opened earlier b sections [] is headers counted =
+    record { tree = rw is tt; all = rw (is, headers is) (along-base (Makes (earlier ++ [])) [], counted-on earlier [] (elements_added (opened_by sections)) counted) }
+opened earlier b sections (k ∷ parts) is headers counted =
+    let e = elements_added (opened_by sections) in
     let t = target e [] (k ∷ parts) in
-    let made = header-scoped e earlier (head_of b) [] k parts (along-base (Makes earlier) []) counted in
-    let l = earlier ++ own (header_claims e (head_of b) [] (k ∷ parts)) in
+    let made = header-scoped e earlier (header_info b) [] k parts (along-base (Makes earlier) []) counted in
+    let l = earlier ++ own (header_claims e (header_info b) [] (k ∷ parts)) in
     record {
       tree = rw is made.tree;
       all = rw is (
         end-stands b.array l t (e t) made.all,
-        counted-end b.array l (opened_by blocks) t (counted-on earlier (own (header_claims e (head_of b) [] (k ∷ parts))) e counted) made.all,
+        counted-end b.array l (opened_by sections) t (counted-on earlier (own (header_claims e (header_info b) [] (k ∷ parts))) e counted) made.all,
       );
     }
 
 -- the claims of a section fit, and its entries are counted
-section-scoped : (earlier : List Claim) (b : Block) (blocks : List Block) → (b.header ≡ [] → b.array ≡ false) → Counted earlier (elements_added (opened_by blocks))
-    → Walk Of (λ l. Counted l (elements_added (opened_by (b ∷ blocks)))) earlier (section_claims (elements_added (opened_by blocks)) b)
+section-scoped : (earlier : List Claim) (b : ParsedSection) (sections : List ParsedSection) → (b.header ≡ [] → b.array ≡ false) → Counted earlier (elements_added (opened_by sections))
+    → Walk Of (λ l. Counted l (elements_added (opened_by (b ∷ sections)))) earlier (section_claims (elements_added (opened_by sections)) b)
 unfolding section_claims
-section-scoped earlier b blocks headers counted =
-    let e = elements_added (opened_by blocks) in
-    let front = header_claims e (head_of b) [] b.header in
-    let behind = key_value_claims b.key_values (section_path e b) in
-    let after = elements_added (opened_by (b ∷ blocks)) in
-    walk-followed Of (Opened b blocks) (λ l. Counted l after) (λ l. scoped-followed [] l None) earlier front behind (opened earlier b blocks b.header refl headers counted) (λ (stands, made).
-    record { tree = key_values-scoped b.key_values [] (earlier ++ own front) (section_path e b) stands; all = counted-on (earlier ++ own front) (own behind) after made })
+section-scoped earlier b sections headers counted =
+    let e = elements_added (opened_by sections) in
+    let front = header_claims e (header_info b) [] b.header in
+    let beyond = assignments_claims b.assignments (section_path e b) in
+    let after = elements_added (opened_by (b ∷ sections)) in
+    walk-followed Of (Opened b sections) (λ l. Counted l after) (λ l. scoped-followed [] l None) earlier front beyond (opened earlier b sections b.header refl headers counted) (λ (stands, made).
+    record { tree = assignments-scoped b.assignments [] (earlier ++ own front) (section_path e b) stands; all = counted-on (earlier ++ own front) (own beyond) after made })
 
-behind-scoped : (earlier : List Claim) (blocks bs : List Block) → AreSections bs → Counted earlier (elements_added (opened_by blocks)) → Scoped [] earlier None (claims_behind blocks bs)
-unfolding claims_behind
-behind-scoped earlier blocks [] headers counted = tt
-behind-scoped earlier blocks (b ∷ bs) headers counted =
-    let front = section_claims (elements_added (opened_by blocks)) b in
-    let here = section-scoped earlier b blocks headers.0 counted in
-    scoped-followed [] earlier None front (claims_behind (b ∷ blocks) bs) here.tree
-    (behind-scoped (earlier ++ own front) (b ∷ blocks) bs headers.1 here.all)
+after-scoped : (earlier : List Claim) (sections bs : List ParsedSection) → AreSections bs → Counted earlier (elements_added (opened_by sections)) → Scoped [] earlier None (claims_after sections bs)
+unfolding claims_after
+after-scoped earlier sections [] headers counted = tt
+after-scoped earlier sections (b ∷ bs) headers counted =
+    let front = section_claims (elements_added (opened_by sections)) b in
+    let here = section-scoped earlier b sections headers.0 counted in
+    scoped-followed [] earlier None front (claims_after (b ∷ sections) bs) here.tree
+    (after-scoped (earlier ++ own front) (b ∷ sections) bs headers.1 here.all)
 
-pub document-scoped : (bs : List Block) → AreSections bs → Scoped [] [] None (claims bs)
+pub document-scoped : (bs : List ParsedSection) → AreSections bs → Scoped [] [] None (claims bs)
 unfolding opened_by
-document-scoped bs headers = behind-scoped [] [] bs headers (λ p m few. absurd (omega (arith, few)))
+document-scoped bs headers = after-scoped [] [] bs headers (λ p m few. absurd (omega (arith, few)))

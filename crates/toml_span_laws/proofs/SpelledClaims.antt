@@ -1,19 +1,21 @@
 -- What is assigned in a document is spelled, and the claims after each assignment are those of its value.
-use Rattle.toml_span_lex.proofs.Common.{◌≡◌, ℕ, zero, suc, true, List, [], ◌∷◌, refl, inl, inr, ⊤, cases_Bool, ◌+◌, ◌≤◌, ◌⊎◌, ◌++◌, length, arith, sym, ap, ◌∙◌, nat_tests, common_steps}
+use Rattle.toml_span_lex.proofs.Common.{◌≡◌, ℕ, zero, suc, true, List, [], ◌∷◌, refl, inl, inr, ⊤, cases_Bool, ◌+◌, ◌≤◌, ◌⊎◌, ◌++◌, length, drop, arith, sym, ap, ◌∙◌, nat_tests, common_steps}
 use Rattle.toml_span_tree.specs.Path.{Path, shape_scalar}
+use Rattle.toml_span_read.specs.Again.{parts_off}
 use Rattle.toml_span_read.specs.Keys.{SpellsKey}
-use Rattle.toml_span_read.specs.Data.{SimpleKey, ParsedValue, parsed, scalar, array, inline, ParsedItems, no_items, item, ParsedPairs, no_pairs, pair, KeyValue, parsed_span, Block}
-use Rattle.toml_span.specs.declared.claims.Sort.{Sort}
-use Rattle.toml_span.specs.declared.claims.Sort.TheVariants.{Passed, StandardTable, ArrayOfTables, TableElement, Assigned}
-use Rattle.toml_span.specs.declared.claims.Head.{Head}
-use Rattle.toml_span.specs.Claims.{Claim, Claims, no_claims, claimed, scope, header_claim, array_claims, end_claims, header_claims, followed, shape_claimed, value_shape, parsed_inner, element, key_claims, value_claims, inner_claims, item_claims, pair_claims, key_value_claims, section_claims, claims_behind, claims, head_of}
+use Rattle.toml_span_read.specs.Data.{SimpleKey, ParsedValue, parsed, scalar, array, inline, ParsedItems, no_items, item, ParsedPairs, no_pairs, pair, ParsedAssignment, parsed_span, ParsedSection}
+use Rattle.toml_span.specs.declared.claims.ClaimKind.{ClaimKind}
+use Rattle.toml_span.specs.declared.claims.ClaimKind.TheVariants.{Passed, StandardTable, ArrayOfTables, TableElement, Assigned}
+use Rattle.toml_span.specs.declared.claims.HeaderInfo.{HeaderInfo}
+use Rattle.toml_span.specs.Claims.{Claim, Claims, no_claims, claimed, scope, header_claim, array_claims, end_claims, header_claims, followed, shape_claimed, value_shape, parsed_inner, element, key_claims, value_claims, inner_claims, item_claims, pair_claims, assignments_claims, section_claims, claims_after, claims, header_info}
 use Rattle.toml_span.specs.Flat.{by_header}
 use Rattle.toml_span.specs.Paths.{with_key, with_position, enter, elements_added, opened_by, section_path}
 use Rattle.toml_span_tree.specs.Node.{Scalar}
-use Rattle.toml_span_read.specs.Grammar.{Spells, SpellsDocument, ItemsWith, PairsWith, KeyValuesWith, SpellsScalar}
+use Rattle.toml_span_read.specs.Grammar.{Spells, SpellsDocument, ItemsWith, PairsWith, AssignmentsWith, SpellsScalar}
 use Rattle.toml_span.proofs.Grafts.{followed-assoc}
 use Rattle.toml_span.proofs.EachClaim.{Each}
-use Rattle.toml_span_laws.proofs.AscendLaws.{AreBlocks, document_blocks}
+use Rattle.toml_span_laws.proofs.AfterValues.{after_closes, after_separator, after_tail}
+use Rattle.toml_span_laws.proofs.AscendLaws.{AreParsedSections, document_sections}
 
 -- ---- the claims of headers
 
@@ -24,7 +26,7 @@ Headed P (claimed c cs) = P c × Headed P cs
 Headed P (scope inner cs) = ⊥
 
 -- the same for the claims of a header, if P holds for all that it may make
-pub header-headed : (P : Claim → Type 0) (h : Head) → ((s : Sort) (q : Path) (k : SimpleKey) → by_header s ≡ true → P (header_claim h s q k)) → (e : Path → ℕ) (p : Path) (parts : List SimpleKey)
+pub header-headed : (P : Claim → Type 0) (h : HeaderInfo) → ((s : ClaimKind) (q : Path) (k : SimpleKey) → by_header s ≡ true → P (header_claim h s q k)) → (e : Path → ℕ) (p : Path) (parts : List SimpleKey)
     → Headed P (header_claims e h p parts)
 unfolding header_claims end_claims
 header-headed P h all e p [] = tt
@@ -41,13 +43,14 @@ header-headed P h all e p (k ∷ l ∷ more) =
 
 -- ---- one claim
 
--- the text from one offset to another spells the value
+-- the text from one offset to another spells the value, and what follows does not continue it
 pub record Spelled (text : List ℕ) (limit : ℕ) (v : ParsedValue) : Type 0 where
   pub depth : ℕ
   pub from : ℕ
   pub to : ℕ
   pub deep : 1 ≤ depth
   pub spells : Spells v text limit depth from to
+  pub off : parts_off (drop to text) ≡ true
 
 -- the claim assigns a value that is spelled
 pub record Assigns (text : List ℕ) (limit : ℕ) (c : Claim) : Type 0 where
@@ -58,7 +61,7 @@ pub record Assigns (text : List ℕ) (limit : ℕ) (c : Claim) : Type 0 where
 
 -- the claim does not assign: it creates a table or an array
 pub record Makes (c : Claim) : Type 0 where
-  pub sort : c.mark.sort ≡ Assigned → ⊥
+  pub kind : c.info.kind ≡ Assigned → ⊥
   pub shape : (s : Scalar) → c.place.shape ≡ shape_scalar s → ⊥
 
 abbrev pub OfText : List ℕ → ℕ → Claim → Type 0
@@ -83,15 +86,15 @@ unfolding followed
 spelled-followed text limit no_claims ys h g = g
 spelled-followed text limit (claimed c xs) ys h g = (
   elim h.0 [
-    | inl (a, rest, behind) ↦ inl (a, followed rest ys, ap (λ t. followed t ys) behind ∙ followed-assoc (value_claims a.value c.path) rest ys)
+    | inl (a, rest, beyond) ↦ inl (a, followed rest ys, ap (λ t. followed t ys) beyond ∙ followed-assoc (value_claims a.value c.path) rest ys)
     | inr made ↦ inr made
   ],
   spelled-followed text limit xs ys h.1 g,
 )
 spelled-followed text limit (scope inner xs) ys h g = (h.0, spelled-followed text limit xs ys h.1 g)
 
-no-scalar : (sort : Sort) (s : Scalar) → shape_claimed sort ≡ shape_scalar s → ⊥
-no-scalar sort s h = grind (arith, nat_tests, common_steps)
+no-scalar : (kind : ClaimKind) (s : Scalar) → shape_claimed kind ≡ shape_scalar s → ⊥
+no-scalar kind s h = grind (arith, nat_tests, common_steps)
 
 -- claims that do not assign
 made-spelled : (text : List ℕ) (limit : ℕ) (cs : Claims) → Headed Makes cs → AllSpelled text limit cs
@@ -125,15 +128,17 @@ mutual
   items-of_text : (vs : ParsedItems) (n : ℕ) (p : Path) (text : List ℕ) (limit d i j : ℕ) → 1 ≤ d → ItemsWith SpellsScalar vs text limit d i j → AllSpelled text limit (item_claims vs n p)
   items-of_text no_items n p text limit d i j deep h = tt
   items-of_text (item v vs) n p text limit d i j deep (m, h, then) =
-      element-of_text v (with_position p n) (item_claims vs (suc n) p) text limit (record { depth = d; from = i; to = m; deep = deep; spells = h })
+      element-of_text v (with_position p n) (item_claims vs (suc n) p) text limit
+      (record { depth = d; from = i; to = m; deep = deep; spells = h; off = elim then [ inl c ↦ after_closes 93 text m j (refl, refl) (λ e. absurd (omega arith)) c.1 | inr c ↦ after_separator 44 text m c.0 (refl, refl) (λ e. absurd (omega arith)) c.1 ] })
       (value-of_text v (with_position p n) text limit d i m deep h)
       (elim then [ inl (e, close) ↦ rw e tt | inr (k, comma, rest) ↦ items-of_text vs (suc n) p text limit d k j deep rest ])
 
-  pairs-of_text : (ps : ParsedPairs) (es : List KeyValue) (p : Path) (text : List ℕ) (limit d i j : ℕ) → 1 ≤ d → PairsWith SpellsScalar ps es text limit d i j → AllSpelled text limit (pair_claims ps p)
+  pairs-of_text : (ps : ParsedPairs) (es : List ParsedAssignment) (p : Path) (text : List ℕ) (limit d i j : ℕ) → 1 ≤ d → PairsWith SpellsScalar ps es text limit d i j → AllSpelled text limit (pair_claims ps p)
   pairs-of_text no_pairs es p text limit d i j deep h = tt
   pairs-of_text (pair ss v x ps) es p text limit d i j deep (m, (a, b, key, few, sign, h, extent), clear, then) =
       spelled-followed text limit (key_claims p ss v (value_claims v)) (pair_claims ps p)
-      (key-of_text text limit p ss v (record { depth = d + length ss; from = b; to = m; deep = omega arith; spells = h })
+      (key-of_text text limit p ss v
+      (record { depth = d + length ss; from = b; to = m; deep = omega arith; spells = h; off = elim then [ inl c ↦ after_closes 125 text m j (refl, refl) (λ e. absurd (omega arith)) c.1 | inr c ↦ after_separator 44 text m c.0 (refl, refl) (λ e. absurd (omega arith)) c.1 ] })
       (λ q. value-of_text v q text limit (d + length ss) b m (omega arith) h))
       (grind (arith, nat_tests, common_steps, pairs-of_text ps (es ++ (record { parts = ss; value = v; extent = x } ∷ [])) p text limit d))
 
@@ -142,39 +147,39 @@ mutual
 pub some-part : (parts : List SimpleKey) (text : List ℕ) (i j : ℕ) → SpellsKey parts text i j → 1 ≤ length parts
 some-part parts text i j h = grind (arith, nat_tests, common_steps)
 
-key_values-of_text : (es before : List KeyValue) (p : Path) (text : List ℕ) (limit i j : ℕ) → KeyValuesWith SpellsScalar es before text limit i j → AllSpelled text limit (key_value_claims es p)
-unfolding key_value_claims
-key_values-of_text [] before p text limit i j h = tt
-key_values-of_text (e ∷ es) before p text limit i j (m, n, k, h, tail, clear, gap, rest) =
+assignments-of_text : (es before : List ParsedAssignment) (p : Path) (text : List ℕ) (limit i j : ℕ) → AssignmentsWith SpellsScalar es before text limit i j → AllSpelled text limit (assignments_claims es p)
+unfolding assignments_claims
+assignments-of_text [] before p text limit i j h = tt
+assignments-of_text (e ∷ es) before p text limit i j (m, n, k, h, tail, clear, gap, rest) =
     let deep = some-part e.parts text i h.key_end h.key in
-    spelled-followed text limit (key_claims p e.parts e.value (value_claims e.value)) (key_value_claims es p)
-    (key-of_text text limit p e.parts e.value (record { depth = length e.parts; from = h.from; to = m; deep = deep; spells = h.spelled })
+    spelled-followed text limit (key_claims p e.parts e.value (value_claims e.value)) (assignments_claims es p)
+    (key-of_text text limit p e.parts e.value (record { depth = length e.parts; from = h.from; to = m; deep = deep; spells = h.spelled; off = after_tail text m n tail })
     (λ q. value-of_text e.value q text limit (length e.parts) h.from m deep h.spelled))
-    (key_values-of_text es (before ++ (e ∷ [])) p text limit k j rest)
+    (assignments-of_text es (before ++ (e ∷ [])) p text limit k j rest)
 
-header-of_text : (text : List ℕ) (limit : ℕ) (e : Path → ℕ) (h : Head) (p : Path) (parts : List SimpleKey) → AllSpelled text limit (header_claims e h p parts)
+header-of_text : (text : List ℕ) (limit : ℕ) (e : Path → ℕ) (h : HeaderInfo) (p : Path) (parts : List SimpleKey) → AllSpelled text limit (header_claims e h p parts)
 header-of_text text limit e h p parts = grind (arith, nat_tests, common_steps, header-headed Makes h, made-spelled text limit (header_claims e h p parts), no-scalar)
 
 -- ---- documents
 
-blocks-of_text : (earlier bs : List Block) (text : List ℕ) (limit i : ℕ) → AreBlocks bs text limit i (length text) → AllSpelled text limit (claims_behind earlier bs)
-unfolding claims_behind section_claims
-blocks-of_text earlier [] text limit i h = tt
-blocks-of_text earlier (b ∷ bs) text limit i (s, k, j, header, few, plain, on, lines, rest) =
+sections-of_text : (earlier bs : List ParsedSection) (text : List ℕ) (limit i : ℕ) → AreParsedSections bs text limit i (length text) → AllSpelled text limit (claims_after earlier bs)
+unfolding claims_after section_claims
+sections-of_text earlier [] text limit i h = tt
+sections-of_text earlier (b ∷ bs) text limit i (s, k, j, header, few, plain, on, lines, rest) =
     let e = elements_added (opened_by earlier) in
-    spelled-followed text limit (section_claims e b) (claims_behind (b ∷ earlier) bs)
-    (spelled-followed text limit (header_claims e (head_of b) [] b.header) (key_value_claims b.key_values (section_path e b))
-    (header-of_text text limit e (head_of b) [] b.header) (key_values-of_text b.key_values [] (section_path e b) text limit k j lines))
-    (blocks-of_text (b ∷ earlier) bs text limit j rest)
+    spelled-followed text limit (section_claims e b) (claims_after (b ∷ earlier) bs)
+    (spelled-followed text limit (header_claims e (header_info b) [] b.header) (assignments_claims b.assignments (section_path e b))
+    (header-of_text text limit e (header_info b) [] b.header) (assignments-of_text b.assignments [] (section_path e b) text limit k j lines))
+    (sections-of_text (b ∷ earlier) bs text limit j rest)
 
-pub document-spelled : (bs : List Block) (text : List ℕ) (limit : ℕ) → SpellsDocument bs text limit → AllSpelled text limit (claims bs)
-document-spelled bs text limit x = blocks-of_text [] bs text limit 0 (document_blocks bs text limit x)
+pub document-spelled : (bs : List ParsedSection) (text : List ℕ) (limit : ℕ) → SpellsDocument bs text limit → AllSpelled text limit (claims bs)
+document-spelled bs text limit x = sections-of_text [] bs text limit 0 (document_sections bs text limit x)
 
 -- each claim by itself
 each-of_text : (text : List ℕ) (limit : ℕ) (cs : Claims) → AllSpelled text limit cs → Each (OfText text limit) cs
 each-of_text text limit no_claims h = tt
-each-of_text text limit (claimed c cs) h = (elim h.0 [ inl (a, rest, behind) ↦ inl a | inr made ↦ inr made ], each-of_text text limit cs h.1)
+each-of_text text limit (claimed c cs) h = (elim h.0 [ inl (a, rest, beyond) ↦ inl a | inr made ↦ inr made ], each-of_text text limit cs h.1)
 each-of_text text limit (scope inner cs) h = (each-of_text text limit inner h.0, each-of_text text limit cs h.1)
 
-pub document-of_text : (bs : List Block) (text : List ℕ) (limit : ℕ) → SpellsDocument bs text limit → Each (OfText text limit) (claims bs)
+pub document-of_text : (bs : List ParsedSection) (text : List ℕ) (limit : ℕ) → SpellsDocument bs text limit → Each (OfText text limit) (claims bs)
 document-of_text bs text limit h = each-of_text text limit (claims bs) (document-spelled bs text limit h)

@@ -4,9 +4,9 @@ use Rattle.toml_span_lex.specs.Bytes.{is_blank}
 use Rattle.toml_span_lex.specs.Text.{FirstPlace}
 use Rattle.toml_span_tree.specs.Node.{Node, node}
 use Rattle.toml_span_tree.specs.Value.{is_whole}
-use Rattle.toml_span_read.specs.Data.{ParsedValue, KeyValue, from_to, first_block, SimpleKey}
+use Rattle.toml_span_read.specs.Data.{ParsedValue, ParsedAssignment, from_to, headerless_section, SimpleKey}
 use Rattle.toml_span_read.specs.Gaps.{begins_gap, MaximalGap, Tail}
-use Rattle.toml_span_read.specs.Grammar.{Spells, SpellsDocument, KeyValueWith, SpellsScalar}
+use Rattle.toml_span_read.specs.Grammar.{Spells, SpellsDocument, AssignmentWith, SpellsScalar}
 use Rattle.toml_span_read.specs.Keys.{SpellsSimpleKey}
 use Rattle.toml_span_read.specs.Again.{ReadsAsKey, ReadsAsValue, HasFloatTexts, IsWithin}
 use Rattle.toml_span_read.proofs.Parts.{Part, same_part, back, tail, here, whole}
@@ -31,11 +31,11 @@ no_blank : (text : List ℕ) (i : ℕ) → begins_gap text i ≡ false → is_bl
 no_blank text i h = (or_parts (is_blank (get_or text i 0)) (get_or text i 0 == 10) (or_parts (is_blank (get_or text i 0) || get_or text i 0 == 10) _ (or_parts _ (get_or text i 0 == 35) h).0).0).0
 
 -- the assignment
-abbrev pub pair : (text : List ℕ) (s : SimpleKey) (v : ParsedValue) → KeyValue
+abbrev pub pair : (text : List ℕ) (s : SimpleKey) (v : ParsedValue) → ParsedAssignment
 pair text s v = record { parts = s ∷ []; value = v; extent = from_to 0 (length text) }
 
 pub assigned : (key value : List ℕ) (s : SimpleKey) (v : ParsedValue) (limit a b : ℕ) → b ≡ ((a + 1) + 1) + 1 → a ≡ 0 + length key → 1 ≤ limit → (text : List ℕ) → text ≡ key ++ (codes " = " ++ value)
-    → SpellsSimpleKey s text 0 a → Spells v text limit 1 b (length text) → KeyValueWith SpellsScalar (pair text s v) text limit 0 (length text)
+    → SpellsSimpleKey s text 0 a → Spells v text limit 1 b (length text) → AssignmentWith SpellsScalar (pair text s v) text limit 0 (length text)
 assigned key value s v limit a b at is few text e k h =
     let q = back key (32 ∷ 61 ∷ 32 ∷ value) (same_part (key ++ (32 ∷ 61 ∷ 32 ∷ value)) e (whole text)) in
     let r : Part text (32 ∷ 61 ∷ 32 ∷ value) [] a (length text) = rw (sym is) at q in
@@ -54,7 +54,7 @@ assigned key value s v limit a b at is few text e k h =
         at = a + 1;
         before = blank_run text a space (omega arith) (rw sign refl);
         here = sign;
-        behind = rw at (blank_run text ((a + 1) + 1) last (omega arith) (no_blank text (((a + 1) + 1) + 1) starts));
+        after = rw at (blank_run text ((a + 1) + 1) last (omega arith) (no_blank text (((a + 1) + 1) + 1) starts));
       };
       spelled = h;
       extent = refl;
@@ -67,7 +67,7 @@ no_more b l e =
     let past : get_or b l 0 ≡ 0 = get_or_past b l 0 (omega arith) in
     ((l, grind (arith, nat_tests, common_steps), inr (e, refl)), record { ends = []; pieces = refl; forward = omega arith; stops = rw past refl })
 
-pub document : (s : SimpleKey) (v : ParsedValue) (text : List ℕ) (limit a : ℕ) → SpellsSimpleKey s text 0 a → KeyValueWith SpellsScalar (pair text s v) text limit 0 (length text) → SpellsDocument (first_block (pair text s v ∷ [])) text limit
+pub document : (s : SimpleKey) (v : ParsedValue) (text : List ℕ) (limit a : ℕ) → SpellsSimpleKey s text 0 a → AssignmentWith SpellsScalar (pair text s v) text limit 0 (length text) → SpellsDocument (headerless_section (pair text s v ∷ [])) text limit
 document s v text limit a k line =
     let more = no_more text (length text) refl in
     record {

@@ -109,5 +109,5 @@ changed text i j span source value multi h other (k, from, to, is) same =
     let parts : length value ≡ length (content text span.start c.pieces ++ slice_range text c.at span.end) = ap length c.value_is in
     elim (cases_lt k c.at) [
       | inl before ↦ let l = cut_shorter q multi text span.start c.at k c.pieces h.quote c.cut from before is in omega (arith, l, left, tail, all, parts, on, s.forward)
-      | inr behind ↦ no_backslash q (get_or text k 0) h.quote (grind (arith, nat_tests, common_steps)) is
+      | inr after ↦ no_backslash q (get_or text k 0) h.quote (grind (arith, nat_tests, common_steps)) is
     ]

@@ -3,11 +3,11 @@
 use Rattle.toml_span_lex.proofs.Common.{◌≡◌, ℕ, List, [], ◌∷◌, ◌++◌, Option, Some, None, refl, sym, ap, ◌∙◌, subst, append-nil, inl, inr, cases_Bool, arith, nat_tests, common_steps, suc, option_map, append_assoc, append_cancel_left, length, codes}
 use Rattle.toml_span_tree.specs.Node.{Scalar}
 use Rattle.toml_span_tree.specs.Path.{Path, shape_scalar, Step, key, position, Place, place_at}
-use Rattle.toml_span_read.specs.Data.{ParsedValue, parsed, scalar, array, inline, parsed_span, Block, ParsedItems, no_items, item, ParsedPairs, no_pairs, pair, first_block, SimpleKey}
+use Rattle.toml_span_read.specs.Data.{ParsedValue, parsed, scalar, array, inline, parsed_span, ParsedSection, ParsedItems, no_items, item, ParsedPairs, no_pairs, pair, headerless_section, SimpleKey}
 use Rattle.toml_span_read.specs.Grammar.{SpellsDocument}
-use Rattle.toml_span.specs.declared.claims.Sort.TheVariants.{Assigned}
-use Rattle.toml_span.specs.Claims.{Claim, Claims, no_claims, claimed, scope, followed, value_claims, inner_claims, item_claims, pair_claims, value_shape, parsed_inner, claims, key_claims, element, assigned, dotted, key_value_claims, header_claims, section_claims, claims_behind}
-use Rattle.toml_span.specs.Clashes.{Resolves, blame, or_else}
+use Rattle.toml_span.specs.declared.claims.ClaimKind.TheVariants.{Assigned}
+use Rattle.toml_span.specs.Claims.{Claim, Claims, no_claims, claimed, scope, followed, value_claims, inner_claims, item_claims, pair_claims, value_shape, parsed_inner, claims, key_claims, element, assigned, dotted, assignments_claims, header_claims, section_claims, claims_after}
+use Rattle.toml_span.specs.Clashes.{Resolves, clash_kind, first_some}
 use Rattle.toml_span.specs.Flat.{all_claims, claims_at, deciding_claim, first_claim, first_claim_by_header, flat}
 use Rattle.toml_span.specs.Paths.{same_path, with_key, with_position, target, opened_by}
 use Rattle.toml_span.proofs.EachClaim.{same_path-eq}
@@ -15,13 +15,13 @@ use Rattle.toml_span_read.proofs.ReadSound.{document_sound}
 use Rattle.toml_span_laws.proofs.Complete.{document_complete}
 use Rattle.toml_span_laws.specs.Clashing.{IsIn, DoClash}
 use Rattle.toml_span_laws.specs.Laws.{AssignsAgain, ValueReadsAgain}
-use Rattle.toml_span_laws.proofs.FirstClash.{AreFree, none-behind}
+use Rattle.toml_span_laws.proofs.FirstClash.{AreFree, none-after}
 use Rattle.toml_span_laws.proofs.Apart.{in-cases}
 use Rattle.toml_span_laws.proofs.ReadAgain.{document-again}
 use Rattle.toml_span_laws.proofs.OneScope.{at-append, path-self, Scene, claim-before, document-scene, outside, scene-after, scene-claimed, scene-inside, scope-before, scoped-under, do-clash}
 use Rattle.toml_span_laws.proofs.Order.{all_claims-followed}
 use Rattle.toml_span_laws.proofs.Scoped.{IsUnder, under-from, longer}
-use Rattle.toml_span_laws.specs.Again.{moved, moved_items, moved_pairs, moved_parts, moved_span, ReadsAgain, key_value_again}
+use Rattle.toml_span_laws.specs.Again.{moved, moved_items, moved_pairs, moved_parts, moved_span, ReadsAgain, assignment_again}
 use Rattle.toml_span.proofs.Grafts.{same_step-self}
 use Rattle.toml_span_laws.specs.Moved.{moved_place, StandsMoved, AssignsBrackets, text_again, at_x}
 use Rattle.toml_span_laws.proofs.FirstPair.{clash-blames, free-clash, free-of}
@@ -98,7 +98,7 @@ alone-here text limit base earlier x v rest h again shape span brackets =
     }
 
 alone : (text : List ℕ) (limit : ℕ) (base : Path) (earlier : List Claim) (last : Option Claim) (cs : Claims) (c : Claim) → Scene base earlier last cs → AssignsAgain text limit cs → IsIn c (all_claims cs)
-    → c.mark.sort ≡ Assigned → ((s : Scalar) → c.place.shape ≡ shape_scalar s → ⊥) → Alone text limit c cs
+    → c.info.kind ≡ Assigned → ((s : Scalar) → c.place.shape ≡ shape_scalar s → ⊥) → Alone text limit c cs
 unfolding all_claims
 alone text limit base earlier last no_claims c h again here value brackets = absurd here
 alone text limit base earlier last (claimed x cs) c h again (inl same) value brackets =
@@ -121,7 +121,7 @@ alone text limit base earlier (Some a) (scope inner cs) c h again here value bra
 
 -- ---- documents
 
-pub document-alone : (text : List ℕ) (limit : ℕ) (bs : List Block) (c : Claim) → SpellsDocument bs text limit → Resolves (claims bs) → IsIn c (all_claims (claims bs)) → c.mark.sort ≡ Assigned
+pub document-alone : (text : List ℕ) (limit : ℕ) (bs : List ParsedSection) (c : Claim) → SpellsDocument bs text limit → Resolves (claims bs) → IsIn c (all_claims (claims bs)) → c.info.kind ≡ Assigned
     → ((s : Scalar) → c.place.shape ≡ shape_scalar s → ⊥) → Alone text limit c (claims bs) × IsUnder [] c.path
 document-alone text limit bs c h ok here value brackets =
     let scene = document-scene text limit bs h ok in
@@ -138,7 +138,7 @@ Beside p r q s = (tail : Path) × (q ≡ p ++ tail) × (s ≡ r ++ tail)
 -- the other claim is this one, moved
 pub record Moves (from to : ℕ) (p r : Path) (x y : Claim) : Type 0 where
   pub beside : Beside p r x.path y.path
-  pub sort : y.mark.sort ≡ x.mark.sort
+  pub kind : y.info.kind ≡ x.info.kind
   pub place : y.place ≡ moved_place from to x.place
 
 pub data AreMoved (from to : ℕ) (p r : Path) : Claims → Claims → Type 0 where
@@ -159,7 +159,7 @@ beside-step p r q s x (tail, is, on) =
 -- ---- values
 
 dotted-moved : (from to : ℕ) (v : ParsedValue) (k : SimpleKey) (p r q s : Path) → Beside p r q s → Moves from to p r (dotted q k v) (dotted s (record { name = k.name; span = moved_span from to k.span }) (moved from to v))
-dotted-moved from to (parsed i span) k p r q s b = record { beside = b; sort = refl; place = refl }
+dotted-moved from to (parsed i span) k p r q s b = record { beside = b; kind = refl; place = refl }
 
 key-moved : (from to : ℕ) (parts : List SimpleKey) (v : ParsedValue) (p r q s : Path) (inside other : Path → Claims) → Beside p r q s → ((t u : Path) → Beside p r t u → AreMoved from to p r (inside t) (other u))
     → AreMoved from to p r (key_claims q parts v inside) (key_claims s (moved_parts from to parts) (moved from to v) other)
@@ -249,7 +249,7 @@ unfolding first_claim_by_header
 header-moved from to p r _ _ no_more = refl
 header-moved from to p r _ _ (one_more x y xs ys m h) = grind (arith, nat_tests, common_steps, header-moved from to p r xs ys h)
 
-or-moved : (from to : ℕ) (a b c d : Option Claim) → IsMoved from to a b → IsMoved from to c d → IsMoved from to (or_else a c) (or_else b d)
+or-moved : (from to : ℕ) (a b c d : Option Claim) → IsMoved from to a b → IsMoved from to c d → IsMoved from to (first_some a c) (first_some b d)
 or-moved from to a b c d h g = grind (arith, nat_tests, common_steps)
 
 pub decides-moved : (from to : ℕ) (p r : Path) (xs ys : List Claim) → AllMoved from to p r xs ys
@@ -264,7 +264,7 @@ clash-moved from to p r c x d y m n clashes =
     let (t, c_is, d_is) = m.beside in
     let (u, x_is, y_is) = n.beside in
     let tails = append_cancel_left r t u (sym d_is ∙ same ∙ y_is) in
-    do-clash c x b (c_is ∙ ap (λ l. p ++ l) tails ∙ sym x_is) (ap (λ s. blame s x.mark.sort) (sym m.sort) ∙ ap (blame d.mark.sort) (sym n.sort) ∙ blames)
+    do-clash c x b (c_is ∙ ap (λ l. p ++ l) tails ∙ sym x_is) (ap (λ s. clash_kind s x.info.kind) (sym m.kind) ∙ ap (clash_kind d.info.kind) (sym n.kind) ∙ blames)
 
 pub resolves-moved : (from to : ℕ) (p r : Path) (xs ys : Claims) (e f : List Claim) → AreMoved from to p r xs ys → AllMoved from to p r e f → AreFree e xs → AreFree f ys
 resolves-moved from to p r _ _ e f none_moved g ok = tt
@@ -279,8 +279,8 @@ resolves-moved from to p r _ _ e f (scope_moved a b xs ys i h) g ok = (resolves-
 -- ---- the other document
 
 -- the only assignment of the value that is read again
-abbrev again_block : ParsedValue → List Block
-again_block v = first_block (key_value_again v (parsed_span v).start (parsed_span v).end ∷ [])
+abbrev again_section : ParsedValue → List ParsedSection
+again_section v = headerless_section (assignment_again v (parsed_span v).start (parsed_span v).end ∷ [])
 
 abbrev x_part : SimpleKey
 x_part = record { name = codes "x"; span = record { start = 0; end = 1 } }
@@ -291,8 +291,8 @@ x_claim v = assigned at_x x_part (moved (parsed_span v).start 4 v)
 abbrev x_inside : ParsedValue → Claims
 x_inside v = value_claims (moved (parsed_span v).start 4 v) at_x
 
-again-claims : (v : ParsedValue) → claims (again_block v) ≡ claimed (x_claim v) (x_inside v)
-unfolding claims_behind section_claims header_claims key_value_claims key_claims followed target opened_by
+again-claims : (v : ParsedValue) → claims (again_section v) ≡ claimed (x_claim v) (x_inside v)
+unfolding claims_after section_claims header_claims assignments_claims key_claims followed target opened_by
 again-claims v = grind (arith, nat_tests, common_steps, followed-none)
 
 -- ---- the place at a path
@@ -302,7 +302,7 @@ unfolding flat
 flat-at n cs s p q is = rw is refl
 
 -- a value, and claims below it: the value decides on its path, and these claims below it
-value-decides : (c : Claim) (l : List Claim) → c.mark.sort ≡ Assigned → ((d : Claim) → IsIn d l → IsUnder c.path d.path) → deciding_claim (claims_at c.path (c ∷ l)) ≡ Some c
+value-decides : (c : Claim) (l : List Claim) → c.info.kind ≡ Assigned → ((d : Claim) → IsIn d l → IsUnder c.path d.path) → deciding_claim (claims_at c.path (c ∷ l)) ≡ Some c
 unfolding claims_at first_claim_by_header
 value-decides c l value under = grind (arith, nat_tests, common_steps, at-none, longer, path-self)
 
@@ -335,30 +335,30 @@ x_below c v below y here =
     let (s, r, under) = below x among in
     (s, r, on ∙ ap (λ l. at_x ++ l) (append_cancel_left c.path t (s ∷ r) (sym is ∙ under)))
 
-x_at : (v : ParsedValue) (q : Path) → claims_at q (all_claims (claims (again_block v))) ≡ claims_at q (x_claim v ∷ all_claims (x_inside v))
+x_at : (v : ParsedValue) (q : Path) → claims_at q (all_claims (claims (again_section v))) ≡ claims_at q (x_claim v ∷ all_claims (x_inside v))
 unfolding all_claims
 x_at v q = ap (λ cs. claims_at q (all_claims cs)) (again-claims v)
 
-x_resolves : (c : Claim) (v : ParsedValue) → AreFree [] (value_claims v c.path) → Resolves (claims (again_block v))
+x_resolves : (c : Claim) (v : ParsedValue) → AreFree [] (value_claims v c.path) → Resolves (claims (again_section v))
 x_resolves c v ok =
     let inside = resolves-moved (parsed_span v).start 4 c.path at_x (value_claims v c.path) (x_inside v) [] [] (x_moved c v) no_more ok in
-    none-behind [] (claims (again_block v)) (subst (λ cs. AreFree [] cs) (sym (again-claims v)) (free-of [] (x_claim v) (λ c here. absurd here), any-earlier (moved (parsed_span v).start 4 v) at_x [] (x_claim v ∷ []) inside))
+    none-after [] (claims (again_section v)) (subst (λ cs. AreFree [] cs) (sym (again-claims v)) (free-of [] (x_claim v) (λ c here. absurd here), any-earlier (moved (parsed_span v).start 4 v) at_x [] (x_claim v ∷ []) inside))
 
 -- the claim's own place is at its path
-alone-place : (text : List ℕ) (limit : ℕ) (c : Claim) (cs : Claims) (s : Step) (p : Path) (n : ℕ) → Alone text limit c cs → c.mark.sort ≡ Assigned → c.path ≡ s ∷ p → flat n cs c.path ≡ Some c.place
+alone-place : (text : List ℕ) (limit : ℕ) (c : Claim) (cs : Claims) (s : Step) (p : Path) (n : ℕ) → Alone text limit c cs → c.info.kind ≡ Assigned → c.path ≡ s ∷ p → flat n cs c.path ≡ Some c.place
 alone-place text limit c cs s p n a value path =
     let l = c ∷ all_claims (value_claims a.value c.path) in
     let here : claims_at c.path (all_claims cs) ≡ claims_at c.path l = subst (λ q. claims_at q (all_claims cs) ≡ claims_at q l) (append-nil c.path) (a.only []) in
     flat-at n cs s p c.path path ∙ ap (λ l. option_map (λ c. c.place) (deciding_claim l)) here
     ∙ ap (option_map (λ c. c.place)) (value-decides c (all_claims (value_claims a.value c.path)) value a.below)
 
-stands-moved : (text : List ℕ) (limit : ℕ) (c : Claim) (cs : Claims) (s : Step) (p : Path) (m n : ℕ) (a : Alone text limit c cs) → c.mark.sort ≡ Assigned → c.path ≡ s ∷ p
-    → StandsMoved (parsed_span a.value).start 4 (flat m cs) c.path (flat n (claims (again_block a.value))) at_x
+stands-moved : (text : List ℕ) (limit : ℕ) (c : Claim) (cs : Claims) (s : Step) (p : Path) (m n : ℕ) (a : Alone text limit c cs) → c.info.kind ≡ Assigned → c.path ≡ s ∷ p
+    → StandsMoved (parsed_span a.value).start 4 (flat m cs) c.path (flat n (claims (again_section a.value))) at_x
 stands-moved text limit c cs s p m n a value path [] =
     let v = a.value in
     let first = alone-place text limit c cs s p m a value path in
-    let other : flat n (claims (again_block v)) at_x ≡ Some (x_claim v).place =
-    flat-at n (claims (again_block v)) (key (codes "x")) [] at_x refl ∙ ap (λ l. option_map (λ c. c.place) (deciding_claim l)) (x_at v at_x)
+    let other : flat n (claims (again_section v)) at_x ≡ Some (x_claim v).place =
+    flat-at n (claims (again_section v)) (key (codes "x")) [] at_x refl ∙ ap (λ l. option_map (λ c. c.place) (deciding_claim l)) (x_at v at_x)
     ∙ ap (option_map (λ c. c.place)) (value-decides (x_claim v) (all_claims (x_inside v)) refl (x_below c v a.below)) in
     ap (option_map without_key) other ∙ ap Some (grind (arith, nat_tests, common_steps)) ∙ sym (ap (λ o. option_map (moved_place (parsed_span v).start 4) (option_map without_key o)) first)
 stands-moved text limit c cs s p m n a value path (t ∷ r) =
@@ -367,40 +367,40 @@ stands-moved text limit c cs s p m n a value path (t ∷ r) =
     let inside = all_claims (value_claims v c.path) in
     let first : flat m cs q ≡ option_map (λ c. c.place) (deciding_claim (claims_at q inside)) =
     flat-at m cs s (p ++ (t ∷ r)) q (ap (λ l. l ++ (t ∷ r)) path) ∙ ap (λ l. option_map (λ c. c.place) (deciding_claim l)) (a.only (t ∷ r) ∙ below-decides c inside t r) in
-    let other : flat n (claims (again_block v)) (at_x ++ (t ∷ r)) ≡ option_map (λ c. c.place) (deciding_claim (claims_at (at_x ++ (t ∷ r)) (all_claims (x_inside v)))) =
-    flat-at n (claims (again_block v)) (key (codes "x")) (t ∷ r) (at_x ++ (t ∷ r)) refl
+    let other : flat n (claims (again_section v)) (at_x ++ (t ∷ r)) ≡ option_map (λ c. c.place) (deciding_claim (claims_at (at_x ++ (t ∷ r)) (all_claims (x_inside v)))) =
+    flat-at n (claims (again_section v)) (key (codes "x")) (t ∷ r) (at_x ++ (t ∷ r)) refl
     ∙ ap (λ l. option_map (λ c. c.place) (deciding_claim l)) (x_at v (at_x ++ (t ∷ r)) ∙ below-decides (x_claim v) (all_claims (x_inside v)) t r) in
     other ∙ decides-moved (parsed_span v).start 4 c.path at_x (claims_at q inside) (claims_at (at_x ++ (t ∷ r)) (all_claims (x_inside v)))
     (at-moved (parsed_span v).start 4 c.path at_x inside (all_claims (x_inside v)) (t ∷ r) (x_all c v)) ∙ sym (ap (option_map (moved_place (parsed_span v).start 4)) first)
 
 -- ---- documents and trees
 
-pub flat-place : (text : List ℕ) (limit n : ℕ) (bs : List Block) (c : Claim) → SpellsDocument bs text limit → Resolves (claims bs) → AssignsBrackets bs c → flat n (claims bs) c.path ≡ Some c.place
+pub flat-place : (text : List ℕ) (limit n : ℕ) (bs : List ParsedSection) (c : Claim) → SpellsDocument bs text limit → Resolves (claims bs) → AssignsBrackets bs c → flat n (claims bs) c.path ≡ Some c.place
 flat-place text limit n bs c h ok (here, value, brackets) =
     let (a, (s, p, path)) = document-alone text limit bs c h ok here value brackets in alone-place text limit c (claims bs) s p n a value path
 
 -- the value of the claim is a document of its own, with the same places as in the claim's document
-pub flat-again : (text : List ℕ) (limit : ℕ) (bs : List Block) (c : Claim) → SpellsDocument bs text limit → Resolves (claims bs) → AssignsBrackets bs c
-    → (again : List Block) × HasOutcome (text_again text c.place.span) limit (resolved again)
+pub flat-again : (text : List ℕ) (limit : ℕ) (bs : List ParsedSection) (c : Claim) → SpellsDocument bs text limit → Resolves (claims bs) → AssignsBrackets bs c
+    → (again : List ParsedSection) × HasOutcome (text_again text c.place.span) limit (resolved again)
     × StandsMoved c.place.span.start 4 (flat (length text) (claims bs)) c.path (flat (length (text_again text c.place.span)) (claims again)) at_x
 flat-again text limit bs c h ok (here, value, brackets) =
     let (a, (s, p, path)) = document-alone text limit bs c h ok here value brackets in
     let v = a.value in
     let n = length (text_again text (parsed_span v)) in
-    subst (λ (x : Span). (again : List Block) × HasOutcome (text_again text x) limit (resolved again) × StandsMoved x.start 4 (flat (length text) (claims bs)) c.path (flat (length (text_again text x)) (claims again)) at_x) (sym a.span)
-    (again_block v, (document_complete (again_block v) (text_again text (parsed_span v)) limit (bracket-reads text limit v a.brackets a.again), x_resolves c v a.resolves), stands-moved text limit c (claims bs) s p (length text) n a value path)
+    subst (λ (x : Span). (again : List ParsedSection) × HasOutcome (text_again text x) limit (resolved again) × StandsMoved x.start 4 (flat (length text) (claims bs)) c.path (flat (length (text_again text x)) (claims again)) at_x) (sym a.span)
+    (again_section v, (document_complete (again_section v) (text_again text (parsed_span v)) limit (bracket-reads text limit v a.brackets a.again), x_resolves c v a.resolves), stands-moved text limit c (claims bs) s p (length text) n a value path)
 
 part-same : (f g : Path → Option Place) (path p : Path) → ((q : Path) → f q ≡ g q) → subtree f path p ≡ subtree g path p
 part-same f g path p same = grind (arith, nat_tests, common_steps)
 
-shows-flat : (text : List ℕ) (limit : ℕ) (root : Value) (bs : List Block) (p : Path) → IsTree text limit root → SpellsDocument bs text limit → place_at p (view root) ≡ flat (length text) (claims bs) p
+shows-flat : (text : List ℕ) (limit : ℕ) (root : Value) (bs : List ParsedSection) (p : Path) → IsTree text limit root → SpellsDocument bs text limit → place_at p (view root) ≡ flat (length text) (claims bs) p
 shows-flat text limit root bs p tree h = (tree-value text limit root bs tree h).1 p
 
-tree-resolves : (text : List ℕ) (limit : ℕ) (root : Value) (bs : List Block) → IsTree text limit root → SpellsDocument bs text limit → Resolves (claims bs)
+tree-resolves : (text : List ℕ) (limit : ℕ) (root : Value) (bs : List ParsedSection) → IsTree text limit root → SpellsDocument bs text limit → Resolves (claims bs)
 tree-resolves text limit root bs tree h =
     let (cs, has, shows) = tree in subst (λ l. Resolves (claims l)) (document_unique text limit cs bs (document_sound cs text limit has.0) h) has.1
 
-pub tree-again : (text : List ℕ) (limit : ℕ) (root other : Value) (bs : List Block) (c : Claim) → SpellsDocument bs text limit → IsTree text limit root → AssignsBrackets bs c
+pub tree-again : (text : List ℕ) (limit : ℕ) (root other : Value) (bs : List ParsedSection) (c : Claim) → SpellsDocument bs text limit → IsTree text limit root → AssignsBrackets bs c
     → IsTree (text_again text c.place.span) limit other → StandsMoved c.place.span.start 4 (λ p. place_at p (view root)) c.path (λ p. place_at p (view other)) at_x
 tree-again text limit root other bs c h tree is twin p =
     let b = text_again text c.place.span in

@@ -6,8 +6,8 @@ use Rattle.toml_span_lex.specs.Bytes.{is_blank}
 use Rattle.toml_span_lex.proofs.Runs.{crlf_first}
 use Rattle.toml_span_tree.specs.Node.{Scalar, text as text_scalar, integer, float, boolean, datetime}
 use Rattle.toml_span_read.specs.Gaps.{GapBy, MaximalGap, Tail}
-use Rattle.toml_span_read.specs.Data.{ParsedValue, parsed, ParsedInner, scalar, array, inline, ParsedItems, no_items, item, ParsedPairs, no_pairs, pair, KeyValue, Block}
-use Rattle.toml_span_read.specs.Grammar.{Scalars, SpellsScalar, Spells, SpellsWith, InnerWith, ItemsWith, PairsWith, HeaderFront, SpellsHeader, KeyValuesWith, LinesWith, SectionsWith, DocumentWith, SpellsDocument}
+use Rattle.toml_span_read.specs.Data.{ParsedValue, parsed, ParsedInner, scalar, array, inline, ParsedItems, no_items, item, ParsedPairs, no_pairs, pair, ParsedAssignment, ParsedSection}
+use Rattle.toml_span_read.specs.Grammar.{Scalars, SpellsScalar, Spells, SpellsWith, InnerWith, ItemsWith, PairsWith, HeaderFront, SpellsHeader, AssignmentsWith, LinesWith, SectionsWith, DocumentWith, SpellsDocument}
 use Rattle.toml_span_read.proofs.NumberLemmas.{is_false, byte_is, clash}
 use Rattle.toml_span_laws.specs.Undated.{UndatedScalar, SpellsUndated, SpellsUndatedDocument}
 use Rattle.toml_span_read.proofs.Undated.{no_date}
@@ -46,7 +46,7 @@ module _ (S S' : Scalars) (text : List ℕ) (limit wider : ℕ) (more : limit �
     items (item v vs) d i j (m, h, inl (e, close)) = (m, value v d i m (free m (no_colon 93 text m close.at refl close.before close.here)) h, inl (e, close))
     items (item v vs) d i j (m, h, inr (p, sign, rest)) = (m, value v d i m (free m (no_colon 44 text m sign.at refl sign.before sign.here)) h, inr (p, sign, items vs d p j rest))
 
-    pairs : (ps : ParsedPairs) (es : List KeyValue) (d i j : ℕ) → PairsWith S ps es text limit d i j → PairsWith S' ps es text wider d i j
+    pairs : (ps : ParsedPairs) (es : List ParsedAssignment) (d i j : ℕ) → PairsWith S ps es text limit d i j → PairsWith S' ps es text wider d i j
     pairs no_pairs es d i j h = h
     pairs (pair ss v x ps) es d i j (m, (a, b, key, few, sign, h, extent), clear, inl (e, close)) =
         (m, (a, b, key, omega arith, sign, value v (d + length ss) b m (free m (no_colon 125 text m close.at refl close.before close.here)) h, extent), clear, inl (e, close))
@@ -57,9 +57,9 @@ module _ (S S' : Scalars) (text : List ℕ) (limit wider : ℕ) (more : limit �
       inr (p, comma, pairs ps (es ++ (record { parts = ss; value = v; extent = x } ∷ [])) d p j rest),
     )
 
-  key_values : (es before : List KeyValue) (i j : ℕ) → KeyValuesWith S es before text limit i j → KeyValuesWith S' es before text wider i j
-  key_values [] before i j h = h
-  key_values (e ∷ es) before i j (m, n, k, h, tail, clear, gap, rest) = (
+  assignments : (es before : List ParsedAssignment) (i j : ℕ) → AssignmentsWith S es before text limit i j → AssignmentsWith S' es before text wider i j
+  assignments [] before i j h = h
+  assignments (e ∷ es) before i j (m, n, k, h, tail, clear, gap, rest) = (
     m,
     n,
     k,
@@ -67,24 +67,24 @@ module _ (S S' : Scalars) (text : List ℕ) (limit wider : ℕ) (more : limit �
     tail,
     clear,
     gap,
-    key_values es (before ++ (e ∷ [])) k j rest,
+    assignments es (before ++ (e ∷ [])) k j rest,
   )
 
-  lines : (es : List KeyValue) (i j : ℕ) → LinesWith S es text limit i j → LinesWith S' es text wider i j
-  lines es i j (k, gap, h) = (k, gap, key_values es [] k j h)
+  lines : (es : List ParsedAssignment) (i j : ℕ) → LinesWith S es text limit i j → LinesWith S' es text wider i j
+  lines es i j (k, gap, h) = (k, gap, assignments es [] k j h)
 
-  header : (b : Block) (i j : ℕ) → SpellsHeader b.header b.array text limit i j → SpellsHeader b.header b.array text wider i j
+  header : (b : ParsedSection) (i j : ℕ) → SpellsHeader b.header b.array text limit i j → SpellsHeader b.header b.array text wider i j
   header b i j h =
       let f = h.front in
-      let front : HeaderFront b.header b.array text wider i h.close = record { inside = f.inside; start = f.start; end = f.end; opens = f.opens; before = f.before; key = f.key; few = omega (arith, f.few); behind = f.behind } in
+      let front : HeaderFront b.header b.array text wider i h.close = record { inside = f.inside; start = f.start; end = f.end; opens = f.opens; before = f.before; key = f.key; few = omega (arith, f.few); after = f.after } in
       record { close = h.close; end = h.end; front = front; shuts = h.shuts; rest = h.rest }
 
-  sections : (bs : List Block) (i : ℕ) → SectionsWith S bs text limit i → SectionsWith S' bs text wider i
+  sections : (bs : List ParsedSection) (i : ℕ) → SectionsWith S bs text limit i → SectionsWith S' bs text wider i
   sections [] i h = h
   sections (b ∷ bs) i (j, s, rest) =
-      grind (arith, nat_tests, common_steps, sections bs j rest, header, header b i s.end s.header, lines, lines b.key_values s.end j s.lines)
+      grind (arith, nat_tests, common_steps, sections bs j rest, header, header b i s.end s.header, lines, lines b.assignments s.end j s.lines)
 
-  pub document : (bs : List Block) → DocumentWith S bs text limit → DocumentWith S' bs text wider
+  pub document : (bs : List ParsedSection) → DocumentWith S bs text limit → DocumentWith S' bs text wider
   document bs d = grind (arith, nat_tests, common_steps, lines, lines d.first d.start d.end d.lines, sections, sections d.rest d.end d.sections)
 
 -- ---- within a higher limit
@@ -92,7 +92,7 @@ module _ (S S' : Scalars) (text : List ℕ) (limit wider : ℕ) (more : limit �
 pub value_wider : (v : ParsedValue) (text : List ℕ) (limit wider d i j : ℕ) → limit ≤ wider → Spells v text limit d i j → Spells v text wider d i j
 value_wider v text limit wider d i j l h = value SpellsScalar SpellsScalar text limit wider l (λ j. Unit {0}) (λ j n. tt) (λ s span i j q x. x) v d i j tt h
 
-pub document_wider : (bs : List Block) (text : List ℕ) (limit wider : ℕ) → limit ≤ wider → SpellsDocument bs text limit → SpellsDocument bs text wider
+pub document_wider : (bs : List ParsedSection) (text : List ℕ) (limit wider : ℕ) → limit ≤ wider → SpellsDocument bs text limit → SpellsDocument bs text wider
 document_wider bs text limit wider l d = document SpellsScalar SpellsScalar text limit wider l (λ j. Unit {0}) (λ j n. tt) (λ s span i j q x. x) bs d
 
 -- ---- with dates
@@ -107,5 +107,5 @@ scalar_dated text (float x) span i j n (h, e) = (no_date (float x) text i j h n,
 pub value_dated : (v : ParsedValue) (text : List ℕ) (limit d i j : ℕ) → (get_or text j 0 == 58) ≡ false → SpellsUndated v text limit d i j → Spells v text limit d i j
 value_dated v text limit d i j n h = value UndatedScalar SpellsScalar text limit limit (omega arith) (λ j. (get_or text j 0 == 58) ≡ false) (λ j x. x) (scalar_dated text) v d i j n h
 
-pub document_dated : (bs : List Block) (text : List ℕ) (limit : ℕ) → SpellsUndatedDocument bs text limit → SpellsDocument bs text limit
+pub document_dated : (bs : List ParsedSection) (text : List ℕ) (limit : ℕ) → SpellsUndatedDocument bs text limit → SpellsDocument bs text limit
 document_dated bs text limit h = document UndatedScalar SpellsScalar text limit limit (omega arith) (λ j. (get_or text j 0 == 58) ≡ false) (λ j x. x) (scalar_dated text) bs h

@@ -1,15 +1,17 @@
--- Spellings in one text, read again at another place in another text.
-use Rattle.std.specs.Prelude.{◌≡◌, ℕ, ◌+◌, ◌-◌, List, [], ◌∷◌, ◌++◌, map, slice_range, codes}
+-- The text of a value in one document, read again in another.
+use Rattle.std.specs.Prelude.{◌≡◌, ℕ, ◌+◌, ◌-◌, ◌≤◌, true, List, [], ◌∷◌, ◌++◌, take, drop, length, map, slice_range}
+use Rattle.std.specs.Prelude.{codes}
 use Rattle.toml_span_lex.specs.declared.span.Span.{Span}
 use Rattle.toml_span_tree.specs.Node.{Scalar, text, integer, float, boolean, datetime, Node}
 use Rattle.toml_span_read.specs.Data.{SimpleKey, ParsedValue, parsed, ParsedInner, scalar, array, inline, ParsedItems}
-use Rattle.toml_span_read.specs.Data.{no_items, first_block, item, ParsedPairs, no_pairs, pair, KeyValue, parsed_span}
-use Rattle.toml_span_read.specs.Data.{Block}
+use Rattle.toml_span_read.specs.Data.{no_items, headerless_section, item, ParsedPairs, no_pairs, pair, ParsedAssignment}
+use Rattle.toml_span_read.specs.Data.{parsed_span, ParsedSection}
 use Rattle.toml_span_read.specs.Earlier.{part_names}
-use Rattle.toml_span_read.specs.Grammar.{SpellsDocument}
-use Rattle.toml_span_read.specs.Again.{HasValue}
+use Rattle.toml_span_tree.specs.Value.{is_whole}
+use Rattle.toml_span_read.specs.Grammar.{Spells, SpellsScalar, SpellsDocument}
+use Rattle.toml_span_read.specs.Again.{HasFloatTexts, HasValue, IsWithin, ReadsAsValue}
 
--- a span, moved by as much as it takes from `from` to `to`
+-- a span, moved by the distance between `from` and `to`
 abbrev pub moved_span : ℕ → ℕ → Span → Span
 moved_span from to span = record { start = (span.start + to) - from; end = (span.end + to) - from }
 
@@ -35,14 +37,13 @@ abbrev mutual
   moved_pairs from to (pair parts v extent ps) =
       pair (moved_parts from to parts) (moved from to v) (moved_span from to extent) (moved_pairs from to ps)
 
--- a document of one assignment: `x = `, followed by the text from i to j
+-- a document of one assignment: `x = `, and then the text from i to j
 abbrev pub assigned_again : List ℕ → ℕ → ℕ → List ℕ
 assigned_again t i j = codes "x = " ++ slice_range t i j
 
--- That assignment: its key is x, its value is the one spelled from i to j, moved to 4, and its extent is the whole
--- text.
-abbrev pub key_value_again : ParsedValue → ℕ → ℕ → KeyValue
-key_value_again v i j =
+-- That assignment: its key is x, its value is the one from i to j, moved to 4, and its extent is the whole text.
+abbrev pub assignment_again : ParsedValue → ℕ → ℕ → ParsedAssignment
+assignment_again v i j =
     record {
       parts = record { name = codes "x"; span = record { start = 0; end = 1 } } ∷ [];
       value = moved i 4 v;
@@ -51,13 +52,14 @@ key_value_again v i j =
 
 -- The text from i to j spells the value again: after `x = ` it is a document of only that assignment.
 abbrev pub SpellsAgain : ParsedValue → List ℕ → ℕ → ℕ → ℕ → Type 0
-SpellsAgain v t limit i j = SpellsDocument (first_block (key_value_again v i j ∷ [])) (assigned_again t i j) limit
+SpellsAgain v t limit i j =
+    SpellsDocument (headerless_section (assignment_again v i j ∷ [])) (assigned_again t i j) limit
 
--- The text at the value's span spells it again.
+-- The text at the span of the value spells it again.
 abbrev pub ReadsAgain : List ℕ → ℕ → ParsedValue → Type 0
 ReadsAgain t limit v = SpellsAgain v t limit (parsed_span v).start (parsed_span v).end
 
--- Strings are left out, since their spans are without the quotes.
+-- Strings are left out, because their spans do not include the quotes.
 abbrev pub ScalarReadsAgain : List ℕ → ℕ → Scalar → Span → Type 0
 ScalarReadsAgain t limit (text value) span = Unit {0}
 ScalarReadsAgain t limit (integer n) span = ReadsAgain t limit (parsed (scalar (integer n)) span)
@@ -65,7 +67,7 @@ ScalarReadsAgain t limit (float x) span = ReadsAgain t limit (parsed (scalar (fl
 ScalarReadsAgain t limit (boolean b) span = ReadsAgain t limit (parsed (scalar (boolean b)) span)
 ScalarReadsAgain t limit (datetime d) span = ReadsAgain t limit (parsed (scalar (datetime d)) span)
 
--- A value and the values in it, at any depth, read again, except for strings.
+-- A value and all values in it are spelled again by the text at their spans, except for strings.
 abbrev mutual
   pub AllReadAgain : List ℕ → ℕ → ParsedValue → Type 0
   AllReadAgain t limit (parsed k span) = InnerReadAgain t limit k span
@@ -83,19 +85,39 @@ abbrev mutual
   PairsReadAgain t limit no_pairs = Unit {0}
   PairsReadAgain t limit (pair parts v extent ps) = AllReadAgain t limit v × PairsReadAgain t limit ps
 
--- So do the values of these assignments, and those of these sections.
-abbrev pub KeyValuesReadAgain : List ℕ → ℕ → List KeyValue → Type 0
-KeyValuesReadAgain t limit [] = Unit {0}
-KeyValuesReadAgain t limit (e ∷ es) = AllReadAgain t limit e.value × KeyValuesReadAgain t limit es
+-- The same for the values of these assignments, and of these sections.
+abbrev pub AssignmentsReadAgain : List ℕ → ℕ → List ParsedAssignment → Type 0
+AssignmentsReadAgain t limit [] = Unit {0}
+AssignmentsReadAgain t limit (e ∷ es) = AllReadAgain t limit e.value × AssignmentsReadAgain t limit es
 
-abbrev pub BlocksReadAgain : List ℕ → ℕ → List Block → Type 0
-BlocksReadAgain t limit [] = Unit {0}
-BlocksReadAgain t limit (b ∷ bs) = KeyValuesReadAgain t limit b.key_values × BlocksReadAgain t limit bs
+abbrev pub SectionsReadAgain : List ℕ → ℕ → List ParsedSection → Type 0
+SectionsReadAgain t limit [] = Unit {0}
+SectionsReadAgain t limit (b ∷ bs) = AssignmentsReadAgain t limit b.assignments × SectionsReadAgain t limit bs
+
+-- ---- a value written over a scalar
+
+-- the text with this part in place of what is from i to j
+abbrev pub with_part : List ℕ → ℕ → ℕ → List ℕ → List ℕ
+with_part t i j part = take i t ++ (part ++ drop j t)
+
+-- The text from i to j is this scalar, with this span. A part that is read as another value wherever it occurs is read
+-- as that value in its place, from its first byte to its last. Each value that is spelled after it is spelled in the
+-- new text too, moved.
+pub record TakesAnother (t : List ℕ) (s : Scalar) (span : Span) : Type 0 where
+  pub i : ℕ
+  pub j : ℕ
+  pub spelled : SpellsScalar s span t i j
+  pub new : (n : Node) (part : List ℕ) (limit depth : ℕ) → ReadsAsValue n part → is_whole n ≡ true
+      → IsWithin limit depth n → HasFloatTexts n
+      → (v : ParsedValue) × Spells v (with_part t i j part) limit depth i (i + length part) × HasValue v n
+  pub later : (v : ParsedValue) (part : List ℕ) (limit depth k l : ℕ) → j ≤ k → Spells v t limit depth k l
+      → Spells (moved j (i + length part) v) (with_part t i j part) limit depth ((k + (i + length part)) - j)
+      ((l + (i + length part)) - j)
 
 -- ---- forms that are spelled
 
--- The text is a document of one assignment, whose key is one part with this name, and whose value is this one.
+-- The text is a document of one assignment, whose key is one part with this name, and which has this value.
 abbrev pub SpellsAssignment : List ℕ → Node → List ℕ → ℕ → Type 0
 SpellsAssignment name n t limit =
-    (e : KeyValue) × SpellsDocument (first_block (e ∷ [])) t limit × (part_names e.parts ≡ name ∷ [])
+    (e : ParsedAssignment) × SpellsDocument (headerless_section (e ∷ [])) t limit × (part_names e.parts ≡ name ∷ [])
     × HasValue e.value n

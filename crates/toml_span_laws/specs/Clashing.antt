@@ -1,4 +1,4 @@
--- Claims of one scope: which of them clash, and which two clash first by the offsets of their keys.
+-- Claims in one scope: which of them clash, and which two clash first by the offsets of their keys.
 use Rattle.std.specs.Prelude.{◌≡◌, ◌<◌, ◌⊎◌, List, [], ◌∷◌, ◌++◌, Some}
 use Rattle.toml_span.specs.Claims.{Claim, Claims, no_claims, claimed, scope}
 use Rattle.toml_span.specs.Clashes.{NamedClash, clash}
@@ -13,14 +13,14 @@ IsIn c (d ∷ ds) = (c ≡ d) ⊎ IsIn c ds
 abbrev pub DoClash : Claim → Claim → Type 0
 DoClash c d = (t : NamedClash) × (clash c d ≡ Some t)
 
--- After these earlier claims of the scope, or in a scope inside, a claim clashes with an earlier one of its scope.
+-- A claim clashes with an earlier one of its scope, where the given claims came before in the outer scope.
 abbrev pub IsPair : List Claim → Claims → Claim → Claim → Type 0
 IsPair earlier no_claims c d = ⊥
 IsPair earlier (claimed x cs) c d = ((d ≡ x) × IsIn c earlier × DoClash c d) ⊎ IsPair (earlier ++ (x ∷ [])) cs c d
 IsPair earlier (scope inner cs) c d = IsPair [] inner c d ⊎ IsPair earlier cs c d
 
 -- The two clash. The later one starts before every other claim that clashes with an earlier one of its scope, and the
--- earlier one before every other claim with which the later one clashes.
+-- earlier one before every other one that clashes with the later one.
 pub record IsFirstPair (earlier : List Claim) (cs : Claims) (c d : Claim) : Type 0 where
   pub pair : IsPair earlier cs c d
   pub first : (e f : Claim) → IsPair earlier cs e f → (f ≡ d) ⊎ (claim_start d < claim_start f)
@@ -41,6 +41,6 @@ ShareInside (claimed x cs) c d = ShareInside cs c d
 ShareInside (scope inner cs) c d = (IsIn c (own inner) × IsIn d (own inner)) ⊎ ShareInside inner c d
     ⊎ ShareInside cs c d
 
--- two claims of the same scope, be it the outer one or one inside
+-- two claims of the same scope, the outer one or one inside
 abbrev pub ShareScope : Claims → Claim → Claim → Type 0
 ShareScope cs c d = (IsIn c (own cs) × IsIn d (own cs)) ⊎ ShareInside cs c d

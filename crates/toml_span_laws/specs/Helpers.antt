@@ -14,27 +14,27 @@ use Rattle.toml_span_typed.specs.TableHelper.{State, Starved, keeping, missing, 
 use Rattle.toml_span_typed.specs.Errors.{Errors, all}
 use Rattle.toml_span_laws.specs.Document.{IsValueOf, subtree}
 
--- a table's places without those under a name
+-- the places of a table without those of a name
 abbrev pub hide : List ℕ → (Path → Option Place) → Path → Option Place
 hide name places [] = places []
 hide name places (position i ∷ p) = places (position i ∷ p)
 hide name places (key other ∷ p) = if bytes_eq name other then None else places (key other ∷ p)
 
--- without those under these names
+-- the places of a table without those of these names
 abbrev pub except : List (List ℕ) → (Path → Option Place) → Path → Option Place
 except [] places = places
 except (name ∷ names) places = except names (hide name places)
 
--- The table has no key other than these names.
+-- The table has no keys other than these names.
 abbrev pub HasNoKeyBut : List (List ℕ) → (Path → Option Place) → Type 0
 HasNoKeyBut names places = (name : List ℕ) → except names places (key name ∷ []) ≡ None
 
--- the table of a helper's entries
+-- a table of the helper's entries
 abbrev pub table_of : State → Node
 table_of s = node (table s.members) s.span
 
--- The helper was opened on the table of these places: its entries are those of the table, except for the names that it
--- was asked for.
+-- The helper was made for the table with these places: its entries are those of the table, except for the recorded
+-- names.
 abbrev pub IsOver : (Path → Option Place) → State → Type 0
 IsOver places s = IsValueOf (except s.asked places) (table_of s)
 
@@ -43,8 +43,8 @@ abbrev pub ReadsPart : {T : Type 0} → (Node → Result T Errors → Node → T
     → Type 0
 ReadsPart reads places answer = (value : Node) × (left : Node) × IsValueOf places value × reads value answer left
 
--- `required`, where `places` are those of the table without the names asked for before: the result of reading the value
--- below the key; `MissingField` without a value; or the last of the errors of reading it, which are kept
+-- `required`, where `places` are those of the table without the names recorded before: the result of reading the value
+-- below the key; `MissingField` if there is none; or the last of the errors of the read, which are kept
 abbrev pub RequiresAt : {T : Type 0} → (Node → Result T Errors → Node → Type 0) → List ℕ → (Path → Option Place) → State
     → Result T (Stop Error) → State → Type 0
 RequiresAt reads name places before (Ok x) after =
@@ -55,7 +55,7 @@ RequiresAt reads name places before (Err (stop.Fault error)) after = MatchOption
     × (content_of error ≡ faults.last) × (after ≡ keeping (all faults) (noted name before)))
 RequiresAt reads name places before (Err (stop.Memory error)) after = Starved name before after
 
--- `optional`: None if there is nothing below the key, and then no error is kept; otherwise like `required`
+-- `optional`: None if there is nothing below the key, and then no error is kept; otherwise as `required`
 abbrev pub TriesAt : {T : Type 0} → (Node → Result T Errors → Node → Type 0) → List ℕ → (Path → Option Place) → State
     → Result (Option T) AllocError → State → Type 0
 TriesAt reads name places before (Ok (Some x)) after =
@@ -72,7 +72,7 @@ left_over asked span rest =
     where_filled rest
     (record { kind = unexpected_keys (remaining_keys rest) asked; span = span; line_info = None } ∷ [])
 
--- `finalize(None)` with errors: those that were kept, followed by that for the remaining keys of the table
+-- `finalize(None)` with errors: those that were kept, and then that of the remaining keys
 abbrev pub EndsWith : (Path → Option Place) → State → Errors → Type 0
 EndsWith places s faults =
     (rest : Members) × IsValueOf (except s.asked places) (node (table rest) s.span)

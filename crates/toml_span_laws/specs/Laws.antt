@@ -7,7 +7,7 @@ use Rattle.toml_span_read.specs.Data.{parsed_span}
 use Rattle.toml_span_read.specs.Data as read
 use Rattle.toml_span_laws.specs.Places.{CutsContent}
 use Rattle.toml_span_laws.specs.Again.{ReadsAgain, ScalarReadsAgain}
-use Rattle.toml_span.specs.declared.claims.Sort.TheVariants.{Assigned}
+use Rattle.toml_span.specs.declared.claims.ClaimKind.TheVariants.{Assigned}
 use Rattle.toml_span.specs.Claims.{Claims, no_claims, claimed, scope, followed, parsed_inner, value_claims, value_shape}
 
 -- the number of keys in a path
@@ -16,8 +16,8 @@ keys_in [] = 0
 keys_in (key name ∷ p) = suc (keys_in p)
 keys_in (position i ∷ p) = keys_in p
 
--- The text from i to j is a string with this value. The span is everything between its quotes, or the first of two
--- quotes with nothing between them.
+-- The text from i to j is a string with this value. The span is everything between its quotes or, if that is nothing,
+-- the first quote.
 pub record ShowsString (text value : List ℕ) (span : Span) : Type 0 where
   pub i : ℕ
   pub j : ℕ
@@ -27,7 +27,7 @@ pub record ShowsString (text value : List ℕ) (span : Span) : Type 0 where
   pub content : (IsEmptyOnOneLine i j → ⊥) → CutsContent text i j span value multi
   pub opening : IsEmptyOnOneLine i j → (value ≡ []) × (span ≡ record { start = i; end = i + 1 })
 
--- The text at the value's span is read again as that value. For a string nothing is stated.
+-- The text at the span of the value is read as that value again. Nothing is said about strings.
 abbrev pub ValueReadsAgain : List ℕ → ℕ → read.ParsedValue → Type 0
 ValueReadsAgain text limit (read.parsed (read.scalar s) span) = ScalarReadsAgain text limit s span
 ValueReadsAgain text limit (read.parsed (read.array items) span) =
@@ -35,11 +35,11 @@ ValueReadsAgain text limit (read.parsed (read.array items) span) =
 ValueReadsAgain text limit (read.parsed (read.inline pairs) span) =
     ReadsAgain text limit (read.parsed (read.inline pairs) span)
 
--- What a claim assigns is read again as a value, and the claims that follow directly are those of that value.
+-- What a claim assigns is read again as a value, and the claims that follow directly are those inside that value.
 abbrev pub AssignsAgain : List ℕ → ℕ → Claims → Type 0
 AssignsAgain text limit no_claims = ⊤
 AssignsAgain text limit (claimed c cs) =
-    (c.mark.sort ≡ Assigned → (v : read.ParsedValue) × (rest : Claims) × ValueReadsAgain text limit v
+    (c.info.kind ≡ Assigned → (v : read.ParsedValue) × (rest : Claims) × ValueReadsAgain text limit v
     × (c.place.shape ≡ value_shape (parsed_inner v))
     × (c.place.span ≡ parsed_span v) × (cs ≡ followed (value_claims v c.path) rest)) × AssignsAgain text limit cs
 AssignsAgain text limit (scope inner cs) = AssignsAgain text limit inner × AssignsAgain text limit cs

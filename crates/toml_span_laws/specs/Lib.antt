@@ -8,4 +8,6 @@ pub mod Laws
 pub mod Outcomes
 pub mod Helpers
 pub mod Moved
+pub mod Reported
+pub mod NumberFaults
 pub mod code

@@ -3,18 +3,18 @@ use Rattle.std.specs.Prelude.{◌≡◌, ⊤, ℕ, ◌<◌, ◌⊎◌, List, [],
 use Rattle.toml_span_lex.specs.declared.span.Span.{Span}
 use Rattle.toml_span_tree.specs.Path.{Path, Place}
 use Rattle.toml_span.specs.Claims.{Claim}
-use Rattle.toml_span.specs.declared.claims.Sort.TheVariants.{ArrayOfTables, TableElement}
+use Rattle.toml_span.specs.declared.claims.ClaimKind.TheVariants.{ArrayOfTables, TableElement}
 
 -- the start of the key that makes the claim, or of the element
 abbrev pub claim_start : Claim → ℕ
-claim_start c = c.mark.key.start
+claim_start c = c.info.key.start
 
 -- The second claim starts after the first; or the first is an array of tables and the second its element, which are
 -- claimed by the same key.
 abbrev pub Follows : Claim → Claim → Type 0
 Follows c d =
     (claim_start c < claim_start d)
-    ⊎ ((c.mark.sort ≡ ArrayOfTables) × (d.mark.sort ≡ TableElement) × (c.mark.key ≡ d.mark.key))
+    ⊎ ((c.info.kind ≡ ArrayOfTables) × (d.info.kind ≡ TableElement) × (c.info.key ≡ d.info.key))
 
 -- each claim follows the one before it
 abbrev pub Ascends : List Claim → Type 0

@@ -2,27 +2,26 @@
 use Rattle.std.specs.Prelude.{◌≡◌, ℕ, ◌≤◌, Bool, List, [], ◌∷◌, ◌++◌, slice_index}
 use Rattle.toml_span_lex.specs.declared.span.Span.{Span}
 use Rattle.toml_span_lex.specs.Strings.{ContentFrom, IsContent, content_end}
-use Rattle.toml_span_read.specs.Data.{KeyValue, Block, ParsedValue, parsed, ParsedInner, scalar, array, inline}
-use Rattle.toml_span_read.specs.Data.{ParsedItems, no_items, item, ParsedPairs, no_pairs, pair, SimpleKey}
+use Rattle.toml_span_read.specs.Data.{ParsedAssignment, ParsedSection, ParsedValue, parsed, ParsedInner, scalar, array}
+use Rattle.toml_span_read.specs.Data.{inline, ParsedItems, no_items, item, ParsedPairs, no_pairs, pair, SimpleKey}
 use Rattle.toml_span_read.specs.Places.{Ascend, Inside}
 
 -- ---- in the order of the text
 
--- Between i and j there are these assignments, each after the one before it: the parts of its key ascend, and its value
--- comes after them.
-abbrev pub KeyValuesAscend : List KeyValue → ℕ → ℕ → Type 0
-KeyValuesAscend [] i j = i ≤ j
-KeyValuesAscend (ev ∷ evs) i j =
+-- From i to j there are these assignments, each after the one before it: the parts of its key follow each other, and
+-- its value comes after them.
+abbrev pub AssignmentsAscend : List ParsedAssignment → ℕ → ℕ → Type 0
+AssignmentsAscend [] i j = i ≤ j
+AssignmentsAscend (ev ∷ evs) i j =
     (i ≤ ev.extent.start) × (a : ℕ) × Ascend ev.parts ev.extent.start a × Inside ev.value a ev.extent.end
-    × KeyValuesAscend evs ev.extent.end j
+    × AssignmentsAscend evs ev.extent.end j
 
--- Between i and j there are these sections, each after the one before it, and in each its header comes before its
--- assignments.
-abbrev pub BlocksAscend : List Block → ℕ → ℕ → Type 0
-BlocksAscend [] i j = i ≤ j
-BlocksAscend (b ∷ bs) i j =
+-- From i to j there are these sections, each after the one before it. In each, the header comes before the assignments.
+abbrev pub SectionsAscend : List ParsedSection → ℕ → ℕ → Type 0
+SectionsAscend [] i j = i ≤ j
+SectionsAscend (b ∷ bs) i j =
     (i ≤ b.header_span.start) × Ascend b.header b.header_span.start b.header_span.end
-    × KeyValuesAscend b.key_values b.header_span.end b.extent.end × BlocksAscend bs b.extent.end j
+    × AssignmentsAscend b.assignments b.header_span.end b.extent.end × SectionsAscend bs b.extent.end j
 
 -- ---- the starts of keys
 
@@ -49,19 +48,19 @@ abbrev mutual
   pair_key_starts no_pairs = []
   pair_key_starts (pair ss v extent ps) = part_starts ss ++ (key_starts v ++ pair_key_starts ps)
 
--- those of the parts of the keys of assignments, and of the keys in their values
-abbrev pub key_value_key_starts : List KeyValue → List ℕ
-key_value_key_starts [] = []
-key_value_key_starts (e ∷ es) = part_starts e.parts ++ (key_starts e.value ++ key_value_key_starts es)
+-- those of the parts of the keys of assignments, and of the keys inside their values
+abbrev pub assignment_key_starts : List ParsedAssignment → List ℕ
+assignment_key_starts [] = []
+assignment_key_starts (e ∷ es) = part_starts e.parts ++ (key_starts e.value ++ assignment_key_starts es)
 
 -- those of the parts of all headers and keys in sections
-abbrev pub block_key_starts : List Block → List ℕ
-block_key_starts [] = []
-block_key_starts (b ∷ bs) = part_starts b.header ++ (key_value_key_starts b.key_values ++ block_key_starts bs)
+abbrev pub section_key_starts : List ParsedSection → List ℕ
+section_key_starts [] = []
+section_key_starts (b ∷ bs) = part_starts b.header ++ (assignment_key_starts b.assignments ++ section_key_starts bs)
 
 -- ---- the starts of keys and brackets
 
--- those of the arrays, inline tables and key parts in a value, and of the value itself if it is an array or an inline
+-- those of the arrays, inline tables and parts of keys in a value, and of the value itself if it is an array or inline
 -- table
 abbrev mutual
   pub starts : ParsedValue → List ℕ
@@ -80,25 +79,25 @@ abbrev mutual
   pair_starts no_pairs = []
   pair_starts (pair ss v extent ps) = part_starts ss ++ (starts v ++ pair_starts ps)
 
--- those of assignments: the parts of each key, followed by those in its value
-abbrev pub key_value_starts : List KeyValue → List ℕ
-key_value_starts [] = []
-key_value_starts (e ∷ es) = part_starts e.parts ++ (starts e.value ++ key_value_starts es)
+-- those in assignments: of the parts of each key, and then of those inside its value
+abbrev pub assignment_starts : List ParsedAssignment → List ℕ
+assignment_starts [] = []
+assignment_starts (e ∷ es) = part_starts e.parts ++ (starts e.value ++ assignment_starts es)
 
 -- those of a header: its first bracket and its parts; the section before the first header has none
 abbrev pub header_starts : List SimpleKey → Span → List ℕ
 header_starts [] span = []
 header_starts (p ∷ ps) span = span.start ∷ part_starts (p ∷ ps)
 
--- those of sections: each header, followed by those in its assignments
-abbrev pub block_starts : List Block → List ℕ
-block_starts [] = []
-block_starts (b ∷ bs) = header_starts b.header b.header_span ++ (key_value_starts b.key_values ++ block_starts bs)
+-- those in sections: of each header, and then of those in its assignments
+abbrev pub section_starts : List ParsedSection → List ℕ
+section_starts [] = []
+section_starts (b ∷ bs) = header_starts b.header b.header_span ++ (assignment_starts b.assignments ++ section_starts bs)
 
 -- ---- between the quotes of a string
 
 -- The span is everything between the quotes of the string from i to j, except for a line end directly after three
--- opening quotes, and the value is what it denotes.
+-- opening quotes, and the value is what that denotes.
 pub record CutsContent (text : List ℕ) (i j : ℕ) (span : Span) (value : List ℕ) (multi : Bool) : Type 0 where
   pub begins : ContentFrom multi text i span.start
   pub forward : span.start ≤ span.end

@@ -1,2 +1,2 @@
--- How the functions share the work. No clause of a public result depends on it.
+-- How the functions share the work. Nothing else in `specs/` cites it.
 pub mod Judged

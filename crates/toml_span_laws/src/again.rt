@@ -1,36 +1,45 @@
-//! Laws about spellings that are read again.
-ghost use Rattle.std.specs.Prelude.{◌≡◌, ◌≤◌, ◌++◌, ℕ, true, List, codes};
-ghost use Rattle.toml_span_tree.specs.Node.{Node};
+//! Laws: the text of a value is read as that value again.
+ghost use Rattle.std.specs.Prelude.{◌≡◌, ◌≤◌, ◌++◌, ℕ, true, List, Some, codes};
+ghost use Rattle.toml_span_tree.specs.Node.{Node, Scalar};
+ghost use Rattle.toml_span_tree.specs.Path.{Path, Place, place_at, shape_scalar};
 ghost use Rattle.toml_span_tree.specs.Value.{is_whole, view};
 ghost use Rattle.toml_span_tree.specs.declared.value.Value.{Value};
-ghost use Rattle.toml_span_read.specs.Data.{ParsedValue, Block};
+ghost use Rattle.toml_span_read.specs.Data.{ParsedValue, ParsedSection};
 ghost use Rattle.toml_span_read.specs.Grammar.{Spells, SpellsDocument};
 ghost use Rattle.toml_span.specs.Parsing.{IsTree};
 ghost use Rattle.toml_span_read.specs.Again.{HasFloatTexts, IsWithin, ReadsAsKey, ReadsAsValue};
-ghost use Rattle.toml_span_laws.specs.Again.{SpellsAgain, SpellsAssignment, BlocksReadAgain};
+ghost use Rattle.toml_span_laws.specs.Again.{SpellsAgain, SpellsAssignment, SectionsReadAgain, TakesAnother};
 
-/// The text that spells a value spells it again: after `x = ` it is a document of one assignment, whose key is `x` and
-/// whose value is the same, with all its spans moved.
+/// The text that spells a value spells it again elsewhere: after `x = ` it is a document of one assignment, with the
+/// key `x` and the same value, in which all spans are moved.
 pub fn spelled_again()
     ensures { (text : List ℕ) (limit depth i j : ℕ) (v : ParsedValue) → 1 ≤ depth → Spells v text limit depth i j
         → SpellsAgain v text limit i j }
 {}
 
-/// In a document each number, boolean, date, array and inline table, at any depth, is spelled again by the text at its
-/// span.
+/// In a document, the text at the span of each number, boolean, date, array and inline table, at any depth, spells that
+/// value again.
 pub fn values_read_again()
-    ensures { (text : List ℕ) (limit : ℕ) (blocks : List Block) → SpellsDocument blocks text limit
-        → BlocksReadAgain text limit blocks }
+    ensures { (text : List ℕ) (limit : ℕ) (sections : List ParsedSection) → SpellsDocument sections text limit
+        → SectionsReadAgain text limit sections }
 {}
 
-/// In the tree of a text, the text of each float is itself a spelling of that float. So the result of `to_toml` for a
-/// value of the tree can be read again, if the value is within the limit on depth.
+/// In the tree of a text, the text of each float is a literal of that float. So the result of `to_toml` for a value of
+/// the tree can be read again, if the value is within the limit on depth.
 pub fn float_texts()
     ensures { (text : List ℕ) (limit : ℕ) (root : Value) → IsTree text limit root → HasFloatTexts (view root) }
 {}
 
-/// A key, ` = ` and a value, each of which is read wherever it occurs, are a document of one assignment of this value.
-/// This applies to what `quote_key` and `to_toml` return.
+/// Another value can be written over each scalar of a tree: what is read as that value wherever it occurs, such as what
+/// `to_toml` returns, is read as that value in the scalar's place, and all values after it are spelled as before.
+pub fn written_over()
+    ensures { (text : List ℕ) (limit : ℕ) (root : Value) (path : Path) (place : Place) (s : Scalar)
+        → IsTree text limit root → place_at path (view root) ≡ Some place → place.shape ≡ shape_scalar s
+        → TakesAnother text s place.span }
+{}
+
+/// A key, ` = ` and a value, each of which can be read wherever it occurs, are a document of one assignment of this
+/// value. This applies to the results of `quote_key` and `to_toml`.
 pub fn spelled_assignment()
     ensures { (limit : ℕ) (name key : List ℕ) (n : Node) (value : List ℕ) → ReadsAsKey name key → ReadsAsValue n value
         → is_whole n ≡ true → IsWithin limit 1 n → HasFloatTexts n

@@ -1,6 +1,6 @@
-//! Laws about what is at an offset in a text.
+//! Laws: at each offset in a text, each form of the grammar is either present or absent.
 //!
-//! The bodies examine single forms: they are the proof.
+//! The bodies examine one form each: they are the proofs.
 ghost use Rattle.std.specs.Prelude.{◌≡◌, ℕ, true, Result};
 ghost use Rattle.std.specs.Str.{IsCharBoundary};
 ghost use Rattle.toml_span_tree.specs.Node.{Scalar};
@@ -14,7 +14,7 @@ use toml_span_lex::laws::something_stands;
 use toml_span_read::dates::{begins_date, date};
 use toml_span_read::gaps::{dot, gap_end, line_rest};
 
-/// Where a date begins, either a date is read, or there is a fault.
+/// Where a date begins, there is either a valid date or a fault.
 pub fn date_or_fault(text: &str, at: usize)
     requires { IsCharBoundary text.now at }
     ensures { date_spec.begins_date text.now at ≡ true
@@ -25,7 +25,7 @@ pub fn date_or_fault(text: &str, at: usize)
     }
 }
 
-/// Each form that is read without regard to other forms is at the offset, or something else is.
+/// At an offset, each form that can be read independently of others is either present or absent.
 pub fn place_is_judged(text: &str, at: usize)
     requires { IsCharBoundary text.now at }
     ensures { Judged text.now at }
@@ -39,7 +39,7 @@ pub fn place_is_judged(text: &str, at: usize)
     date_or_fault(text, at);
 }
 
-/// The same holds at each offset in a text.
+/// At every offset in a text, each form that can be read independently of others is either present or absent.
 pub fn places_are_judged(text: &str)
     ensures { (i : ℕ) → IsCharBoundary text.now i → Judged text.now i }
 {

@@ -5,7 +5,7 @@ ghost use Rattle.toml_span_read.specs.Keys.{SpellsSimpleKey, SpellsKey};
 ghost use Rattle.toml_span_read.specs.Data.{SimpleKey};
 ghost use Rattle.toml_span_read.specs.Read as read;
 
-/// A key is read exactly where the text spells it, if it has at most `limit` parts.
+/// A key can be read at an offset if and only if the text spells it there and it has at most `limit` parts.
 pub fn keys_are_read()
     ensures single { (text : List ℕ) (i j : ℕ) (p : SimpleKey)
         → read.simple_key_at text i (Ok (p, j)) ↔ SpellsSimpleKey p text i j }
@@ -13,7 +13,7 @@ pub fn keys_are_read()
         → read.key header text limit [] i (Ok (ps, j)) ↔ (SpellsKey ps text i j × (length ps ≤ limit)) }
 {}
 
-/// Reading a key has exactly one result, a key or a fault.
+/// Reading a key has exactly one result: a key or a fault.
 pub fn one_key()
     ensures single { (text : List ℕ) (i : ℕ) (r s : Result (SimpleKey × ℕ) Fault) → read.simple_key_at text i r
         → read.simple_key_at text i s → r ≡ s }
@@ -21,7 +21,7 @@ pub fn one_key()
         → read.key header text limit [] i r → read.key header text limit [] i s → r ≡ s }
 {}
 
-/// At most one dotted key is spelled at an offset.
+/// At most one key is spelled at an offset.
 pub fn one_dotted_key()
     ensures { (text : List ℕ) (i j k : ℕ) (ps qs : List SimpleKey) → SpellsKey ps text i j → SpellsKey qs text i k
         → (ps ≡ qs) × (j ≡ k) }

@@ -1,8 +1,10 @@
-//! Laws about the grammar, reading and `parse`: what follows from the definitions that contracts cite.
+//! Laws about the grammar, about reading and about `parse`: facts that follow from the definitions which contracts
+//! cite.
 #![tactic(auto)]
 
 pub mod again;
 pub mod earlier;
+pub mod faults;
 pub mod judged;
 pub mod keys;
 pub mod keys_order;

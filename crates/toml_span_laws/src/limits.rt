@@ -4,27 +4,29 @@ ghost use Rattle.std.specs.Global.{Global};
 ghost use Rattle.toml_span_lex.specs.declared.stop.Stop.{Stop};
 ghost use Rattle.toml_span_tree.specs.declared.error.Error.{Error};
 ghost use Rattle.toml_span_read.specs.declared.section.Section.{Section};
-ghost use Rattle.toml_span_read.specs.Data.{Block, block};
+ghost use Rattle.toml_span_read.specs.Data.{ParsedSection, parsed_section};
 ghost use Rattle.toml_span_read.specs.Grammar.{SpellsDocument};
 ghost use Rattle.toml_span_read.specs.Limits.{WithinSections};
 ghost use Rattle.toml_span_read.specs.Reading.{ReadsDocument, AreRead};
 
-/// A text that spells a document within a limit spells the same document within any higher one.
+/// A text that spells a document within a limit spells the same document within any higher limit.
 pub fn wider_document()
-    ensures { (text : List ℕ) (limit wider : ℕ) (blocks : List Block) → limit ≤ wider → SpellsDocument blocks text limit
-        → SpellsDocument blocks text wider }
+    ensures { (text : List ℕ) (limit wider : ℕ) (sections : List ParsedSection) → limit ≤ wider
+        → SpellsDocument sections text limit
+        → SpellsDocument sections text wider }
 {}
 
-/// A text that is read within a limit is read as the same sections within any higher one, unless an allocation fails.
+/// A text that is read within a limit is read as the same sections within any higher limit, unless an allocation fails.
 pub fn read_within_wider()
     ensures { (text : List ℕ) (limit wider : ℕ) (found : Vec Section Global)
         (result : Result (Vec Section Global) (Stop Error)) → limit ≤ wider → ReadsDocument text limit (Ok found)
-        → ReadsDocument text wider result → AreRead (map block found.items) result }
+        → ReadsDocument text wider result → AreRead (map parsed_section found.items) result }
 {}
 
-/// In the sections that a text spells, every header and every dotted key has at most as many parts as the limit, and no
-/// value is nested deeper.
+/// In the sections of a document, each header and each key has at most as many parts as the limit allows, and no value
+/// is nested deeper.
 pub fn sections_within_the_limit()
-    ensures { (text : List ℕ) (limit : ℕ) (sections : List Section) → SpellsDocument (map block sections) text limit
+    ensures { (text : List ℕ) (limit : ℕ) (sections : List Section)
+        → SpellsDocument (map parsed_section sections) text limit
         → WithinSections limit sections }
 {}

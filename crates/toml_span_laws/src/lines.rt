@@ -7,49 +7,54 @@ ghost use Rattle.toml_span_read.specs.declared.section.Section.{Section};
 ghost use Rattle.toml_span_lex.specs.Bytes.{is_blank, left_bracket, MaximalRun};
 ghost use Rattle.toml_span_lex.specs.Text.{FirstPlace};
 ghost use Rattle.toml_span_read.specs.declared.fault.Fault.{Fault};
-ghost use Rattle.toml_span_read.specs.Gaps.{MaximalGap, begins_gap, BlankLines, BehindLines};
-ghost use Rattle.toml_span_read.specs.Data.{SimpleKey, Block, KeyValue, block, first_block};
+ghost use Rattle.toml_span_read.specs.Gaps.{MaximalGap, begins_gap, BlankLines, AfterLines};
+ghost use Rattle.toml_span_read.specs.Data.{SimpleKey, ParsedSection, ParsedAssignment, parsed_section};
+ghost use Rattle.toml_span_read.specs.Data.{headerless_section};
 ghost use Rattle.toml_span_read.specs.Limits.{WithinSection, WithinSections};
 ghost use Rattle.toml_span_read.specs.Places.{SectionInside, SectionsInside};
-ghost use Rattle.toml_span_laws.specs.Places.{BlocksAscend};
+ghost use Rattle.toml_span_laws.specs.Places.{SectionsAscend};
 ghost use Rattle.toml_span_read.specs.Grammar.{SpellsDocument, SpellsHeader, SpellsLines, SpellsSection};
 ghost use Rattle.toml_span_read.specs.Read as read;
 ghost use Rattle.toml_span_read.specs.Reading.{ReadsDocument, AreRead};
 
-/// A document is read exactly if the text spells it.
+/// A text is read as sections if and only if it spells them.
 pub fn documents_are_read()
-    ensures { (text : List ℕ) (limit : ℕ) (blocks : List Block)
-        → read.document text limit (Ok blocks) ↔ SpellsDocument blocks text limit }
+    ensures { (text : List ℕ) (limit : ℕ) (sections : List ParsedSection)
+        → read.document text limit (Ok sections) ↔ SpellsDocument sections text limit }
 {}
 
-/// A section that is read, with a header or before the first, is spelled by the text, within the limit, and is inside
-/// the text.
+/// The text spells each section that is read, with a header or before the first one, within the limit and inside the
+/// text.
 pub fn sections_are_read()
     ensures section { (text : List ℕ) (limit i j : ℕ) (s : Section) → slice_index text i ≡ left_bracket
-        → read.section text limit i (Ok (block s, j)) → SpellsSection (block s) text limit i j
+        → read.section text limit i (Ok (parsed_section s, j)) → SpellsSection (parsed_section s) text limit i j
         × WithinSection limit s × SectionInside (length text) s }
     ensures first { (text : List ℕ) (limit j : ℕ) (sections : List Section)
-        → read.before_headers text limit (Ok (map block sections, j)) → (start : ℕ) × (es : List KeyValue)
-        × FirstPlace text start × SpellsLines es text limit start j × (map block sections ≡ first_block es)
+        → read.before_headers text limit (Ok (map parsed_section sections, j)) → (start : ℕ)
+        × (es : List ParsedAssignment)
+        × FirstPlace text start × SpellsLines es text limit start j
+        × (map parsed_section sections ≡ headerless_section es)
         × WithinSections limit sections × SectionsInside (length text) sections }
 {}
 
 /// A text spells at most one document.
 pub fn one_document()
-    ensures { (text : List ℕ) (limit : ℕ) (blocks others : List Block) → SpellsDocument blocks text limit
-        → SpellsDocument others text limit → blocks ≡ others }
+    ensures { (text : List ℕ) (limit : ℕ) (sections others : List ParsedSection) → SpellsDocument sections text limit
+        → SpellsDocument others text limit → sections ≡ others }
 {}
 
 /// A text that spells a document has no fault.
 pub fn document_or_fault()
-    ensures { (text : List ℕ) (limit : ℕ) (blocks : List Block) (fault : Fault) → SpellsDocument blocks text limit
+    ensures { (text : List ℕ) (limit : ℕ) (sections : List ParsedSection) (fault : Fault)
+        → SpellsDocument sections text limit
         → read.document text limit (Err fault) → ⊥ }
 {}
 
-/// If the text spells a document, reading results in it, unless an allocation fails.
+/// A text that spells a document is read as that document, unless an allocation fails.
 pub fn read_where_spelled()
-    ensures { (text : List ℕ) (limit : ℕ) (result : Result (Vec Section Global) (Stop Error)) (blocks : List Block)
-        → ReadsDocument text limit result → SpellsDocument blocks text limit → AreRead blocks result }
+    ensures { (text : List ℕ) (limit : ℕ) (result : Result (Vec Section Global) (Stop Error))
+        (sections : List ParsedSection)
+        → ReadsDocument text limit result → SpellsDocument sections text limit → AreRead sections result }
 {}
 
 /// At most one header is spelled at an offset.
@@ -59,28 +64,30 @@ pub fn one_header()
         → (ps ≡ qs) × (array ≡ other) × (j ≡ k) }
 {}
 
-/// Reading a header that is spelled has no fault.
+/// A header that is spelled is read without a fault.
 pub fn header_or_fault()
     ensures { (text : List ℕ) (limit i j : ℕ) (ps : List SimpleKey) (array : Bool) (fault : Fault)
         → SpellsHeader ps array text limit i j → read.header text limit i (Err fault) → ⊥ }
 {}
 
-/// The gap before a key or a header consists of blank lines, and of spaces and tabs.
+/// A gap that ends at the beginning of a line, or at the blanks there, consists of whole lines, which are blank or have
+/// only a comment, and then of spaces and tabs.
 pub fn blank_lines()
-    ensures before { (text : List ℕ) (i j : ℕ) → MaximalGap text i j → BehindLines text j
+    ensures before { (text : List ℕ) (i j : ℕ) → MaximalGap text i j → AfterLines text j
         → (ends : List ℕ) × (k : ℕ) × BlankLines text i ends k × MaximalRun is_blank text k j }
-    ensures behind { (text : List ℕ) (i j k : ℕ) (ends : List ℕ) → BlankLines text i ends k
+    ensures after { (text : List ℕ) (i j k : ℕ) (ends : List ℕ) → BlankLines text i ends k
         → MaximalRun is_blank text k j → begins_gap text j ≡ false → MaximalGap text i j }
 {}
 
-/// The headers, keys and values that a text spells follow each other.
+/// The headers, keys and values of a document follow each other in the text.
 pub fn document_ascends()
-    ensures { (text : List ℕ) (limit : ℕ) (blocks : List Block) → SpellsDocument blocks text limit
-        → BlocksAscend blocks 0 (length text) }
+    ensures { (text : List ℕ) (limit : ℕ) (sections : List ParsedSection) → SpellsDocument sections text limit
+        → SectionsAscend sections 0 (length text) }
 {}
 
-/// Its keys and headers are inside the text, including those of inline tables.
+/// All keys and headers of a document, also the keys in its inline tables, are inside the text.
 pub fn sections_inside_the_text()
-    ensures { (text : List ℕ) (limit : ℕ) (sections : List Section) → SpellsDocument (map block sections) text limit
+    ensures { (text : List ℕ) (limit : ℕ) (sections : List Section)
+        → SpellsDocument (map parsed_section sections) text limit
         → SectionsInside (length text) sections }
 {}

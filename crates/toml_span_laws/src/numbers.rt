@@ -1,13 +1,15 @@
 //! Laws about numbers.
-ghost use Rattle.std.specs.Prelude.{◌≡◌, ◌||◌, ◌==◌, ℕ, true, List, Ok, slice_index};
+ghost use Rattle.std.specs.Prelude.{◌≡◌, ◌||◌, ◌==◌, ℕ, true, List, Ok, Err, slice_index};
 ghost use Rattle.toml_span_lex.specs.Bytes.{is_keylike, plus};
 ghost use Rattle.toml_span_tree.specs.Node.{Scalar};
+ghost use Rattle.toml_span_read.specs.declared.fault.Fault.{Fault};
 ghost use Rattle.toml_span_read.specs.Numbers.{IsNumber};
 ghost use Rattle.toml_span_read.specs.Numerals.{number};
 ghost use Rattle.toml_span_read.specs.code.Gaps.{Further};
+ghost use Rattle.toml_span_laws.specs.NumberFaults.{IsNumberFault};
 
-/// A number that is spelled is read. What is read at a letter, a digit, a dash, an underscore or a plus sign is spelled
-/// there.
+/// A number that is spelled is read. Conversely, what is read at a letter, a digit, a dash, an underscore or a plus
+/// sign is spelled there.
 pub fn numbers_are_read()
     ensures read { (text : List ℕ) (i j : ℕ) (s : Scalar) → IsNumber s text i j → number text i ≡ Ok (s, j) }
     ensures spelled { (text : List ℕ) (i j : ℕ) (s : Scalar)
@@ -24,4 +26,12 @@ pub fn number_ends(text: &str)
 pub fn one_number()
     ensures { (text : List ℕ) (i j k : ℕ) (s t : Scalar) → IsNumber s text i j → IsNumber t text i k
         → (s ≡ t) × (j ≡ k) }
+{}
+
+/// The fault of a number is one of the table: that mistake is in the literal, and the span is the one that the table
+/// gives it.
+pub fn number_faults()
+    ensures { (text : List ℕ) (i : ℕ) (fault : Fault)
+        → (is_keylike (slice_index text i) || slice_index text i == plus) ≡ true → number text i ≡ Err fault
+        → IsNumberFault text i fault }
 {}

@@ -1,4 +1,4 @@
-//! Laws about the output.
+//! Laws about the output of `toml_span_show`.
 ghost use Rattle.std.specs.Prelude.{◌≡◌, ℕ, Bool, true, nat_lt, List, Option, Some};
 ghost use Rattle.toml_span_tree.specs.Error.{content_of};
 ghost use Rattle.toml_span_tree.specs.Path.{Path, Place};
@@ -9,14 +9,14 @@ ghost use Rattle.toml_span_lines.specs.Lines.{error_line};
 ghost use Rattle.toml_span_lines.specs.Run.{IsAnswer, Runs};
 ghost use Rattle.toml_span_lines.specs.Shown.{ShowsDocument, ShowsRefusal, ShowsPlaces};
 
-/// Places have at most one output.
+/// Places have at most one text as their lines.
 pub fn one_text()
     ensures { (places : Path → Option Place) (text other : List ℕ) → ShowsPlaces places text → ShowsPlaces places other
         → text ≡ other }
 {}
 
-/// Bytes that are a document have one output, and are not refused. Bytes that are refused have one output, which is the
-/// line of the error.
+/// Bytes that are a document have one output, and no error. Bytes that have an error have one output, the line of that
+/// error.
 pub fn one_answer()
     ensures document { (bytes : List ℕ) (limit : ℕ) (text other : List ℕ) → ShowsDocument bytes limit text
         → ShowsDocument bytes limit other → text ≡ other }
@@ -24,13 +24,12 @@ pub fn one_answer()
         → ShowsRefusal bytes limit other → ⊥ }
     ensures line { (bytes : List ℕ) (limit : ℕ) (error : Error) (text : List ℕ) → IsRefusal bytes limit (Fault error)
         → ShowsRefusal bytes limit text → text ≡ error_line (content_of error) }
-    ensures told { (bytes : List ℕ) (limit : ℕ) (text other : List ℕ) → ShowsRefusal bytes limit text
+    ensures reported { (bytes : List ℕ) (limit : ℕ) (text other : List ℕ) → ShowsRefusal bytes limit text
         → ShowsRefusal bytes limit other → text ≡ other }
 {}
 
-/// The bytes that are read determine the status and the output, except for failed allocations, reads and writes: bytes
-/// have one answer, and two runs over the same input, in which none of these fails, end with the same status and write
-/// the same.
+/// The input determines the exit status and the output, unless an allocation, a read or a write fails: an input has one
+/// answer, and two runs on the same input in which nothing fails return the same status and write the same bytes.
 pub fn one_output()
     ensures answer { (bytes : List ℕ) (limit status other : ℕ) (text last : List ℕ) → IsAnswer bytes limit status text
         → IsAnswer bytes limit other last → (status ≡ other) × (text ≡ last) }

@@ -6,7 +6,7 @@ ghost use Rattle.toml_span_read.specs.Limits.{Within};
 ghost use Rattle.toml_span_read.specs.Places.{Inside};
 ghost use Rattle.toml_span_read.specs.Read as read;
 
-/// A value is read exactly where it is spelled within the limit.
+/// A value is read at an offset if and only if the text spells it there within the limit.
 pub fn values_are_read()
     ensures { (text : List ℕ) (limit depth i j : ℕ) (v : ParsedValue)
         → read.value text limit ((limit + 1) - depth) 0 i (Ok (v, j)) ↔ Spells v text limit depth i j }
@@ -18,20 +18,21 @@ pub fn one_value()
         → Spells w text limit depth i k → (v ≡ w) × (j ≡ k) }
 {}
 
-/// A value that is spelled within a limit is spelled within any higher one.
+/// A value that is spelled within a limit is spelled within any higher limit.
 pub fn wider_limit()
     ensures { (text : List ℕ) (limit wider depth i j : ℕ) (v : ParsedValue) → limit ≤ wider
         → Spells v text limit depth i j
         → Spells v text wider depth i j }
 {}
 
-/// The spans of a value and of all values and keys in it are within the text that spells it, in the order of the text.
+/// The spans of a value, and of all values and keys in it, are inside the text that spells it, in the order of the
+/// text.
 pub fn spans_within()
     ensures { (text : List ℕ) (limit depth i j : ℕ) (v : ParsedValue) → Spells v text limit depth i j
         → Inside v i j × (i ≤ j) × (j ≤ length text) }
 {}
 
-/// A value that is spelled is within the limit.
+/// A value that is spelled is nested within the limit.
 pub fn depth_within()
     ensures { (text : List ℕ) (limit depth i j : ℕ) (v : ParsedValue) → Spells v text limit depth i j
         → Within limit depth v }

@@ -5,7 +5,7 @@ use Rattle.toml_span_lex.specs.declared.pieces.Piece.TheVariants as pieces
 use Rattle.toml_span_lex.specs.declared.span.Span.{Span}
 use Rattle.toml_span_lex.specs.Pieces.{IsPiece, piece_value, IsClose}
 use Rattle.toml_span_lex.specs.Strings.{Cut, content, HasChange, IsContent, IsString, NeedsMemory}
-use Rattle.toml_span_lex.specs.Tokens.{Lexeme, string, Stands}
+use Rattle.toml_span_lex.specs.Tokens.{Lexeme, string, IsLexeme}
 use Rattle.toml_span_lex.proofs.MadeStrings.{content_from_after}
 use Rattle.toml_span_lex.proofs.OneToken.{token_tag, same_token_tag}
 use Rattle.toml_span_lex.proofs.OneFault.{piece_one, ends}
@@ -62,10 +62,10 @@ string_change text i j s src v m h n =
 abbrev pub IsCopied : List ℕ → ℕ → ℕ → Lexeme → Type 0
 IsCopied text i j l = ((source : List ℕ) × (value : List ℕ) × (multi : Bool) × (l ≡ string source value multi)) × HasChange (get_or text i 0) text i j
 
-by_tag : (text : List ℕ) (i j : ℕ) (s : Span) (l : Lexeme) → token_tag l ≡ 5 → Stands text i j s l → NeedsMemory text i → IsCopied text i j l
+by_tag : (text : List ℕ) (i j : ℕ) (s : Span) (l : Lexeme) → token_tag l ≡ 5 → IsLexeme text i j s l → NeedsMemory text i → IsCopied text i j l
 unfolding token_tag
 by_tag text i j s (string src v m) e h n = ((src, v, m, refl), string_change text i j s src v m h n)
 by_tag text i j s l e h n = absurd (omega arith)
 
-pub copied : (text : List ℕ) (i j : ℕ) (s : Span) (l : Lexeme) → Stands text i j s l → NeedsMemory text i → IsCopied text i j l
+pub copied : (text : List ℕ) (i j : ℕ) (s : Span) (l : Lexeme) → IsLexeme text i j s l → NeedsMemory text i → IsCopied text i j l
 copied text i j s l h n = by_tag text i j s l (same_token_tag text i j s l h ∙ quote_token (get_or text i 0) n.quote) h n

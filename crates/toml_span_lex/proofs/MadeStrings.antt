@@ -9,7 +9,7 @@ use Rattle.toml_span_lex.specs.Strings.{opens_multi, ContentFrom, IsContent, Cut
 use Rattle.toml_span_lex.specs.code.Strings.{ContentGives, EndsWell}
 use Rattle.toml_span_lex.specs.Pieces.{IsClose}
 use Rattle.toml_span_lex.specs.code.Strings.{StringGives, StringEnds}
-use Rattle.toml_span_lex.specs.Tokens.{lexeme, Stands}
+use Rattle.toml_span_lex.specs.Tokens.{lexeme, IsLexeme}
 
 pub third_quote : (text : List ℕ) (i : ℕ) → opens_multi text i ≡ true → get_or text (i + 2) 0 ≡ get_or text i 0
 third_quote text i h = grind (arith, nat_tests)
@@ -67,5 +67,5 @@ scanned text q i from at j m ps qe me h b cut closes =
     (content_span m i from to, slice_range text i j, v, rw (← me) (is_string text q i from to j m _ _ v v qe me h b is refl refl refl))
 
 -- a string that was read is in the text
-pub string_stands : (text : List ℕ) (i j : ℕ) (span : Span) (token : Token) → StringGives text i (Ok (span, token, j)) → Stands text i j span (lexeme token)
+pub string_stands : (text : List ℕ) (i j : ℕ) (span : Span) (token : Token) → StringGives text i (Ok (span, token, j)) → IsLexeme text i j span (lexeme token)
 string_stands text i j span token h = grind (arith, nat_tests, common_steps)

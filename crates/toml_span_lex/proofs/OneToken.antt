@@ -2,7 +2,7 @@
 use Rattle.toml_span_lex.proofs.Common.{◌≡◌, ℕ, true, Ok, List, get_or, arith, inl, inr, sym, ◌∙◌, refl, ap, ◌==◌, if◌then◌else◌, nat_tests}
 use Rattle.toml_span_lex.specs.declared.span.Span.{Span}
 use Rattle.toml_span_lex.specs.Bytes.{is_blank, is_keylike, is_printed}
-use Rattle.toml_span_lex.specs.Tokens.{Lexeme, whitespace, newline, comment, punctuator, keylike, string, is_punctuator, Stands}
+use Rattle.toml_span_lex.specs.Tokens.{Lexeme, whitespace, newline, comment, punctuator, keylike, string, is_punctuator, IsLexeme}
 use Rattle.toml_span_lex.proofs.Runs.{crlf_first}
 use Rattle.toml_span_lex.proofs.One.{ok_same}
 use Rattle.toml_span_lex.proofs.OneFault.{string_one}
@@ -35,7 +35,7 @@ keylike_tag : (b : ℕ) → is_keylike b ≡ true → tag_of b ≡ 4
 unfolding tag_of
 keylike_tag b h = grind (arith, nat_tests)
 
-pub same_token_tag : (text : List ℕ) (i j : ℕ) (span : Span) (l : Lexeme) → Stands text i j span l → token_tag l ≡ tag_of (get_or text i 0)
+pub same_token_tag : (text : List ℕ) (i j : ℕ) (span : Span) (l : Lexeme) → IsLexeme text i j span l → token_tag l ≡ tag_of (get_or text i 0)
 unfolding token_tag tag_of
 same_token_tag text i j span (whitespace s) h = rw (h.0.1.passes i (omega arith) h.0.0) refl
 same_token_tag text i j span newline (inl h, e) = rw h.0 refl
@@ -48,7 +48,7 @@ same_token_tag text i j span (string src val multi) h = elim h.quote [ inl e ↦
 parts : (i j k : ℕ) (s t : Span) → j ≡ k → s ≡ record { start = i; end = j } → t ≡ record { start = i; end = k } → s ≡ t
 parts i j k s t e a b = a ∙ (rw e (sym b))
 
-both : (text : List ℕ) (i j k : ℕ) (s t : Span) (l r : Lexeme) → Stands text i j s l → Stands text i k t r → token_tag l ≡ token_tag r → (j ≡ k) × (s ≡ t) × (l ≡ r)
+both : (text : List ℕ) (i j k : ℕ) (s t : Span) (l r : Lexeme) → IsLexeme text i j s l → IsLexeme text i k t r → token_tag l ≡ token_tag r → (j ≡ k) × (s ≡ t) × (l ≡ r)
 unfolding token_tag
 both text i j k s t (whitespace x) (whitespace y) a b e =
     let u = run_unique is_blank text i j k a.0.1 b.0.1 in (u, parts i j k s t u a.1 b.1, ap (λ z. whitespace z) (a.0.2 ∙ (rw u (sym b.0.2))))
@@ -63,5 +63,5 @@ both text i j k s t (string x v m) (string y w n) a b e =
     let same = ok_same (string_one text i (Ok (s, string x v m, j)) (Ok (t, string y w n, k)) a b) in (ap (λ z. z.2) same, ap (λ z. z.0) same, ap (λ z. z.1) same)
 both text i j k s t l r a b e = absurd (omega arith)
 
-pub token_unique : (text : List ℕ) (i j k : ℕ) (s t : Span) (l r : Lexeme) → Stands text i j s l → Stands text i k t r → (j ≡ k) × (s ≡ t) × (l ≡ r)
+pub token_unique : (text : List ℕ) (i j k : ℕ) (s t : Span) (l r : Lexeme) → IsLexeme text i j s l → IsLexeme text i k t r → (j ≡ k) × (s ≡ t) × (l ≡ r)
 token_unique text i j k s t l r a b = both text i j k s t l r a b (same_token_tag text i j s l a ∙ sym (same_token_tag text i k t r b))

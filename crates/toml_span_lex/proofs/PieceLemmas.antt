@@ -1,6 +1,6 @@
 -- Pieces of a string, and what is kept of them.
 use Rattle.toml_span_lex.proofs.Common.{◌≡◌, ℕ, ◌+◌, ◌-◌, ◌<◌, ◌≤◌, ◌⊎◌, Bool, true, Option, Some, Result, IfErr, List, [], ◌∷◌, ◌++◌, length, get_or, take, drop, arith, inl, inr, sym, refl, length-append, length-take, length-drop, append_assoc, append-nil, get_or-take, get_or-drop, take-add, drop-drop, encode_utf8, slice_range, string_bytes, digit_value, digits_value, String, common_steps, nat_tests, length-encode, len_utf8_bounds, len_utf8_ascii, IsUtf8, IsCharBoundary-before_ascii}
-use Rattle.toml_span_lex.proofs.Runs.{behind}
+use Rattle.toml_span_lex.proofs.Runs.{after_ascii}
 use Rattle.toml_span_lex.specs.Bytes.{quotation_mark, backslash, carriage_return, is_blank, MaximalRun}
 use Rattle.toml_span_lex.specs.declared.pieces.Piece.{Piece}
 use Rattle.toml_span_lex.specs.Text.{LineEnd, NoLineEnd}
@@ -115,5 +115,5 @@ ends q m text from at end u a f h =
       on = c.some;
       within = c.within;
       to_boundary = IsCharBoundary-before_ascii text (content_end m end) (omega (arith, c.some, c.within)) (omega (arith, c.first));
-      end_boundary = behind text (end - 1) end (omega (arith, c.some)) u (omega (arith, c.some, c.within)) (omega (arith, c.last));
+      end_boundary = after_ascii text (end - 1) end (omega (arith, c.some)) u (omega (arith, c.some, c.within)) (omega (arith, c.last));
     }

@@ -10,19 +10,19 @@ pub read_within : (text : List ℕ) (i : ℕ) → 0 < get_or text i 0 → i < le
 read_within text i h = grind (arith, common_steps)
 
 -- after an ASCII byte
-pub behind : (text : List ℕ) (i j : ℕ) → j ≡ i + 1 → IsUtf8 text → i < length text → get_or text i 0 < 128 → IsCharBoundary text j
-behind text i j e u l a = rw e (IsCharBoundary-after_ascii text i u l a)
+pub after_ascii : (text : List ℕ) (i j : ℕ) → j ≡ i + 1 → IsUtf8 text → i < length text → get_or text i 0 < 128 → IsCharBoundary text j
+after_ascii text i j e u l a = rw e (IsCharBoundary-after_ascii text i u l a)
 
 -- after ASCII bytes
-boundary_behind : (text : List ℕ) (i j : ℕ) → IsUtf8 text → IsCharBoundary text i → i ≤ j → j ≤ length text → ((k : ℕ) → i ≤ k → k < j → get_or text k 0 < 128) → IsCharBoundary text j
-boundary_behind text i j u b f w low =
+boundary_past : (text : List ℕ) (i j : ℕ) → IsUtf8 text → IsCharBoundary text i → i ≤ j → j ≤ length text → ((k : ℕ) → i ≤ k → k < j → get_or text k 0 < 128) → IsCharBoundary text j
+boundary_past text i j u b f w low =
     elim (cases_lt i j) [
-      | inl lt ↦ behind text (j - 1) j (omega arith) u (omega arith) (low (j - 1) (omega arith) (omega arith))
+      | inl lt ↦ after_ascii text (j - 1) j (omega arith) u (omega arith) (low (j - 1) (omega arith) (omega arith))
       | inr ge ↦ let e : i ≡ j = omega arith in rw e at b
     ]
 
 pub boundary_after : (p : ℕ → Bool) (text : List ℕ) (i j : ℕ) → ((c : ℕ) → p c ≡ true → c < 128) → IsUtf8 text → IsCharBoundary text i → i ≤ j → j ≤ length text → ((k : ℕ) → i ≤ k → k < j → p (get_or text k 0) ≡ true) → IsCharBoundary text j
-boundary_after p text i j ascii u b f w passes = boundary_behind text i j u b f w (λ k x y. ascii _ (passes k x y))
+boundary_after p text i j ascii u b f w passes = boundary_past text i j u b f w (λ k x y. ascii _ (passes k x y))
 
 -- a run whose first byte passes has that byte at least
 pub run_forward : (p : ℕ → Bool) (text : List ℕ) (i j : ℕ) → i < length text → p (get_or text i 0) ≡ true → MaximalRun p text i j → i < j
@@ -44,13 +44,13 @@ gap_ascii : (text : List ℕ) (i : ℕ) → is_ws_or_newline text i ≡ true →
 gap_ascii text i h = grind (arith, nat_tests)
 
 -- after a carriage return with a line feed
-pub behind_line : (text : List ℕ) (i : ℕ) → IsUtf8 text → is_crlf text i ≡ true → IsCharBoundary text (i + 2)
-behind_line text i u h =
+pub after_line : (text : List ℕ) (i : ℕ) → IsUtf8 text → is_crlf text i ≡ true → IsCharBoundary text (i + 2)
+after_line text i u h =
     let nl : get_or text (i + 1) 0 ≡ 10 = grind arith in
-    behind text (i + 1) (i + 2) (omega arith) u (read_within text (i + 1) (omega arith)) (omega arith)
+    after_ascii text (i + 1) (i + 2) (omega arith) u (read_within text (i + 1) (omega arith)) (omega arith)
 
 pub boundary_gap : (text : List ℕ) (i j : ℕ) → IsUtf8 text → IsCharBoundary text i → i ≤ j → j ≤ length text → ((k : ℕ) → i ≤ k → k < j → is_ws_or_newline text k ≡ true) → IsCharBoundary text j
-boundary_gap text i j u b f w passes = boundary_behind text i j u b f w (λ k x y. gap_ascii text k (passes k x y))
+boundary_gap text i j u b f w passes = boundary_past text i j u b f w (λ k x y. gap_ascii text k (passes k x y))
 
 -- a character that was decoded
 pub char_found : (text rest : List ℕ) (i w c : ℕ) → is_crlf text i ≡ false → w ≡ len_utf8 c → drop i text ≡ encode_utf8 c ++ rest → CharAt text i c (i + w)

@@ -7,7 +7,7 @@ use Rattle.toml_span_lex.specs.Bytes.{MaximalRun, is_blank, is_keylike, is_print
 use Rattle.toml_span_lex.specs.Text.{CharAt, LineEnd, KeepsLineEnd}
 use Rattle.toml_span_lex.specs.Escapes.{hex_len, is_hex, IsHexFault, IsEscapeFault}
 use Rattle.toml_span_lex.specs.Pieces.{IsContentFault}
-use Rattle.toml_span_lex.specs.Tokens.{Lexeme, whitespace, newline, comment, punctuator, keylike, string, is_punctuator, Stands, IsNoToken}
+use Rattle.toml_span_lex.specs.Tokens.{Lexeme, whitespace, newline, comment, punctuator, keylike, string, is_punctuator, IsLexeme, IsNoToken}
 use Rattle.toml_span_lex.proofs.Copies.{content_fits}
 use Rattle.toml_span_lex.proofs.MadeStrings.{content_from_after}
 use Rattle.toml_span_lex.proofs.OneFault.{stray}
@@ -21,14 +21,14 @@ Ends text i j = (i ≤ j) × (j ≤ length text) × KeepsLineEnd text j
 further : (text : List ℕ) (i k j : ℕ) → i ≤ k → Ends text k j → Ends text i j
 further text i k j l e = (omega (arith, e.0), e.1, e.2)
 
-behind_byte : (text : List ℕ) (i j : ℕ) → j ≡ i + 1 → i < length text → (get_or text i 0 == 13) ≡ false → Ends text (i + 1) j
-behind_byte text i j e l h = (omega arith, omega arith, λ k at. (let same : k ≡ i = omega arith in rw (same, h) refl))
+after_byte : (text : List ℕ) (i j : ℕ) → j ≡ i + 1 → i < length text → (get_or text i 0 == 13) ≡ false → Ends text (i + 1) j
+after_byte text i j e l h = (omega arith, omega arith, λ k at. (let same : k ≡ i = omega arith in rw (same, h) refl))
 
 at_the_end : (text : List ℕ) (i j : ℕ) → i ≤ j → j ≡ length text → Ends text i j
 at_the_end text i j l e = (l, omega arith, λ k at. (let past : get_or text (k + 1) 0 ≡ 0 = get_or_past text (k + 1) 0 (omega arith) in rw (past, and-false) refl))
 
-behind_run : (p : ℕ → Bool) (text : List ℕ) (i j : ℕ) → p 13 ≡ false → i < j → j ≤ length text → ((k : ℕ) → i ≤ k → k < j → p (get_or text k 0) ≡ true) → Ends text (i + 1) j
-behind_run p text i j shut f w passes = grind (arith, nat_tests, common_steps)
+after_run : (p : ℕ → Bool) (text : List ℕ) (i j : ℕ) → p 13 ≡ false → i < j → j ≤ length text → ((k : ℕ) → i ≤ k → k < j → p (get_or text k 0) ≡ true) → Ends text (i + 1) j
+after_run p text i j shut f w passes = grind (arith, nat_tests, common_steps)
 
 line_ends : (text : List ℕ) (i j : ℕ) → LineEnd text i j → Ends text (i + 1) j
 line_ends text i j h = grind (arith, nat_tests, common_steps)
@@ -69,23 +69,23 @@ quote_no_return b h = grind (arith, nat_tests, common_steps)
 sign_some : (c : ℕ) → is_punctuator c ≡ true → 0 < c
 sign_some c h = grind (arith, nat_tests)
 
-token_ends : (text : List ℕ) (i j : ℕ) (s : Span) (l : Lexeme) → Stands text i j s l → Ends text (i + 1) j
-token_ends text i j s (whitespace x) h = behind_run is_blank text i j refl h.0.0 h.0.1.within h.0.1.passes
+token_ends : (text : List ℕ) (i j : ℕ) (s : Span) (l : Lexeme) → IsLexeme text i j s l → Ends text (i + 1) j
+token_ends text i j s (whitespace x) h = after_run is_blank text i j refl h.0.0 h.0.1.within h.0.1.passes
 token_ends text i j s newline h = line_ends text i j h.0
-token_ends text i j s (comment x) h = behind_run is_printed text i j refl h.0.1.0 h.0.1.1.within h.0.1.1.passes
-token_ends text i j s (punctuator c) h = behind_byte text i j h.0.1.1 (read_within text i (rw h.0.1.0 (sign_some c h.0.0))) (rw h.0.1.0 (differs is_punctuator c 13 h.0.0))
-token_ends text i j s (keylike x) h = behind_run is_keylike text i j refl h.0.0 h.0.1.within h.0.1.passes
+token_ends text i j s (comment x) h = after_run is_printed text i j refl h.0.1.0 h.0.1.1.within h.0.1.1.passes
+token_ends text i j s (punctuator c) h = after_byte text i j h.0.1.1 (read_within text i (rw h.0.1.0 (sign_some c h.0.0))) (rw h.0.1.0 (differs is_punctuator c 13 h.0.0))
+token_ends text i j s (keylike x) h = after_run is_keylike text i j refl h.0.0 h.0.1.within h.0.1.passes
 token_ends text i j s (string src v m) h =
     let q = get_or text i 0 in
     let c = closing q m text h.content_is.at j h.content_is.closes in
     let fits = content_fits q m text v h.from h.to j h.content_is in
     further text (i + 1) ((j - 1) + 1) j (omega (arith, fits.0, fits.1, content_from_after m text i h.from h.begins))
-    (behind_byte text (j - 1) j (omega (arith, c.some)) (omega (arith, c.some, c.within)) (rw c.last (quote_no_return q h.quote)))
+    (after_byte text (j - 1) j (omega (arith, c.some)) (omega (arith, c.some, c.within)) (rw c.last (quote_no_return q h.quote)))
 
-pub token_within : (text : List ℕ) (i j : ℕ) (s : Span) (l : Lexeme) → Stands text i j s l → (i < j) × (j ≤ length text)
+pub token_within : (text : List ℕ) (i j : ℕ) (s : Span) (l : Lexeme) → IsLexeme text i j s l → (i < j) × (j ≤ length text)
 token_within text i j s l h = let e = token_ends text i j s l h in (omega (arith, e.0), e.1)
 
-pub after_token : (text : List ℕ) (i j : ℕ) (s : Span) (l : Lexeme) → KeepsLineEnd text i → Stands text i j s l → KeepsLineEnd text j
+pub after_token : (text : List ℕ) (i j : ℕ) (s : Span) (l : Lexeme) → KeepsLineEnd text i → IsLexeme text i j s l → KeepsLineEnd text j
 after_token text i j s l b h = (token_ends text i j s l h).2
 
 -- a comment has its first byte at least
@@ -97,7 +97,7 @@ comment_forward text i j e run = run_forward is_printed text i j (read_within te
 hex_ends : (start : ℕ) (text : List ℕ) (i n j : ℕ) (e : Error) → i < length text → 0 < n → IsHexFault start text i n j e → Ends text (i + 1) j
 hex_ends start text i n j (errors.UnterminatedString s) l some h = at_the_end text (i + 1) j (omega (arith, h.1)) h.1
 hex_ends start text i n j (errors.InvalidHexEscape at c) l some h = further text (i + 1) (at + 1) j (omega (arith, h.0)) (char_ends text at c j h.3)
-hex_ends start text i n j (errors.InvalidEscapeValue at m v) l some h = further text (i + 1) ((i + 1) + 1) j (omega arith) (behind_run is_hex text (i + 1) j refl (omega (arith, h.4)) h.3.within h.3.digits)
+hex_ends start text i n j (errors.InvalidEscapeValue at m v) l some h = further text (i + 1) ((i + 1) + 1) j (omega arith) (after_run is_hex text (i + 1) j refl (omega (arith, h.4)) h.3.within h.3.digits)
 hex_ends start text i n j e l some h = absurd h
 
 escape_ends : (start : ℕ) (text : List ℕ) (i j : ℕ) (e : Error) → IsEscapeFault start text i j e → Ends text i j
@@ -110,7 +110,7 @@ content_ends q m start text i j e (inl a) = at_the_end text i j (omega (arith, a
 content_ends q m start text i j e (inr (inl a)) = further text i (i + 1) j (omega arith) (line_ends text i j a.2)
 content_ends q m start text i j e (inr (inr (inl (c, is, n, line, at)))) = further text i (i + 1) j (omega arith) (char_ends text i c j at)
 content_ends q m start text i j e (inr (inr (inr (inl a)))) = further text i (i + 1) j (omega arith) (escape_ends start text (i + 1) j e a.3)
-content_ends q m start text i j e (inr (inr (inr (inr a)))) = further text i ((i + 1) + 1) j (omega arith) (behind_run is_blank text (i + 1) j refl a.3 a.4.within a.4.passes)
+content_ends q m start text i j e (inr (inr (inr (inr a)))) = further text i ((i + 1) + 1) j (omega arith) (after_run is_blank text (i + 1) j refl a.3 a.4.within a.4.passes)
 
 fault_ends : (text : List ℕ) (i j : ℕ) (e : Error) → IsNoToken text i j e → Ends text (i + 1) j
 fault_ends text i j e (inl a) = let s = stray text i j e a in char_ends text i s.c j s.char

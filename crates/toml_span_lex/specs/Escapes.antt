@@ -10,8 +10,8 @@ use Rattle.toml_span_lex.specs.Text.{CharAt}
 use Rattle.toml_span_lex.specs.declared.tokens.Error.{Error}
 use Rattle.toml_span_lex.specs.declared.tokens.Error.TheVariants as errors
 
--- the character that a backslash and this letter mean:
--- `escape-seq-char = %x22 / %x5C / %x62 / %x65 / %x66 / %x6E / %x72 / %x74` and those of `hex_len`
+-- the character that a backslash and this letter stand for, if no digits follow: `escape-seq-char = %x22 / %x5C / %x62
+-- / %x65 / %x66 / %x6E / %x72 / %x74`
 abbrev pub simple_escape : ℕ → Option ℕ
 simple_escape c =
     if c == quotation_mark then Some quotation_mark
@@ -42,12 +42,12 @@ pub record HexRun (text : List ℕ) (a b : ℕ) : Type 0 where
 abbrev pub hex_value : List ℕ → ℕ → ℕ → ℕ
 hex_value text a n = digits_value 16 (take n (drop a text))
 
--- the n digits after the letter at i are the code point c, and end at j
+-- The n digits after the letter at i are the number of the character c, and end at j.
 abbrev pub IsHexEscape : List ℕ → ℕ → ℕ → ℕ → ℕ → Type 0
 IsHexEscape text i n c j = HexRun text (i + 1) j × (j ≡ (i + 1) + n) × (c ≡ hex_value text (i + 1) n) × IsScalar c
 
--- n digits must follow the letter at i, but do not: the text ends among the digits, another character occurs there, or
--- the digits are not a Unicode scalar value
+-- n digits must follow the letter at i, but the text ends too early, there is another character, or the digits are not
+-- the number of a character. This is the fault.
 abbrev pub IsHexFault : ℕ → List ℕ → ℕ → ℕ → ℕ → Error → Type 0
 IsHexFault start text i n j (errors.UnterminatedString s) =
     (s ≡ start) × (j ≡ length text) × HexRun text (i + 1) (length text) × (length text < (i + 1) + n)
@@ -61,13 +61,13 @@ IsHexFault start text i n j _ = ⊥
 abbrev pub opens_escape : ℕ → Bool
 opens_escape c = is_some (simple_escape c) || nat_lt 0 (hex_len c)
 
--- `escaped = escape escape-seq-char`: the escape whose letter is at i means c, and ends at j
+-- `escaped = escape escape-seq-char`: the escape whose letter is at i stands for c, and ends at j
 abbrev pub IsEscape : List ℕ → ℕ → ℕ → ℕ → Type 0
 IsEscape text i c j =
     ((simple_escape (slice_index text i) ≡ Some c) × (i < length text) × (j ≡ i + 1))
     ⊎ ((0 < hex_len (slice_index text i)) × (i < length text) × IsHexEscape text i (hex_len (slice_index text i)) c j)
 
--- there is no escape at i, after a backslash, and this is the fault
+-- The letter at i, after a backslash, does not begin a valid escape, and this is the fault.
 abbrev pub IsEscapeFault : ℕ → List ℕ → ℕ → ℕ → Error → Type 0
 IsEscapeFault start text i j e =
     ((e ≡ errors.UnterminatedString start) × (i ≡ length text) × (j ≡ i))

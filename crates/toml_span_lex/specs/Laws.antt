@@ -1,4 +1,4 @@
--- What the definitions imply together.
+-- The laws of these definitions.
 use Rattle.std.specs.Prelude.{◌≡◌, ◌↔◌, ℕ, ◌<◌, ◌≤◌, ◌⊎◌, Bool, true, List, ◌∷◌, drop, length, slice_index, slice_range}
 use Rattle.std.specs.Ordering.{nat_cmp}
 use Rattle.std.specs.Cmp.Lexicographic.{slice_cmp}
@@ -12,46 +12,46 @@ use Rattle.toml_span_lex.specs.declared.tokens.Error.{Error}
 use Rattle.toml_span_lex.specs.declared.tokens.Token.{Token}
 use Rattle.toml_span_lex.specs.Text.{CharAt, KeepsLineEnd, folded}
 use Rattle.toml_span_lex.specs.Strings.{IsQuote, IsContent, HasChange, NeedsMemory}
-use Rattle.toml_span_lex.specs.Tokens.{Lexeme, keylike, string, lexeme, Stands, IsNoToken}
+use Rattle.toml_span_lex.specs.Tokens.{Lexeme, keylike, string, lexeme, IsLexeme, IsNoToken}
 
 -- ---- one thing at an offset
 
 -- At most one token begins at an offset, with one end, one span and one content.
 abbrev pub OneToken : Type 0
-OneToken = (text : List ℕ) (i j k : ℕ) (s t : Span) (l r : Lexeme) → Stands text i j s l → Stands text i k t r
+OneToken = (text : List ℕ) (i j k : ℕ) (s t : Span) (l r : Lexeme) → IsLexeme text i j s l → IsLexeme text i k t r
     → (j ≡ k) × (s ≡ t) × (l ≡ r)
 
--- At most one fault occurs at an offset.
+-- There is at most one fault at an offset.
 abbrev pub OneFault : Type 0
 OneFault = (text : List ℕ) (i j k : ℕ) (e f : Error) → IsNoToken text i j e → IsNoToken text i k f → (j ≡ k) × (e ≡ f)
 
--- No fault occurs where a token begins.
+-- There is no fault where a token begins.
 abbrev pub TokenOrFault : Type 0
 TokenOrFault =
-    (text : List ℕ) (i j k : ℕ) (s : Span) (l : Lexeme) (e : Error) → Stands text i j s l → IsNoToken text i k e → ⊥
+    (text : List ℕ) (i j k : ℕ) (s : Span) (l : Lexeme) (e : Error) → IsLexeme text i j s l → IsNoToken text i k e → ⊥
 
--- A token is at least one byte long and ends within the text, and so does what a fault names. There is neither at the
--- end of the text.
+-- A token is at least one byte long and ends inside the text, and so does what a fault names. At the end of the text
+-- there is neither.
 abbrev pub TokensWithin : Type 0
-TokensWithin = (text : List ℕ) (i j : ℕ) (s : Span) (l : Lexeme) → Stands text i j s l → (i < j) × (j ≤ length text)
+TokensWithin = (text : List ℕ) (i j : ℕ) (s : Span) (l : Lexeme) → IsLexeme text i j s l → (i < j) × (j ≤ length text)
 
 abbrev pub FaultsWithin : Type 0
 FaultsWithin = (text : List ℕ) (i j : ℕ) (e : Error) → IsNoToken text i j e → (i < j) × (j ≤ length text)
 
--- a token, a fault, or the end of the text is at i
+-- At i there is a token, a fault, or the end of the text.
 abbrev pub SomethingStands : List ℕ → ℕ → Type 0
 SomethingStands text i =
     (i ≡ length text)
-    ⊎ (((j : ℕ) × (s : Span) × (l : Lexeme) × Stands text i j s l) ⊎ ((j : ℕ) × (e : Error) × IsNoToken text i j e))
+    ⊎ (((j : ℕ) × (s : Span) × (l : Lexeme) × IsLexeme text i j s l) ⊎ ((j : ℕ) × (e : Error) × IsNoToken text i j e))
 
--- The content of a string has exactly one value and one end.
+-- What is between the quotes of a string has exactly one value and one end.
 abbrev pub OneContent : Type 0
 OneContent = (q : ℕ) (m : Bool) (text v w : List ℕ) (i s t j k : ℕ) → IsQuote q → IsContent q m text i v s j
     → IsContent q m text i w t k → (v ≡ w) × (s ≡ t) × (j ≡ k)
 
 -- ---- the folded text
 
--- Reading character by character yields the folded text.
+-- Reading a text character by character yields the folded text.
 abbrev pub FoldedText : Type 0
 FoldedText =
     (text : List ℕ) (i c j : ℕ) → IsUtf8 (drop i text) → CharAt text i c j → folded text i ≡ (i, c) ∷ folded text j
@@ -59,22 +59,23 @@ FoldedText =
 -- Tokens and faults that begin at a character of the folded text end at one.
 abbrev pub TokensUnfolded : Type 0
 TokensUnfolded =
-    (text : List ℕ) (i j : ℕ) (s : Span) (l : Lexeme) → KeepsLineEnd text i → Stands text i j s l → KeepsLineEnd text j
+    (text : List ℕ) (i j : ℕ) (s : Span) (l : Lexeme) → KeepsLineEnd text i → IsLexeme text i j s l
+    → KeepsLineEnd text j
 
 abbrev pub FaultsUnfolded : Type 0
 FaultsUnfolded = (text : List ℕ) (i j : ℕ) (e : Error) → IsNoToken text i j e → KeepsLineEnd text j
 
 -- ---- memory
 
--- Only a string that contains a carriage return, or a basic string that contains a backslash, can need memory.
+-- Only a string with a carriage return, or a basic string with a backslash, can need an allocation.
 abbrev pub CopiedStrings : Type 0
-CopiedStrings = (text : List ℕ) (i j : ℕ) (s : Span) (l : Lexeme) → Stands text i j s l → NeedsMemory text i
+CopiedStrings = (text : List ℕ) (i j : ℕ) (s : Span) (l : Lexeme) → IsLexeme text i j s l → NeedsMemory text i
     → ((source : List ℕ) × (value : List ℕ) × (multi : Bool) × (l ≡ string source value multi))
     × HasChange (slice_index text i) text i j
 
 -- ---- keys
 
--- Keys are equal where their names are equal, and ordered by the bytes of their names.
+-- Keys are equal if and only if their names are, and are ordered by the bytes of their names.
 abbrev pub KeysByName : (Key → Key → Bool) → (Key → Key → Ordering) → Type 0
 KeysByName eq cmp = (a b : Key) →
     ((eq a b ≡ true) ↔ (cow_str_bytes a.name ≡ cow_str_bytes b.name))
@@ -83,11 +84,11 @@ KeysByName eq cmp = (a b : Key) →
 
 -- The name of a bare key is the text at its span.
 abbrev pub BareKeys : Type 0
-BareKeys = (text : List ℕ) (i j : ℕ) (span : Span) (name : List ℕ) → Stands text i j span (keylike name)
+BareKeys = (text : List ℕ) (i j : ℕ) (span : Span) (name : List ℕ) → IsLexeme text i j span (keylike name)
     → name ≡ slice_range text span.start span.end
 
 -- ---- tokens
 
--- Tokens are equal exactly where their contents are equal.
+-- Tokens are equal if and only if their contents are.
 abbrev pub TokensByContent : (Token → Token → Bool) → Type 0
 TokensByContent eq = (a b : Token) → (eq a b ≡ true) ↔ (lexeme a ≡ lexeme b)

@@ -3,7 +3,7 @@ use Rattle.std.specs.Prelude.{◌≡◌, ℕ, ◌+◌, ◌<◌, ◌≤◌, ◌�
 use Rattle.toml_span_lex.specs.Bytes.{line_feed}
 
 -- The line and the column of the offset i, both counted from 0: the number of line feeds before i, and the number of
--- bytes since the last of them, or since the start of the text.
+-- bytes since the last of them or, if there is none, since the start of the text.
 pub record IsLineInfo (text : List ℕ) (i line column : ℕ) : Type 0 where
   pub start : ℕ
   pub line_is : line ≡ count_by (λ c. c == line_feed) (take i text)

@@ -1,4 +1,4 @@
--- The pieces of a string's content. The string has the quotes q, and `multi` is true for multi-line strings.
+-- The pieces of a string's content. The string is between the quotes q; `multi` says whether it is a multi-line string.
 use Rattle.std.specs.Prelude.{◌≡◌, ℕ, ◌+◌, ◌<◌, ◌≤◌, ◌⊎◌, min, Bool, true, false, not, ◌&&◌, ◌||◌, ◌==◌, if◌then◌else◌}
 use Rattle.std.specs.Prelude.{List, [], ◌∷◌, length, slice_index, slice_range, encode_utf8}
 use Rattle.toml_span_lex.specs.Bytes.{quotation_mark, backslash, line_feed, is_blank, is_printed, MaximalRun}
@@ -19,16 +19,15 @@ is_plain q c = is_printed c && not (c == q) && not (q == quotation_mark && c == 
 abbrev pub is_ws_or_newline : List ℕ → ℕ → Bool
 is_ws_or_newline text i = is_blank (slice_index text i) || slice_index text i == line_feed || is_crlf text i
 
--- `*( wschar / newline )`: there are only spaces, tabs and line ends from i to j, and none
--- of these at j
+-- `*( wschar / newline )`: from i to j there are only spaces, tabs and line ends, and at j there is something else
 pub record WsAndNewlines (text : List ℕ) (i j : ℕ) : Type 0 where
   pub forward : i ≤ j
   pub within : j ≤ length text
   pub passes : (k : ℕ) → i ≤ k → k < j → is_ws_or_newline text k ≡ true
   pub stops : j < length text → is_ws_or_newline text j ≡ false
 
--- `mlb-escaped-nl = escape ws newline *( wschar / newline )`: what a backslash drops: spaces and tabs, a line
--- end, and all spaces, tabs and line ends after it
+-- `mlb-escaped-nl = escape ws newline *( wschar / newline )`: what a backslash at the end of a line drops: spaces and
+-- tabs, a line end, and all spaces, tabs and line ends after it
 abbrev pub IsDropped : List ℕ → ℕ → ℕ → Type 0
 IsDropped text i j = (k : ℕ) × (l : ℕ) × MaximalRun is_blank text i k × LineEnd text k l × WsAndNewlines text l j
 
@@ -46,30 +45,30 @@ IsPiece q multi text i j (pieces.Escape c) =
 IsPiece q multi text i j pieces.Dropped =
     (q ≡ quotation_mark) × (multi ≡ true) × (slice_index text i ≡ backslash) × IsDropped text (i + 1) j
 
--- its value
+-- the value of a piece
 abbrev pub piece_value : List ℕ → ℕ → ℕ → Piece → List ℕ
 piece_value text i j pieces.LineEnd = line_feed ∷ []
 piece_value text i j (pieces.Escape c) = encode_utf8 c
 piece_value text i j pieces.Dropped = []
 piece_value text i j _ = slice_range text i j
 
--- `ml-basic-string-delim = 3quotation-mark`, `ml-literal-string-delim = 3apostrophe`, with `[ mlb-quotes ]` or
--- `[ mll-quotes ]` before them: the string is closed by the quotes at i, and j is the offset after the last one. A
--- single-line string is closed by one quote, a multi-line string by the first run of three or more, of which it takes
--- five at most.
+-- `ml-basic-string-delim = 3quotation-mark`, `ml-literal-string-delim = 3apostrophe`, after `[ mlb-quotes ]` or `[
+-- mll-quotes ]`: the quotes at i close the string, and j is the offset after them. One quote closes a single-line
+-- string. The first run of at least three quotes closes a multi-line string, but no more than five of them belong to
+-- it.
 abbrev pub IsClose : ℕ → Bool → List ℕ → ℕ → ℕ → Type 0
 IsClose q false text i j = (slice_index text i ≡ q) × (i < length text) × (j ≡ i + 1)
 IsClose q true text i j = (r : ℕ) × MaximalRun (λ c. c == q) text i r × (i + 3 ≤ r) × (j ≡ min r (i + 5))
 
--- the fault of a backslash at i that is followed by spaces and tabs up to j, but by no line end there
+-- the fault of a backslash at i that spaces and tabs follow up to j, where there is no line end
 abbrev pub drop_fault : ℕ → List ℕ → ℕ → ℕ → Error
 drop_fault start text i j =
     if j == length text then errors.UnterminatedString start
     else errors.InvalidEscape (i + 1) (slice_index text (i + 1))
 
--- The string opened at `start` has neither a piece nor its end at i, but this fault: the end of the text, a line end in a
--- single-line string, a character that strings must not contain, an invalid escape, or a backslash with spaces and tabs
--- that no line end follows.
+-- In the string that was opened at `start`, there is neither a piece nor the end at i, but this fault: the end of the
+-- text, a line end in a single-line string, a character that may not occur in a string, an invalid escape, or a
+-- backslash before spaces and tabs that are not followed by a line end.
 abbrev pub IsContentFault : ℕ → Bool → ℕ → List ℕ → ℕ → ℕ → Error → Type 0
 IsContentFault q multi start text i j e =
     ((e ≡ errors.UnterminatedString start) × (i ≡ length text) × (j ≡ i))

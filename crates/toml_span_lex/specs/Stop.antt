@@ -1,13 +1,13 @@
--- Why a call returned no value.
+-- Why a call failed.
 use Rattle.std.specs.Prelude.{◌≡◌, ℕ, List, Option, Some, Result, Ok, Err, codes}
 use Rattle.std.specs.declared.alloc.AllocError.{AllocError}
 use Rattle.toml_span_lex.specs.declared.stop.Stop.{Stop}
 use Rattle.toml_span_lex.specs.declared.stop.Stop.TheVariants.{Memory, Fault}
 
--- the fault's text, if its type states one, or `out of memory`
-abbrev pub told : {E : Type 0} → (E → Option (List ℕ)) → Stop E → Option (List ℕ)
-told output (Fault fault) = output fault
-told output (Memory error) = Some (codes "memory allocation failed")
+-- the text of the fault, if its type says what that is, or `out of memory`
+abbrev pub stop_text : {E : Type 0} → (E → Option (List ℕ)) → Stop E → Option (List ℕ)
+stop_text output (Fault fault) = output fault
+stop_text output (Memory error) = Some (codes "memory allocation failed")
 
 -- the same reason, with the fault converted
 abbrev pub Converts : {E F : Type 0} → (E → F → Type 0) → Stop E → Stop F → Type 0

@@ -12,7 +12,7 @@ use Rattle.toml_span_lex.specs.declared.tokens.Error.{Error}
 
 -- ---- content
 
--- The text from i to j consists of these pieces, each with the offset at which it ends:
+-- The text from i to j consists of these pieces, each with its end:
 -- `*basic-char`, `*literal-char`
 -- `ml-basic-body = *mlb-content *( mlb-quotes 1*mlb-content ) [ mlb-quotes ]`
 -- `ml-literal-body = *mll-content *( mll-quotes 1*mll-content ) [ mll-quotes ]`
@@ -29,7 +29,7 @@ content text i (p ∷ ps) = piece_value text i p.1 p.0 ++ content text p.1 ps
 abbrev pub content_end : Bool → ℕ → ℕ
 content_end multi j = if multi then j - 3 else j - 1
 
--- The content from an offset on consists of pieces up to the closing quotes, the first of which may belong to it.
+-- The content consists of pieces from an offset up to the closing quotes, the first of which may belong to it.
 pub record IsContent (q : ℕ) (multi : Bool) (text : List ℕ) (from : ℕ) (value : List ℕ) (to end : ℕ) : Type 0 where
   pub pieces : List (Piece × ℕ)
   pub at : ℕ
@@ -38,21 +38,21 @@ pub record IsContent (q : ℕ) (multi : Bool) (text : List ℕ) (from : ℕ) (va
   pub to_is : to ≡ content_end multi end
   pub value_is : value ≡ content text from pieces ++ slice_range text at to
 
--- The content from an offset on consists of pieces up to an offset with this fault.
+-- The content consists of pieces from an offset up to this fault.
 pub record IsContentCutOff (q : ℕ) (multi : Bool) (start : ℕ) (text : List ℕ) (from j : ℕ) (e : Error) : Type 0 where
   pub pieces : List (Piece × ℕ)
   pub at : ℕ
   pub cut : Cut q multi text from pieces at
   pub fault : IsContentFault q multi start text at j e
 
--- Between two offsets there is something whose value differs from its text: a backslash in a basic string, or a
--- carriage return.
+-- Between two offsets there is something whose value differs from its text: a carriage return or, in a basic string, a
+-- backslash.
 abbrev pub HasChange : ℕ → List ℕ → ℕ → ℕ → Type 0
 HasChange q text from to =
     (k : ℕ) × (from ≤ k) × (k < to)
     × (((q ≡ quotation_mark) × (slice_index text k ≡ backslash)) ⊎ (slice_index text k ≡ carriage_return))
 
--- One of the content's pieces has such a byte, so its value may have to be copied.
+-- One of the pieces has such a byte, so the value may have to be copied.
 pub record NeedsCopy (q : ℕ) (multi : Bool) (text : List ℕ) (from : ℕ) : Type 0 where
   pub pieces : List (Piece × ℕ)
   pub at : ℕ
@@ -75,7 +75,7 @@ abbrev pub ContentFrom : Bool → List ℕ → ℕ → ℕ → Type 0
 ContentFrom false text i from = from ≡ i + 1
 ContentFrom true text i from = LineEnd text (i + 3) from ⊎ (NoLineEnd text (i + 3) × (from ≡ i + 3))
 
--- The span of a string is that of its content. An empty single-line string has the span of its opening quote.
+-- A string has the span of its content or, if it is empty and on a single line, of its opening quote.
 abbrev pub content_span : Bool → ℕ → ℕ → ℕ → Span
 content_span multi i from to =
     if not multi && from == to then record { start = i; end = i + 1 } else record { start = from; end = to }
@@ -96,36 +96,37 @@ pub record IsString (text : List ℕ) (i j : ℕ) (span : Span) (source value : 
   pub source_is : source ≡ slice_range text i j
   pub span_is : span ≡ content_span multi i from to
 
--- quotes open at i, but there is no string, and this is the fault
+-- Quotes open at i, but there is no valid string, and this is the fault.
 pub record IsNoString (text : List ℕ) (i j : ℕ) (e : Error) : Type 0 where
   pub from : ℕ
   pub quote : IsQuote (slice_index text i)
   pub begins : ContentFrom (opens_multi text i) text i from
   pub fault : IsContentCutOff (slice_index text i) (opens_multi text i) i text from j e
 
--- quotes open at i, and the content read after them contains a backslash (in a basic string) or a carriage return
+-- Quotes open at i, and the content after them has a carriage return or, in a basic string, a backslash.
 pub record NeedsMemory (text : List ℕ) (i : ℕ) : Type 0 where
   pub from : ℕ
   pub quote : IsQuote (slice_index text i)
   pub begins : ContentFrom (opens_multi text i) text i from
   pub copy : NeedsCopy (slice_index text i) (opens_multi text i) text from
 
--- the text from i to j is two quotes and nothing else
+-- The text from i to j is two quotes and nothing else.
 abbrev pub IsEmptyOnOneLine : ℕ → ℕ → Type 0
 IsEmptyOnOneLine i j = j ≡ i + 2
 
--- An empty single-line string is borrowed. Any other string is borrowed exactly if its value equals the text at its span.
+-- An empty single-line string is borrowed. Any other string is borrowed if and only if its value equals the text at its
+-- span.
 abbrev pub Borrows : {Z : Type 0} → List ℕ → ℕ → ℕ → Span → CowStr Z → Type 0
 Borrows text i j span val =
     (IsEmptyOnOneLine i j → IsBorrowedStr val)
     × ((IsEmptyOnOneLine i j → ⊥) → (IsBorrowedStr val ↔ (cow_str_bytes val ≡ slice_range text span.start span.end)))
 
--- the span is one quote, as that of an empty single-line string
+-- The span is one quote, as that of an empty single-line string is.
 abbrev pub IsOneQuote : List ℕ → Span → Type 0
 IsOneQuote text span = IsQuote (slice_index text span.start) × (span.end ≡ span.start + 1)
 
--- The same in terms of the span: a string is borrowed exactly if it equals the text at its span, or is empty and has one
--- quote as its span.
+-- The same in terms of the span: a string is borrowed if and only if it equals the text at its span, or is empty and
+-- its span is one quote.
 abbrev pub BorrowsWhereSame : {Z : Type 0} → List ℕ → Span → CowStr Z → Type 0
 BorrowsWhereSame text span val = IsBorrowedStr val
     ↔ ((cow_str_bytes val ≡ slice_range text span.start span.end) ⊎ ((cow_str_bytes val ≡ []) × IsOneQuote text span))

@@ -1,5 +1,5 @@
--- The characters and line ends of a text, and the folded text. `slice_index` is 0 past the end of a text, so a byte that
--- is not 0, such as that of a line end, is within it.
+-- The characters and line ends of a text, and the folded text, in which CRLF is one line feed. `slice_index` is 0 after
+-- the end of a text, so a byte other than 0, such as that of a line end, is inside it.
 use Rattle.std.specs.Prelude.{◌≡◌, ℕ, ◌+◌, ◌⊎◌, Bool, true, false, ◌&&◌, ◌==◌, List, [], ◌∷◌, ◌++◌, if◌then◌else◌, drop}
 use Rattle.std.specs.Prelude.{length, slice_index, encode_utf8}
 use Rattle.std.specs.Char.{len_utf8}
@@ -20,19 +20,19 @@ LineEnd text i j = ((slice_index text i ≡ line_feed) × (j ≡ i + 1)) ⊎ ((i
 abbrev pub NoLineEnd : List ℕ → ℕ → Type 0
 NoLineEnd text i = (slice_index text i == line_feed ≡ false) × (is_crlf text i ≡ false)
 
--- The character at i is c, and the next one begins at j. A carriage return followed by a line feed is one line feed.
+-- The character at i is c, and the next one begins at j. CRLF is one line feed.
 abbrev pub CharAt : List ℕ → ℕ → ℕ → ℕ → Type 0
 CharAt text i c j =
     ((is_crlf text i ≡ true) × (c ≡ line_feed) × (j ≡ i + 2))
     ⊎ ((is_crlf text i ≡ false) × (j ≡ i + len_utf8 c) × (drop i text ≡ encode_utf8 c ++ drop j text))
 
--- A new tokenizer is at the start of the text, or after its byte order mark.
+-- A new tokenizer is at the start of the text, after its byte order mark if it has one.
 abbrev pub FirstPlace : List ℕ → ℕ → Type 0
 FirstPlace text at =
     CharAt text 0 byte_order_mark at
     ⊎ ((at ≡ 0) × ((length text ≡ 0) ⊎ ((c : ℕ) × (j : ℕ) × CharAt text 0 c j × (c ≡ byte_order_mark → ⊥))))
 
--- not between the two bytes of a line end
+-- The offset is not between the two bytes of a CRLF.
 abbrev pub KeepsLineEnd : List ℕ → ℕ → Type 0
 KeepsLineEnd text i = (k : ℕ) → i ≡ k + 1 → is_crlf text k ≡ false
 
@@ -42,7 +42,7 @@ IsFoldedPlace text i = IsCharBoundary text i × KeepsLineEnd text i
 
 -- ---- the folded text
 
--- The characters with their offsets. A carriage return followed by a line feed is one line feed.
+-- The characters with their offsets. CRLF is one line feed.
 abbrev pub folded_from : ℕ → Bool → List ℕ → List (ℕ × ℕ)
 folded_from i after_return [] = []
 folded_from i after_return (c ∷ cs) =
@@ -50,6 +50,6 @@ folded_from i after_return (c ∷ cs) =
     else (i, (if c == carriage_return && slice_index cs 0 == line_feed then line_feed else c))
     ∷ folded_from (i + len_utf8 c) (c == carriage_return) cs
 
--- the pairs from an offset on
+-- those from an offset on
 abbrev pub folded : List ℕ → ℕ → List (ℕ × ℕ)
 folded text i = folded_from i false (chars (drop i text))

@@ -1,11 +1,11 @@
--- What each method of the tokenizer returns, and at which offset it leaves it.
+-- What each method of the tokenizer returns, and up to which offset it reads.
 use Rattle.std.specs.Prelude.{◌≡◌, ℕ, ◌≤◌, ◌<◌, ◌+◌, ◌⊎◌, Bool, true, false, List, length, slice_index, Result, Ok, Err}
 use Rattle.std.specs.Prelude.{Option, Some, None, codes}
 use Rattle.std.specs.Cow.{cow_str_bytes, IsBorrowedStr}
 use Rattle.toml_span_lex.specs.Bytes.{hash}
 use Rattle.toml_span_lex.specs.Text.{LineEnd, NoLineEnd, CharAt}
 use Rattle.toml_span_lex.specs.Strings.{NeedsMemory, Borrows}
-use Rattle.toml_span_lex.specs.Tokens.{Lexeme, newline, comment, keylike, string, lexeme, words, Stands, IsUnexpected}
+use Rattle.toml_span_lex.specs.Tokens.{Lexeme, newline, comment, keylike, string, lexeme, words, IsLexeme, IsUnexpected}
 use Rattle.toml_span_lex.specs.Tokens.{IsNoToken}
 use Rattle.toml_span_lex.specs.declared.span.Span.{Span}
 use Rattle.toml_span_lex.specs.declared.key.Key.{Key}
@@ -21,32 +21,33 @@ pub record Cursor : Type 0 where
   pub text : List ℕ
   pub at : ℕ
 
--- ---- refusals
+-- ---- failures
 
--- No token was read at i, and the tokenizer is at j: at i if an allocation failed, else after what the fault names.
+-- No token was read at i. The tokenizer is then at j: at i if an allocation failed, otherwise after what the fault
+-- names.
 abbrev pub Fails : List ℕ → ℕ → Stop Error → ℕ → Type 0
 Fails text i (stops.Memory e) j = (j ≡ i) × NeedsMemory text i
 Fails text i (stops.Fault e) j = IsNoToken text i j e
 
--- the error that one token was expected at an offset and another was found
-abbrev pub TellsWanted : Error → ℕ → List ℕ → List ℕ → Type 0
-TellsWanted (errors.Wanted at expected found) i due there = (at ≡ i) × (expected.now ≡ due) × (found.now ≡ there)
-TellsWanted _ i due there = ⊥
+-- The error says that a token was expected at an offset where another one was found.
+abbrev pub ReportsExpected : Error → ℕ → List ℕ → List ℕ → Type 0
+ReportsExpected (errors.Wanted at expected found) i due there = (at ≡ i) × (expected.now ≡ due) × (found.now ≡ there)
+ReportsExpected _ i due there = ⊥
 
--- The token at i is not the expected one, and the error says so. It ends at j.
+-- The token at i, which ends at j, is not the expected one, and the error says so.
 abbrev pub IsOther : (Lexeme → Type 0) → List ℕ → List ℕ → ℕ → ℕ → Error → Type 0
-IsOther MayStand due text i j e = (span : Span) × (found : Lexeme) × Stands text i j span found × (MayStand found → ⊥)
-    × TellsWanted e i due (words found)
+IsOther MayStand due text i j e = (span : Span) × (found : Lexeme) × IsLexeme text i j span found × (MayStand found → ⊥)
+    × ReportsExpected e i due (words found)
 
 -- The text ends at i, and the error says so.
 abbrev pub IsEndOf : List ℕ → List ℕ → ℕ → ℕ → Error → Type 0
-IsEndOf due text i j e = (i ≡ length text) × (j ≡ i) × TellsWanted e i due (codes "eof")
+IsEndOf due text i j e = (i ≡ length text) × (j ≡ i) × ReportsExpected e i due (codes "eof")
 
 -- ---- the next token
 
 abbrev pub StepGives : List ℕ → ℕ → Result (Option (Span × Token)) (Stop Error) → ℕ → Type 0
 StepGives text i (Ok None) j = (i ≡ length text) × (j ≡ i)
-StepGives text i (Ok (Some found)) j = Stands text i j found.0 (lexeme found.1)
+StepGives text i (Ok (Some found)) j = IsLexeme text i j found.0 (lexeme found.1)
 StepGives text i (Err stop) j = Fails text i stop j
 
 -- which strings are borrowed
@@ -54,35 +55,35 @@ abbrev pub BorrowsAt : List ℕ → ℕ → Result (Option (Span × Token)) (Sto
 BorrowsAt text i (Ok (Some (span, tokens.String src val multi))) j = Borrows text i j span val
 BorrowsAt text i _ j = Unit {0}
 
--- There is another token at i, or the text ends there.
+-- At i there is another token, or the end of the text.
 abbrev pub Lacks : List ℕ → ℕ → Lexeme → Type 0
 Lacks text i expected =
     (i ≡ length text)
-    ⊎ ((j : ℕ) × (span : Span) × (found : Lexeme) × Stands text i j span found × (found ≡ expected → ⊥))
+    ⊎ ((j : ℕ) × (span : Span) × (found : Lexeme) × IsLexeme text i j span found × (found ≡ expected → ⊥))
 
--- The expected token is consumed. Nothing changes at another token, at the end of the text or on an error.
+-- The expected token is read. At another token, at the end of the text, or after an error, nothing changes.
 abbrev pub EatsSpanned : Cursor → Result (Option Span) (Stop Error) → Lexeme → Cursor → Type 0
-EatsSpanned old (Ok (Some span)) expected new = Stands old.text old.at new.at span expected
+EatsSpanned old (Ok (Some span)) expected new = IsLexeme old.text old.at new.at span expected
 EatsSpanned old (Ok None) expected new = (new ≡ old) × Lacks old.text old.at expected
 EatsSpanned old (Err stop) expected new = (new ≡ old) × ((j : ℕ) × Fails old.text old.at stop j)
 
 abbrev pub Eats : Cursor → Result Bool (Stop Error) → Lexeme → Cursor → Type 0
-Eats old (Ok true) expected new = (span : Span) × Stands old.text old.at new.at span expected
+Eats old (Ok true) expected new = (span : Span) × IsLexeme old.text old.at new.at span expected
 Eats old (Ok false) expected new = (new ≡ old) × Lacks old.text old.at expected
 Eats old (Err stop) expected new = (new ≡ old) × ((j : ℕ) × Fails old.text old.at stop j)
 
--- The next token must be the expected one.
+-- If the next token is not the expected one, the call fails with this error.
 abbrev pub RefusesOther : (Lexeme → Type 0) → List ℕ → List ℕ → ℕ → Stop Error → ℕ → Type 0
 RefusesOther MayStand due text i (stops.Memory e) j = Fails text i (stops.Memory e) j
 RefusesOther MayStand due text i (stops.Fault e) j =
     IsNoToken text i j e ⊎ (IsOther MayStand due text i j e ⊎ IsEndOf due text i j e)
 
 abbrev pub ExpectsSpanned : List ℕ → ℕ → Result Span (Stop Error) → Lexeme → ℕ → Type 0
-ExpectsSpanned text i (Ok span) expected j = Stands text i j span expected
+ExpectsSpanned text i (Ok span) expected j = IsLexeme text i j span expected
 ExpectsSpanned text i (Err stop) expected j = RefusesOther (λ l. l ≡ expected) (words expected) text i stop j
 
 abbrev pub Expects : List ℕ → ℕ → Result Unit (Stop Error) → Lexeme → ℕ → Type 0
-Expects text i (Ok u) expected j = (span : Span) × Stands text i j span expected
+Expects text i (Ok u) expected j = (span : Span) × IsLexeme text i j span expected
 Expects text i (Err stop) expected j = RefusesOther (λ l. l ≡ expected) (words expected) text i stop j
 
 -- ---- keys
@@ -91,8 +92,8 @@ Expects text i (Err stop) expected j = RefusesOther (λ l. l ≡ expected) (word
 -- key: a bare key, whose name is that text, or a single-line string
 abbrev pub IsSimpleKey : List ℕ → ℕ → ℕ → Key → Type 0
 IsSimpleKey text i j key =
-    (IsBorrowedStr key.name × Stands text i j key.span (keylike (cow_str_bytes key.name)))
-    ⊎ ((source : List ℕ) × Stands text i j key.span (string source (cow_str_bytes key.name) false)
+    (IsBorrowedStr key.name × IsLexeme text i j key.span (keylike (cow_str_bytes key.name)))
+    ⊎ ((source : List ℕ) × IsLexeme text i j key.span (string source (cow_str_bytes key.name) false)
     × Borrows text i j key.span key.name)
 
 -- the tokens that can be keys
@@ -101,10 +102,11 @@ MayBeKey (keylike s) = Unit {0}
 MayBeKey (string source value multi) = Unit {0}
 MayBeKey _ = ⊥
 
--- There is a multi-line string where a key is expected. The error has its offset, and that plus the length of its value.
+-- There is a multi-line string where a key is expected. The error has its offset, and the offset that lies as many
+-- bytes after it as the value has.
 abbrev pub IsMultilineKey : List ℕ → ℕ → ℕ → Error → Type 0
 IsMultilineKey text i j (errors.MultilineStringKey at end) =
-    (span : Span) × (source : List ℕ) × (value : List ℕ) × Stands text i j span (string source value true) × (at ≡ i)
+    (span : Span) × (source : List ℕ) × (value : List ℕ) × IsLexeme text i j span (string source value true) × (at ≡ i)
     × (end ≡ i + length value)
 IsMultilineKey text i j _ = ⊥
 
@@ -121,20 +123,20 @@ TableKeyGives text i (Err (stops.Fault e)) j =
 abbrev pub EndsLine : List ℕ → ℕ → ℕ → Type 0
 EndsLine text i j = LineEnd text i j ⊎ ((i ≡ length text) × (j ≡ i))
 
-abbrev pub LineEndDue : List ℕ → ℕ → Result Unit (Stop Error) → ℕ → Type 0
-LineEndDue text i (Ok u) j = EndsLine text i j
-LineEndDue text i (Err (stops.Memory e)) j = Fails text i (stops.Memory e) j
-LineEndDue text i (Err (stops.Fault e)) j =
+abbrev pub ExpectsLineEnd : List ℕ → ℕ → Result Unit (Stop Error) → ℕ → Type 0
+ExpectsLineEnd text i (Ok u) j = EndsLine text i j
+ExpectsLineEnd text i (Err (stops.Memory e)) j = Fails text i (stops.Memory e) j
+ExpectsLineEnd text i (Err (stops.Fault e)) j =
     IsNoToken text i j e ⊎ IsOther (λ l. l ≡ newline) (codes "newline") text i j e
 
--- `comment = comment-start-symbol *non-eol`, and the line end or the end of the text after it; or no comment, or a
--- character that must not follow it
+-- `comment = comment-start-symbol *non-eol`, with the line end or the end of the text after it; or no comment; or a
+-- character that may not follow a comment
 abbrev pub EatsComment : List ℕ → ℕ → Result Bool Error → ℕ → Type 0
 EatsComment text i (Ok true) j =
-    (k : ℕ) × (span : Span) × (s : List ℕ) × Stands text i k span (comment s) × EndsLine text k j
+    (k : ℕ) × (span : Span) × (s : List ℕ) × IsLexeme text i k span (comment s) × EndsLine text k j
 EatsComment text i (Ok false) j = (slice_index text i ≡ hash → ⊥) × (j ≡ i)
 EatsComment text i (Err e) j =
-    (k : ℕ) × (span : Span) × (s : List ℕ) × Stands text i k span (comment s) × IsUnexpected text k j e
+    (k : ℕ) × (span : Span) × (s : List ℕ) × IsLexeme text i k span (comment s) × IsUnexpected text k j e
 
 -- after the next line end, or at the end of the text
 abbrev pub SkipsLine : List ℕ → ℕ → ℕ → Type 0

@@ -25,10 +25,10 @@ pub data Lexeme : Type 0 where
   whitespace : List ℕ → Lexeme
   newline : Lexeme
   comment : List ℕ → Lexeme
-  -- one of nine bytes that are a token each
+  -- one of nine bytes each of which is a token
   punctuator : ℕ → Lexeme
   keylike : List ℕ → Lexeme
-  -- the source with its quotes, the value, and whether there are three quotes
+  -- the text with its quotes, the value, and whether it is a multi-line string
   string : List ℕ → List ℕ → Bool → Lexeme
 
 abbrev pub lexeme : Token → Lexeme
@@ -93,23 +93,23 @@ IsToken text i j (keylike s) = RunAt is_keylike text i j s
 IsToken text i j (string src value multi) = ⊥
 
 -- The text from i to j is this token, with this span. The span is i..j, except for a string.
-abbrev pub Stands : List ℕ → ℕ → ℕ → Span → Lexeme → Type 0
-Stands text i j span (string src value multi) = IsString text i j span src value multi
-Stands text i j span l = IsToken text i j l × (span ≡ record { start = i; end = j })
+abbrev pub IsLexeme : List ℕ → ℕ → ℕ → Span → Lexeme → Type 0
+IsLexeme text i j span (string src value multi) = IsString text i j span src value multi
+IsLexeme text i j span l = IsToken text i j l × (span ≡ record { start = i; end = j })
 
 -- the characters that begin a token: a blank, a punctuator, a line feed or a hash
 abbrev pub begins_alone : ℕ → Bool
 begins_alone c = is_blank c || is_punctuator c || c == line_feed || c == hash
 
--- or one of a bare key, or a quote
+-- the same, or a character of a bare key, or a quote
 abbrev pub begins_token : ℕ → Bool
 begins_token c = (begins_alone c || is_keylike c) || (c == quotation_mark || c == apostrophe)
 
--- the character at i begins no token, and ends at j
+-- No token begins with the character at i, which ends at j.
 abbrev pub IsUnexpected : List ℕ → ℕ → ℕ → Error → Type 0
 IsUnexpected text i j (errors.Unexpected at c) = (at ≡ i) × CharAt text i c j × (begins_token c ≡ false)
 IsUnexpected text i j _ = ⊥
 
--- There is no token at i but this fault, and j is the offset after the character that it names, or the end of the text.
+-- There is no token at i, but this fault. j is the offset after the character that it names, or the end of the text.
 abbrev pub IsNoToken : List ℕ → ℕ → ℕ → Error → Type 0
 IsNoToken text i j e = IsUnexpected text i j e ⊎ IsNoString text i j e

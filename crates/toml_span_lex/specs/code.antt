@@ -1,4 +1,4 @@
--- How the functions share the work. Nothing outside this folder cites it.
+-- How the functions share the work. Nothing else in `specs/` cites it.
 pub mod Text
 pub mod Escapes
 pub mod Lanes

@@ -1,4 +1,4 @@
-//! Classes of bytes and runs of them (TOML 1.1, "Whitespace", "Keys", "Comment").
+//! Classes of bytes, and runs of bytes of a class (TOML 1.1, "Whitespace", "Keys", "Comment").
 ghost use Rattle.std.specs.Prelude.{◌≡◌, ℕ, ◌<◌, ◌==◌, ◌&&◌, not, true, length, slice_index, IsTrue};
 ghost use Rattle.std.specs.Str.{IsCharBoundary};
 ghost use Rattle.toml_span_lex.specs.Bytes as spec;
@@ -15,10 +15,10 @@ pub fn is_blank(byte: u8) -> bool
     byte == b' ' || byte == b'\t'
 }
 
-/// The bit of `CLASS` that marks the bytes of bare keys.
+/// The bit that is set in `CLASS` for the bytes of bare keys.
 const KEYLIKE: u8 = 1;
 
-// A digit for each byte; its lowest bit is `KEYLIKE`.
+// A digit for each byte. Its lowest bit is `KEYLIKE`.
 static CLASS: [u8; 256] = *b"\
     00000000000000000000000000000000\
     00000000000001001111111111000000\
@@ -29,8 +29,8 @@ static CLASS: [u8; 256] = *b"\
     00000000000000000000000000000000\
     00000000000000000000000000000000";
 
-/// Returns whether bare keys may contain the byte: an ASCII letter, a digit, `-` or `_`
-/// (`ALPHA / DIGIT / %x2D / %x5F`).
+/// Returns whether the byte may occur in a bare key: an ASCII letter, a digit, `-` or `_` (`ALPHA / DIGIT / %x2D /
+/// %x5F`).
 #[inline]
 pub fn is_keylike(byte: u8) -> bool
     ensures { result ≡ spec.is_keylike byte }
@@ -38,8 +38,8 @@ pub fn is_keylike(byte: u8) -> bool
     CLASS[byte as usize] & KEYLIKE != 0
 }
 
-/// Returns whether comments may contain the byte: a tab or anything but a control character
-/// (`non-eol = %x09 / %x20-7E / non-ascii`).
+/// Returns whether the byte may occur in a comment: a tab, or anything except control characters (`non-eol = %x09 /
+/// %x20-7E / non-ascii`).
 #[inline(always)]
 pub fn is_printed(byte: u8) -> bool
     ensures { result ≡ spec.is_printed byte }
@@ -47,7 +47,7 @@ pub fn is_printed(byte: u8) -> bool
     byte == b'\t' || (byte >= 0x20 && byte != 0x7F)
 }
 
-/// Returns the offset at which the run of spaces and tabs that begins at `from` ends: `ws = *wschar`.
+/// Returns the end of the run of spaces and tabs that begins at `from`: `ws = *wschar`.
 #[inline(always)]
 pub fn blanks_end(text: &str, from: usize) -> usize
     requires { IsCharBoundary text.now from }
@@ -63,8 +63,8 @@ pub fn blanks_end(text: &str, from: usize) -> usize
     bytes.len()
 }
 
-/// Returns the offset at which the run of bare key bytes that begins at `from` ends:
-/// `unquoted-key = 1*( ALPHA / DIGIT / %x2D / %x5F )`.
+/// Returns the end of the run of bare key bytes that begins at `from`: `unquoted-key = 1*( ALPHA / DIGIT / %x2D / %x5F
+/// )`.
 pub fn keylike_end(text: &str, from: usize) -> usize
     requires { IsCharBoundary text.now from }
     ensures run { MaximalRun spec.is_keylike text.now from result }
@@ -87,8 +87,7 @@ pub fn keylike_end(text: &str, from: usize) -> usize
     bytes.len()
 }
 
-/// Returns the offset at which the run of comment bytes that begins at `from` ends:
-/// `comment = comment-start-symbol *non-eol`.
+/// Returns the end of the run of comment bytes that begins at `from`: `comment = comment-start-symbol *non-eol`.
 pub fn printed_end(text: &str, from: usize) -> usize
     requires { IsCharBoundary text.now from }
     ensures run { MaximalRun spec.is_printed text.now from result }

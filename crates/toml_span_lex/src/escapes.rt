@@ -8,8 +8,9 @@ ghost use Rattle.toml_span_lex.specs.code.Text.{LeadsTo};
 use crate::text::char_at;
 use crate::tokens::Error;
 
-/// Reads the `len` hexadecimal digits after the letter at `at` as a character:
-/// `%x78 2HEXDIG / %x75 4HEXDIG / %x55 8HEXDIG`.
+/// Returns the character that the `len` hexadecimal digits after the letter at `at` stand for, with the offset after
+/// them. Fails with the error, and the offset up to which the escape was read: `%x78 2HEXDIG / %x75 4HEXDIG / %x55
+/// 8HEXDIG`.
 fn hex_escape(
     text: &str,
     start: usize,
@@ -42,8 +43,8 @@ fn hex_escape(
     }
 }
 
-/// Returns the character that a backslash and this letter mean:
-/// `escape-seq-char = %x22 / %x5C / %x62 / %x66 / %x6E / %x72 / %x74 / %x65`, and those of `hex_len`.
+/// Returns the character that a backslash and this letter stand for, if no digits follow the letter: `escape-seq-char =
+/// %x22 / %x5C / %x62 / %x66 / %x6E / %x72 / %x74 / %x65`.
 #[inline]
 fn simple_escape(letter: u8) -> Option<char>
     ensures { result ≡ spec.simple_escape letter }
@@ -61,8 +62,8 @@ fn simple_escape(letter: u8) -> Option<char>
     }
 }
 
-/// Returns how many hexadecimal digits follow this letter after a backslash:
-/// `escape-seq-char =/ %x78 2HEXDIG / %x75 4HEXDIG / %x55 8HEXDIG`.
+/// Returns how many hexadecimal digits follow a backslash and this letter, or 0 if none do: `escape-seq-char =/ %x78
+/// 2HEXDIG / %x75 4HEXDIG / %x55 8HEXDIG`.
 #[inline]
 fn hex_len(letter: u8) -> usize
     ensures { result ≡ spec.hex_len letter }
@@ -75,7 +76,8 @@ fn hex_len(letter: u8) -> usize
     }
 }
 
-/// Reads the escape whose letter is at `at`, after the backslash: `escaped = escape escape-seq-char`.
+/// Reads the escape whose letter is at `at`, after the backslash: `escaped = escape escape-seq-char`. Returns the
+/// character, with the offset after the escape. Fails with the error, and the offset up to which the escape was read.
 pub(crate) fn escape(text: &str, start: usize, at: usize) -> Result<(char, usize), (Error, usize)>
     requires { IsCharBoundary text.now at }
     ensures escape { code.EscapeGives start text.now at result }

@@ -8,10 +8,10 @@ use std::borrow::CowStr;
 use std::fmt;
 use std::fmt::{Debug, Display, Formatter, Write};
 
-/// A key of a table: its name and its span. The span of a quoted key covers the text between its quotes, or the
-/// opening quote if there is nothing between them.
+/// The key of an entry: its name and its span, in bytes. The span of a quoted key is the text between its quotes or, if
+/// there is none, the opening quote.
 ///
-/// Keys are compared and ordered by the bytes of their names; spans are ignored.
+/// Keys are compared and ordered by the bytes of their names. Their spans are ignored.
 #[derive(Drop)]
 #[derive_where(PartialEq, Eq, PartialOrd, Ord)]
 pub struct Key<'de> {
@@ -21,7 +21,7 @@ pub struct Key<'de> {
 }
 
 impl<'de> Key<'de> {
-    /// Creates a key with this name and the span `0..0`, for looking up a table's entry.
+    /// Returns a key with this name and the span 0..0, to look up an entry.
     pub fn named(name: &'de str) -> Self
         ensures { (cow_str_bytes result.name ≡ name.now) × (result.span ≡ record { start = 0; end = 0 })
             × IsBorrowedStr result.name }
@@ -34,8 +34,8 @@ impl<'de> Key<'de> {
 }
 
 impl Key<'_> {
-    /// Returns a copy with the same name and span. The copy borrows its name exactly if this key does. If an
-    /// allocation fails there is no copy, and this key is unchanged.
+    /// Returns a key with the same name and span. It borrows the name if and only if this key does. Fails only if an
+    /// allocation fails.
     pub fn clone(&self, alloc: Global) -> Result<Self, AllocError>
         ensures name { IfOk result (λ key. cow_str_bytes key.name ≡ cow_str_bytes self.now.name) }
         ensures span { IfOk result (λ key. key.span ≡ self.now.span) }
@@ -56,7 +56,7 @@ impl Key<'_> {
 impl Default for Key<'_> {
     ghost is_default = { λ key. (cow_str_bytes key.name ≡ []) × (key.span ≡ record { start = 0; end = 0 }) };
 
-    /// Returns the empty name with the span `0..0`.
+    /// Returns a key with an empty name and the span 0..0.
     fn default() -> Self {
         Self::named("")
     }

@@ -1,4 +1,4 @@
-//! Tests of sixteen bytes at once, by vector instructions.
+//! Tests sixteen bytes at once, with vector instructions.
 ghost use Rattle.std.specs.Prelude.{◌≡◌, ◌&&◌, ◌==◌, not};
 ghost use Rattle.toml_span_lex.specs.Bytes.{backslash, is_keylike, is_printed};
 ghost use Rattle.toml_span_lex.specs.Pieces.{is_plain};
@@ -6,7 +6,7 @@ ghost use Rattle.toml_span_lex.specs.code.Lanes.{marked};
 
 use std::simd::prelude::*;
 
-/// Marks the bytes that bare keys can't contain: bit `k` of the result is set for byte `k`.
+/// Finds the bytes that may not occur in a bare key: bit `k` of the result is set for byte `k`.
 #[inline(always)]
 pub(crate) fn marked_in_keys(bytes: u8x16) -> u64
     ensures { result ≡ marked (λ b. not (is_keylike b)) bytes }
@@ -21,7 +21,7 @@ pub(crate) fn marked_in_keys(bytes: u8x16) -> u64
     (!keylike).to_bitmask()
 }
 
-/// Marks the bytes that comments can't contain: bit `k` of the result is set for byte `k`.
+/// Finds the bytes that may not occur in a comment: bit `k` of the result is set for byte `k`.
 #[inline(always)]
 pub(crate) fn marked_in_comments(bytes: u8x16) -> u64
     ensures { result ≡ marked (λ b. not (is_printed b)) bytes }
@@ -30,7 +30,7 @@ pub(crate) fn marked_in_comments(bytes: u8x16) -> u64
     (control | bytes.simd_eq(u8x16::splat(0x7F))).to_bitmask()
 }
 
-/// Marks the bytes that can't occur unescaped between these quotes: bit `k` of the result is set for byte `k`.
+/// Finds the bytes that may not occur unescaped between these quotes: bit `k` of the result is set for byte `k`.
 #[inline(always)]
 pub(crate) fn marked_in_strings(quote: u8, bytes: u8x16) -> u64
     ensures { result ≡ marked (λ b. not (is_plain quote b)) bytes }

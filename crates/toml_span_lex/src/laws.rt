@@ -1,4 +1,4 @@
-//! Laws of the definitions. Each is the contract of a function that does nothing else.
+//! Laws: facts about the definitions, stated as functions that do nothing.
 ghost use Rattle.std.specs.Prelude.{◌≡◌, ◌↔◌, true};
 ghost use Rattle.std.specs.Str.{IsCharBoundary};
 ghost use Rattle.std.specs.declared.cmp.Ordering.{Ordering};
@@ -16,12 +16,12 @@ pub fn one_token()
     ensures { law.OneToken }
 {}
 
-/// At most one fault occurs at an offset.
+/// There is at most one fault at an offset.
 pub fn one_fault()
     ensures { law.OneFault }
 {}
 
-/// No fault occurs where a token begins.
+/// There is no fault where a token begins.
 pub fn token_or_fault()
     ensures { law.TokenOrFault }
 {}
@@ -32,48 +32,48 @@ pub fn within_the_text()
     ensures faults { law.FaultsWithin }
 {}
 
-/// The content of a string has exactly one value and one end.
+/// What is between the quotes of a string has exactly one value and one end.
 pub fn one_content()
     ensures { law.OneContent }
 {}
 
-/// Reading character by character yields the folded text.
+/// Reading a text character by character yields it with each CRLF as one line feed.
 pub fn folded_text()
     ensures { law.FoldedText }
 {}
 
-/// No token and no fault ends between the two bytes of a line end.
+/// No token and no fault ends between the two bytes of a CRLF.
 pub fn line_ends_stay_whole()
     ensures tokens { law.TokensUnfolded }
     ensures faults { law.FaultsUnfolded }
 {}
 
-/// Only strings that contain a backslash or a carriage return can need memory.
+/// Only strings that contain a backslash or a carriage return can need an allocation.
 pub fn copied_strings()
     ensures { law.CopiedStrings }
 {}
 
-/// Keys are compared by their names alone, and the order is `Equal` exactly where they are equal.
+/// Keys are compared by their names alone. The order is `Equal` if and only if they are equal.
 pub fn keys_by_name()
     ensures { law.KeysByName ⟦<Key<'static> as PartialEq>⟧.eq ⟦<Key<'static> as Ord>⟧.cmp }
 {}
 
-/// Tokens are equal exactly where their contents are equal.
+/// Tokens are equal if and only if their contents are.
 pub fn tokens_by_content()
     ensures { law.TokensByContent ⟦<Token<'static> as PartialEq>⟧.eq }
 {}
 
-/// Spanned values are equal where their values are equal.
+/// Spanned values are equal if and only if their values are.
 pub fn spanned_equal_by_value<T: PartialEq>()
     ensures { (a b : Spanned T) → ⟦<Spanned<T> as PartialEq>⟧.eq a b ≡ T.eq a.value b.value }
 {}
 
-/// Spanned values are ordered as their values, where these are ordered.
+/// Spanned values are ordered like their values, if these have an order.
 pub fn spanned_partly_ordered_by_value<T: PartialOrd>()
     ensures { (a b : Spanned T) → ⟦<Spanned<T> as PartialOrd>⟧.partial_cmp a b ≡ T.partial_cmp a.value b.value }
 {}
 
-/// Spanned values are ordered as their values, and the order is `Equal` exactly where they are equal.
+/// Spanned values are ordered like their values. The order is `Equal` if and only if they are equal.
 pub fn spanned_ordered_by_value<T: Ord>()
     ensures cmp { (a b : Spanned T) → ⟦<Spanned<T> as Ord>⟧.cmp a b ≡ T.cmp a.value b.value }
     ensures ties { (a b : Spanned T)
@@ -85,7 +85,7 @@ pub fn bare_keys()
     ensures { law.BareKeys }
 {}
 
-/// At each offset between two characters there is a token, a fault or the end of the text.
+/// At each character boundary there is a token, a fault, or the end of the text.
 ///
 /// The body is the proof: it walks through the string that opens there, if one does.
 pub fn something_stands(text: &str, at: usize)

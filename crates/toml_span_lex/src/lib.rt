@@ -1,4 +1,4 @@
-//! The tokens of a TOML document, with their spans.
+//! Splits a TOML document into tokens with spans.
 #![tactic(auto)]
 
 pub mod bytes;

@@ -17,13 +17,13 @@ use std::simd::prelude::*;
 /// A piece of a string's content.
 #[derive(Clone, Copy)]
 pub enum Piece {
-    /// Unescaped characters.
+    /// Characters that stand for themselves.
     Plain,
-    /// One or two quotes inside a multi-line string.
+    /// One or two quotes in a multi-line string.
     Quotes,
     LineEnd,
     Escape(char),
-    /// A line end after a backslash, dropped with the white space around it.
+    /// A backslash at the end of a line, with all white space and line ends after it, which is dropped.
     Dropped,
 }
 
@@ -38,7 +38,7 @@ fn is_plain(quote: u8, byte: u8) -> bool
     is_printed(byte) && byte != quote && !(quote == b'"' && byte == b'\\')
 }
 
-/// Returns the offset at which the run of bytes that need no escape between these quotes ends.
+/// Returns the end of the run of bytes from `from` on that may occur unescaped between these quotes.
 #[inline(always)]
 pub fn plain_end(text: &str, quote: u8, from: usize) -> usize
     requires boundary { IsCharBoundary text.now from }
@@ -63,7 +63,7 @@ pub fn plain_end(text: &str, quote: u8, from: usize) -> usize
     bytes.len()
 }
 
-/// Returns the offset at which the run of quotes that begins at `from` ends.
+/// Returns the end of the run of quotes that begins at `from`.
 fn quotes_end(text: &str, quote: u8, from: usize) -> usize
     requires boundary { IsCharBoundary text.now from }
     requires ascii { quote < 128 }
@@ -88,7 +88,7 @@ fn is_ws_or_newline(bytes: &[u8], at: usize) -> bool
     is_blank(bytes[at]) || bytes[at] == b'\n' || is_crlf(bytes, at)
 }
 
-/// Returns the offset at which the white space ends, line ends included: `*( wschar / newline )`.
+/// Returns the offset after the spaces, tabs and line ends from `from` on: `*( wschar / newline )`.
 fn ws_and_newlines_end(text: &str, from: usize) -> usize
     requires { IsCharBoundary text.now from }
     ensures run { spec.WsAndNewlines text.now from result }
@@ -103,8 +103,9 @@ fn ws_and_newlines_end(text: &str, from: usize) -> usize
     bytes.len()
 }
 
-/// Reads one or two quotes inside a multi-line string, or its end: `mlb-quotes = 1*2quotation-mark`,
-/// `mll-quotes = 1*2apostrophe`, `ml-basic-string-delim = 3quotation-mark`, `ml-literal-string-delim = 3apostrophe`.
+/// Reads one or two quotes in a multi-line string, and returns them with the offset after them. At the end of the
+/// string, returns `None` with the offset after the closing quotes: `mlb-quotes = 1*2quotation-mark`, `mll-quotes =
+/// 1*2apostrophe`, `ml-basic-string-delim = 3quotation-mark`, `ml-literal-string-delim = 3apostrophe`.
 fn quotes(text: &str, quote: u8, at: usize) -> (Option<Piece>, usize)
     requires within { at < length text.now }
     requires boundary { IsCharBoundary text.now at }
@@ -121,7 +122,7 @@ fn quotes(text: &str, quote: u8, at: usize) -> (Option<Piece>, usize)
     }
 }
 
-/// Reads what a backslash begins: `escaped` or `mlb-escaped-nl`.
+/// Reads what begins with the backslash at `at`: `escaped` or `mlb-escaped-nl`. Returns it with the offset after it.
 fn escape_piece(
     text: &str,
     multi: bool,
@@ -143,7 +144,7 @@ fn escape_piece(
     }
 }
 
-/// Returns whether white space or a line end is at an offset.
+/// Returns whether there is white space or a line end at the offset `at`.
 fn ws_or_newline_at(text: &str, at: usize) -> bool
     ensures gap { result ≡ spec.is_ws_or_newline text.now at }
     ensures within { IsTrue result → at < length text.now }
@@ -152,7 +153,7 @@ fn ws_or_newline_at(text: &str, at: usize) -> bool
     at < bytes.len() && is_ws_or_newline(bytes, at)
 }
 
-/// Reads what a backslash before white space drops in a multi-line string:
+/// Reads a backslash at the end of a line in a multi-line string. Returns it with the offset after all that it drops:
 /// `mlb-escaped-nl = escape ws newline *( wschar / newline )`.
 fn drop_line(text: &str, start: usize, at: usize) -> Result<(Option<Piece>, usize), (Error, usize)>
     requires within { at + 1 < length text.now }
@@ -174,10 +175,11 @@ fn drop_line(text: &str, start: usize, at: usize) -> Result<(Option<Piece>, usiz
     }
 }
 
-/// Reads the piece at an offset, or the end of the string.
+/// Reads the piece at `at`, and returns it with the offset after it. At the end of the string, returns `None` with the
+/// offset after the closing quotes. Fails with the error, and the offset up to which the string was read.
 ///
-/// `basic-char = basic-unescaped / escaped`, `mlb-content = basic-char / newline / mlb-escaped-nl`,
-/// `mll-content = literal-char / newline`
+/// `basic-char = basic-unescaped / escaped`, `mlb-content = basic-char / newline / mlb-escaped-nl`, `mll-content =
+/// literal-char / newline`
 pub(crate) fn piece_at(
     text: &str,
     quote: u8,

@@ -3,9 +3,9 @@ ghost use Rattle.std.specs.Prelude.{◌≡◌, ◌↔◌, IsTrue};
 
 use std::ops::Range;
 
-/// A range of byte offsets in a text, `end` exclusive.
+/// A range of byte offsets in a text, from `start` to before `end`.
 ///
-/// `start` may be greater than `end`: a reversed span is kept as it is.
+/// A span may be reversed, with `start` after `end`. It is kept as it is.
 #[derive(Clone, Copy, PartialEq, Eq, Default, Debug)]
 pub struct Span {
     pub start: usize,
@@ -13,7 +13,7 @@ pub struct Span {
 }
 
 impl Span {
-    /// Creates a span from two byte offsets.
+    /// Returns the span from `start` to `end`.
     #[inline]
     pub fn new(start: usize, end: usize) -> Self
         ensures start { result.start ≡ start }

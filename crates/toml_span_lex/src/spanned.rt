@@ -16,7 +16,7 @@ pub struct Spanned<T> {
 }
 
 impl<T> Spanned<T> {
-    /// Creates a value with the span `0..0`.
+    /// Wraps a value. The span is 0..0.
     #[inline]
     pub fn new(value: T) -> Self
         ensures value { result.value ≡ value }
@@ -28,7 +28,7 @@ impl<T> Spanned<T> {
         }
     }
 
-    /// Creates a value with this span.
+    /// Wraps a value with this span.
     #[inline]
     pub fn with_span(value: T, span: Span) -> Self
         ensures value { result.value ≡ value }
@@ -46,7 +46,7 @@ impl<T> Spanned<T> {
         value
     }
 
-    /// Converts the value by `From` and keeps the span.
+    /// Converts the value by `From`, and keeps the span.
     #[inline]
     pub fn map<V: From<T>>(self) -> Spanned<V>
         ensures value { V.from_gives self.value result.value }
@@ -69,7 +69,7 @@ impl<T> Spanned<T> {
 }
 
 impl<T: PartialEq> Spanned<T> {
-    /// Returns whether the value equals another one.
+    /// Returns whether the value equals `other`.
     #[inline]
     pub fn eq_value(&self, other: &T) -> bool
         ensures { result ≡ T.eq self.now.value other.now }
@@ -79,10 +79,8 @@ impl<T: PartialEq> Spanned<T> {
 }
 
 impl<T: Clone> Spanned<T> {
-    /// Returns a clone of the value with the same span. If an allocation fails there is no clone, and this one is
-    /// unchanged.
-    ///
-    /// The clone is what `T` calls a clone, and equal to the value if all clones of `T` are.
+    /// Returns a clone of the value, as `T` makes it, with the same span. It equals the value if all clones of `T`
+    /// equal their originals. Fails only if an allocation fails.
     pub fn clone(&self, _alloc: Global) -> Result<Self, AllocError>
         ensures value { IfOk result (λ copy. T.is_clone self.now.value copy.value) }
         ensures span { IfOk result (λ copy. copy.span ≡ self.now.span) }

@@ -1,12 +1,12 @@
-//! Why a call returned no value.
+//! Why a call failed.
 use std::alloc::{AllocError, AllocFailed};
 use std::fmt;
 use std::fmt::{Display, Formatter, Write};
 
-/// Why a call returned no value: an allocation failed, or there is a fault to report.
+/// Why a call failed: an allocation failed, or there is a fault to report.
 ///
-/// `Memory` means that the allocator refused a request during the call. Contracts can't express this; it is tested.
-/// `toml_span_serde` also returns it if a position or a count exceeds its integer type.
+/// `Memory` means that the allocator refused a request during the call. Contracts can't express that; it is tested.
+/// `toml_span_serde` also returns it if a position or a count does not fit into its integer type.
 #[derive(Debug, Drop)]
 pub enum Stop<E> {
     Memory(AllocError),
@@ -17,8 +17,8 @@ impl<E> Stop<E> {
     ghost use Rattle.std.specs.Prelude.{◌≡◌};
     ghost use Rattle.toml_span_lex.specs.Stop.{Converts, fault_of};
 
-    /// Returns the fault, or the allocator's error as `Err`. In a function that returns `Result<_, AllocError>` or
-    /// `Stop`, the arm `Err(stop) => report(stop.fault()?)` handles the fault and passes a failed allocation on.
+    /// Returns the fault, or the allocator's error as `Err`. In a function that fails with `AllocError` or `Stop`, the
+    /// arm `Err(stop) => report(stop.fault()?)` handles the fault, and passes a failed allocation on.
     pub fn fault(self) -> Result<E, AllocError>
         ensures { result ≡ fault_of self }
     {
@@ -28,8 +28,8 @@ impl<E> Stop<E> {
         }
     }
 
-    /// Converts the fault by `From`. `read.map_err(Stop::convert)?` passes the single error of a read on from a
-    /// function that returns a list of errors.
+    /// Converts the fault by `From`. `read.map_err(Stop::convert)?` passes the error of a function that fails with one
+    /// error on, in a function that fails with a list of errors.
     pub fn convert<F: From<E>>(self) -> Stop<F>
         ensures { Converts F.from_gives self result }
     {
@@ -51,7 +51,7 @@ impl<E> From<AllocError> for Stop<E> {
     }
 }
 
-/// Drops what could not be stored.
+/// Drops the item that could not be stored.
 impl<T: Drop, E> From<AllocFailed<T>> for Stop<E> {
     ghost use Rattle.std.specs.Prelude.{◌≡◌, alloc_error};
     ghost use Rattle.toml_span_lex.specs.declared.stop.Stop.TheVariants.{Memory};
@@ -65,9 +65,9 @@ impl<T: Drop, E> From<AllocFailed<T>> for Stop<E> {
 
 /// Writes the fault, or `out of memory`.
 impl<E: Display> Display for Stop<E> {
-    ghost use Rattle.toml_span_lex.specs.Stop.{told};
+    ghost use Rattle.toml_span_lex.specs.Stop.{stop_text};
 
-    ghost output = { told E.output };
+    ghost output = { stop_text E.output };
 
     fn fmt<W: Write>(&self, f: &mut Formatter<W>) -> fmt::Result {
         match self {

@@ -16,7 +16,8 @@ use crate::tokens::{Error, Token};
 use std::alloc::{AllocError, Global};
 use std::borrow::CowStr;
 
-/// Returns the content read so far as an owned string.
+/// Returns the value read so far as an owned string. `kept` is that of the bytes before `from`, if they had to be
+/// copied. Fails if an allocation fails.
 fn owned(
     alloc: Global,
     kept: Option<String>,
@@ -35,7 +36,7 @@ fn owned(
     }
 }
 
-/// Adds an unescaped part to the content.
+/// Adds the characters from `at` to `next`, which stand for themselves, to the value. Fails if an allocation fails.
 fn same(
     kept: Option<String>,
     text: &str,
@@ -61,7 +62,7 @@ fn same(
     }
 }
 
-/// Adds a piece to the content.
+/// Adds a piece from `at` to `next` to the value. Fails if an allocation fails.
 fn with_piece(
     alloc: Global,
     kept: Option<String>,
@@ -100,7 +101,8 @@ fn with_piece(
     }
 }
 
-/// Reads the content of a string. Returns it with the offset at which it ends and the offset after the string.
+/// Reads the content of a string. Returns its value, if it had to be copied, with the offset at which it ends and the
+/// offset after the string. Fails with the error, and the offset up to which the string was read.
 ///
 /// `*basic-char`, `*literal-char`, `ml-basic-body = *mlb-content *( mlb-quotes 1*mlb-content ) [ mlb-quotes ]`,
 /// `ml-literal-body = *mll-content *( mll-quotes 1*mll-content ) [ mll-quotes ]`
@@ -140,7 +142,7 @@ fn content(
     }
 }
 
-/// Returns whether three quotes are at an offset.
+/// Returns whether there are three equal quotes at the offset `at`.
 #[inline]
 fn opens_multi(bytes: &[u8], at: usize) -> bool
     requires within { at < length bytes.now }
@@ -151,7 +153,7 @@ fn opens_multi(bytes: &[u8], at: usize) -> bool
 }
 
 /// Returns the offset at which the content of a string begins: after `ml-basic-string-delim [ newline ]`,
-/// `ml-literal-string-delim [ newline ]` or a single quote.
+/// `ml-literal-string-delim [ newline ]` or one quote.
 fn content_from(text: &str, multi: bool, at: usize) -> usize
     requires within { at < length text.now }
     requires ascii { slice_index text.now at < 128 }
@@ -169,8 +171,8 @@ fn content_from(text: &str, multi: bool, at: usize) -> usize
     }
 }
 
-/// Reads the string at an offset. Returns it with its span and the offset after it. A fault comes with the offset up
-/// to which the string was read.
+/// Reads the string at `at`. Returns it with its span and the offset after it. Fails with the error, and the offset up
+/// to which the string was read, or if an allocation fails.
 ///
 /// `string = ml-basic-string / basic-string / ml-literal-string / literal-string`
 /// `basic-string = quotation-mark *basic-char quotation-mark`
@@ -213,7 +215,7 @@ pub fn string_at(
     }
 }
 
-/// Returns the span of a string's content, or of its opening quote if it is a single-line string without content.
+/// Returns the span of a string: its content or, if it is empty and on a single line, its opening quote.
 fn content_span(multi: bool, at: usize, from: usize, to: usize) -> Span
     requires { at < usize.MAX }
     ensures { result ≡ spec.content_span multi at from to }
@@ -231,7 +233,8 @@ fn content_span(multi: bool, at: usize, from: usize, to: usize) -> Span
     }
 }
 
-/// Returns the offset after the string at an offset, or its fault. Allocates nothing.
+/// Returns the offset after the string at `at`. Fails with the error, and the offset up to which the string was read.
+/// Does not allocate.
 pub(crate) fn scan_string(text: &str, at: usize) -> Result<usize, (Error, usize)>
     requires within { at < length text.now }
     requires quote { IsQuote (slice_index text.now at) }

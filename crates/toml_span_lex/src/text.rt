@@ -1,12 +1,12 @@
-//! The characters of a text.
+//! The characters of a text, in which CRLF counts as one.
 ghost use Rattle.std.specs.Prelude.{◌≡◌, ◌<◌, ◌≤◌, length, IfSome};
 ghost use Rattle.std.specs.Str.{IsCharBoundary};
 ghost use Rattle.toml_span_lex.specs.Text as spec;
 ghost use Rattle.toml_span_lex.specs.code.Text as code;
 ghost use Rattle.toml_span_lex.specs.Text.{CharAt};
 
-/// Returns the character at the byte offset `at` with the offset of the next one. A carriage return followed by a line
-/// feed counts as the one character `'\n'`.
+/// Returns the character at the byte offset `at`, with the offset of the next one. CRLF counts as the one character
+/// `'\n'`.
 pub fn char_at(text: &str, at: usize) -> (char, usize)
     requires boundary { IsCharBoundary text.now at }
     requires within { at < length text.now }
@@ -27,7 +27,7 @@ pub fn char_at(text: &str, at: usize) -> (char, usize)
     }
 }
 
-/// Returns whether a carriage return followed by a line feed is at `at`.
+/// Returns whether there is a CRLF at the offset `at`.
 #[inline]
 pub fn is_crlf(bytes: &[u8], at: usize) -> bool
     requires { at < length bytes.now }
@@ -36,9 +36,9 @@ pub fn is_crlf(bytes: &[u8], at: usize) -> bool
     bytes[at] == b'\r' && at + 1 < bytes.len() && bytes[at + 1] == b'\n'
 }
 
-/// Returns the offset after the line end at an offset, if there is one: `newline = %x0A / %x0D.0A`.
+/// Returns the offset after the line end at `at`, or `None` if there is none: `newline = %x0A / %x0D.0A`.
 #[inline]
-#[tactic(auto, using(crate::proofs::Runs::behind_line))]
+#[tactic(auto, using(crate::proofs::Runs::after_line))]
 pub fn line_end(text: &str, at: usize) -> Option<usize>
     requires { at ≤ length text.now }
     ensures line_end { code.LineEndGives text.now at result }

@@ -7,7 +7,7 @@ ghost use Rattle.toml_span_lex.specs.Text.{FirstPlace, KeepsLineEnd, IsFoldedPla
 ghost use Rattle.toml_span_lex.specs.Tokenizer as spec;
 ghost use Rattle.toml_span_lex.specs.Tokenizer.{Cursor};
 ghost use Rattle.toml_span_lex.specs.Tokens.{lexeme, begins_alone};
-ghost use Rattle.toml_span_lex.specs.code.Tokens.{Finds};
+ghost use Rattle.toml_span_lex.specs.code.Tokens.{FindsToken};
 
 use crate::bytes;
 use crate::bytes::is_keylike;
@@ -21,11 +21,11 @@ use std::alloc::{AllocError, Global};
 use std::borrow::CowStr;
 use std::marker::Model;
 
-/// A text and the byte offset up to which it has been read, which is always between two characters. A carriage return
-/// followed by a line feed counts as one character.
+/// A text, and the byte offset up to which it has been read. This is always a character boundary, where CRLF counts as
+/// one character.
 ///
-/// If an allocation fails, the call can be repeated. After a fault the tokenizer is at a later offset, which each
-/// method documents, so that reading can go on there.
+/// If an allocation fails, the call can be repeated. After a fault, the offset is further on, as each method says, so
+/// that reading can continue there.
 #[derive(Drop)]
 pub struct Tokenizer<'a> {
     input: &'a str,
@@ -44,7 +44,7 @@ impl<'a> Model for Tokenizer<'a> {
     ghost invariant = { λ t. IsFoldedPlace t.input.now t.at };
 }
 
-/// Returns the offset at which reading begins: 0, or the offset after a byte order mark.
+/// Returns the offset at which reading begins: after a byte order mark, or 0 if there is none.
 pub fn first_place(text: &str) -> usize
     ensures place { FirstPlace text.now result }
     ensures boundary { IsCharBoundary text.now result }
@@ -57,8 +57,8 @@ pub fn first_place(text: &str) -> usize
     if c == '\u{feff}' { next } else { 0 }
 }
 
-/// Reads a token that is not a string. Returns it with the offset after it, or the fault with the offset of the next
-/// character.
+/// Reads the token at `at`, which is not a string. Returns it with the offset after it. Fails with the error, and the
+/// offset of the next character.
 ///
 /// `ws = *wschar`, `newline = %x0A / %x0D.0A`, `comment = comment-start-symbol *non-eol`,
 /// `unquoted-key = 1*( ALPHA / DIGIT / %x2D / %x5F )`
@@ -67,7 +67,7 @@ pub fn token_at(input: &str, at: usize) -> Result<(Token<'_>, usize), (Error, us
     requires boundary { IsCharBoundary input.now at }
     requires within { at < length input.now }
     requires quote { (slice_index input.now at == quotation_mark || slice_index input.now at == apostrophe) ≡ false }
-    ensures finds { Finds input.now at result }
+    ensures finds { FindsToken input.now at result }
     ensures boundary { LeadsTo (λ j. IsCharBoundary input.now j) result }
 {
     let bytes = input.as_bytes();
@@ -95,13 +95,13 @@ pub fn token_at(input: &str, at: usize) -> Result<(Token<'_>, usize), (Error, us
     }
 }
 
-/// Reads a line end of two characters or the run of a bare key; anything else is a fault.
+/// Reads a CRLF or a bare key at `at`. Anything else is an error.
 fn other_at(input: &str, at: usize) -> Result<(Token<'_>, usize), (Error, usize)>
     requires boundary { IsCharBoundary input.now at }
     requires within { at < length input.now }
     requires other { begins_alone (slice_index input.now at) ≡ false }
     requires quote { (slice_index input.now at == quotation_mark || slice_index input.now at == apostrophe) ≡ false }
-    ensures finds { Finds input.now at result }
+    ensures finds { FindsToken input.now at result }
     ensures boundary { LeadsTo (λ j. IsCharBoundary input.now j) result }
 {
     let bytes = input.as_bytes();
@@ -116,7 +116,7 @@ fn other_at(input: &str, at: usize) -> Result<(Token<'_>, usize), (Error, usize)
     }
 }
 
-/// Returns the offset after the next line end, or the text's length if there is none.
+/// Returns the offset after the first line end from `from` on, or the length of the text if there is none.
 fn line_after(text: &str, from: usize) -> usize
     requires { from ≤ length text.now }
     ensures skips { spec.SkipsLine text.now from result }
@@ -130,7 +130,7 @@ fn line_after(text: &str, from: usize) -> usize
     text.len()
 }
 
-/// Returns whether two tokens are equal, contents included.
+/// Returns whether two tokens and their contents are equal.
 fn is_same(a: &Token<'_>, b: &Token<'_>) -> bool
     ensures { IsTrue result ↔ (lexeme a.now ≡ lexeme b.now) }
 {
@@ -138,7 +138,7 @@ fn is_same(a: &Token<'_>, b: &Token<'_>) -> bool
 }
 
 impl<'a> Tokenizer<'a> {
-    /// Creates a tokenizer at the start of the text, after its byte order mark if it has one.
+    /// Returns a tokenizer at the start of the text, after a byte order mark.
     pub fn new(input: &'a str) -> Self
         ensures text { result.text ≡ input.now }
         ensures at { FirstPlace input.now result.at }
@@ -159,12 +159,12 @@ impl<'a> Tokenizer<'a> {
         }
     }
 
-    /// Reads the next token and returns it with its span, or `None` at the end of the text.
+    /// Reads the next token. Returns it with its span, or `None` at the end of the text.
     ///
     /// # Errors
     ///
-    /// Returns a fault if there is no token. The tokenizer is then after the character that the fault names, after the
-    /// digits or blanks of an invalid escape, or at the end of the text if a string is not closed.
+    /// Fails if no token can be read. The tokenizer is then after the character that the error names, after the digits
+    /// or blanks of an invalid escape or, if a string is not closed, at the end of the text.
     pub fn step(&mut self, alloc: Global) -> Result<Option<(Span, Token<'a>)>, Stop<Error>>
         ensures text { self.new.text ≡ self.old.text }
         ensures step { spec.StepGives self.old.text self.old.at result self.new.at }
@@ -201,7 +201,7 @@ impl<'a> Tokenizer<'a> {
         }
     }
 
-    /// Returns what `step` would return. Nothing changes.
+    /// Returns what `step` would return, and changes nothing.
     pub fn peek(&mut self, alloc: Global) -> Result<Option<(Span, Token<'a>)>, Stop<Error>>
         ensures unchanged { self.new ≡ self.old }
         ensures step { (j : ℕ) × spec.StepGives self.old.text self.old.at result j
@@ -211,9 +211,10 @@ impl<'a> Tokenizer<'a> {
         ahead.step(alloc)
     }
 
-    /// Consumes the next token if it is the expected one, contents included, and returns whether it was.
+    /// Reads the next token if it is `expected`, contents included. Returns whether it was.
     ///
-    /// Nothing changes at another token, at the end of the text, after a fault or if an allocation fails.
+    /// If the next token is another one, at the end of the text, after an error, and if an allocation fails, nothing
+    /// changes.
     pub fn eat(&mut self, alloc: Global, expected: Token<'a>) -> Result<bool, Stop<Error>>
         ensures text { self.new.text ≡ self.old.text }
         ensures eats { spec.Eats self.old result (lexeme expected.entry) self.new }
@@ -225,9 +226,10 @@ impl<'a> Tokenizer<'a> {
         }
     }
 
-    /// Consumes the next token if it is the expected one, contents included, and returns its span.
+    /// Reads the next token if it is `expected`, contents included. Returns its span, or `None` for another token or at
+    /// the end of the text.
     ///
-    /// Nothing changes at another token, at the end of the text or after a fault.
+    /// Unless a span is returned, nothing changes.
     pub fn eat_spanned(
         &mut self,
         alloc: Global,
@@ -250,12 +252,12 @@ impl<'a> Tokenizer<'a> {
         }
     }
 
-    /// Consumes the next token, which must be the expected one, contents included.
+    /// Reads the next token, which must be `expected`, contents included.
     ///
     /// # Errors
     ///
-    /// Returns `Wanted` for another token, and the tokenizer is after that token. At a fault, or if an allocation
-    /// fails, it is where `step` leaves it.
+    /// Fails with `Wanted` if it is another token. The tokenizer is then after that token. If no token can be read, or
+    /// an allocation fails, it is where `step` leaves it.
     pub fn expect(&mut self, alloc: Global, expected: Token<'a>) -> Result<(), Stop<Error>>
         ensures text { self.new.text ≡ self.old.text }
         ensures expects { spec.Expects self.old.text self.old.at result (lexeme expected.entry) self.new.at }
@@ -266,12 +268,12 @@ impl<'a> Tokenizer<'a> {
         }
     }
 
-    /// Consumes the next token, which must be the expected one, and returns its span.
+    /// Reads the next token, which must be `expected`, contents included. Returns its span.
     ///
     /// # Errors
     ///
-    /// Returns `Wanted` for another token, and the tokenizer is after that token. At a fault, or if an allocation
-    /// fails, it is where `step` leaves it.
+    /// Fails with `Wanted` if it is another token. The tokenizer is then after that token. If no token can be read, or
+    /// an allocation fails, it is where `step` leaves it.
     pub fn expect_spanned(
         &mut self,
         alloc: Global,
@@ -301,12 +303,12 @@ impl<'a> Tokenizer<'a> {
         }
     }
 
-    /// Consumes a key: a bare key or a single-line string (`simple-key = quoted-key / unquoted-key`).
+    /// Reads a simple key: a bare key or a single-line string (`simple-key = quoted-key / unquoted-key`).
     ///
     /// # Errors
     ///
-    /// Returns `MultilineStringKey` for a multi-line string and `Wanted` for another token. The tokenizer is then after
-    /// that token.
+    /// Fails with `MultilineStringKey` at a multi-line string, and with `Wanted` at another token. The tokenizer is
+    /// then after that token. If no token can be read, or an allocation fails, it is where `step` leaves it.
     pub fn table_key(&mut self, alloc: Global) -> Result<Key<'a>, Stop<Error>>
         ensures text { self.new.text ≡ self.old.text }
         ensures key { spec.TableKeyGives self.old.text self.old.at result self.new.at }
@@ -346,14 +348,15 @@ impl<'a> Tokenizer<'a> {
         }
     }
 
-    /// Consumes a line end, or stays at the end of the text.
+    /// Reads a line end. At the end of the text, does nothing.
     ///
     /// # Errors
     ///
-    /// Returns `Wanted` for another token, and the tokenizer is after that token.
+    /// Fails with `Wanted` at another token. The tokenizer is then after that token. If no token can be read, or an
+    /// allocation fails, it is where `step` leaves it.
     pub fn eat_newline_or_eof(&mut self, alloc: Global) -> Result<(), Stop<Error>>
         ensures text { self.new.text ≡ self.old.text }
-        ensures line_end { spec.LineEndDue self.old.text self.old.at result self.new.at }
+        ensures line_end { spec.ExpectsLineEnd self.old.text self.old.at result self.new.at }
     {
         let at = self.at;
         match self.step(alloc)? {
@@ -366,12 +369,12 @@ impl<'a> Tokenizer<'a> {
         }
     }
 
-    /// Consumes a comment (`comment-start-symbol *non-eol`) and the line end after it, and returns whether there was
-    /// one. At the end of the text no line end is needed.
+    /// Reads a comment (`comment-start-symbol *non-eol`) and the line end after it, unless the text ends there. Returns
+    /// whether there was a comment.
     ///
     /// # Errors
     ///
-    /// Returns `Unexpected` for a control character in the comment, and the tokenizer is after that character.
+    /// Fails with `Unexpected` at a control character in the comment. The tokenizer is then after that character.
     pub fn eat_comment(&mut self) -> Result<bool, Error>
         ensures text { self.new.text ≡ self.old.text }
         ensures comment { spec.EatsComment self.old.text self.old.at result self.new.at }
@@ -406,7 +409,7 @@ impl<'a> Tokenizer<'a> {
         self.at = bytes::blanks_end(self.input, self.at);
     }
 
-    /// Skips past the next line end, or to the end of the text.
+    /// Skips everything up to and including the next line end, or up to the end of the text.
     pub fn skip_to_newline(&mut self)
         ensures text { self.new.text ≡ self.old.text }
         ensures skips { spec.SkipsLine self.old.text self.old.at self.new.at }
@@ -414,7 +417,7 @@ impl<'a> Tokenizer<'a> {
         self.at = line_after(self.input, self.at);
     }
 
-    /// Returns the byte offset of the next character, or the text's length.
+    /// Returns the byte offset up to which the text has been read.
     pub fn current(&mut self) -> usize
         ensures offset { result ≡ self.old.at }
         ensures place { IsFoldedPlace self.old.text result }
@@ -423,8 +426,8 @@ impl<'a> Tokenizer<'a> {
         self.at
     }
 
-    /// Consumes the next character and returns it with its byte offset, or `None` at the end. A carriage return
-    /// followed by a line feed is returned as one line feed.
+    /// Reads the next character. Returns it with its byte offset, or `None` at the end of the text. CRLF is returned as
+    /// one line feed.
     pub fn one(&mut self) -> Option<(usize, char)>
         ensures text { self.new.text ≡ self.old.text }
         ensures one { spec.OneGives self.old.text self.old.at result self.new.at }
@@ -438,7 +441,7 @@ impl<'a> Tokenizer<'a> {
         Some((at, c))
     }
 
-    /// Returns the byte offset at which a slice of the text begins.
+    /// Returns the byte offset at which a span starts.
     pub fn substr_offset(&self, span: Span) -> usize
         requires forward { span.start ≤ span.end }
         requires within { span.end ≤ length self.now.text }
@@ -453,7 +456,7 @@ impl Clone for Tokenizer<'_> {
 
     ghost is_infallible = { λ _. Unit {0} };
 
-    /// Returns a copy at the same offset of the same text. Allocates nothing.
+    /// Returns a copy at the same offset of the same text. Never fails.
     fn clone(&self) -> Result<Self, AllocError> {
         Ok(self.copy())
     }

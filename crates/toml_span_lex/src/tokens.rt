@@ -1,10 +1,10 @@
-//! Tokens and the faults of tokens.
+//! Tokens, and the errors of the tokenizer.
 ghost use Rattle.std.specs.Prelude.{◌≡◌};
 ghost use Rattle.toml_span_lex.specs.Tokens.{lexeme, words};
 
 use std::borrow::CowStr;
 
-/// A token of a TOML document. Tokens are equal if their contents are equal.
+/// A token of a TOML document. Tokens are equal if and only if their contents are.
 #[derive(PartialEq, Eq, Debug, Drop)]
 pub enum Token<'a> {
     /// A maximal run of spaces and tabs.
@@ -27,33 +27,37 @@ pub enum Token<'a> {
     String {
         /// The string as it is written, with its quotes.
         src: &'a str,
-        /// The value. It borrows from the text if it equals the text between the quotes.
+        /// The value. It is borrowed if and only if it equals the text between the quotes.
         val: CowStr<'a>,
         /// Whether it is a multi-line string.
         multiline: bool,
     },
 }
 
-/// Why there is no token, or not the expected one. Numbers are byte offsets unless noted otherwise.
+/// Why the next token could not be read, or is not the expected one. Numbers are byte offsets, unless something else is
+/// said.
 #[derive(PartialEq, Eq, Debug, Drop)]
 pub enum Error {
-    /// A character that strings must not contain.
+    /// A character that may not occur in a string.
     InvalidCharInString(usize, char),
-    /// A character after a backslash that begins no escape.
+    /// A character that may not follow a backslash.
     InvalidEscape(usize, char),
     /// A character where a hexadecimal digit is expected.
     InvalidHexEscape(usize, char),
-    /// The letter of an escape, the number of its digits, and their value, which is not a Unicode scalar value.
+    /// The offset of the letter of an escape, the number of its digits, and the number that they spell, which is not a
+    /// Unicode scalar value.
     InvalidEscapeValue(usize, usize, u32),
     /// A line end in a single-line string.
     NewlineInString(usize),
-    /// A character that begins no token.
+    /// A character that no token begins with.
     Unexpected(usize, char),
     /// The opening quote of a string that is not closed.
     UnterminatedString(usize),
-    /// The opening quote of a multi-line string where a key is expected, and that offset plus the length of its value.
+    /// The opening quote of a multi-line string where a key is expected, and the offset that lies as many bytes after
+    /// it as the value of the string has.
     MultilineStringKey(usize, usize),
-    /// A token other than the expected one, or the end of the text. Both are named in the words of `describe` or `eof`.
+    /// A token other than the expected one, or the end of the text. `describe` names both, except that the end is
+    /// `eof`.
     Wanted {
         /// The offset of the token, or the length of the text.
         at: usize,
@@ -63,7 +67,7 @@ pub enum Error {
 }
 
 impl Token<'_> {
-    /// Names the kind of token, as errors do.
+    /// Returns the name of this kind of token, as errors use it: `a comma`.
     pub fn describe(&self) -> &'static str
         ensures { result.now ≡ words (lexeme self.now) }
     {

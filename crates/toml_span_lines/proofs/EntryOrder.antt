@@ -53,21 +53,21 @@ before-under s p [] h = tt
 before-under s p (e ∷ es) h = (inr (refl, h.0), before-under s p es h.1)
 
 -- the first step of the path is after a step
-abbrev StartsBehind : Step → Path → Type 0
-StartsBehind s [] = ⊥
-StartsBehind s (t ∷ p) = IsStepBefore s t
+abbrev StartsAfter : Step → Path → Type 0
+StartsAfter s [] = ⊥
+StartsAfter s (t ∷ p) = IsStepBefore s t
 
-before-behind : (s : Step) (p q : Path) → StartsBehind s q → IsPathBefore (s ∷ p) q
-before-behind s p [] h = h
-before-behind s p (t ∷ q) h = inl h
+before-after : (s : Step) (p q : Path) → StartsAfter s q → IsPathBefore (s ∷ p) q
+before-after s p [] h = h
+before-after s p (t ∷ q) h = inl h
 
 -- entries below a step, followed by entries after it
-ascends-behind : (s : Step) (es fs : List PlaceAt) → PathsAscend es → Each (λ q. StartsBehind s q) fs → PathsAscend fs → PathsAscend (under s es ++ fs)
-ascends-behind s [] fs h b g = g
-ascends-behind s (e ∷ es) fs h b g = (
+ascends-after : (s : Step) (es fs : List PlaceAt) → PathsAscend es → Each (λ q. StartsAfter s q) fs → PathsAscend fs → PathsAscend (under s es ++ fs)
+ascends-after s [] fs h b g = g
+ascends-after s (e ∷ es) fs h b g = (
   each-append (λ q. IsPathBefore (s ∷ e.0) q) (under s es) fs (before-under s e.0 es h.0)
-      (each-more (λ q. StartsBehind s q) (λ q. IsPathBefore (s ∷ e.0) q) fs (before-behind s e.0) b),
-  ascends-behind s es fs h.1 b g,
+      (each-more (λ q. StartsAfter s q) (λ q. IsPathBefore (s ∷ e.0) q) fs (before-after s e.0) b),
+  ascends-after s es fs h.1 b g,
 )
 
 mutual
@@ -83,11 +83,11 @@ mutual
   items-ascend : (i : ℕ) (ns : Items) → AreOrdered ns → PathsAscend (items_entries i ns)
   items-ascend i no_items h = tt
   items-ascend i (item n ns) h =
-      ascends-behind (position i) (node_entries None n) (items_entries (suc i) ns) (node-ascends None n h.0)
-      (each-item (λ q. StartsBehind (position i) q) (suc i) ns (λ k p g. omega arith)) (items-ascend (suc i) ns h.1)
+      ascends-after (position i) (node_entries None n) (items_entries (suc i) ns) (node-ascends None n h.0)
+      (each-item (λ q. StartsAfter (position i) q) (suc i) ns (λ k p g. omega arith)) (items-ascend (suc i) ns h.1)
 
   members-ascend : (ms : Members) → MembersOrdered ms → PathsAscend (members_entries ms)
   members-ascend no_members h = tt
   members-ascend (member name at n ms) h =
-      ascends-behind (key name) (node_entries (Some at) n) (members_entries ms) (node-ascends (Some at) n h.1)
-      (each-member (λ q. StartsBehind (key name) q) (λ other. IsStepBefore (key name) (key other)) ms h.0 (λ other p g. g)) (members-ascend ms h.2)
+      ascends-after (key name) (node_entries (Some at) n) (members_entries ms) (node-ascends (Some at) n h.1)
+      (each-member (λ q. StartsAfter (key name) q) (λ other. IsStepBefore (key name) (key other)) ms h.0 (λ other p g. g)) (members-ascend ms h.2)

@@ -41,15 +41,15 @@ written-more a b c done held piece h w =
     front-written a c (done ++ piece) front.0 (holds-more a b c done held piece front.0 h front.1)
 
 -- a step fails after others, whose output is all written or buffered
-pub fails-behind : (A B : Type 0) (r : Result B Unwritten) (e : Unwritten) (a b c : Option (List ℕ)) (failed : Bool) (done held piece rest all kept left : List ℕ) →
+pub fails-after : (A B : Type 0) (r : Result B Unwritten) (e : Unwritten) (a b c : Option (List ℕ)) (failed : Bool) (done held piece rest all kept left : List ℕ) →
     IsErrAnd r (λ y. y ≡ e) → HoldsRest a b done held → Streams {A = A} (Err e) b c failed (held ++ piece) kept → (done ++ piece) ++ rest ≡ all → Streams {A = B} r a c failed all left
-fails-behind A B r e a b c failed done held piece rest all kept left err h s is =
+fails-after A B r e a b c failed done held piece rest all kept left err h s is =
     grind (arith, nat_tests, common_steps, written-more a b c done held piece h, written-longer a c (done ++ piece) rest all)
 
 -- an allocation fails between two steps
-pub stops-behind : {A : Type 0} (r : Result A Unwritten) (a b : Option (List ℕ)) (failed : Bool) (done held rest all left : List ℕ) →
+pub stops-after : {A : Type 0} (r : Result A Unwritten) (a b : Option (List ℕ)) (failed : Bool) (done held rest all left : List ℕ) →
     IsErrAnd r (λ y. y ≡ Memory) → HoldsRest a b done held → failed ≡ false → done ++ rest ≡ all → Streams r a b failed all left
-stops-behind r a b failed done held rest all left err h good is = grind (arith, nat_tests, common_steps, written-longer a b done rest all, front-written a b done held h)
+stops-after r a b failed done held rest all left err h good is = grind (arith, nat_tests, common_steps, written-longer a b done rest all, front-written a b done held h)
 
 -- a last step after others
 pub goes-on : {A : Type 0} (r : Result A Unwritten) (a b c : Option (List ℕ)) (failed : Bool) (done held piece all kept : List ℕ) →

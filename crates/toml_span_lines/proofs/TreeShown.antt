@@ -3,9 +3,9 @@ use Rattle.toml_span_lex.proofs.Common.{◌≡◌, ℕ, true, List, length, None
 use Rattle.toml_span_tree.specs.declared.value.Value.{Value}
 use Rattle.toml_span_tree.specs.Value.{view, is_whole}
 use Rattle.toml_span_tree.specs.Node.{Node}
-use Rattle.toml_span_read.specs.Data.{Block}
+use Rattle.toml_span_read.specs.Data.{ParsedSection}
 use Rattle.toml_span.specs.Claims.{claims}
-use Rattle.toml_span.specs.Flat.{flat, Shows}
+use Rattle.toml_span.specs.Flat.{flat, ShowsExactly}
 use Rattle.toml_span.specs.Ordered.{IsOrdered}
 use Rattle.toml_span.specs.Parsing.{IsTree}
 use Rattle.toml_span_lines.specs.Lines.{tree_lines}
@@ -16,8 +16,8 @@ use Rattle.toml_span_lines.proofs.EntryOrder.{node-ascends}
 use Rattle.toml_span_lines.proofs.EntryPlaces.{node-places}
 
 -- the lines of a tree that shows a document show that document
-tree-shown : (n : Node) (length : ℕ) (blocks : List Block) → IsOrdered n → is_whole n ≡ true → Shows n (flat length (claims blocks)) → ShowsPlaces (flat length (claims blocks)) (tree_lines n)
-tree-shown n length blocks ordered whole shows =
+tree-shown : (n : Node) (length : ℕ) (sections : List ParsedSection) → IsOrdered n → is_whole n ≡ true → ShowsExactly n (flat length (claims sections)) → ShowsPlaces (flat length (claims sections)) (tree_lines n)
+tree-shown n length sections ordered whole shows =
     let places = node-places n ordered in (
       node_entries None n,
       node-ascends None n ordered,
@@ -28,10 +28,10 @@ tree-shown n length blocks ordered whole shows =
 -- the lines of a text's tree are those of its document
 pub tree-document : (bytes : List ℕ) (limit : ℕ) (root : Value) (text : List ℕ) → IsTree bytes limit root → is_whole (view root) ≡ true → text ≡ tree_lines (view root) → ShowsDocument bytes limit text
 tree-document bytes limit root text tree whole lines =
-    let (blocks, has, made) = tree in
-    let shown = tree-shown (view root) (length bytes) blocks made.ordered whole made.shows in
+    let (sections, has, made) = tree in
+    let shown = tree-shown (view root) (length bytes) sections made.ordered whole made.shows in
     record {
-      blocks = blocks;
+      sections = sections;
       read = has.0;
       resolves = has.1;
       shown = (shown.0, shown.1, shown.2, lines ∙ shown.3);

@@ -1,4 +1,4 @@
--- A text whose first bytes have been written, while the rest is buffered.
+-- Output of which a prefix has been written, and the rest is in a buffer.
 use Rattle.std.specs.Prelude.{◌≡◌, ℕ, Bool, true, false, List, ◌++◌, Option, Result, Ok, Err}
 use Rattle.std.specs.Io.KnownBytes.{Appends}
 use Rattle.toml_span_lines.specs.declared.held.Unwritten.{Unwritten}
@@ -9,8 +9,8 @@ use Rattle.toml_span_lines.specs.Run.{HasWritten}
 abbrev pub HoldsRest : Option (List ℕ) → Option (List ℕ) → List ℕ → List ℕ → Type 0
 HoldsRest old new text held = (front : List ℕ) × Appends old new front × (front ++ held ≡ text)
 
--- Given what was written before and after, whether a write failed, and the text: a prefix has been written and the rest
--- is buffered; or the result says why not, and a prefix has been written.
+-- Given what had been written before and after, whether a write failed, and the text: a prefix has been written, and
+-- the rest is in the buffer. Or the result says why not, and a prefix has been written.
 abbrev pub Streams : {A : Type 0} → Result A Unwritten → Option (List ℕ) → Option (List ℕ) → Bool → List ℕ → List ℕ
     → Type 0
 Streams (Ok done) old new failed text held = (failed ≡ false) × HoldsRest old new text held

@@ -1,4 +1,4 @@
--- The output: a line for each node of a tree, before those inside it, or the one line of an error.
+-- The output: a line for each value of a tree, before those inside it, or the line of an error.
 use Rattle.std.specs.Prelude.{ℕ, suc, ◌+◌, ◌/◌, ◌%◌, ◌&&◌, Bool, not, nat_le, nat_lt, nat_eq, List, [], ◌∷◌, ◌++◌}
 use Rattle.std.specs.Prelude.{if◌then◌else◌, codes, unwrap_or}
 use Rattle.std.specs.List.{flat_map}
@@ -9,18 +9,18 @@ use Rattle.toml_span_tree.specs.Node.{Node, node, Inner, taken, scalar, array, t
 use Rattle.toml_span_tree.specs.Node.{no_members, member}
 use Rattle.toml_span_tree.specs.Value.{holds_nothing, kind_name}
 
--- a printable character, except for a slash and a percent sign
+-- whether a path contains this byte unescaped: it is printable, and neither a slash nor a percent sign
 abbrev pub stands_for_itself : ℕ → Bool
 stands_for_itself byte = (nat_le 33 byte && nat_le byte 126) && (not (nat_eq byte 47) && not (nat_eq byte 37))
 
 abbrev pub hex_digit : ℕ → ℕ
 hex_digit n = if nat_lt n 10 then 48 + n else 55 + n
 
--- a byte of a segment: itself, or a percent sign and two hexadecimal digits
+-- a byte of a key, as it is or as a percent sign and two hexadecimal digits
 abbrev pub shown_byte : ℕ → List ℕ
 shown_byte byte = if stands_for_itself byte then byte ∷ [] else 37 ∷ hex_digit (byte / 16) ∷ hex_digit (byte % 16) ∷ []
 
--- a segment: a slash, followed by a key or a position
+-- a segment: a slash, and a key or a position
 abbrev pub key_segment : List ℕ → List ℕ
 key_segment name = 47 ∷ flat_map shown_byte name
 
@@ -38,7 +38,7 @@ shown_path (x ∷ xs) = x ∷ xs
 abbrev pub line : List ℕ → List ℕ → ℕ → ℕ → List ℕ
 line path kind start end = shown_path path ++ codes " " ++ kind ++ codes " " ++ shown_span start end ++ codes "\n"
 
--- The lines of a node at a path: its own, followed by those of the nodes inside it. A node that has been taken has
+-- The lines of the value at a path: its own, and then those of the values inside it. A value that has been taken has
 -- none.
 abbrev mutual
   pub node_lines : List ℕ → Node → List ℕ

@@ -1,4 +1,4 @@
--- What the program writes for the bytes that it reads.
+-- What the program writes for its input.
 use Rattle.std.specs.Prelude.{◌≡◌, ◌↔◌, ◌<◌, ℕ, ◌+◌, ◌≤◌, Bool, true, false, not, ◌||◌, nat_eq, nat_lt, IsTrue, IsUtf8}
 use Rattle.std.specs.Prelude.{List, length, take, Option, codes, ◌⊎◌}
 use Rattle.toml_span_lines.specs.declared.run.Cut.{Cut}
@@ -15,8 +15,8 @@ abbrev pub IsShown : List ℕ → ℕ → ℕ → List ℕ → Type 0
 IsShown bytes limit status text =
     ((status ≡ 0) × ShowsDocument bytes limit text) ⊎ ((status ≡ 1) × ShowsRefusal bytes limit text)
 
--- The status and the output for an input: it is longer than the maximum, it is not UTF-8, or it is a document or has an
--- error within the limit.
+-- The status and the output for an input. It is longer than the maximum, or is not valid UTF-8, or is a document, or
+-- has an error.
 pub record IsAnswer (bytes : List ℕ) (limit : ℕ) (status : ℕ) (text : List ℕ) : Type 0 where
   pub too_long : bound < length bytes → (status ≡ 2) × (text ≡ codes "error too-long\n")
   pub no_text : length bytes ≤ bound → ¬ (IsUtf8 bytes) → (status ≡ 2) × (text ≡ codes "error not-utf-8\n")
@@ -26,7 +26,7 @@ pub record IsAnswer (bytes : List ℕ) (limit : ℕ) (status : ℕ) (text : List
 abbrev pub HasRead : Option (List ℕ) → Option (List ℕ) → List ℕ → Type 0
 HasRead old new bytes = Consumes old new bytes × (length bytes ≤ bound + 1)
 
--- The whole input was read, or more than the maximum.
+-- The whole input was read, or more bytes than the maximum.
 abbrev pub HasReadAll : Option (List ℕ) → Option (List ℕ) → List ℕ → Type 0
 HasReadAll old new bytes = HasRead old new bytes × ((length bytes ≡ bound + 1) ⊎ IsAtEnd new)
 
@@ -34,15 +34,15 @@ HasReadAll old new bytes = HasRead old new bytes × ((length bytes ≡ bound + 1
 abbrev pub HasWritten : Option (List ℕ) → Option (List ℕ) → List ℕ → Type 0
 HasWritten old new text = (n : ℕ) × (n ≤ length text) × Appends old new (take n text)
 
--- A run with this limit: what is left to read before and after, whether a read failed, what is written before and
+-- A run with this limit: what is left to read before and after, whether a read failed, what has been written before and
 -- after, whether a write failed, and the status.
 pub record Runs (limit : ℕ) (left left' : Option (List ℕ)) (unread : Bool) (written written' : Option (List ℕ))
     (unwritten : Bool) (status : ℕ) : Type 0 where
-  -- at most one byte more than the maximum is read
+  -- at most one byte more than the maximum has been read
   pub reads : (bytes : List ℕ) × HasRead left left' bytes
-  -- status 3 exactly if a read or a write failed
+  -- the status is 3 if and only if a read or a write failed
   pub failed : (status ≡ 3) ↔ IsTrue (unread || unwritten)
-  -- nothing is written after a failed read or a failed allocation
+  -- nothing has been written after a failed read or a failed allocation
   pub silent : IsTrue (unread || nat_eq status 4) → Keeps written written'
   -- after a failed write a prefix of an answer has been written
   pub cut : IsTrue unwritten → (bytes text : List ℕ) × (answered : ℕ) × HasReadAll left left' bytes

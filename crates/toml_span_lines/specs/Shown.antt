@@ -1,4 +1,5 @@
--- The output for a text: a line for each node of its flat document, in the order of the paths, or the line of an error.
+-- The output for a text: a line for each place of its flat document, in the order of the paths, or the line of an
+-- error.
 use Rattle.std.specs.Prelude.{◌≡◌, ◌<◌, ◌↔◌, ◌⊎◌, ⊤, ℕ, List, [], ◌∷◌, length, Option, Some, Ok, codes}
 use Rattle.std.specs.List.{flat_map, AllByRecursion}
 use Rattle.toml_span_tree.specs.declared.error.Error.{Error}
@@ -6,7 +7,7 @@ use Rattle.toml_span_tree.specs.Error.{content_of}
 use Rattle.toml_span_tree.specs.Path.{Path, Step, key, position, Shape, shape_taken, shape_scalar, shape_array}
 use Rattle.toml_span_tree.specs.Path.{shape_table, Place}
 use Rattle.toml_span_tree.specs.Value.{scalar_kind}
-use Rattle.toml_span_read.specs.Data.{Block}
+use Rattle.toml_span_read.specs.Data.{ParsedSection}
 use Rattle.toml_span_read.specs.Read.{document}
 use Rattle.toml_span.specs.Claims.{claims}
 use Rattle.toml_span.specs.Clashes.{Resolves}
@@ -38,7 +39,7 @@ abbrev pub IsIn : PlaceAt → List PlaceAt → Type 0
 IsIn e [] = ⊥
 IsIn e (f ∷ fs) = (e ≡ f) ⊎ IsIn e fs
 
--- Each path is before those of all later entries.
+-- Each path comes before those of all later entries.
 abbrev pub PathsAscend : List PlaceAt → Type 0
 PathsAscend [] = ⊤
 PathsAscend (e ∷ es) = AllByRecursion (λ f. IsPathBefore e.0 f.0) es × PathsAscend es
@@ -70,16 +71,15 @@ ShowsPlaces places text = (es : List PlaceAt) × PathsAscend es × HasPlaces pla
 
 -- ---- whole texts
 
--- Reading the bytes results in sections within the limit, no two of their claims clash, and the output shows their flat
--- document.
+-- The bytes are read as sections within the limit, which do not clash, and the output shows their flat document.
 pub record ShowsDocument (bytes : List ℕ) (limit : ℕ) (text : List ℕ) : Type 0 where
-  pub blocks : List Block
-  pub read : document bytes limit (Ok blocks)
-  pub resolves : Resolves (claims blocks)
-  pub shown : ShowsPlaces (flat (length bytes) (claims blocks)) text
+  pub sections : List ParsedSection
+  pub read : document bytes limit (Ok sections)
+  pub resolves : Resolves (claims sections)
+  pub shown : ShowsPlaces (flat (length bytes) (claims sections)) text
 
--- Reading the bytes results in a fault; or in sections within the limit, two claims of which clash. The output is the
--- line of that fault, or of the first clash.
+-- The bytes have a fault, or are read as sections within the limit which clash. The output is the line of that fault,
+-- or of the first clash.
 abbrev pub ShowsRefusal : List ℕ → ℕ → List ℕ → Type 0
 ShowsRefusal bytes limit text =
     (error : Error) × IsRefusal bytes limit (stops.Fault error) × (text ≡ error_line (content_of error))

@@ -1,4 +1,4 @@
-//! A buffer in front of a writer.
+//! A buffer of output that has not been written yet.
 ghost use Rattle.std.specs.Prelude.{◌≡◌, false};
 ghost use Rattle.toml_span_lines.specs.Held.{Streams};
 ghost use Rattle.toml_span_lines.specs.declared.held.Unwritten.TheVariants.{Memory};
@@ -7,10 +7,10 @@ use crate::run::write_bytes;
 use crate::sink::Sink;
 use std::alloc::AllocError;
 
-/// The number of bytes at which the buffer is written.
+/// The number of bytes from which on the buffer is written.
 const MANY: usize = 65_536;
 
-/// Why not everything was written.
+/// Why the output was not written completely.
 #[derive(Clone, Copy, PartialEq, Eq, Drop)]
 pub enum Unwritten {
     /// An allocation failed.
@@ -27,8 +27,7 @@ impl From<AllocError> for Unwritten {
     }
 }
 
-/// Writes the buffer and clears it, if at least 64 KiB are in it. After an error a prefix of the buffer has been
-/// written.
+/// If the buffer has at least 64 KiB, writes and empties it. After an error, a prefix of the buffer has been written.
 pub fn write_held<W: Sink>(writer: &mut W, held: &mut Vec<u8>) -> Result<(), Unwritten>
     requires { W.failed writer.old ≡ false }
     ensures { Streams result (W.contents writer.old) (W.contents writer.new) (W.failed writer.new)

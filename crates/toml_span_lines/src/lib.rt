@@ -1,4 +1,4 @@
-//! Prints the tree of a TOML document as lines, one for each node with its span, and has the program that does so.
+//! Prints the tree of a TOML document as lines, one for each value with its span. `run` is the whole program.
 #![tactic(auto)]
 
 pub mod held;
@@ -6,4 +6,4 @@ pub mod lines;
 pub mod run;
 pub mod sink;
 pub mod source;
-pub mod told;
+pub mod tracked;

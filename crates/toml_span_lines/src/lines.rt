@@ -1,4 +1,4 @@
-//! The lines of the output.
+//! Formats trees and errors as lines.
 ghost use Rattle.std.specs.Prelude.{◌≡◌, ◌<◌, ◌++◌, OnOk, IfOk, false};
 ghost use Rattle.std.specs.Fmt.{decimal};
 ghost use Rattle.toml_span_tree.specs.Value.{view, items_view, members_view};
@@ -8,12 +8,12 @@ ghost use Rattle.toml_span_lines.specs.Lines as spec;
 
 use crate::held::{Unwritten, write_held};
 use crate::sink::Sink;
-use crate::told::Told;
+use crate::tracked::Tracked;
 use std::alloc::{AllocError, Global};
 use toml_span::value::{Table, Value, ValueInner};
 use toml_span::{Error, Span};
 
-/// Appends a number in decimal digits. Fails if an allocation fails.
+/// Appends a number in decimal. Fails if an allocation fails.
 fn push_number(out: &mut Vec<u8>, number: usize) -> Result<(), AllocError>
     ensures { OnOk result (out.new.items ≡ out.old.items ++ decimal number) }
 {
@@ -24,7 +24,7 @@ fn push_number(out: &mut Vec<u8>, number: usize) -> Result<(), AllocError>
     Ok(())
 }
 
-/// Appends a span, as `start..end`. Fails if an allocation fails.
+/// Appends a span as `start..end`. Fails if an allocation fails.
 fn push_span(out: &mut Vec<u8>, span: Span) -> Result<(), AllocError>
     ensures { OnOk result (out.new.items ≡ out.old.items ++ spec.shown_span span.start span.end) }
 {
@@ -33,7 +33,7 @@ fn push_span(out: &mut Vec<u8>, span: Span) -> Result<(), AllocError>
     push_number(out, span.end)
 }
 
-/// Appends a position, as `line:column`. Fails if an allocation fails.
+/// Appends a line and a column as `line:column`. Fails if an allocation fails.
 fn push_place(out: &mut Vec<u8>, place: (usize, usize)) -> Result<(), AllocError>
     ensures { OnOk result (out.new.items ≡ out.old.items ++ spec.shown_place place) }
 {
@@ -42,7 +42,7 @@ fn push_place(out: &mut Vec<u8>, place: (usize, usize)) -> Result<(), AllocError
     push_number(out, place.1)
 }
 
-/// Returns whether a byte is written as it is in a path: it is printable, and neither a slash nor a percent sign.
+/// Returns whether a path contains this byte of a key unescaped: it is printable ASCII, and neither `/` nor `%`.
 fn is_plain(byte: u8) -> bool
     ensures { result ≡ spec.stands_for_itself byte }
 {
@@ -61,8 +61,7 @@ fn hex_digit(number: u8) -> u8
     }
 }
 
-/// Appends a byte of a segment, as itself or as a percent sign and two hexadecimal digits. Fails if an allocation
-/// fails.
+/// Appends a byte of a key, as it is or as `%` and two hexadecimal digits. Fails if an allocation fails.
 fn push_byte(out: &mut Vec<u8>, byte: u8) -> Result<(), AllocError>
     ensures { OnOk result (out.new.items ≡ out.old.items ++ spec.shown_byte byte) }
 {
@@ -73,7 +72,7 @@ fn push_byte(out: &mut Vec<u8>, byte: u8) -> Result<(), AllocError>
     out.extend_from_slice(&[b'%', hex_digit(byte / 16), hex_digit(byte % 16)])
 }
 
-/// Appends the segment of a key to a path. Fails if an allocation fails.
+/// Appends `/` and a key to a path. Fails if an allocation fails.
 fn push_key(path: &mut Vec<u8>, name: &str) -> Result<(), AllocError>
     ensures { OnOk result (path.new.items ≡ path.old.items ++ spec.key_segment name.now) }
 {
@@ -84,7 +83,7 @@ fn push_key(path: &mut Vec<u8>, name: &str) -> Result<(), AllocError>
     Ok(())
 }
 
-/// Appends the segment of a position to a path. Fails if an allocation fails.
+/// Appends `/` and a position to a path. Fails if an allocation fails.
 fn push_position(path: &mut Vec<u8>, position: usize) -> Result<(), AllocError>
     ensures { OnOk result (path.new.items ≡ path.old.items ++ spec.position_segment position) }
 {
@@ -92,7 +91,7 @@ fn push_position(path: &mut Vec<u8>, position: usize) -> Result<(), AllocError>
     push_number(path, position)
 }
 
-/// Appends the line of a node. Fails if an allocation fails.
+/// Appends the line of a value. Fails if an allocation fails.
 fn push_line(out: &mut Vec<u8>, path: &[u8], kind: &str, span: Span) -> Result<(), AllocError>
     ensures { OnOk result (out.new.items ≡ out.old.items ++ spec.line path.now kind.now span.start span.end) }
 {
@@ -109,7 +108,8 @@ fn push_line(out: &mut Vec<u8>, path: &[u8], kind: &str, span: Span) -> Result<(
     Ok(())
 }
 
-/// Appends the line of a node, and writes the buffer if it is large. Fails if a write or an allocation fails.
+/// Appends the line of a value to the buffer, and writes the buffer if it is large. Fails if a write or an allocation
+/// fails.
 fn write_line<W: Sink>(
     writer: &mut W,
     held: &mut Vec<u8>,
@@ -125,8 +125,8 @@ fn write_line<W: Sink>(
     write_held(writer, held)
 }
 
-/// Writes the lines of a value: its own, followed by those of the values inside it. A value that has been taken has
-/// none. Fails if a write or an allocation fails.
+/// Writes the line of a value, and those of the values inside it. A value that has been taken has no line. Fails if a
+/// write or an allocation fails.
 #[cycle(write_value)]
 fn write_value<W: Sink>(
     writer: &mut W,
@@ -151,7 +151,8 @@ fn write_value<W: Sink>(
     }
 }
 
-/// Writes the lines of an array's elements. Fails if a write or an allocation fails.
+/// Writes the lines of the elements of an array at `path`, and of the values inside them. Fails if a write or an
+/// allocation fails.
 #[cycle(write_value)]
 fn write_elements<W: Sink>(
     writer: &mut W,
@@ -173,7 +174,8 @@ fn write_elements<W: Sink>(
     Ok(())
 }
 
-/// Writes the lines of a table's entries. Fails if a write or an allocation fails.
+/// Writes the lines of the entries of a table at `path`, and of the values inside them. Fails if a write or an
+/// allocation fails.
 #[cycle(write_value)]
 fn write_entries<W: Sink>(
     writer: &mut W,
@@ -195,8 +197,9 @@ fn write_entries<W: Sink>(
     Ok(())
 }
 
-/// Writes the buffer, followed by the lines of a tree: one for each node, in the order of the paths. The last lines,
-/// fewer than 64 KiB, stay in the buffer. After an error a prefix has been written.
+/// Writes the buffer, and then the lines of a tree: one for each value, each before those inside it, entries in the
+/// order of their names. The end of the output, less than 64 KiB, stays in the buffer. After an error, a prefix of the
+/// output has been written.
 pub fn write_lines<W: Sink>(
     alloc: Global,
     writer: &mut W,
@@ -210,11 +213,12 @@ pub fn write_lines<W: Sink>(
     write_value(writer, held, &mut Vec::new(alloc), root)
 }
 
-/// Returns the lines of a tree: one for each node, in the order of the paths. Fails only if an allocation fails.
+/// Returns the lines of a tree: one for each value, each before those inside it, entries in the order of their names.
+/// Fails only if an allocation fails.
 pub fn tree_lines(alloc: Global, root: &Value<'_>) -> Result<Vec<u8>, AllocError>
     ensures { IfOk result (λ out. out.items ≡ spec.tree_lines (view root.now)) }
 {
-    let mut writer = Told::new(Vec::new(alloc));
+    let mut writer = Tracked::new(Vec::new(alloc));
     let mut held = Vec::new(alloc);
     if write_lines(alloc, &mut writer, &mut held, root).is_err() {
         return Err(AllocError);
@@ -224,7 +228,7 @@ pub fn tree_lines(alloc: Global, root: &Value<'_>) -> Result<Vec<u8>, AllocError
     Ok(out)
 }
 
-/// Returns the line of an error. Fails if an allocation fails.
+/// Returns the line of an error: its code, its span, its line and column, and its kind. Fails if an allocation fails.
 pub(crate) fn error_line(alloc: Global, error: &Error<'_>) -> Result<Vec<u8>, AllocError>
     ensures { IfOk result (λ out. out.items ≡ spec.error_line (content_of error.now)) }
 {

@@ -1,4 +1,4 @@
-//! The program: reads a document and writes its lines.
+//! The program: reads a document, and prints its tree or its error.
 ghost use Rattle.std.specs.Prelude.{◌≡◌, ◌≤◌, IfOk, IfErr, false};
 ghost use Rattle.toml_span_lines.specs.Run.{HasReadAll, HasCut, Runs, WritesOut, IsAnswer, IsShown};
 ghost use Rattle.toml_span_read.specs.Data.{depth_limit};
@@ -11,13 +11,13 @@ use std::io;
 use toml_span::Stop;
 use toml_span::de::parse_with_limit;
 
-/// The maximum length of a document in bytes.
+/// The maximum length of the input, in bytes.
 pub const BOUND: usize = 16_777_216;
 
-/// The limit on the depth of values and on the parts of headers and dotted keys.
+/// The limit on the depth of values and on the number of parts of a key.
 const LIMIT: usize = 128;
 
-/// Why not everything was read.
+/// Why the input was not read completely.
 #[derive(Clone, Copy, Drop)]
 pub enum Cut {
     /// An allocation failed.
@@ -26,7 +26,7 @@ pub enum Cut {
     Failed(io::Error),
 }
 
-/// Reads the whole input, but at most one byte more than the maximum. What was read before an error is lost.
+/// Reads the whole input, but at most one byte more than `BOUND`. After an error, what was read is lost.
 pub fn read_bytes<R: Source>(alloc: Global, reader: &mut R) -> Result<Vec<u8>, Cut>
     requires { R.failed reader.old ≡ false }
     ensures ok { IfOk result (λ v. HasReadAll (R.remaining reader.old) (R.remaining reader.new) v.items
@@ -50,7 +50,7 @@ pub fn read_bytes<R: Source>(alloc: Global, reader: &mut R) -> Result<Vec<u8>, C
     Ok(bytes)
 }
 
-/// Writes a text up to the first write that fails. Returns whether all of it was written.
+/// Writes the bytes, unless a write fails. Returns whether all of them were written.
 pub fn write_bytes<W: Sink>(writer: &mut W, text: &[u8]) -> bool
     requires { W.failed writer.old ≡ false }
     ensures { WritesOut (W.contents writer.old) (W.contents writer.new) text.now (W.failed writer.new) result }
@@ -66,8 +66,8 @@ pub fn write_bytes<W: Sink>(writer: &mut W, text: &[u8]) -> bool
     true
 }
 
-/// Returns the status and the output for a text: 0 and the lines of its tree, or 1 and the line of its error. Fails if
-/// an allocation fails.
+/// Returns the exit status and the output for a text: 0 and the lines of its tree, or 1 and the line of its error.
+/// Fails if an allocation fails.
 fn answer_text(alloc: Global, text: &str, limit: usize) -> Result<(u8, Vec<u8>), AllocError>
     requires some { 1 ≤ limit }
     requires small { limit ≤ depth_limit }
@@ -80,7 +80,8 @@ fn answer_text(alloc: Global, text: &str, limit: usize) -> Result<(u8, Vec<u8>),
     }
 }
 
-/// Returns the status and the output for the bytes of an input. Fails if an allocation fails.
+/// Returns the exit status and the output for an input. If it is too long or not valid UTF-8, these are 2 and a line
+/// that says so. Fails if an allocation fails.
 fn answer(alloc: Global, bytes: &[u8], limit: usize) -> Result<(u8, Vec<u8>), AllocError>
     requires some { 1 ≤ limit }
     requires small { limit ≤ depth_limit }
@@ -95,11 +96,15 @@ fn answer(alloc: Global, bytes: &[u8], limit: usize) -> Result<(u8, Vec<u8>), Al
     }
 }
 
-/// Reads a document, and writes its tree or its error and nothing else. The limit is that of `parse_with_limit`.
+/// Reads a document, and prints the lines of its tree, or the line of its error. `limit` is that of `parse_with_limit`.
 ///
-/// Returns the exit status: 0 for a tree; 1 for an error in the text; 2 for an input that is too long or not UTF-8; 3
-/// if a read failed, when nothing is written, or a write, when a prefix of the output is written; 4 if an allocation
-/// failed, when nothing is written.
+/// Returns the exit status:
+///
+/// - 0: the tree was printed;
+/// - 1: the error was printed;
+/// - 2: the input is longer than `BOUND`, or not valid UTF-8, and a line that says so was printed;
+/// - 3: a read failed, and nothing was printed, or a write failed, and a prefix of the output was printed;
+/// - 4: an allocation failed, and nothing was printed.
 pub fn run_with_limit<R: Source, W: Sink>(
     alloc: Global,
     limit: usize,
@@ -128,7 +133,7 @@ pub fn run_with_limit<R: Source, W: Sink>(
     }
 }
 
-/// Runs the program with the limit 128 (see `run_with_limit`).
+/// Runs the program with the limit 128: see `run_with_limit`.
 pub fn run<R: Source, W: Sink>(alloc: Global, reader: &mut R, writer: &mut W) -> u8
     requires reader { R.failed reader.old ≡ false }
     requires writer { W.failed writer.old ≡ false }

@@ -1,4 +1,4 @@
-//! Writers.
+//! Writers that record failures.
 ghost use Rattle.std.specs.Prelude.{◌≡◌, ℕ, Bool, List, Option};
 ghost use Rattle.std.specs.Io.{WritesAtMost};
 ghost use Rattle.std.specs.Io.KnownBytes.{WriteAppends};
@@ -6,22 +6,22 @@ ghost use Rattle.toml_span_lines.specs.Ends.{after_write};
 
 use std::io;
 
-/// A writer that knows whether it has failed.
+/// A writer that records whether a write has failed.
 pub trait Sink {
-    /// The bytes that have been written, if they are known.
+    /// The bytes written so far, if they are known.
     ghost contents: { Self → Option (List ℕ) };
 
-    /// Whether a write has returned an error, or has accepted no byte of a non-empty buffer.
+    /// Whether a write has failed: it returned an error, or accepted no byte of a buffer that was not empty.
     ghost failed: { Self → Bool };
 
-    /// Writes bytes from the front of the buffer, and returns how many. Afterwards `has_failed` returns whether this or
-    /// an earlier write has returned an error, or has accepted no byte of a non-empty buffer.
+    /// Writes bytes from the front of the buffer, and returns how many were written. A write fails if it returns an
+    /// error, or accepts no byte of a buffer that is not empty; `has_failed` then returns true from now on.
     fn write(&mut self, buf: &[u8]) -> io::Result<usize>
         ensures bound { WritesAtMost result buf.now }
         ensures bytes { WriteAppends (contents self.old) (contents self.new) result buf.now }
         ensures failed_after { failed self.new ≡ after_write (failed self.old) result buf.now };
 
-    /// Returns whether a write has returned an error, or has accepted no byte of a non-empty buffer.
+    /// Returns whether any write so far has failed.
     fn has_failed(&self) -> bool
         ensures { result ≡ failed self.now };
 }

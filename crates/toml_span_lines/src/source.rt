@@ -1,4 +1,4 @@
-//! Readers.
+//! Readers that record failures.
 ghost use Rattle.std.specs.Prelude.{◌≡◌, ℕ, Bool, List, Option};
 ghost use Rattle.std.specs.Io.{ReadsAtMost};
 ghost use Rattle.std.specs.Io.KnownBytes.{ReadConsumes};
@@ -6,22 +6,22 @@ ghost use Rattle.toml_span_lines.specs.Ends.{after_read};
 
 use std::io;
 
-/// A reader that knows whether it has failed.
+/// A reader that records whether a read has failed.
 pub trait Source {
-    /// The bytes that reads will return, if they are known.
+    /// The bytes that are left to read, if they are known.
     ghost remaining: { Self → Option (List ℕ) };
 
     /// Whether a read has returned an error.
     ghost failed: { Self → Bool };
 
-    /// Reads bytes into the front of the buffer, and returns how many. 0 means the end of the input, unless the buffer
-    /// is empty. Afterwards `has_failed` returns whether this or an earlier read has returned an error.
+    /// Reads bytes into the front of the buffer, and returns how many were read. 0 means the end of the input, unless
+    /// the buffer is empty. If a read returns an error, `has_failed` returns true from now on.
     fn read(&mut self, buf: &mut [u8]) -> io::Result<usize>
         ensures bound { ReadsAtMost result buf.new }
         ensures bytes { ReadConsumes (remaining self.old) (remaining self.new) result buf.new }
         ensures failed_after { failed self.new ≡ after_read (failed self.old) result };
 
-    /// Returns whether a read has returned an error.
+    /// Returns whether any read so far has returned an error.
     fn has_failed(&self) -> bool
         ensures { result ≡ failed self.now };
 }

@@ -1,4 +1,4 @@
--- Why a file is not read as a type.
+-- Why a file could not be read as a type.
 use Rattle.std.specs.Prelude.{◌≡◌, ⊤, ℕ, List, [], ◌++◌, Result, Ok, Err, codes, map, string_bytes}
 use Rattle.toml_span_lex.specs.declared.stop.Stop.{Stop}
 use Rattle.toml_span_lex.specs.declared.stop.Stop.TheVariants as stops
@@ -17,7 +17,7 @@ use Rattle.toml_span_load.specs.declared.LoadError.{LoadError}
 use Rattle.toml_span_load.specs.declared.LoadError.TheVariants.{Memory, Io, Reported}
 use Rattle.toml_span_load.specs.declared.Unreadable.{Unreadable}
 
--- the text for a file of this name, and the system's words
+-- the message for a file with this name and an error of the system with this message
 unfoldable pub unreadable_text : List ℕ → List ℕ → List ℕ
 unreadable_text name cause = codes "cannot read `" ++ visible name ++ codes "`: " ++ cause
 
@@ -25,13 +25,13 @@ abbrev pub IsUnreadable : List ℕ → Unreadable → Type 0
 IsUnreadable name u =
     (string_bytes u.name ≡ name) × ((cause : List ℕ) × (string_bytes u.text ≡ unreadable_text name cause))
 
--- `open`: the file of that name can't be read, or memory ran out
+-- `open`: the file with this name can't be read, or an allocation failed
 abbrev pub NotOpened : List ℕ → LoadError → Type 0
 NotOpened name (Memory e) = ⊤
 NotOpened name (Io u) = IsUnreadable name u
 NotOpened name (Reported r) = ⊥
 
--- the read of the text returns errors, and these are their reports; or memory ran out
+-- Reading the text as the type returns errors, and these are their reports; or an allocation failed.
 abbrev pub NotLoaded : {T : Type 0} → (Node → Result T Errors → Node → Type 0) → List ℕ → List ℕ → LoadError → Type 0
 NotLoaded reads name text (Memory e) = ⊤
 NotLoaded reads name text (Io u) = ⊥
@@ -44,14 +44,15 @@ abbrev pub AreShown : {T : Type 0} → Result T (Stop Errors) → List ErrorCont
 AreShown read warnings name text reports out =
     AreReportsOf read warnings text reports × AreReportTexts styles.Plain name text reports out
 
--- `read_with_warnings`: what the text is read as, with the reports of its warnings
+-- `read_with_warnings`: what the text was read as, with the reports of the warnings
 abbrev pub IsLoaded : {T : Type 0} → (Node → Result T Errors → List ErrorContent → List ErrorContent → Type 0) → List ℕ
     → List ℕ → T → List ReportContent → List ℕ → Type 0
 IsLoaded reads name text x reports out =
     (warnings : List ErrorContent) × IsReadWithWarnings reads text (Ok x) [] warnings
     × AreShown (Ok x) warnings name text reports out
 
--- the read returns errors, and the reports are those of the warnings and of these errors; or memory ran out
+-- Reading the text as the type returns errors, and these are the reports of the warnings and of the errors; or an
+-- allocation failed.
 abbrev pub NotLoadedWithWarnings : {T : Type 0}
     → (Node → Result T Errors → List ErrorContent → List ErrorContent → Type 0) → List ℕ → List ℕ → LoadError → Type 0
 NotLoadedWithWarnings reads name text (Memory e) = ⊤

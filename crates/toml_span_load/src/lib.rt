@@ -1,8 +1,8 @@
-//! Reads a TOML file as a type, with errors and warnings that outlive its text.
+//! Reads a TOML file as a type, with errors and warnings that outlive the text of the file.
 #![tactic(auto)]
 
 ghost use Rattle.std.specs.Prelude.{◌≡◌, IfErr, IfOk, Ok, Some, map, string_bytes};
-ghost use Rattle.toml_span.specs.FromText.{IsRead};
+ghost use Rattle.toml_span.specs.FromText.{IsReadAs};
 ghost use Rattle.toml_span_load.specs.Load.{AreShown, IsLoaded, IsUnreadable, NotLoaded, NotLoadedWithWarnings};
 ghost use Rattle.toml_span_load.specs.Load as spec;
 ghost use Rattle.toml_span_load.specs.Load.{NotOpened, shown};
@@ -20,26 +20,26 @@ use toml_span::{
 use toml_span_report::visible::push_visible;
 use toml_span_report::{Reported, Style, render_all, reports_of};
 
-/// Why a file was not read as a type.
+/// Why a file could not be read as a type.
 #[derive(Debug, Drop)]
 pub enum LoadError {
-    /// Memory ran out.
+    /// An allocation failed.
     Memory(AllocError),
     /// The file can't be read, or is not valid UTF-8.
     Io(Unreadable),
-    /// Its text is not valid TOML, or does not fit the type.
+    /// The text is not valid TOML, or does not fit the type. These are the reports of all errors.
     Reported(Reported),
 }
 
-/// A file that can't be read, or is not valid UTF-8.
+/// The error of a file that can't be read, or is not valid UTF-8.
 #[derive(Debug, Drop)]
 pub struct Unreadable {
-    /// The name of the file, as it was given.
+    /// The name of the file, as it was passed.
     pub name: String,
     /// The kind of the system's error.
     pub kind: ErrorKind,
-    /// The name and the system's error: ``cannot read `a.toml`: No such file or directory (os error 2)``. Control
-    /// characters of the name, and those that end a line or change the direction, are escaped.
+    /// The message, such as ``cannot read `a.toml`: No such file or directory (os error 2)``. Control characters in the
+    /// name, and characters that end a line or change the direction of the text, are escaped.
     pub text: String,
 }
 
@@ -53,7 +53,7 @@ impl From<AllocError> for LoadError {
     }
 }
 
-/// Writes the text of the error, or that memory ran out.
+/// Writes the text of the error, or a message that memory ran out.
 impl Display for LoadError {
     ghost output = { λ error. Some (shown error) };
 
@@ -68,18 +68,18 @@ impl Display for LoadError {
 
 impl std::error::Error for LoadError {}
 
-/// What was read from a file, with its warnings.
+/// A value that was read from a file, with the warnings of the read.
 #[derive(Debug, Drop)]
 pub struct Loaded<T> {
     pub value: T,
-    /// The reports of the warnings, in the order of the fields. Their text is empty if there are none.
+    /// The reports of the warnings, in the order of the fields, and their text, which is empty if there are none.
     pub warnings: Reported,
 }
 
-/// A file that was read: its name, which reports print, and its text.
+/// A file's name, which reports print, and its text.
 ///
-/// What is read from it may borrow from the text, and its errors don't:
-/// `let file = TextFile::open(&rt, "settings.toml")?; file.read::<Settings>(alloc)`.
+/// What is read from it may borrow from the text, but its errors do not: `let file = TextFile::open(&rt,
+/// "settings.toml")?; file.read::<Settings>(alloc)`.
 #[derive(Debug, Drop)]
 pub struct TextFile {
     pub name: String,
@@ -87,7 +87,8 @@ pub struct TextFile {
 }
 
 impl TextFile {
-    /// Reads the file of this name. If it can't be read, or is not valid UTF-8, the error says so with its name.
+    /// Reads the file with this name. Fails with `Io` if it can't be read or is not valid UTF-8, or if an allocation
+    /// fails.
     pub fn open<R: Files + Alloc<A = Global>>(rt: &R, name: &str) -> Result<TextFile, LoadError>
         ensures name { IfOk result (λ file. string_bytes file.name ≡ name.now) }
         ensures refused { IfErr result (NotOpened name.now) }
@@ -104,11 +105,12 @@ impl TextFile {
         }
     }
 
-    /// Reads the text as a type, as `from_str` does. The errors are those of `Reported::of`, without colors.
+    /// Reads the text as a type, as `from_str` does. Fails with the reports of all errors, without colors, or if an
+    /// allocation fails.
     ///
-    /// A type that warns does not implement `Deserialize`: read it with `read_with_warnings`.
+    /// For a type that warns, which does not implement `Deserialize`, use `read_with_warnings`.
     pub fn read<'de, T: Deserialize<'de>>(&'de self, alloc: Global) -> Result<T, LoadError>
-        ensures read { IfOk result (λ x. IsRead T.reads (string_bytes self.now.text) (Ok x)) }
+        ensures read { IfOk result (λ x. IsReadAs T.reads (string_bytes self.now.text) (Ok x)) }
         ensures refused { IfErr result (NotLoaded T.reads (string_bytes self.now.name) (string_bytes self.now.text)) }
     {
         let (name, text) = (self.name.as_str(), self.text.as_str());
@@ -122,7 +124,7 @@ impl TextFile {
     }
 
     /// Reads the text as a type that warns, as `from_str_with_warnings` does. Returns the value with the reports of its
-    /// warnings. If the read fails, the error has the reports of the warnings and of all errors, without colors.
+    /// warnings. Fails with the reports of all warnings and errors, without colors, or if an allocation fails.
     pub fn read_with_warnings<'de, T: DeserializeWithWarnings<'de>>(
         &'de self,
         alloc: Global,
@@ -147,8 +149,8 @@ impl TextFile {
     }
 }
 
-/// Returns the reports of the warnings of a read and of its errors, with their text. Fails if memory runs out, or ran
-/// out in the read.
+/// Returns the reports of the warnings of a read and, if it failed, of its errors, with their text. Fails if the read
+/// failed with `Stop::Memory`, or if an allocation fails.
 fn shown_read<T>(
     alloc: Global,
     read: &Result<T, Stop<DeserError<'_>>>,
@@ -164,7 +166,7 @@ fn shown_read<T>(
     Ok(Reported { reports, text })
 }
 
-/// Returns the error of a read that failed, with these reports.
+/// Returns the error of a read that failed with `stop` and has these reports.
 fn failed(stop: Stop<DeserError<'_>>, reported: Reported) -> LoadError
     ensures { result ≡ spec.failed stop.entry reported }
 {
@@ -174,7 +176,7 @@ fn failed(stop: Stop<DeserError<'_>>, reported: Reported) -> LoadError
     }
 }
 
-/// Returns the error of a file that can't be read.
+/// Returns the error of a file that can't be read. Fails if an allocation fails.
 fn not_readable(alloc: Global, name: &str, error: io::Error) -> Result<Unreadable, AllocError>
     ensures { IfOk result (IsUnreadable name.now) }
 {
@@ -185,7 +187,7 @@ fn not_readable(alloc: Global, name: &str, error: io::Error) -> Result<Unreadabl
     Ok(Unreadable { name, kind, text })
 }
 
-/// Returns the text of the error of a file that can't be read, for this reason.
+/// Returns the message for a file that can't be read for this reason. Fails if an allocation fails.
 #[tactic(auto, unfolding(crate::specs::Load::unreadable_text))]
 fn unreadable_text(alloc: Global, name: &str, cause: &str) -> Result<String, AllocError>
     ensures { IfOk result (λ text. string_bytes text ≡ spec.unreadable_text name.now cause.now) }

@@ -13,7 +13,7 @@ use Rattle.toml_span_read.specs.Dates.{begins_date, is_date_byte, continues_date
 use Rattle.toml_span_read.specs.Data.{from_to}
 use Rattle.toml_span_read.specs.Grammar.{SpellsScalar}
 use Rattle.toml_span_read.proofs.DatesMove.{digit_date, this_date, date_carried}
-use Rattle.toml_span_read.proofs.Parts.{Part, same_part, front, back, tail, here, byte, byte_at, behind, next, range, within}
+use Rattle.toml_span_read.proofs.Parts.{Part, same_part, front, back, tail, here, byte, byte_at, past, next, range, within}
 
 -- ---- bytes
 
@@ -159,7 +159,7 @@ run_to : {text rest : List ℕ} {i j : ℕ} (xs : List ℕ) → All xs → is_da
 run_to {text} {rest} {i} {j} xs all off p = grind (arith, nat_tests, common_steps, byte_at p, next p, within, within p)
 
 in_one : {text rest : List ℕ} {i j : ℕ} (xs : List ℕ) → All xs → is_date_byte (get_or rest 0 0) ≡ false → continues_date rest 0 ≡ false → Part text xs rest i j → IsCandidate text i j
-in_one {text} {rest} {i} {j} xs all off none p = inl (run_to xs all off p, and_right (j == i + 10) (continues_date text j) (rw (next p, behind p 1) none))
+in_one {text} {rest} {i} {j} xs all off none p = inl (run_to xs all off p, and_right (j == i + 10) (continues_date text j) (rw (next p, past p 1) none))
 
 -- a date and a time with a letter between them
 with_letter : (d : List ℕ) (c : ℕ) (more : List ℕ) → All d → All more → is_date_byte c ≡ true → All (d ++ c ∷ more)
@@ -171,11 +171,11 @@ with_space : {text rest : List ℕ} {i j : ℕ} (d more : List ℕ) → length d
 with_space {text} {rest} {i} {j} d more ten f g digit some off p =
     let date : Part text d (32 ∷ (more ++ rest)) i (i + 10) = rw ten at (front d (32 ∷ more) p) in
     let others : Part text (32 ∷ more) rest (i + 10) j = rw ten at (back d (32 ∷ more) p) in
-    let behind_space = tail 32 more others in
+    let after_space = tail 32 more others in
     let z : ((i + 10) + 1) + 0 ≡ (i + 10) + 1 = omega arith in
-    let second : get_or text ((i + 10) + 1) 0 ≡ get_or more 0 0 = rw z at (byte behind_space 0 some) in
+    let second : get_or text ((i + 10) + 1) 0 ≡ get_or more 0 0 = rw z at (byte after_space 0 some) in
     let at : (i + 10) + 1 ≡ i + 11 = omega arith in
-    let run : MaximalRun is_date_byte text (i + 11) j = rw at at (run_to more g off behind_space) in
+    let run : MaximalRun is_date_byte text (i + 11) j = rw at at (run_to more g off after_space) in
     inr (run_to d f refl date, and_from (get_or text (i + 10) 0 == 32) _ (rw (here 32 more others) refl) (rw second digit), run)
 
 date_time : {text rest : List ℕ} {i j : ℕ} (xs : List ℕ) (d : IsDateTime xs) → is_date_byte (get_or rest 0 0) ≡ false → continues_date rest 0 ≡ false → Part text xs rest i j → IsCandidate text i j × (begins_date text i ≡ true)

@@ -7,3 +7,4 @@ pub mod OpenedLemmas
 pub mod SectionLemmas
 pub mod ValueSizes
 pub mod Uses
+pub mod DottedLemmas

@@ -7,7 +7,7 @@ use Rattle.toml_span_read.specs.Dates.{is_date_byte}
 use Rattle.toml_span_read.specs.Data.{from_to}
 use Rattle.toml_span_read.specs.Grammar.{SpellsScalar}
 use Rattle.toml_span_read.specs.Numbers.{IsSigned}
-use Rattle.toml_span_read.specs.Numerals.{is_digit_in, sum_of_digits, magnitude, behind_sign, is_negative}
+use Rattle.toml_span_read.specs.Numerals.{is_digit_in, sum_of_digits, magnitude, after_sign, is_negative}
 use Rattle.toml_span_read.proofs.NumberLemmas.{no_keylike_figure, stands_alone}
 use Rattle.toml_span_read.proofs.ShortIntegers.{decimal_digit as digit_ten, short_spelled}
 use Rattle.toml_span_read.proofs.NumbersMove.{off_bytes, Plain, plain_in}
@@ -72,7 +72,7 @@ integer_again {text} {rest} {i} {j} (negsuc n) h off p =
     let d = decimal_in (suc n) (omega arith) q in
     let b = off_bytes (get_or text j 0) (rw (next p) off) in
     let first = here 45 (decimal (suc n)) p in
-    let sign : behind_sign text i ≡ i + 1 = rw first refl in
+    let sign : after_sign text i ≡ i + 1 = rw first refl in
     let minus : is_negative text i ≡ true = rw first refl in
     let value : IsSigned true (magnitude 10 text (i + 1) j) (negsuc n) = rw (d.value) (refl, omega arith) in (
       rw first refl,

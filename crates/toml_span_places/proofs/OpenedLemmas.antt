@@ -6,8 +6,8 @@ use Rattle.toml_span_tree.specs.Path.{Path}
 use Rattle.toml_span.specs.Paths.{elements_added, opened_by, same_path, same_step}
 use Rattle.toml_span.proofs.EachClaim.{same_path-eq}
 use Rattle.toml_span.proofs.Grafts.{same_step-self}
-use Rattle.toml_span_read.specs.Data.{Block}
-use Rattle.toml_span_places.specs.code.Opened.{counts_behind, counts_in, one_more, sorted_step}
+use Rattle.toml_span_read.specs.Data.{ParsedSection}
+use Rattle.toml_span_places.specs.code.Opened.{counts_after, counts_in, one_more, sorted_step}
 use Rattle.toml_span_places.specs.code.Opened.{sorted_steps}
 use Rattle.toml_span_places.specs.declared.opened.SortedStep.{SortedStep}
 use Rattle.toml_span_places.specs.contracts.opened.SortedStepOrd.TheImpl as order
@@ -61,7 +61,7 @@ pub counts_put : (es new : List Entry) (k : Vec SortedStep Global) (v : ℕ) (p 
 counts_put es new k v p at more new_is = grind (arith, nat_tests, common_steps, fun_ext, inserted, same_path-eq, same_path-sym)
 
 -- after a section
-pub counts_next : (counts counts' : Path → ℕ) (earlier : List Block) (b : Block) → counts' ≡ counts_behind counts b →
+pub counts_next : (counts counts' : Path → ℕ) (earlier : List ParsedSection) (b : ParsedSection) → counts' ≡ counts_after counts b →
     counts ≡ elements_added (opened_by earlier) → counts' ≡ elements_added (opened_by (b ∷ earlier))
 unfolding opened_by
-counts_next counts counts' earlier b behind was = grind (arith, nat_tests, common_steps, fun_ext)
+counts_next counts counts' earlier b beyond was = grind (arith, nat_tests, common_steps, fun_ext)

@@ -5,13 +5,13 @@ use Rattle.toml_span_lex.specs.declared.span.Span.{Span}
 use Rattle.toml_span_tree.specs.Float.{float_text}
 use Rattle.toml_span_tree.specs.Node.{Scalar, text as text_scalar, integer, float, boolean, datetime, FloatValue, finite, infinite, not_a_number, Node, node, Inner, taken, Items, no_items, item, Members, no_members, member, scalar as scalar_node, array as array_node, table as table_node}
 use Rattle.toml_span_tree.specs.Value.{is_whole, holds_whole, all_whole, all_members_whole}
-use Rattle.toml_span_read.specs.Data.{ParsedValue, parsed, ParsedInner, scalar, array, inline, ParsedItems, no_items as none_read, item as item_read, ParsedPairs, no_pairs, pair, KeyValue, from_to, SimpleKey}
+use Rattle.toml_span_read.specs.Data.{ParsedValue, parsed, ParsedInner, scalar, array, inline, ParsedItems, no_items as none_read, item as item_read, ParsedPairs, no_pairs, pair, ParsedAssignment, from_to, SimpleKey}
 use Rattle.toml_span_read.specs.Dates.{begins_date, is_date_byte}
 use Rattle.toml_span_read.specs.Gaps.{begins_gap, MaximalGap, Separator, Closes}
 use Rattle.toml_span_read.specs.Grammar.{truth_text, SpellsScalar, Spells, InnerWith, ItemsWith, PairsWith}
 use Rattle.toml_span_read.specs.Keys.{SpellsSimpleKey, SpellsKey}
 use Rattle.toml_span_read.specs.Numbers.{SpecialFloat, FloatLiteral}
-use Rattle.toml_span_read.specs.Numerals.{behind_sign, is_negative, cleaned}
+use Rattle.toml_span_read.specs.Numerals.{after_sign, is_negative, cleaned}
 use Rattle.toml_span_read.proofs.NumberLemmas.{stands_alone}
 use Rattle.toml_span_read.specs.Again.{parts_off, HasValue, HoldsValue, HaveValues, HaveEntries, IsFloatText, IsScalarText, HasFloatTexts, InnerHasFloatTexts, ItemsHaveFloatTexts, MembersHaveFloatTexts, IsWithin, InnerIsWithin, ItemsAreWithin, MembersAreWithin, ReadsAsValue}
 use Rattle.toml_span_places.specs.Quoted.{key_text}
@@ -63,7 +63,7 @@ literal_again {text} {rest} {i} {j} digits (none, h, is) off p =
 abbrev ScalarAt : List ℕ → Scalar → ℕ → ℕ → Type 0
 ScalarAt text s i j = (span : Span) × SpellsScalar s span text i j
 
-special : {text rest : List ℕ} {k j : ℕ} (word : List ℕ) (i : ℕ) → length word ≡ 3 → is_date_byte (get_or rest 0 0) ≡ false → behind_sign text i ≡ k → Part text word rest k j → SpecialFloat word text i j
+special : {text rest : List ℕ} {k j : ℕ} (word : List ℕ) (i : ℕ) → length word ≡ 3 → is_date_byte (get_or rest 0 0) ≡ false → after_sign text i ≡ k → Part text word rest k j → SpecialFloat word text i j
 special {text} {rest} {k} {j} word i some off e p = grind (arith, nat_tests, common_steps, next, off_bytes, range, stands_alone, within)
 
 -- a word, after a dash or without one
@@ -98,8 +98,8 @@ Inside ns =
     → (vs : ParsedItems) × ItemsWith SpellsScalar vs text limit d i j × HaveValues vs ns × (begins_gap text i ≡ false)
 
 -- the elements after another one
-abbrev Behind : Items → Type 0
-Behind ns =
+abbrev After : Items → Type 0
+After ns =
     (text rest : List ℕ) (limit d i j : ℕ) → AreHeld ns → ItemsCanBeSpelled limit d ns → Part text (items_text false ns ++ (93 ∷ [])) rest i j
     → (vs : ParsedItems) × HaveValues vs ns × (((vs ≡ none_read) × Closes 93 text i j) ⊎ ((p : ℕ) × Separator 44 text i p × ItemsWith SpellsScalar vs text limit d p j))
 
@@ -110,11 +110,11 @@ comma : {text rest : List ℕ} {i j : ℕ} (more : List ℕ) → Part text (44 �
 comma {text} {rest} {i} {j} more p h =
     let e = here 44 (32 ∷ more) p in
     let f = here 32 more (tail 44 (32 ∷ more) p) in
-    record { at = i; before = nothing text i (no_gap_is text i 44 e (refl, refl, refl)); here = e; behind = one_space text (i + 1) f h }
+    record { at = i; before = nothing text i (no_gap_is text i 44 e (refl, refl, refl)); here = e; after = one_space text (i + 1) f h }
 
-behind_items : (ns : Items) → Inside ns → Behind ns
-behind_items no_items inside text rest limit d i j held can p = (none_read, tt, inl (refl, closes 93 (refl, refl, refl) p))
-behind_items (item n ns) inside text rest limit d i j held can p =
+after_items : (ns : Items) → Inside ns → After ns
+after_items no_items inside text rest limit d i j held can p = (none_read, tt, inl (refl, closes 93 (refl, refl, refl) p))
+after_items (item n ns) inside text rest limit d i j held can p =
     let more = items_text true (item n ns) ++ (93 ∷ []) in
     let q = tail 32 more (tail 44 (32 ∷ more) p) in
     let (vs, h, e, starts) = inside text rest limit d ((i + 1) + 1) j held can q in
@@ -126,17 +126,17 @@ items_off (item n ns) rest = refl
 
 abbrev InsideBraces : Members → Type 0
 InsideBraces ms =
-    (text rest : List ℕ) (es : List KeyValue) (limit d i j : ℕ) → MembersHeld ms → MembersCanBeSpelled limit d ms → Part text (members_text true ms ++ (125 ∷ [])) rest i j
+    (text rest : List ℕ) (es : List ParsedAssignment) (limit d i j : ℕ) → MembersHeld ms → MembersCanBeSpelled limit d ms → Part text (members_text true ms ++ (125 ∷ [])) rest i j
     → (ps : ParsedPairs) × PairsWith SpellsScalar ps es text limit d i j × HaveEntries ps ms × (begins_gap text i ≡ false)
 
-abbrev BehindPair : Members → Type 0
-BehindPair ms =
-    (text rest : List ℕ) (es : List KeyValue) (limit d i j : ℕ) → MembersHeld ms → MembersCanBeSpelled limit d ms → Part text (members_text false ms ++ (125 ∷ [])) rest i j
+abbrev AfterPair : Members → Type 0
+AfterPair ms =
+    (text rest : List ℕ) (es : List ParsedAssignment) (limit d i j : ℕ) → MembersHeld ms → MembersCanBeSpelled limit d ms → Part text (members_text false ms ++ (125 ∷ [])) rest i j
     → (ps : ParsedPairs) × HaveEntries ps ms × (((ps ≡ no_pairs) × Closes 125 text i j) ⊎ ((p : ℕ) × Separator 44 text i p × PairsWith SpellsScalar ps es text limit d p j))
 
-behind_pairs : (ms : Members) → InsideBraces ms → BehindPair ms
-behind_pairs no_members inside text rest es limit d i j held can p = (no_pairs, tt, inl (refl, closes 125 (refl, refl, refl) p))
-behind_pairs (member name key n ms) inside text rest es limit d i j held can p =
+after_pairs : (ms : Members) → InsideBraces ms → AfterPair ms
+after_pairs no_members inside text rest es limit d i j held can p = (no_pairs, tt, inl (refl, closes 125 (refl, refl, refl) p))
+after_pairs (member name key n ms) inside text rest es limit d i j held can p =
     let more = members_text true (member name key n ms) ++ (125 ∷ []) in
     let q = tail 32 more (tail 44 (32 ∷ more) p) in
     let (ps, h, e, starts) = inside text rest es limit d ((i + 1) + 1) j held can q in
@@ -176,7 +176,7 @@ front_again {text} {rest} {i} {j} name more span b is h p starts =
         at = a + 1;
         before = one_space text a space (no_gap_is text (a + 1) 61 sign (refl, refl, refl));
         here = sign;
-        behind = rw is (one_space text ((a + 1) + 1) (here 32 more s) last);
+        after = rw is (one_space text ((a + 1) + 1) (here 32 more s) last);
       };
     }
 
@@ -190,7 +190,7 @@ InnerAt text k limit d i j = (x : ParsedInner) × (span : Span) × InnerWith Spe
 
 -- an element, and those after it
 joined_items : (n : Node) (ns : Items) (text rest : List ℕ) (limit d i j : ℕ)
-    → (Part text (value_text n) ((items_text false ns ++ (93 ∷ [])) ++ rest) i (i + length (value_text n)) → ValueAt text n limit d i (i + length (value_text n))) → Behind ns → AreHeld ns → ItemsCanBeSpelled limit d ns
+    → (Part text (value_text n) ((items_text false ns ++ (93 ∷ [])) ++ rest) i (i + length (value_text n)) → ValueAt text n limit d i (i + length (value_text n))) → After ns → AreHeld ns → ItemsCanBeSpelled limit d ns
     → Part text (items_text true (item n ns) ++ (93 ∷ [])) rest i j → (vs : ParsedItems) × ItemsWith SpellsScalar vs text limit d i j × HaveValues vs (item n ns) × (begins_gap text i ≡ false)
 joined_items n ns text rest limit d i j first others held can p =
     let q = same_part (value_text n ++ (items_text false ns ++ (93 ∷ []))) (append_assoc (value_text n) (items_text false ns) (93 ∷ [])) p in
@@ -200,8 +200,8 @@ joined_items n ns text rest limit d i j first others held can p =
     (item_read v vs, (m, h, more), (e, f), value_starts v text limit d i m h)
 
 -- a pair, and those after it
-joined_pairs : (name : List ℕ) (key : Span) (n : Node) (ms : Members) (text rest : List ℕ) (es : List KeyValue) (limit d i j : ℕ) → IsUtf8 name → d + 1 ≤ limit
-    → ((b : ℕ) → Part text (value_text n) ((members_text false ms ++ (125 ∷ [])) ++ rest) b (b + length (value_text n)) → ValueAt text n limit (d + 1) b (b + length (value_text n))) → BehindPair ms → MembersHeld ms → MembersCanBeSpelled limit d ms
+joined_pairs : (name : List ℕ) (key : Span) (n : Node) (ms : Members) (text rest : List ℕ) (es : List ParsedAssignment) (limit d i j : ℕ) → IsUtf8 name → d + 1 ≤ limit
+    → ((b : ℕ) → Part text (value_text n) ((members_text false ms ++ (125 ∷ [])) ++ rest) b (b + length (value_text n)) → ValueAt text n limit (d + 1) b (b + length (value_text n))) → AfterPair ms → MembersHeld ms → MembersCanBeSpelled limit d ms
     → Part text (members_text true (member name key n ms) ++ (125 ∷ [])) rest i j → (ps : ParsedPairs) × PairsWith SpellsScalar ps es text limit d i j × HaveEntries ps (member name key n ms) × (begins_gap text i ≡ false)
 joined_pairs name key n ms text rest es limit d i j utf8 few first others held can p =
     let w = value_text n ++ (members_text false ms ++ (125 ∷ [])) in
@@ -214,7 +214,7 @@ joined_pairs name key n ms text rest es limit d i j utf8 few first others held c
     let (v, h, e) = first b (front (value_text n) (members_text false ms ++ (125 ∷ [])) r) in
     let f = front_again name w span b refl k q (value_starts v text limit (d + 1) b m h) in
     let s : SimpleKey = record { name = name; span = span } in
-    let here : KeyValue = record { parts = s ∷ []; value = v; extent = from_to i m } in
+    let here : ParsedAssignment = record { parts = s ∷ []; value = v; extent = from_to i m } in
     let (ps, g, more) = others text rest (es ++ (here ∷ [])) limit d m j held can (back (value_text n) (members_text false ms ++ (125 ∷ [])) r) in (
       pair (s ∷ []) v (from_to i m) ps,
       (m, (f.end, b, f.key, omega arith, f.sign, h, refl), (λ inner last at outer p rest f. grind (arith, nat_tests, common_steps)), more),
@@ -246,7 +246,7 @@ mutual
       (none_read, (e, omega arith), tt, no_gap_is text i 93 e (refl, refl, refl))
   items_again (item n ns) text rest limit d i j (held, more) (w, (few, fewer), (text_is, texts)) p =
       let both = and_parts (is_whole n) (all_whole ns) w in
-      joined_items n ns text rest limit d i j (λ q. value_again n text ((items_text false ns ++ (93 ∷ [])) ++ rest) limit d i (i + length (value_text n)) held (both.0, few, text_is) (items_off ns rest) q) (behind_items ns (items_again ns)) more (both.1, fewer, texts) p
+      joined_items n ns text rest limit d i j (λ q. value_again n text ((items_text false ns ++ (93 ∷ [])) ++ rest) limit d i (i + length (value_text n)) held (both.0, few, text_is) (items_off ns rest) q) (after_items ns (items_again ns)) more (both.1, fewer, texts) p
 
   members_again : (ms : Members) → InsideBraces ms
   members_again no_members text rest es limit d i j held can p =
@@ -256,7 +256,7 @@ mutual
   members_again (member name key (node k at) ms) text rest es limit d i j (utf8, held, more) (w, (few, fewer), (text_is, texts)) p =
       let both = and_parts (holds_whole k) (all_members_whole ms) w in
       joined_pairs name key (node k at) ms text rest es limit d i j utf8 few.0
-      (λ b q. value_again (node k at) text ((members_text false ms ++ (125 ∷ [])) ++ rest) limit (d + 1) b (b + length (inner_text k)) held (both.0, few, text_is) (members_off ms rest) q) (behind_pairs ms (members_again ms)) more (both.1, fewer, texts) p
+      (λ b q. value_again (node k at) text ((members_text false ms ++ (125 ∷ [])) ++ rest) limit (d + 1) b (b + length (inner_text k)) held (both.0, few, text_is) (members_off ms rest) q) (after_pairs ms (members_again ms)) more (both.1, fewer, texts) p
 
 -- ---- the contract
 

@@ -1,7 +1,7 @@
 -- What TOML 1.0 lacks in a string, in a gap and in pairs, one byte or pair at a time.
 use Rattle.toml_span_lex.proofs.Common.{◌≡◌, ◌≤◌, ◌<◌, ◌∙◌, ℕ, suc, ◌+◌, ◌-◌, Bool, true, false, List, [], ◌∷◌, ◌++◌, ap, refl, sym, map, drop, drop_all, drop_more, length, get_or, Option, None, arith, nat_tests, common_steps}
 use Rattle.toml_span_lex.specs.declared.key.Key.{Key}
-use Rattle.toml_span_read.specs.Data.{SimpleKey, key_value, pairs_onto, no_pairs}
+use Rattle.toml_span_read.specs.Data.{SimpleKey, parsed_assignment, pairs_onto, no_pairs}
 use Rattle.toml_span_read.specs.declared.value.Assignment.{Assignment}
 use Rattle.toml_span_places.specs.Keys.{with_quotes}
 use Rattle.toml_span_places.specs.Newer.{begins_escape, byte_forms, ends_gap, escape, escapes, gap_after, gap_before, gap_forms}
@@ -59,26 +59,26 @@ keys_end_last text end [] last = refl
 keys_end_last text end (key ∷ keys) last = keys_end_last text (with_quotes text key.span).end keys last
 
 abbrev pub assigned_forms : List ℕ → List Assignment → List NewerForm
-assigned_forms text es = pairs_forms text (pairs_onto (map key_value es) no_pairs)
+assigned_forms text es = pairs_forms text (pairs_onto (map parsed_assignment es) no_pairs)
 
-after_last : (i : ℕ) (es : List Assignment) → i + 1 ≡ length es → gap_before (pairs_onto (map key_value (drop (i + 1) es)) no_pairs) ≡ AfterLast
-after_last i es is = ap (λ rest. gap_before (pairs_onto (map key_value rest) no_pairs)) (drop_all (i + 1) es (omega arith))
+after_last : (i : ℕ) (es : List Assignment) → i + 1 ≡ length es → gap_before (pairs_onto (map parsed_assignment (drop (i + 1) es)) no_pairs) ≡ AfterLast
+after_last i es is = ap (λ rest. gap_before (pairs_onto (map parsed_assignment rest) no_pairs)) (drop_all (i + 1) es (omega arith))
 
 before_pair : (i : ℕ) (es : List Assignment) (e : Assignment) → i + 1 < length es →
-    gap_before (pairs_onto (map key_value (drop (i + 1) es)) no_pairs) ≡ BeforePair
-before_pair i es e below = ap (λ rest. gap_before (pairs_onto (map key_value rest) no_pairs)) (drop_more es (i + 1) e below)
+    gap_before (pairs_onto (map parsed_assignment (drop (i + 1) es)) no_pairs) ≡ BeforePair
+before_pair i es e below = ap (λ rest. gap_before (pairs_onto (map parsed_assignment rest) no_pairs)) (drop_more es (i + 1) e below)
 
 gap_is : (i : ℕ) (es : List Assignment) (e : Assignment) → i < length es →
-    gap_before (pairs_onto (map key_value (drop (i + 1) es)) no_pairs) ≡ gap_after i (length es)
+    gap_before (pairs_onto (map parsed_assignment (drop (i + 1) es)) no_pairs) ≡ gap_after i (length es)
 gap_is i es e below = grind (arith, nat_tests, common_steps, after_last i es, before_pair i es e)
 
 pairs_more : (text : List ℕ) (i : ℕ) (es : List Assignment) (e : Assignment) → i < length es → get_or es i e ≡ e →
-    assigned_forms text (drop i es) ≡ pair_forms text (key_value e) (gap_after i (length es)) ++ assigned_forms text (drop (i + 1) es)
+    assigned_forms text (drop i es) ≡ pair_forms text (parsed_assignment e) (gap_after i (length es)) ++ assigned_forms text (drop (i + 1) es)
 pairs_more text i es e below here =
     ap (assigned_forms text) (drop_more es i e below ∙ ap (λ x. x ∷ drop (i + 1) es) here)
-    ∙ ap (λ gap. pair_forms text (key_value e) gap ++ assigned_forms text (drop (i + 1) es)) (gap_is i es e below)
+    ∙ ap (λ gap. pair_forms text (parsed_assignment e) gap ++ assigned_forms text (drop (i + 1) es)) (gap_is i es e below)
 
 pub pairs_next : (text : List ℕ) (i : ℕ) (es : List Assignment) (e : Assignment) (before now all : List NewerForm) → i < length es → get_or es i e ≡ e →
-    now ≡ before ++ pair_forms text (key_value e) (gap_after i (length es)) → before ++ assigned_forms text (drop i es) ≡ all →
+    now ≡ before ++ pair_forms text (parsed_assignment e) (gap_after i (length es)) → before ++ assigned_forms text (drop i es) ≡ all →
     now ++ assigned_forms text (drop (i + 1) es) ≡ all
 pairs_next text i es e before now all below here more was = grind (arith, nat_tests, common_steps, pairs_more text i es e below here)

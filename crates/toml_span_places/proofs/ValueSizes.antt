@@ -2,7 +2,7 @@
 use Rattle.toml_span_lex.proofs.Common.{◌≡◌, ◌≤◌, ◌<◌, ℕ, suc, ◌+◌, List, [], ◌∷◌, ◌++◌, nat_tests, common_steps, map, drop, length, get_or, arith}
 use Rattle.toml_span_tree.specs.Path.{Path, position}
 use Rattle.toml_span_read.specs.Data.{ParsedValue, parsed, ParsedInner, scalar, array, inline, ParsedItems, no_items, item}
-use Rattle.toml_span_read.specs.Data.{ParsedPairs, no_pairs, pair, key_value, onto, pairs_onto, view}
+use Rattle.toml_span_read.specs.Data.{ParsedPairs, no_pairs, pair, parsed_assignment, onto, pairs_onto, parsed_value}
 use Rattle.toml_span_read.specs.declared.value.Assignment.{Assignment}
 use Rattle.toml_span_read.specs.declared.value.Val.{Val}
 use Rattle.toml_span_places.specs.Mentions.{Mentioned, item_mentions, pair_mentions, value_mentions}
@@ -25,10 +25,10 @@ abbrev mutual
   pairs_size (pair ks v extent ps) = suc (value_size v) + pairs_size ps
 
 abbrev pub elements_size : List Val → ℕ
-elements_size vs = items_size (onto (map view vs) no_items)
+elements_size vs = items_size (onto (map parsed_value vs) no_items)
 
 abbrev pub assigned_size : List Assignment → ℕ
-assigned_size es = pairs_size (pairs_onto (map key_value es) no_pairs)
+assigned_size es = pairs_size (pairs_onto (map parsed_assignment es) no_pairs)
 
 -- an element, and those after it
 pub elements_small : (i : ℕ) (vs : List Val) (v : Val) (all : ℕ) → i < length vs → get_or vs i v ≡ v → elements_size (drop i vs) ≤ all →
@@ -43,13 +43,13 @@ assigned_small i es e all below here = grind (arith, nat_tests, common_steps)
 -- ---- the mentions in elements and in assignments
 
 abbrev pub elements_mentions : Path → ℕ → List Val → List Mentioned
-elements_mentions p i vs = item_mentions p i (onto (map view vs) no_items)
+elements_mentions p i vs = item_mentions p i (onto (map parsed_value vs) no_items)
 
 abbrev pub assigned_mentions : Path → List Assignment → List Mentioned
-assigned_mentions p es = pair_mentions p (pairs_onto (map key_value es) no_pairs)
+assigned_mentions p es = pair_mentions p (pairs_onto (map parsed_assignment es) no_pairs)
 
 -- the next element
 pub elements_next : (p : Path) (i : ℕ) (vs : List Val) (v : Val) (before now all : List Mentioned) → i < length vs → get_or vs i v ≡ v →
-    now ≡ before ++ value_mentions (p ++ (position i ∷ [])) (view v) →
+    now ≡ before ++ value_mentions (p ++ (position i ∷ [])) (parsed_value v) →
     before ++ elements_mentions p i (drop i vs) ≡ all → now ++ elements_mentions p (i + 1) (drop (i + 1) vs) ≡ all
 elements_next p i vs v before now all under here more was = grind (arith, nat_tests, common_steps)

@@ -5,7 +5,7 @@ use Rattle.toml_span_lex.specs.Bytes.{quotation_mark, apostrophe}
 use Rattle.toml_span_lex.specs.declared.span.Span.{Span}
 use Rattle.toml_span_tree.specs.Nodes.{step_of}
 use Rattle.toml_span_tree.specs.Path.{Path}
-use Rattle.toml_span_read.specs.Data.{Block}
+use Rattle.toml_span_read.specs.Data.{ParsedSection}
 use Rattle.toml_span_places.specs.Mentions.{Mentioned, mentions}
 use Rattle.toml_span_places.specs.declared.keys.KeyPlace.{KeyPlace}
 use Rattle.toml_span_places.specs.declared.keys.Role.{Role}
@@ -13,7 +13,7 @@ use Rattle.toml_span_places.specs.declared.keys.Role.{Role}
 abbrev pub is_quote : ℕ → Bool
 is_quote c = c == quotation_mark || c == apostrophe
 
--- The span including the quotes. An empty string has the span of its opening quote, which the closing one follows.
+-- The span with the quotes. An empty string has the span of its opening quote, and the closing one follows it.
 abbrev pub with_quotes : List ℕ → Span → Span
 with_quotes text span =
     if nat_lt span.end (length text) && (nat_lt 0 span.start && is_quote (slice_index text (span.start - 1)))
@@ -23,22 +23,22 @@ with_quotes text span =
     else span
 
 -- a key: the path of what it names, its span without and with its quotes, and its role
-pub record Standing : Type 0 where
+pub record KeyMention : Type 0 where
   pub path : Path
   pub span : Span
   pub whole : Span
   pub role : Role
 
 -- the result as plain data
-abbrev pub standing : KeyPlace → Standing
-standing place =
+abbrev pub key_mention : KeyPlace → KeyMention
+key_mention place =
     record { path = map step_of place.path.items; span = place.span; whole = place.whole; role = place.role }
 
-abbrev pub key_of : List ℕ → Mentioned → Option Standing
-key_of text m =
+abbrev pub mentioned_key : List ℕ → Mentioned → Option KeyMention
+mentioned_key text m =
     option_map (λ role. record { path = m.0; span = m.1.key; whole = with_quotes text m.1.key; role = role })
     m.1.role
 
 -- all keys of the sections
-abbrev pub document_keys : List ℕ → List Block → List Standing
-document_keys text bs = filter_map (key_of text) (mentions true bs)
+abbrev pub document_keys : List ℕ → List ParsedSection → List KeyMention
+document_keys text bs = filter_map (mentioned_key text) (mentions true bs)

@@ -1,4 +1,5 @@
 pub mod Replace
+pub mod Dotted
 pub mod Keys
 pub mod Lines
 pub mod Literals

@@ -2,9 +2,9 @@
 use Rattle.std.specs.Prelude.{ℕ, zero, suc, ◌+◌, ◌==◌, nat_le, List, [], ◌∷◌, drop, slice_index, if◌then◌else◌}
 use Rattle.toml_span_lex.specs.declared.span.Span.{Span}
 use Rattle.toml_span_lex.specs.Bytes.{is_blank, line_feed}
-use Rattle.toml_span_read.specs.Data.{Block}
+use Rattle.toml_span_read.specs.Data.{ParsedSection}
 
--- the start of the spaces and tabs that end at an offset
+-- the start of the run of spaces and tabs that ends at an offset
 abbrev pub blanks_start : List ℕ → ℕ → ℕ
 blanks_start text zero = zero
 blanks_start text (suc n) = if is_blank (slice_index text n) then blanks_start text n else suc n
@@ -15,19 +15,19 @@ line_length [] = 0
 line_length (c ∷ cs) = if c == line_feed then 1 else suc (line_length cs)
 
 -- the offset after the line that contains an offset
-abbrev pub behind_line : List ℕ → ℕ → ℕ
-behind_line text at = at + line_length (drop at text)
+abbrev pub after_line : List ℕ → ℕ → ℕ
+after_line text at = at + line_length (drop at text)
 
 -- the lines of an assignment with this extent
 abbrev pub lines_of : List ℕ → Span → Span
 lines_of text extent =
-    record { start = blanks_start text extent.start; end = behind_line text extent.end }
+    record { start = blanks_start text extent.start; end = after_line text extent.end }
 
--- The offset after the line of a section's last assignment, or of its header if it has no assignment.
+-- the offset after the line of a section's last assignment or, if there is none, of its header
 abbrev pub body_end : List ℕ → Span → Span → ℕ
-body_end text header extent = if nat_le extent.end header.end then header.end else behind_line text extent.end
+body_end text header extent = if nat_le extent.end header.end then header.end else after_line text extent.end
 
 -- the lines of a section
-abbrev pub section_lines : List ℕ → Block → Span
+abbrev pub section_lines : List ℕ → ParsedSection → Span
 section_lines text b =
     record { start = blanks_start text b.extent.start; end = body_end text b.header_span b.extent }

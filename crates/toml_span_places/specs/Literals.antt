@@ -11,10 +11,10 @@ use Rattle.toml_span_places.specs.Keys.{is_quote}
 abbrev pub byte_before : List ℕ → ℕ → ℕ → ℕ
 byte_before text at back = if nat_lt at back then 0 else slice_index text (at - back)
 
--- the end of the opening quotes of a string whose content begins at an offset: before the line end that is dropped, if
--- there is one
-abbrev pub behind_quotes : List ℕ → ℕ → ℕ
-behind_quotes text from =
+-- The end of the opening quotes of a string whose content begins at an offset. Between them may be a line end, which is
+-- dropped.
+abbrev pub after_quotes : List ℕ → ℕ → ℕ
+after_quotes text from =
     if not (byte_before text from 1 == line_feed) then from
     else if byte_before text from 2 == carriage_return then from - 2
     else from - 1
@@ -31,9 +31,9 @@ string_literal text span empty =
     if not (nat_lt span.end (length text)) then span
     else if empty && span.end == span.start + 1 then record { start = span.start; end = span.end + 1 }
     else
-    let behind = behind_quotes text span.start in
-    let quotes = quotes_before text behind in
-    record { start = behind - quotes; end = span.end + quotes }
+    let after = after_quotes text span.start in
+    let quotes = quotes_before text after in
+    record { start = after - quotes; end = span.end + quotes }
 
 abbrev pub string_or_span : List ℕ → Span → Option (List ℕ) → Span
 string_or_span text span (Some string) = string_literal text span (length string == 0)

@@ -1,5 +1,5 @@
--- Where a text names the tables and values of its document: the mentions in the sections that the grammar reads, in the
--- order of the text. Keys, tables and sections are picked from this list.
+-- The mentions: where a text names the tables and values of its document, in the order of the text. Keys, tables and
+-- sections are picked from this list.
 use Rattle.std.specs.Prelude.{ℕ, zero, suc, Bool, if◌then◌else◌, List, [], ◌∷◌, ◌++◌, map, Option, Some, None, Vec}
 use Rattle.std.specs.Global.{Global}
 use Rattle.toml_span_lex.specs.declared.span.Span.{Span}
@@ -7,7 +7,7 @@ use Rattle.toml_span_tree.specs.Nodes.{step_of}
 use Rattle.toml_span_tree.specs.Path.{Path}
 use Rattle.toml_span_tree.specs.declared.nodes.Step.{Step as Lent}
 use Rattle.toml_span_read.specs.Data.{SimpleKey, ParsedValue, parsed, ParsedInner, scalar, array, inline, ParsedItems}
-use Rattle.toml_span_read.specs.Data.{no_items, item, ParsedPairs, no_pairs, pair, pairs_onto, Block}
+use Rattle.toml_span_read.specs.Data.{no_items, item, ParsedPairs, no_pairs, pair, pairs_onto, ParsedSection}
 use Rattle.toml_span.specs.Paths.{elements_added, opened_by, section_path, with_key, with_position}
 use Rattle.toml_span_places.specs.declared.mentions.Details.{Details}
 use Rattle.toml_span_places.specs.declared.mentions.Mention.{Mention}
@@ -40,12 +40,12 @@ latest (suc n) = Some n
 
 -- ---- headers
 
-abbrev pub by_header : Block → Option ℕ → Option Role → Option TableForm → Span → Details
+abbrev pub by_header : ParsedSection → Option ℕ → Option Role → Option TableForm → Span → Details
 by_header b e role form key =
     record { element = e; role = role; form = form; key = key; span = b.header_span; extent = b.extent }
 
--- a standard table, or a new element of an array
-abbrev pub last_mention : (Path → ℕ) → Block → Path → SimpleKey → Mentioned
+-- a table in single brackets, or a new element of an array
+abbrev pub last_mention : (Path → ℕ) → ParsedSection → Path → SimpleKey → Mentioned
 last_mention counts b p k =
     let role = Some roles.HeaderLast in (
       p,
@@ -53,9 +53,9 @@ last_mention counts b p k =
           else by_header b None role (Some forms.Header) k.span,
     )
 
--- Each part but the last passes through a table, which is the latest element if there is an array of tables. A section
+-- Each part except the last passes through a table or, in an array of tables, through its latest element. A section
 -- without a header is that of the root.
-abbrev pub header_mentions : (Path → ℕ) → Block → Path → List SimpleKey → List Mentioned
+abbrev pub header_mentions : (Path → ℕ) → ParsedSection → Path → List SimpleKey → List Mentioned
 header_mentions counts b p [] = (p, by_header b None None None b.header_span) ∷ []
 header_mentions counts b p (k ∷ []) = last_mention counts b (with_key p k) k ∷ []
 header_mentions counts b p (k ∷ l ∷ more) =
@@ -69,7 +69,7 @@ abbrev pub by_value : Option Role → Option TableForm → Span → Span → Det
 by_value role form key span =
     record { element = None; role = role; form = form; key = key; span = span; extent = span }
 
--- the parts of a key in an assignment with this extent
+-- the parts of the key of an assignment with this extent
 abbrev pub parts_mentions : Span → Path → List SimpleKey → List Mentioned
 parts_mentions extent p [] = []
 parts_mentions extent p (k ∷ []) = (with_key p k, by_value (Some roles.Last) None k.span extent) ∷ []
@@ -77,13 +77,13 @@ parts_mentions extent p (k ∷ l ∷ more) =
     (with_key p k, by_value (Some roles.Dotted) (Some forms.Dotted) k.span extent)
     ∷ parts_mentions extent (with_key p k) (l ∷ more)
 
--- the path with these parts appended
+-- the path with these parts at its end
 abbrev pub below : Path → List SimpleKey → Path
 below p [] = p
 below p (k ∷ ks) = below (with_key p k) ks
 
 abbrev mutual
-  -- the braces and keys in a value at a path, at any depth
+  -- the braces and keys in the value at a path, at any depth
   pub value_mentions : Path → ParsedValue → List Mentioned
   value_mentions p (parsed i span) = inner_mentions p span i
 
@@ -92,12 +92,12 @@ abbrev mutual
   inner_mentions p span (array vs) = item_mentions p 0 vs
   inner_mentions p span (inline ps) = (p, by_value None (Some forms.Inline) span span) ∷ pair_mentions p ps
 
-  -- the elements, beginning at a position
+  -- the elements of the array at a path, beginning at a position
   pub item_mentions : Path → ℕ → ParsedItems → List Mentioned
   item_mentions p i no_items = []
   item_mentions p i (item v vs) = value_mentions (with_position p i) v ++ item_mentions p (suc i) vs
 
-  -- the assignments below a path, each key before its value
+  -- the assignments in the table at a path, each key before its value
   pub pair_mentions : Path → ParsedPairs → List Mentioned
   pair_mentions p no_pairs = []
   pair_mentions p (pair ks v extent ps) =
@@ -105,19 +105,19 @@ abbrev mutual
 
 -- ---- sections
 
--- a section's header and its assignments, where `counts` is the number of elements of each array of tables before it
-abbrev pub section_mentions : Bool → (Path → ℕ) → Block → List Mentioned
+-- the mentions in a section, where `counts` is the number of elements that each array of tables has before it
+abbrev pub section_mentions : Bool → (Path → ℕ) → ParsedSection → List Mentioned
 section_mentions with_assignments counts b =
     header_mentions counts b [] b.header
-    ++ (if with_assignments then pair_mentions (section_path counts b) (pairs_onto b.key_values no_pairs) else [])
+    ++ (if with_assignments then pair_mentions (section_path counts b) (pairs_onto b.assignments no_pairs) else [])
 
--- those of sections that follow the earlier ones, which are listed with the nearest first
-abbrev pub mentions_after : Bool → List Block → List Block → List Mentioned
+-- Those in sections that follow others. The earlier ones are listed with the latest of them first.
+abbrev pub mentions_after : Bool → List ParsedSection → List ParsedSection → List Mentioned
 mentions_after with_assignments earlier [] = []
 mentions_after with_assignments earlier (b ∷ bs) =
     section_mentions with_assignments (elements_added (opened_by earlier)) b
     ++ mentions_after with_assignments (b ∷ earlier) bs
 
 -- all mentions in these sections
-abbrev pub mentions : Bool → List Block → List Mentioned
+abbrev pub mentions : Bool → List ParsedSection → List Mentioned
 mentions with_assignments bs = mentions_after with_assignments [] bs

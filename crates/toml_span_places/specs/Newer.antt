@@ -1,5 +1,5 @@
 -- What a text uses that TOML 1.0 lacks, in the order of the text: what TOML 1.1 added ("Inline Table", "String", "Local
--- Time"), and the line ends around `=` and the byte order mark that only this parser reads.
+-- Time"), and two things that only this parser accepts: line ends around the `=` of a pair, and the byte order mark.
 use Rattle.std.specs.Prelude.{ℕ, zero, suc, ◌+◌, ◌-◌, Bool, true, false, not, ◌==◌, ◌&&◌, ◌||◌, nat_le, nat_lt, is_none}
 use Rattle.std.specs.Prelude.{List, [], ◌∷◌, ◌++◌, length, slice_index, if◌then◌else◌, Option, Some, None, unwrap_or}
 use Rattle.std.specs.List.{flat_map}
@@ -7,8 +7,9 @@ use Rattle.toml_span_lex.specs.Bytes.{backslash, carriage_return, colon, comma, 
 use Rattle.toml_span_lex.specs.Bytes.{quotation_mark, small_e, small_x}
 use Rattle.toml_span_lex.specs.declared.span.Span.{Span}
 use Rattle.toml_span_tree.specs.Node.{Scalar, text as text_node, integer, float, boolean, datetime}
-use Rattle.toml_span_read.specs.Data.{SimpleKey, KeyValue, ParsedValue, parsed, ParsedInner, scalar, array, inline}
-use Rattle.toml_span_read.specs.Data.{ParsedItems, no_items, item, ParsedPairs, no_pairs, pair, Block, from_to}
+use Rattle.toml_span_read.specs.Data.{SimpleKey, ParsedAssignment, ParsedValue, parsed, ParsedInner, scalar, array}
+use Rattle.toml_span_read.specs.Data.{inline, ParsedItems, no_items, item, ParsedPairs, no_pairs, pair, ParsedSection}
+use Rattle.toml_span_read.specs.Data.{from_to}
 use Rattle.toml_span_places.specs.Keys.{with_quotes}
 use Rattle.toml_span_places.specs.Literals.{byte_before}
 use Rattle.toml_span_places.specs.Points.{text_start}
@@ -24,7 +25,8 @@ form kind start end = record { kind = kind; span = from_to start end } ∷ []
 
 -- ---- strings and keys
 
--- `escape-seq-char =/ %x65` and `escape-seq-char =/ %x78 2HEXDIG`: the byte at an offset, if it is an escape's letter
+-- `escape-seq-char =/ %x65` and `escape-seq-char =/ %x78 2HEXDIG`: the byte at an offset, if it is the letter of such
+-- an escape
 abbrev pub escape : List ℕ → Bool → ℕ → List NewerForm
 escape text is_letter at =
     if slice_index text at == small_e && is_letter then form kinds.EscapeEscape (at - 1) (at + 1)
@@ -34,13 +36,13 @@ escape text is_letter at =
 abbrev pub begins_escape : List ℕ → Bool → ℕ → Bool
 begins_escape text is_letter at = not is_letter && slice_index text at == backslash
 
--- the escapes in this many bytes from an offset on, the first of which is the letter of an escape or is not
+-- The uses in this many bytes from an offset on. The first byte is the letter of an escape or not.
 abbrev pub escapes : List ℕ → Bool → ℕ → ℕ → List NewerForm
 escapes text is_letter at zero = []
 escapes text is_letter at (suc n) =
     escape text is_letter at ++ escapes text (begins_escape text is_letter at) (at + 1) n
 
--- the escapes in the content of a string or key, which are those of basic strings: a quotation mark follows
+-- The uses in the content of a string or key. Only basic strings have escapes: a quotation mark follows the content.
 abbrev pub string_forms : List ℕ → Span → List NewerForm
 string_forms text span =
     if nat_lt span.end (length text) && slice_index text span.end == quotation_mark
@@ -56,16 +58,16 @@ key_forms text keys = flat_map (λ key. string_forms text key.span) keys
 abbrev pub time_start : List ℕ → ℕ
 time_start date = if slice_index date 2 == colon then 0 else 11
 
--- `time-hour ":" time-minute`, if no colon follows; the span is that of all of the date or time
+-- `time-hour ":" time-minute`, if no colon follows. The span is that of the whole date or time.
 abbrev pub date_forms : List ℕ → Span → List NewerForm
 date_forms date span =
     let from = time_start date in
     if nat_le (length date) from || slice_index date (from + 5) == colon then []
     else form kinds.NoSeconds (span.end - (length date - from)) (span.end - (length date - (from + 5)))
 
--- ---- between the keys and values of inline tables
+-- ---- gaps in inline tables
 
--- `newline = %x0A / %x0D.0A`, given the offset of %x0A
+-- the start of a `newline = %x0A / %x0D.0A`, given the offset of %x0A
 abbrev pub line_end_start : List ℕ → ℕ → ℕ
 line_end_start text at = if byte_before text at 1 == carriage_return then at - 1 else at
 
@@ -79,7 +81,7 @@ comment_kind AtEquals = kinds.CommentAtEquals
 comment_kind BeforePair = kinds.Comment
 comment_kind AfterLast = kinds.Comment
 
--- the comment that ends at an offset, if there is one, given its start
+-- the comment that ends at an offset, if it has started
 abbrev pub comment_form : Gap → Option ℕ → ℕ → List NewerForm
 comment_form gap None end = []
 comment_form gap (Some start) end = form (comment_kind gap) start end
@@ -95,7 +97,7 @@ is_after_last BeforePair = false
 is_after_last AtEquals = false
 is_after_last AfterLast = true
 
--- what the byte at an offset is or ends; `comment` is where the comment that contains it begins
+-- what the byte at an offset is or ends; `comment` is the start of the comment that contains it
 abbrev pub byte_forms : List ℕ → Gap → Option ℕ → ℕ → List NewerForm
 byte_forms text gap comment at =
     if slice_index text at == line_feed then line_end text gap comment at
@@ -103,14 +105,14 @@ byte_forms text gap comment at =
     then form kinds.TrailingComma at (at + 1)
     else []
 
--- where the comment that contains the next byte begins
+-- the start of the comment that contains the next byte
 abbrev pub next_comment : List ℕ → Option ℕ → ℕ → Option ℕ
 next_comment text comment at =
     if slice_index text at == line_feed then None
     else if slice_index text at == hash then Some (unwrap_or comment at)
     else comment
 
--- a byte that is not of a key, a value or a brace
+-- a byte that does not belong to a key, a value or a brace
 abbrev pub is_between : ℕ → Bool
 is_between c =
     is_blank c || (c == line_feed || c == carriage_return || c == hash || c == comma || c == equals)
@@ -118,7 +120,7 @@ is_between c =
 abbrev pub ends_gap : List ℕ → Option ℕ → ℕ → Bool
 ends_gap text comment at = is_none comment && not (is_between (slice_index text at))
 
--- the uses in this many bytes from an offset on, up to the first byte of a key, of a value or a brace
+-- the uses in this many bytes from an offset on, up to the first byte of a key, a value or a brace
 abbrev pub gap_from : List ℕ → Gap → Option ℕ → ℕ → ℕ → List NewerForm
 gap_from text gap comment at zero = []
 gap_from text gap comment at (suc n) =
@@ -142,7 +144,7 @@ abbrev pub keys_end : List ℕ → ℕ → List SimpleKey → ℕ
 keys_end text end [] = end
 keys_end text end (key ∷ keys) = keys_end text (with_quotes text key.span).end keys
 
--- what follows a pair, given the pairs after it
+-- the gap after a pair, given the pairs after it
 abbrev pub gap_before : ParsedPairs → Gap
 gap_before no_pairs = AfterLast
 gap_before (pair keys v extent ps) = BeforePair
@@ -160,7 +162,7 @@ abbrev mutual
   items_forms text no_items = []
   items_forms text (item v vs) = value_forms text v ++ items_forms text vs
 
-  -- each pair: its key, what is around `=`, its value, and what follows it
+  -- for each pair: its key, the gaps around `=`, its value, and the gap after it
   pub pairs_forms : List ℕ → ParsedPairs → List NewerForm
   pairs_forms text no_pairs = []
   pairs_forms text (pair keys v extent ps) =
@@ -168,27 +170,27 @@ abbrev mutual
       ++ gap_forms text (gap_before ps) extent.end)
       ++ pairs_forms text ps
 
--- what follows the pair at a position, given the number of pairs
+-- the gap after the pair at a position, given the number of pairs
 abbrev pub gap_after : ℕ → ℕ → Gap
 gap_after position count = if position + 1 == count then AfterLast else BeforePair
 
--- an inline table's pair, given what follows it
-abbrev pub pair_forms : List ℕ → KeyValue → Gap → List NewerForm
+-- a pair, and the gap after it
+abbrev pub pair_forms : List ℕ → ParsedAssignment → Gap → List NewerForm
 pair_forms text e after =
     ((key_forms text e.parts ++ gap_forms text AtEquals (keys_end text 0 e.parts)) ++ value_forms text e.value)
     ++ gap_forms text after e.extent.end
 
 -- ---- the document
 
-abbrev pub assignments_forms : List ℕ → List KeyValue → List NewerForm
+abbrev pub assignments_forms : List ℕ → List ParsedAssignment → List NewerForm
 assignments_forms text pairs = flat_map (λ e. key_forms text e.parts ++ value_forms text e.value) pairs
 
-abbrev pub section_forms : List ℕ → Block → List NewerForm
-section_forms text b = key_forms text b.header ++ assignments_forms text b.key_values
+abbrev pub section_forms : List ℕ → ParsedSection → List NewerForm
+section_forms text b = key_forms text b.header ++ assignments_forms text b.assignments
 
 abbrev pub mark_forms : List ℕ → List NewerForm
 mark_forms text = if text_start text == 0 then [] else form kinds.ByteOrderMark 0 (text_start text)
 
--- all uses in the sections of a text
-abbrev pub newer_forms : List ℕ → List Block → List NewerForm
+-- all uses in these sections
+abbrev pub newer_forms : List ℕ → List ParsedSection → List NewerForm
 newer_forms text bs = mark_forms text ++ flat_map (section_forms text) bs

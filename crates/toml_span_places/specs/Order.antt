@@ -4,7 +4,7 @@ use Rattle.toml_span_lex.specs.declared.key.Key.{Key}
 use Rattle.toml_span_tree.specs.Value.{view, span_of}
 use Rattle.toml_span_tree.specs.declared.nodes.Visited.{Visited}
 
--- the start of a value or of its key, if it has one, whichever is first
+-- the start of a value or of its key, whichever comes first
 abbrev pub or_key : ℕ → Option Key → ℕ
 or_key start None = start
 or_key start (Some key) = min start key.span.start

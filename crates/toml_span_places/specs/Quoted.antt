@@ -1,4 +1,4 @@
--- Keys and strings as TOML source (TOML 1.1, "Keys", "String").
+-- Keys and strings, written as TOML (TOML 1.1, "Keys", "String").
 use Rattle.std.specs.Prelude.{ℕ, ◌/◌, ◌%◌, Bool, ◌==◌, ◌||◌, ◌&&◌, not, nat_lt, List, ◌++◌, length, codes, encode_utf8}
 use Rattle.std.specs.Prelude.{if◌then◌else◌, Option, Some, None}
 use Rattle.std.specs.Char.{digit_char}
@@ -9,7 +9,7 @@ use Rattle.toml_span_lex.specs.Bytes.{quotation_mark, apostrophe, backslash, is_
 
 -- ---- between quotation marks
 
--- the letter after the backslash of an escape
+-- the letter of a character's short escape
 abbrev pub letter_of : ℕ → Option ℕ
 letter_of c =
     if c == quotation_mark || c == backslash then Some c
@@ -45,14 +45,14 @@ basic text = flat_map basic_char (chars text)
 
 -- ---- strings and keys
 
--- a byte that needs an escape only in basic strings, and one that literal strings must not contain
+-- the bytes that must be escaped in a basic string, and those that must not occur in a literal string
 abbrev pub is_escaped : ℕ → Bool
 is_escaped c = c == quotation_mark || c == backslash
 
 abbrev pub is_unliteral : ℕ → Bool
 is_unliteral c = c == apostrophe || is_control c
 
--- a string that is shorter as a literal string
+-- whether a string is shorter as a literal string
 abbrev pub is_literal : List ℕ → Bool
 is_literal text = list_any is_escaped text && not (list_any is_unliteral text)
 

@@ -1,4 +1,4 @@
--- A text with spans of it replaced.
+-- A text in which spans have been replaced.
 use Rattle.std.specs.Prelude.{◌≡◌, ℕ, suc, Bool, ◌&&◌, ◌||◌, nat_le, nat_lt, List, [], ◌∷◌, ◌++◌, drop, length}
 use Rattle.std.specs.Prelude.{slice_index, slice_range, if◌then◌else◌, Option, Some, None, Result, Ok, Err, String, ⊤}
 use Rattle.std.specs.Prelude.{string_bytes}
@@ -18,16 +18,16 @@ Edit = Span × List ℕ
 abbrev pub edit_of : Replacement → Edit
 edit_of r = (r.span, r.text.now)
 
--- the text from an offset on, with each span replaced, and everything between unchanged
+-- the text from an offset on, with each span replaced; the other bytes are unchanged
 abbrev pub edited : List ℕ → ℕ → List Edit → List ℕ
 edited text from [] = drop from text
 edited text from ((s, with) ∷ es) = slice_range text from s.start ++ (with ++ edited text s.end es)
 
--- bytes that continue a character are 0x80 to 0xBF
+-- Bytes from 0x80 to 0xBF continue a character.
 abbrev pub is_boundary : List ℕ → ℕ → Bool
 is_boundary text at = nat_lt (slice_index text at) 0x80 || nat_le 0xC0 (slice_index text at)
 
--- what is wrong with a span that follows one with this end
+-- what is wrong with a span, if anything, given the end of the span before it
 abbrev pub fault_of : List ℕ → ℕ → Span → Option SpanFault
 fault_of text from s =
     if nat_lt s.end s.start then Some faults.Reversed
@@ -46,7 +46,7 @@ first_fault text index from [] = None
 first_fault text index from ((s, with) ∷ es) =
     or_later index (fault_of text from s) (first_fault text (suc index) s.end es)
 
--- All edits are applied, or the first invalid one is the error.
+-- All spans are replaced, or the first invalid one is the error.
 abbrev pub Replaces : List ℕ → List Edit → Result (String Global) (Stop ReplaceError) → Type 0
 Replaces text es (Ok new) = (first_fault text 0 0 es ≡ None) × (string_bytes new ≡ edited text 0 es)
 Replaces text es (Err (stops.Fault e)) = first_fault text 0 0 es ≡ Some e

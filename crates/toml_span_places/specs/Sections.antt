@@ -1,9 +1,9 @@
--- Sections, each with the path of the table in which it assigns.
+-- Sections, each with the path of the table that it fills.
 use Rattle.std.specs.Prelude.{ℕ, false, List, map, filter_map, Option, Some, None, option_map}
 use Rattle.toml_span_lex.specs.declared.span.Span.{Span}
 use Rattle.toml_span_tree.specs.Nodes.{step_of}
 use Rattle.toml_span_tree.specs.Path.{Path}
-use Rattle.toml_span_read.specs.Data.{Block}
+use Rattle.toml_span_read.specs.Data.{ParsedSection}
 use Rattle.toml_span_places.specs.Lines.{blanks_start, body_end}
 use Rattle.toml_span_places.specs.Mentions.{Mentioned, mentions, path_of}
 use Rattle.toml_span_places.specs.declared.mentions.Details.{Details}
@@ -14,25 +14,25 @@ use Rattle.toml_span_places.specs.declared.tables.TableForm.{TableForm}
 use Rattle.toml_span_places.specs.declared.tables.TableForm.TheVariants as tables
 
 -- a section: the path of its table, how it begins, the line of its header, and the lines of its assignments
-pub record StandingSection : Type 0 where
+pub record SectionMention : Type 0 where
   pub path : Path
   pub form : SectionForm
   pub header : Span
   pub body : Span
 
 -- the result as plain data
-abbrev pub standing_section : SectionPlace → StandingSection
-standing_section place =
+abbrev pub section_mention : SectionPlace → SectionMention
+section_mention place =
     record { path = map step_of place.path.items; form = place.form; header = place.header; body = place.body }
 
--- A section begins where the last part of a header, or the root, is mentioned; only the root has no form.
+-- How a section begins, given how the mention at its start names a table. Only the root is not named.
 abbrev pub form_of : Option TableForm → Option SectionForm
 form_of None = Some forms.Root
 form_of (Some tables.Header) = Some forms.Table
 form_of (Some tables.Element) = Some forms.Element
 form_of (Some _) = None
 
--- the start of the assignments: after the header's line, or at the line of the first one
+-- the start of the assignments: after the header's line or, without a header, the line of the first assignment
 abbrev pub body_start : List ℕ → SectionForm → Details → ℕ
 body_start text forms.Root d = blanks_start text d.extent.start
 body_start text forms.Table d = d.span.end
@@ -41,11 +41,11 @@ body_start text forms.Element d = d.span.end
 abbrev pub body_of : List ℕ → SectionForm → Details → Span
 body_of text form d = record { start = body_start text form d; end = body_end text d.span d.extent }
 
-abbrev pub section_of : List ℕ → Mentioned → Option StandingSection
+abbrev pub section_of : List ℕ → Mentioned → Option SectionMention
 section_of text m =
     option_map (λ form. record { path = path_of m; form = form; header = m.1.span; body = body_of text form m.1 })
     (form_of m.1.form)
 
 -- all sections
-abbrev pub document_sections : List ℕ → List Block → List StandingSection
+abbrev pub document_sections : List ℕ → List ParsedSection → List SectionMention
 document_sections text bs = filter_map (section_of text) (mentions false bs)

@@ -1,4 +1,4 @@
--- Values as TOML source, on one line.
+-- Values, written as TOML on one line.
 use Rattle.std.specs.Prelude.{ℕ, Bool, true, false, List, [], ◌++◌, codes, if◌then◌else◌}
 use Rattle.std.specs.Fmt.{signed_decimal}
 use Rattle.toml_span_tree.specs.Float.{float_text}
@@ -13,14 +13,14 @@ scalar_text (float x) = float_text x
 scalar_text (boolean b) = if b then codes "true" else codes "false"
 scalar_text (datetime d) = d
 
--- what comes before an element or a pair, which is nothing for the first
+-- the text before an element or a pair, which is empty for the first
 abbrev pub separator : Bool → List ℕ
 separator first = if first then [] else codes ", "
 
 abbrev pub key_equals : List ℕ → List ℕ
 key_equals name = key_text name ++ codes " = "
 
--- a value that has been taken has no text
+-- A value that has been taken has no text.
 abbrev mutual
   pub value_text : Node → List ℕ
   value_text (node i span) = inner_text i

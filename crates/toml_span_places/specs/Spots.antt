@@ -1,4 +1,4 @@
--- The key or value of a tree at a byte offset in its text.
+-- The key or value at a byte offset in a text.
 use Rattle.std.specs.Prelude.{ℕ, Bool, ◌&&◌, nat_le, nat_lt, if◌then◌else◌, List, [], map, fold, filter_map}
 use Rattle.std.specs.Prelude.{Option, Some, None, not, option_map}
 use Rattle.toml_span_lex.specs.declared.span.Span.{Span}
@@ -12,7 +12,7 @@ use Rattle.toml_span_places.specs.declared.spots.NodePlace.{NodePlace}
 use Rattle.toml_span_places.specs.declared.spots.Part.{Part}
 use Rattle.toml_span_places.specs.declared.spots.Part.TheVariants as parts
 
--- a value or its key: the path of the value, the span of the part with its quotes, and the value
+-- a value or its key: the path of the value, the span of the value or key with its quotes, and the value
 pub record Spot : Type 0 where
   pub path : Path
   pub part : Part
@@ -31,7 +31,7 @@ spot place = record {
 abbrev pub holds : Span → ℕ → Bool
 holds span offset = nat_le span.start offset && nat_lt offset span.end
 
--- The value or its key, whichever contains the offset. If both do, the one that starts last.
+-- The value or its key, whichever contains the offset. If both do, it is the one that starts last.
 abbrev pub chosen : ℕ → Span → Option Span → Part × Span
 chosen offset literal None = (parts.Value, literal)
 chosen offset literal (Some quoted) =
@@ -39,17 +39,17 @@ chosen offset literal (Some quoted) =
     then (parts.Key, quoted)
     else (parts.Value, literal)
 
--- a value of the tree or its key, if one of them contains the offset
+-- a value of the tree or its key, whichever contains the offset
 abbrev pub spot_of : List ℕ → ℕ → Listed → Option Spot
 spot_of text offset (p, k, n) =
     let c = chosen offset (literal_span text n) (option_map (λ named. with_quotes text named.1) k) in
     if holds c.1 offset then Some (record { path = p; part = c.0; span = c.1; value = n }) else None
 
--- the one that starts last; the second if both start at the same offset
+-- the one that starts last, or the second if both start at the same offset
 abbrev pub later : Option Spot → Spot → Option Spot
 later None s = Some s
 later (Some t) s = if nat_lt s.span.start t.span.start then Some t else Some s
 
--- the innermost of those that contain the offset
+-- the innermost key or value that contains the offset
 abbrev pub node_at : List ℕ → ℕ → Node → Option Spot
 node_at text offset n = fold later None (filter_map (spot_of text offset) (nodes_from [] None n))

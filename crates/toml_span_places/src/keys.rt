@@ -1,8 +1,8 @@
-//! The keys of a text.
+//! Lists the keys of a text.
 ghost use Rattle.std.specs.Prelude.{◌≡◌, IfOk, map, option_map};
-ghost use Rattle.toml_span_read.specs.Data.{block};
+ghost use Rattle.toml_span_read.specs.Data.{parsed_section};
 ghost use Rattle.toml_span_places.specs.Keys as spec;
-ghost use Rattle.toml_span_places.specs.Keys.{standing, document_keys};
+ghost use Rattle.toml_span_places.specs.Keys.{key_mention, document_keys};
 ghost use Rattle.toml_span_places.specs.Mentions.{mentioned};
 
 use crate::mentions::{Mention, mentions};
@@ -12,27 +12,27 @@ use toml_span_read::Section;
 use toml_span_read::gaps::byte_at;
 use toml_span_tree::nodes::Step;
 
-/// What a key is part of.
+/// Where a part of a key occurs.
 #[derive(Clone, Copy, Debug, PartialEq, Eq)]
 pub enum Role {
-    /// A header, not as its last part.
+    /// In a header, before its last part.
     Header,
-    /// A header, as its last part.
+    /// The last part of a header.
     HeaderLast,
-    /// An assignment's key, not as its last part.
+    /// In the key of an assignment, before its last part.
     Dotted,
-    /// An assignment's key, as its last part; also in inline tables.
+    /// The last part of the key of an assignment, on a line or in an inline table.
     Last,
 }
 
-/// A key and where it is in the text.
+/// A key, or one part of a dotted key, and where it is in the text.
 #[derive(Drop)]
 pub struct KeyPlace<'t> {
-    /// The path from the root to what the key names. The key itself is the last step.
+    /// The path from the root to what the key names. Its last step is the key itself.
     pub path: Vec<Step<'t>>,
-    /// The key without its quotes, or the opening quote of an empty key.
+    /// The bytes of the key without its quotes. For an empty key, its opening quote.
     pub span: Span,
-    /// The key with its quotes.
+    /// The bytes of the key with its quotes.
     pub whole: Span,
     pub role: Role,
 }
@@ -43,9 +43,9 @@ pub(crate) fn is_quote(byte: u8) -> bool
     byte == b'"' || byte == b'\''
 }
 
-/// Returns the span of a key or of a single-line string with its quotes. The span of a bare key is returned unchanged.
+/// Returns the span of a key, or of a single-line string, with its quotes. Returns the span of a bare key unchanged.
 ///
-/// `span` is the span in the tree: that of the content, or of the opening quote if the string is empty.
+/// `span` is the span in the tree: that of the content or, if the content is empty, of the opening quote.
 pub fn with_quotes(text: &str, span: Span) -> Span
     ensures { result ≡ spec.with_quotes text.now span }
 {
@@ -64,9 +64,9 @@ pub fn with_quotes(text: &str, span: Span) -> Span
     }
 }
 
-/// Returns the key of a mention, if it has one.
+/// Returns the key in a mention, if there is one.
 fn key_of<'t>(text: &str, mention: Mention<'t>) -> Option<KeyPlace<'t>>
-    ensures { option_map standing result ≡ spec.key_of text.now (mentioned mention.entry) }
+    ensures { option_map key_mention result ≡ spec.mentioned_key text.now (mentioned mention.entry) }
 {
     let Mention { path, details } = mention;
     let role = details.role?;
@@ -80,17 +80,18 @@ fn key_of<'t>(text: &str, mention: Mention<'t>) -> Option<KeyPlace<'t>>
     })
 }
 
-/// Lists the keys of these sections in the order of the text: the parts of each header, and those of each assignment
-/// before the keys in its value.
+/// Lists the keys in these sections, in the order of the text: the parts of each header, and the parts of each
+/// assignment's key before the keys inside its value.
 ///
-/// `sections` are those that `read_sections` returns for the text. Fails if an allocation fails: for the list, its
-/// paths, and the path of each array of tables.
+/// `sections` must be what `read_sections` returned for the text. Fails if an allocation fails, for the list, for a
+/// path, or for the count of the elements of an array of tables.
 pub fn key_places<'t, 'de>(
     alloc: Global,
     text: &str,
     sections: &'t [Section<'de>],
 ) -> Result<Vec<KeyPlace<'t>>, AllocError>
-    ensures { IfOk result (λ places. map standing places.items ≡ document_keys text.now (map block sections.now)) }
+    ensures { IfOk result (λ places. map key_mention places.items
+        ≡ document_keys text.now (map parsed_section sections.now)) }
 {
     let mut out = Vec::new(alloc);
     for mention in mentions(alloc, sections, true)? {

@@ -1,7 +1,7 @@
-//! Locates the keys, tables, values and lines of a TOML text, for editors, lints and renames, and replaces parts of
-//! texts.
+//! Finds the keys, tables, values and lines of a TOML text, for editors and lints, and replaces parts of a text.
 #![tactic(auto)]
 
+mod dotted;
 mod keys;
 mod lines;
 mod literals;
@@ -18,6 +18,7 @@ mod spelled;
 mod spots;
 mod tables;
 
+pub use dotted::{PathError, PathFault, path_segments, segment_names, value_at};
 pub use keys::{KeyPlace, Role, key_places, with_quotes};
 pub use lines::{assignment_lines, section_lines};
 pub use literals::literal_span;

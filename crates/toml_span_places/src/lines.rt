@@ -1,6 +1,6 @@
-//! The lines of assignments and sections.
+//! The lines that assignments and sections take up.
 ghost use Rattle.std.specs.Prelude.{◌≡◌};
-ghost use Rattle.toml_span_read.specs.Data.{block, key_value};
+ghost use Rattle.toml_span_read.specs.Data.{parsed_section, parsed_assignment};
 ghost use Rattle.toml_span_places.specs.Lines as spec;
 
 use toml_span_lex::bytes::is_blank;
@@ -8,7 +8,7 @@ use toml_span_lex::span::Span;
 use toml_span_read::gaps::byte_at;
 use toml_span_read::{Assignment, Section};
 
-/// Returns the start of the spaces and tabs that end at `at`.
+/// Returns the start of the run of spaces and tabs that ends at the offset `at`.
 pub(crate) fn blanks_start(text: &str, at: usize) -> usize
     ensures { result ≡ spec.blanks_start text.now at }
 {
@@ -19,9 +19,9 @@ pub(crate) fn blanks_start(text: &str, at: usize) -> usize
     start
 }
 
-/// Returns the offset after the next line feed at or after `from`, or the end of the text.
-fn behind_line(text: &str, from: usize) -> usize
-    ensures { result ≡ spec.behind_line text.now from }
+/// Returns the offset after the first line feed from `from` on, or the length of the text if there is none.
+fn after_line(text: &str, from: usize) -> usize
+    ensures { result ≡ spec.after_line text.now from }
 {
     let bytes = text.as_bytes();
     for at in from..bytes.len() {
@@ -32,44 +32,45 @@ fn behind_line(text: &str, from: usize) -> usize
     bytes.len().max(from)
 }
 
-/// Returns the extent of an assignment.
+/// Returns the span of an assignment, from its key to the end of its value, quotes included.
 fn extent_of(assignment: &Assignment<'_>) -> Span
-    ensures { result ≡ (key_value assignment.now).extent }
+    ensures { result ≡ (parsed_assignment assignment.now).extent }
 {
     assignment.extent
 }
 
-/// Returns the lines of an assignment, with the spaces and tabs before it, a comment after it and the line end: what to
-/// delete in order to remove it.
+/// Returns the span of an assignment's lines: with the spaces and tabs before it, a comment after it, and the line end.
+/// To remove the assignment, remove this span.
 ///
-/// `assignment` must be one of a section that `read_sections` returns for the text, not a pair of an inline table.
+/// `assignment` must be from a section that `read_sections` returned for the text, and must not be a pair of an inline
+/// table.
 pub fn assignment_lines(text: &str, assignment: &Assignment<'_>) -> Span
-    ensures { result ≡ spec.lines_of text.now (key_value assignment.now).extent }
+    ensures { result ≡ spec.lines_of text.now (parsed_assignment assignment.now).extent }
 {
     let extent = extent_of(assignment);
     Span {
         start: blanks_start(text, extent.start),
-        end: behind_line(text, extent.end),
+        end: after_line(text, extent.end),
     }
 }
 
-/// Returns the end of the lines of a section's own assignments, given the spans of its header and its extent.
+/// Returns the end of the lines of a section's assignments, given the spans of its header's line and of the section.
 pub(crate) fn body_end(text: &str, header: Span, extent: Span) -> usize
     ensures { result ≡ spec.body_end text.now header extent }
 {
     if extent.end <= header.end {
         header.end
     } else {
-        behind_line(text, extent.end)
+        after_line(text, extent.end)
     }
 }
 
-/// Returns the lines of a section: from that of its header, or of its first assignment, to the end of that of its last
-/// assignment.
+/// Returns the span of a section's lines: from the line of its header or, without a header, of its first assignment, to
+/// the end of the line of its last assignment.
 ///
-/// `section` must be one that `read_sections` returns for the text.
+/// `section` must be one that `read_sections` returned for the text.
 pub fn section_lines(text: &str, section: &Section<'_>) -> Span
-    ensures { result ≡ spec.section_lines text.now (block section.now) }
+    ensures { result ≡ spec.section_lines text.now (parsed_section section.now) }
 {
     Span {
         start: blanks_start(text, section.extent.start),

@@ -1,4 +1,4 @@
-//! The literals of values.
+//! The literals that spell values.
 ghost use Rattle.std.specs.Prelude.{◌≡◌};
 ghost use Rattle.toml_span_tree.specs.Value.{view};
 ghost use Rattle.toml_span_places.specs.Literals as spec;
@@ -8,7 +8,7 @@ use toml_span_lex::span::Span;
 use toml_span_read::gaps::byte_at;
 use toml_span_tree::Value;
 
-/// Returns the byte `back` bytes before `at`, or 0 before the start.
+/// Returns the byte at the offset `at - back`, or 0 if that is before the start.
 pub(crate) fn byte_before(text: &str, at: usize, back: usize) -> u8
     ensures { result ≡ spec.byte_before text.now at back }
 {
@@ -19,10 +19,10 @@ pub(crate) fn byte_before(text: &str, at: usize, back: usize) -> u8
     }
 }
 
-/// Returns the end of the opening quotes of a string whose content begins at `from`: before the line end that is
-/// dropped, if there is one.
-fn behind_quotes(text: &str, from: usize) -> usize
-    ensures { result ≡ spec.behind_quotes text.now from }
+/// Returns the end of the opening quotes of a string whose content begins at `from`. Between them may be a line end,
+/// which is dropped.
+fn after_quotes(text: &str, from: usize) -> usize
+    ensures { result ≡ spec.after_quotes text.now from }
 {
     if byte_before(text, from, 1) != b'\n' {
         from
@@ -33,7 +33,7 @@ fn behind_quotes(text: &str, from: usize) -> usize
     }
 }
 
-/// Returns the number of quotes before `at`: three or one.
+/// Returns how many quotes open a string: three, or one. They end at the offset `at`.
 fn quotes_before(text: &str, at: usize) -> usize
     ensures { result ≡ spec.quotes_before text.now at }
 {
@@ -45,7 +45,7 @@ fn quotes_before(text: &str, at: usize) -> usize
     }
 }
 
-/// Returns the span of a string with its quotes.
+/// Returns the span of a string with its quotes, given the span of its content.
 fn string_literal(text: &str, span: Span, is_empty: bool) -> Span
     ensures { result ≡ spec.string_literal text.now span is_empty }
 {
@@ -59,18 +59,18 @@ fn string_literal(text: &str, span: Span, is_empty: bool) -> Span
             end: end + 1,
         };
     }
-    let behind = behind_quotes(text, start);
-    let quotes = quotes_before(text, behind);
+    let after = after_quotes(text, start);
+    let quotes = quotes_before(text, after);
     Span {
-        start: behind.saturating_sub(quotes),
+        start: after.saturating_sub(quotes),
         end: end + quotes,
     }
 }
 
-/// Returns the span of a value's literal. For a string that includes the quotes, and the line end that is dropped after
-/// three of them; for any other value it is the value's own span.
+/// Returns the span of the literal that spells a value. For a string it includes the quotes, and the line end that is
+/// dropped after three of them. For any other value it is the value's own span.
 ///
-/// `value` must be one of the tree that `parse` returns for the text.
+/// `value` must be in the tree that `parse` returned for the text.
 pub fn literal_span(text: &str, value: &Value<'_>) -> Span
     ensures { result ≡ spec.literal_span text.now (view value.now) }
 {

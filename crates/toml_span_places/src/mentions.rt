@@ -1,11 +1,12 @@
-//! Where a text names the tables and values of its document: one list, from which keys, tables and sections are picked.
+//! Lists each place where a text names a table or a value. Keys, tables and sections are picked from this list.
 ghost use Rattle.std.specs.Prelude.{◌≡◌, ◌++◌, ◌∷◌, [], IfOk, OnOk, map};
-ghost use Rattle.toml_span_read.specs.Data.{block, view, key_value, onto, no_items, pairs_onto, no_pairs, simple_key};
+ghost use Rattle.toml_span_read.specs.Data.{parsed_section, parsed_value, parsed_assignment, onto, no_items};
+ghost use Rattle.toml_span_read.specs.Data.{pairs_onto, no_pairs, simple_key};
 ghost use Rattle.toml_span_tree.specs.Nodes.{step_of};
 ghost use Rattle.toml_span.specs.Paths.{target};
 ghost use Rattle.toml_span_places.specs.Mentions as spec;
 ghost use Rattle.toml_span_places.specs.Mentions.{below, mentioned, steps_of};
-ghost use Rattle.toml_span_places.specs.code.Opened.{counts_of, counts_behind};
+ghost use Rattle.toml_span_places.specs.code.Opened.{counts_of, counts_after};
 
 use crate::keys::Role;
 use crate::opened::{Opened, elements_of, section_path};
@@ -17,24 +18,25 @@ use toml_span_lex::span::Span;
 use toml_span_read::{Assignment, Section, Val, ValKind};
 use toml_span_tree::nodes::Step;
 
-/// A mention without its path.
+/// A mention, without its path.
 #[derive(Clone, Copy)]
 pub(crate) struct Details {
-    /// The position of the table that is named, if the path leads to an array of tables.
+    /// The position of the table that the mention names, if its path leads to an array of tables.
     pub element: Option<usize>,
-    /// What the key is part of, or `None` for the root and for braces.
+    /// Where the key occurs. `None` for the root and for the braces of an inline table, which have no key.
     pub role: Option<Role>,
-    /// How a table is named, or `None` for the root and for a key to which a value is assigned.
+    /// How the mention names a table. `None` for the root, and for a key to which a value is assigned.
     pub form: Option<TableForm>,
-    /// The key without its quotes, or, without a key, `span`.
+    /// The bytes of the key without its quotes. Without a key, it is `span`.
     pub key: Span,
-    /// The header's line; the assignment, from its key to the end of its value; or the braces and what is between them.
+    /// The line of the header; the assignment, from its key to the end of its value; or the inline table with its
+    /// braces.
     pub span: Span,
-    /// The header's section, or, without a header, `span`.
+    /// The section of the header. Without a header, it is `span`.
     pub extent: Span,
 }
 
-/// A place in a text that names a table or a value.
+/// A place in the text that names a table or a value.
 #[derive(Drop)]
 pub(crate) struct Mention<'t> {
     /// The path from the root to what the key names.
@@ -42,7 +44,7 @@ pub(crate) struct Mention<'t> {
     pub details: Details,
 }
 
-/// Appends a mention of a path. Fails if an allocation fails.
+/// Appends a mention with a copy of the path. Fails if an allocation fails.
 fn push<'t>(
     alloc: Global,
     path: &[Step<'t>],
@@ -57,6 +59,7 @@ fn push<'t>(
     Ok(())
 }
 
+/// Returns the details of a mention in a section's header.
 fn by_header(
     section: &Section<'_>,
     element: Option<usize>,
@@ -64,7 +67,7 @@ fn by_header(
     form: Option<TableForm>,
     key: Span,
 ) -> Details
-    ensures { result ≡ spec.by_header (block section.now) element role form key }
+    ensures { result ≡ spec.by_header (parsed_section section.now) element role form key }
 {
     Details {
         element,
@@ -76,6 +79,7 @@ fn by_header(
     }
 }
 
+/// Returns the details of a mention in an assignment or by braces.
 fn by_value(role: Option<Role>, form: Option<TableForm>, key: Span, span: Span) -> Details
     ensures { result ≡ spec.by_value role form key span }
 {
@@ -89,7 +93,7 @@ fn by_value(role: Option<Role>, form: Option<TableForm>, key: Span, span: Span) 
     }
 }
 
-/// Appends what the last part of a header names. Fails if an allocation fails.
+/// Appends the mention by the last part of a section's header, whose path is `path`. Fails if an allocation fails.
 fn push_last<'t, 'de>(
     alloc: Global,
     section: &Section<'_>,
@@ -99,7 +103,9 @@ fn push_last<'t, 'de>(
     out: &mut Vec<Mention<'t>>,
 ) -> Result<(), AllocError>
     ensures { OnOk result (map mentioned out.new.items ≡ map mentioned out.old.items
-        ++ (spec.last_mention (counts_of opened.now) (block section.now) (map step_of path.now) (simple_key key.now)
+        ++
+        (spec.last_mention (counts_of opened.now) (parsed_section section.now) (map step_of path.now)
+        (simple_key key.now)
         ∷ [])) }
 {
     let role = Some(Role::HeaderLast);
@@ -118,7 +124,8 @@ fn push_last<'t, 'de>(
     push(alloc, path, details, out)
 }
 
-/// Appends what these parts of a header name, and returns the path of the last one. Fails if an allocation fails.
+/// Appends the mentions by these parts of a section's header, which follow `path`. Returns the path with these parts.
+/// Fails if an allocation fails.
 fn push_header<'t, 'de>(
     alloc: Global,
     section: &Section<'_>,
@@ -128,7 +135,7 @@ fn push_header<'t, 'de>(
     out: &mut Vec<Mention<'t>>,
 ) -> Result<Vec<Step<'t>>, AllocError>
     ensures mentions { OnOk result (map mentioned out.new.items ≡ map mentioned out.old.items
-        ++ spec.header_mentions (counts_of opened.now) (block section.now) (steps_of path.entry)
+        ++ spec.header_mentions (counts_of opened.now) (parsed_section section.now) (steps_of path.entry)
         (map simple_key parts.now)) }
     ensures path { IfOk result (λ path_below. steps_of path_below ≡ target (counts_of opened.now)
         (steps_of path.entry) (map simple_key parts.now)) }
@@ -151,8 +158,8 @@ fn push_header<'t, 'de>(
     push_header(alloc, section, rest, opened, inside, out)
 }
 
-/// Appends what these parts of an assignment's key name, and returns the path of the last one. Fails if an allocation
-/// fails.
+/// Appends the mentions by the parts of an assignment's key, which follow `path`. Returns the path with these parts.
+/// Fails if an allocation fails.
 fn push_parts<'t, 'de>(
     alloc: Global,
     extent: Span,
@@ -180,7 +187,7 @@ fn push_parts<'t, 'de>(
     push_parts(alloc, extent, rest, last, path_below, out)
 }
 
-/// Appends what assignments below a path name. Fails if an allocation fails.
+/// Appends the mentions in these assignments, in the table at `path`. Fails if an allocation fails.
 #[cycle(push_value)]
 fn push_pairs<'t, 'de>(
     alloc: Global,
@@ -189,7 +196,7 @@ fn push_pairs<'t, 'de>(
     out: &mut Vec<Mention<'t>>,
 ) -> Result<(), AllocError>
     ensures { OnOk result (map mentioned out.new.items ≡ map mentioned out.old.items
-        ++ spec.pair_mentions (map step_of path.now) (pairs_onto (map key_value pairs.now) no_pairs)) }
+        ++ spec.pair_mentions (map step_of path.now) (pairs_onto (map parsed_assignment pairs.now) no_pairs)) }
 {
     for pair in pairs {
         push_pair(alloc, pair, path, out)?;
@@ -197,7 +204,7 @@ fn push_pairs<'t, 'de>(
     Ok(())
 }
 
-/// Appends what an assignment's key and its value name. Fails if an allocation fails.
+/// Appends the mentions in an assignment, by its key and in its value. Fails if an allocation fails.
 #[cycle(push_value)]
 fn push_pair<'t, 'de>(
     alloc: Global,
@@ -206,8 +213,11 @@ fn push_pair<'t, 'de>(
     out: &mut Vec<Mention<'t>>,
 ) -> Result<(), AllocError>
     ensures { OnOk result (map mentioned out.new.items ≡ map mentioned out.old.items
-        ++ (spec.parts_mentions (key_value pair.now).extent (map step_of path.now) (key_value pair.now).parts
-        ++ spec.value_mentions (below (map step_of path.now) (key_value pair.now).parts) (key_value pair.now).value)) }
+        ++
+        (spec.parts_mentions (parsed_assignment pair.now).extent (map step_of path.now)
+        (parsed_assignment pair.now).parts
+        ++ spec.value_mentions (below (map step_of path.now) (parsed_assignment pair.now).parts)
+        (parsed_assignment pair.now).value)) }
 {
     let start = copied(alloc, path)?;
     let inner = pair.parts.inner.as_slice();
@@ -215,7 +225,7 @@ fn push_pair<'t, 'de>(
     push_value(alloc, &pair.value, path_below.as_slice(), out)
 }
 
-/// Appends what a value at a path names. Fails if an allocation fails.
+/// Appends the mentions in the value at `path`. Fails if an allocation fails.
 #[cycle(push_value)]
 fn push_value<'t, 'de>(
     alloc: Global,
@@ -224,7 +234,7 @@ fn push_value<'t, 'de>(
     out: &mut Vec<Mention<'t>>,
 ) -> Result<(), AllocError>
     ensures { OnOk result (map mentioned out.new.items ≡ map mentioned out.old.items
-        ++ spec.value_mentions (map step_of path.now) (view value.now)) }
+        ++ spec.value_mentions (map step_of path.now) (parsed_value value.now)) }
 {
     match &value.kind {
         ValKind::Array(items) => push_items(alloc, items.as_slice(), path, out),
@@ -241,7 +251,7 @@ fn push_value<'t, 'de>(
     }
 }
 
-/// Appends what the elements of an array name. Fails if an allocation fails.
+/// Appends the mentions in the elements of the array at `path`. Fails if an allocation fails.
 #[cycle(push_value)]
 fn push_items<'t, 'de>(
     alloc: Global,
@@ -250,7 +260,7 @@ fn push_items<'t, 'de>(
     out: &mut Vec<Mention<'t>>,
 ) -> Result<(), AllocError>
     ensures { OnOk result (map mentioned out.new.items ≡ map mentioned out.old.items
-        ++ spec.item_mentions (map step_of path.now) 0 (onto (map view items.now) no_items)) }
+        ++ spec.item_mentions (map step_of path.now) 0 (onto (map parsed_value items.now) no_items)) }
 {
     for (position, item) in items.iter().enumerate() {
         let element = element_path(alloc, path, position)?;
@@ -259,8 +269,8 @@ fn push_items<'t, 'de>(
     Ok(())
 }
 
-/// Appends what a section's header names and, `with_assignments`, what its assignments name. Fails if an allocation
-/// fails.
+/// Appends the mentions in a section: in its header and, if `with_assignments`, in its assignments. Fails if an
+/// allocation fails.
 fn push_section<'t, 'de>(
     alloc: Global,
     section: &'t Section<'de>,
@@ -269,8 +279,9 @@ fn push_section<'t, 'de>(
     out: &mut Vec<Mention<'t>>,
 ) -> Result<(), AllocError>
     ensures mentions { OnOk result (map mentioned out.new.items ≡ map mentioned out.old.items
-        ++ spec.section_mentions with_assignments (counts_of opened.old) (block section.now)) }
-    ensures opened { OnOk result (counts_of opened.new ≡ counts_behind (counts_of opened.old) (block section.now)) }
+        ++ spec.section_mentions with_assignments (counts_of opened.old) (parsed_section section.now)) }
+    ensures opened { OnOk result (counts_of opened.new
+        ≡ counts_after (counts_of opened.old) (parsed_section section.now)) }
 {
     let root = Vec::new(alloc);
     let header = push_header(alloc, section, section.header.as_slice(), opened, root, out)?;
@@ -286,16 +297,17 @@ fn push_section<'t, 'de>(
     )
 }
 
-/// Lists what the headers of these sections name and, `with_assignments`, what their assignments name, in the order of
-/// the text.
+/// Lists the mentions in these sections, in the order of the text: in their headers and, if `with_assignments`, in
+/// their assignments.
 ///
-/// Fails if an allocation fails: for the list, its paths, and the path of each array of tables.
+/// Fails if an allocation fails, for the list, for a path, or for the count of the elements of an array of tables.
 pub(crate) fn mentions<'t, 'de>(
     alloc: Global,
     sections: &'t [Section<'de>],
     with_assignments: bool,
 ) -> Result<Vec<Mention<'t>>, AllocError>
-    ensures { IfOk result (λ list. map mentioned list.items ≡ spec.mentions with_assignments (map block sections.now)) }
+    ensures { IfOk result (λ list. map mentioned list.items
+        ≡ spec.mentions with_assignments (map parsed_section sections.now)) }
 {
     let mut opened = Opened::new(alloc);
     let mut out = Vec::new(alloc);

@@ -1,7 +1,7 @@
-//! What a text uses that TOML 1.0 lacks.
+//! Lists what a text uses that TOML 1.0 lacks.
 ghost use Rattle.std.specs.Prelude.{◌≡◌, ◌<◌, ◌+◌, ◌++◌, IfOk, OnOk, map, length};
-ghost use Rattle.toml_span_read.specs.Data.{block, view, key_value, parts, onto, no_items, pairs_onto, no_pairs};
-ghost use Rattle.toml_span_read.specs.Data.{simple_key};
+ghost use Rattle.toml_span_read.specs.Data.{parsed_section, parsed_value, parsed_assignment, parts, onto, no_items};
+ghost use Rattle.toml_span_read.specs.Data.{pairs_onto, no_pairs, simple_key};
 ghost use Rattle.toml_span_tree.specs.Value.{date_bytes};
 ghost use Rattle.toml_span_places.specs.Newer as spec;
 
@@ -16,49 +16,49 @@ use toml_span_read::gaps::byte_at;
 use toml_span_read::{Assignment, DottedKey, Section, Val, ValKind};
 use toml_span_tree::DateText;
 
-/// What TOML 1.0 lacks. The last three are in no version of TOML, only in this parser.
+/// A form of syntax that TOML 1.0 lacks. The last three are not in any version of TOML, but this parser accepts them.
 #[derive(Clone, Copy, Debug, PartialEq, Eq)]
 pub enum NewerKind {
     /// A line end in an inline table.
     LineEnd,
-    /// A comment in an inline table, without its line end.
+    /// A comment in an inline table. The span does not include its line end.
     Comment,
     /// The comma after the last pair of an inline table.
     TrailingComma,
-    /// The escape `\e`, for U+001B.
+    /// The escape `\e` for U+001B.
     EscapeEscape,
     /// An escape `\xHH`.
     HexEscape,
-    /// A time, or a date with a time, that has no seconds.
+    /// A time without seconds, alone or after a date.
     NoSeconds,
     /// A line end before or after the `=` of a pair in an inline table.
     LineEndAtEquals,
-    /// A comment before or after the `=` of a pair in an inline table, without its line end.
+    /// A comment before or after the `=` of a pair in an inline table. The span does not include its line end.
     CommentAtEquals,
     /// A byte order mark at the start of the text.
     ByteOrderMark,
 }
 
-/// A use of what TOML 1.0 lacks, and where it is in the text.
+/// A use of one of these forms, and where it is in the text.
 #[derive(Clone, Copy, Debug, PartialEq, Eq)]
 pub struct NewerForm {
     pub kind: NewerKind,
-    /// The line end, comment, comma, escape or byte order mark; of a time its hours and minutes.
+    /// The bytes of the line end, comment, comma, escape or byte order mark; for a time, its hours and minutes.
     pub span: Span,
 }
 
-/// Where blanks, line ends and comments are in an inline table.
+/// A gap in an inline table: where blanks, line ends and comments may be.
 #[derive(Clone, Copy)]
 pub(crate) enum Gap {
-    /// After the opening brace, and after a pair that another one follows.
+    /// After the opening brace, or between two pairs.
     BeforePair,
-    /// Around the `=` of a pair.
+    /// Before or after the `=` of a pair.
     AtEquals,
-    /// After the last pair.
+    /// After the last pair, before the closing brace.
     AfterLast,
 }
 
-/// Appends a use. Fails if an allocation fails.
+/// Appends a use that spans `start..end`. Fails if an allocation fails.
 fn push(
     kind: NewerKind,
     start: usize,
@@ -74,7 +74,8 @@ fn push(
 
 // ---- strings
 
-/// Appends the escape whose letter is at `at`, if `is_letter` and TOML 1.0 lacks it. Fails if an allocation fails.
+/// Appends the escape whose letter is at the offset `at`, if TOML 1.0 lacks it. `is_letter` says whether that byte is
+/// the letter of an escape at all. Fails if an allocation fails.
 ///
 /// `escape-seq-char =/ %x65`, `escape-seq-char =/ %x78 2HEXDIG` (TOML 1.1, String)
 fn push_escape(
@@ -93,14 +94,14 @@ fn push_escape(
     }
 }
 
-/// Returns whether the byte after `at` is the letter of an escape, given whether the byte at `at` is one.
+/// Returns whether the byte after `at` is the letter of an escape. `is_letter` says whether the byte at `at` is one.
 fn begins_escape(text: &str, is_letter: bool, at: usize) -> bool
     ensures { result ≡ spec.begins_escape text.now is_letter at }
 {
     !is_letter && byte_at(text, at) == b'\\'
 }
 
-/// Appends the escapes in a string or key with this span that TOML 1.0 lacks. Fails if an allocation fails.
+/// Appends the escapes that TOML 1.0 lacks, in the string or key with this span. Fails if an allocation fails.
 #[tactic(auto, using(crate::proofs::Uses::escapes_next, crate::proofs::Uses::escapes_end))]
 fn push_escapes(text: &str, span: Span, out: &mut Vec<NewerForm>) -> Result<(), AllocError>
     ensures { OnOk result (out.new.items ≡ out.old.items ++ spec.string_forms text.now span) }
@@ -116,7 +117,7 @@ fn push_escapes(text: &str, span: Span, out: &mut Vec<NewerForm>) -> Result<(), 
     Ok(())
 }
 
-/// Appends the escapes in these keys. Fails if an allocation fails.
+/// Appends the escapes that TOML 1.0 lacks, in these keys. Fails if an allocation fails.
 fn push_keys<'de>(text: &str, keys: &[Key<'de>], out: &mut Vec<NewerForm>) -> Result<(), AllocError>
     ensures { OnOk result (out.new.items ≡ out.old.items ++ spec.key_forms text.now (map simple_key keys.now)) }
 {
@@ -126,7 +127,7 @@ fn push_keys<'de>(text: &str, keys: &[Key<'de>], out: &mut Vec<NewerForm>) -> Re
     Ok(())
 }
 
-/// Appends the escapes in the parts of a dotted key. Fails if an allocation fails.
+/// Appends the escapes that TOML 1.0 lacks, in the parts of a key. Fails if an allocation fails.
 fn push_parts<'de>(
     text: &str,
     key: &DottedKey<'de>,
@@ -140,14 +141,14 @@ fn push_parts<'de>(
 
 // ---- dates and times
 
-/// Returns where the time of a date or time begins, if it has one.
+/// Returns the offset at which the time begins: 0 in a time, 11 after a date. A date alone is shorter.
 fn time_start(date: &str) -> usize
     ensures { result ≡ spec.time_start date.now }
 {
     if byte_at(date, 2) == b':' { 0 } else { 11 }
 }
 
-/// Appends the hours and minutes of a date or time if it has a time without seconds. Fails if an allocation fails.
+/// Appends the hours and minutes of a date or time that has a time without seconds. Fails if an allocation fails.
 ///
 /// `partial-time = time-hour ":" time-minute [ ":" time-second [ time-secfrac ] ]` (TOML 1.1, Local Time)
 fn push_date<'de>(
@@ -168,9 +169,9 @@ fn push_date<'de>(
     push(NewerKind::NoSeconds, start, end, out)
 }
 
-// ---- between braces
+// ---- gaps in inline tables
 
-/// Returns the start of the line end whose line feed is at `at`.
+/// Returns the start of the line end whose line feed is at the offset `at`: one byte before it for CRLF.
 fn line_end_start(text: &str, at: usize) -> usize
     ensures { result ≡ spec.line_end_start text.now at }
 {
@@ -181,6 +182,7 @@ fn line_end_start(text: &str, at: usize) -> usize
     }
 }
 
+/// Returns the form of a comment in this gap.
 fn comment_kind(gap: Gap) -> NewerKind
     ensures { result ≡ spec.comment_kind gap }
 {
@@ -190,6 +192,7 @@ fn comment_kind(gap: Gap) -> NewerKind
     }
 }
 
+/// Returns the form of a line end in this gap.
 fn line_end_kind(gap: Gap) -> NewerKind
     ensures { result ≡ spec.line_end_kind gap }
 {
@@ -199,7 +202,8 @@ fn line_end_kind(gap: Gap) -> NewerKind
     }
 }
 
-/// Appends the line end whose line feed is at `at`, after the comment that it ends. Fails if an allocation fails.
+/// Appends a line end, whose line feed is at the offset `at`, and before it the comment that it ends, if there is one,
+/// which begins at `comment`. Fails if an allocation fails.
 fn push_line_end(
     text: &str,
     gap: Gap,
@@ -217,7 +221,8 @@ fn push_line_end(
     push(line_end_kind(gap), end, at + 1, out)
 }
 
-/// Appends what TOML 1.0 lacks and a byte ends or is. Fails if an allocation fails.
+/// Appends what the byte at the offset `at` ends or is: a comment and a line end, or a trailing comma. `comment` is
+/// where the comment around the byte begins, if there is one. Fails if an allocation fails.
 fn push_byte(
     text: &str,
     gap: Gap,
@@ -237,21 +242,22 @@ fn push_byte(
     }
 }
 
-/// Returns whether a byte can be between the keys and values of an inline table, outside comments.
+/// Returns whether a byte may occur in a gap or between two gaps, outside comments.
 fn is_between(byte: u8) -> bool
     ensures { result ≡ spec.is_between byte }
 {
     is_blank(byte) || matches!(byte, b'\n' | b'\r' | b'#' | b',' | b'=')
 }
 
-/// Returns whether the byte at `at` is after a gap: outside comments, and of a key, a value or a brace.
+/// Returns whether the gap ends at the offset `at`: outside comments, at a key, a value or a brace.
 fn ends_gap(text: &str, comment: Option<usize>, at: usize) -> bool
     ensures { result ≡ spec.ends_gap text.now comment at }
 {
     comment.is_none() && !is_between(byte_at(text, at))
 }
 
-/// Returns where the comment after a byte begins, given that of the comment before it.
+/// Returns the offset of the comment that is open after the byte at `at`, if one is. `comment` is the one before the
+/// byte.
 fn next_comment(text: &str, comment: Option<usize>, at: usize) -> Option<usize>
     ensures { result ≡ spec.next_comment text.now comment at }
 {
@@ -262,8 +268,7 @@ fn next_comment(text: &str, comment: Option<usize>, at: usize) -> Option<usize>
     }
 }
 
-/// Appends the line ends, comments and trailing comma from `from` up to the next key, value or closing brace. Fails if
-/// an allocation fails.
+/// Appends the uses in the gap that begins at `from`, up to the next key, value or brace. Fails if an allocation fails.
 #[tactic(auto, using(crate::proofs::Uses::gap_next, crate::proofs::Uses::gap_stop, crate::proofs::Uses::gap_end))]
 fn push_gap(text: &str, gap: Gap, from: usize, out: &mut Vec<NewerForm>) -> Result<(), AllocError>
     ensures { OnOk result (out.new.items ≡ out.old.items ++ spec.gap_forms text.now gap from) }
@@ -279,7 +284,7 @@ fn push_gap(text: &str, gap: Gap, from: usize, out: &mut Vec<NewerForm>) -> Resu
     Ok(())
 }
 
-/// Appends the line ends and comments after the opening brace at `at`. Fails if an allocation fails.
+/// Appends the uses in the gap after the opening brace at the offset `at`. Fails if an allocation fails.
 #[tactic(auto, using(crate::proofs::Uses::gap_past))]
 fn push_opened(text: &str, at: usize, out: &mut Vec<NewerForm>) -> Result<(), AllocError>
     ensures { OnOk result (out.new.items ≡ out.old.items ++ spec.gap_forms text.now Gap.BeforePair (at + 1)) }
@@ -293,7 +298,7 @@ fn push_opened(text: &str, at: usize, out: &mut Vec<NewerForm>) -> Result<(), Al
 
 // ---- values
 
-/// Returns the offset after a dotted key, quotes included.
+/// Returns the offset after a key, quotes included.
 #[tactic(auto, using(crate::proofs::Uses::keys_end_last))]
 fn key_end<'de>(text: &str, key: &DottedKey<'de>) -> usize
     ensures { result ≡ spec.keys_end text.now 0 (parts key.now) }
@@ -301,7 +306,7 @@ fn key_end<'de>(text: &str, key: &DottedKey<'de>) -> usize
     with_quotes(text, key.last.span).end
 }
 
-/// Returns what follows a pair, given its position and the number of pairs.
+/// Returns the kind of gap after the pair at this position, of `count` pairs.
 fn gap_after(position: usize, count: usize) -> Gap
     requires { position < count }
     ensures { result ≡ spec.gap_after position count }
@@ -313,8 +318,7 @@ fn gap_after(position: usize, count: usize) -> Gap
     }
 }
 
-/// Appends what a pair of an inline table uses that TOML 1.0 lacks, and what is between it and the next one. Fails if
-/// an allocation fails.
+/// Appends the uses in a pair of an inline table, and in the gap after it. Fails if an allocation fails.
 #[cycle(push_value)]
 fn push_pair<'de>(
     text: &str,
@@ -322,7 +326,8 @@ fn push_pair<'de>(
     after: Gap,
     out: &mut Vec<NewerForm>,
 ) -> Result<(), AllocError>
-    ensures { OnOk result (out.new.items ≡ out.old.items ++ spec.pair_forms text.now (key_value pair.now) after) }
+    ensures { OnOk result (out.new.items
+        ≡ out.old.items ++ spec.pair_forms text.now (parsed_assignment pair.now) after) }
 {
     push_parts(text, &pair.parts, out)?;
     push_gap(text, Gap::AtEquals, key_end(text, &pair.parts), out)?;
@@ -330,7 +335,7 @@ fn push_pair<'de>(
     push_gap(text, after, pair.extent.end, out)
 }
 
-/// Appends what the pairs of an inline table use that TOML 1.0 lacks. Fails if an allocation fails.
+/// Appends the uses in the pairs of an inline table, and in the gaps between them. Fails if an allocation fails.
 #[cycle(push_value)]
 fn push_pairs<'de>(
     text: &str,
@@ -338,7 +343,7 @@ fn push_pairs<'de>(
     out: &mut Vec<NewerForm>,
 ) -> Result<(), AllocError>
     ensures { OnOk result (out.new.items ≡ out.old.items
-        ++ spec.pairs_forms text.now (pairs_onto (map key_value pairs.now) no_pairs)) }
+        ++ spec.pairs_forms text.now (pairs_onto (map parsed_assignment pairs.now) no_pairs)) }
 {
     for (position, pair) in pairs.iter().enumerate() {
         push_pair(text, pair, gap_after(position, pairs.len()), out)?;
@@ -346,7 +351,7 @@ fn push_pairs<'de>(
     Ok(())
 }
 
-/// Appends what the elements of an array use that TOML 1.0 lacks. Fails if an allocation fails.
+/// Appends the uses in the elements of an array. Fails if an allocation fails.
 #[cycle(push_value)]
 fn push_items<'de>(
     text: &str,
@@ -354,7 +359,7 @@ fn push_items<'de>(
     out: &mut Vec<NewerForm>,
 ) -> Result<(), AllocError>
     ensures { OnOk result (out.new.items ≡ out.old.items
-        ++ spec.items_forms text.now (onto (map view items.now) no_items)) }
+        ++ spec.items_forms text.now (onto (map parsed_value items.now) no_items)) }
 {
     for item in items {
         push_value(text, item, out)?;
@@ -362,10 +367,10 @@ fn push_items<'de>(
     Ok(())
 }
 
-/// Appends what a value uses that TOML 1.0 lacks. Fails if an allocation fails.
+/// Appends the uses in a value. Fails if an allocation fails.
 #[cycle(push_value)]
 fn push_value<'de>(text: &str, value: &Val<'de>, out: &mut Vec<NewerForm>) -> Result<(), AllocError>
-    ensures { OnOk result (out.new.items ≡ out.old.items ++ spec.value_forms text.now (view value.now)) }
+    ensures { OnOk result (out.new.items ≡ out.old.items ++ spec.value_forms text.now (parsed_value value.now)) }
 {
     match &value.kind {
         ValKind::String(_) => push_escapes(text, value.span, out),
@@ -381,14 +386,14 @@ fn push_value<'de>(text: &str, value: &Val<'de>, out: &mut Vec<NewerForm>) -> Re
 
 // ---- the document
 
-/// Appends what the assignments of a section use that TOML 1.0 lacks. Fails if an allocation fails.
+/// Appends the uses in assignments. Fails if an allocation fails.
 fn push_assignments<'de>(
     text: &str,
     assignments: &[Assignment<'de>],
     out: &mut Vec<NewerForm>,
 ) -> Result<(), AllocError>
     ensures { OnOk result (out.new.items ≡ out.old.items
-        ++ spec.assignments_forms text.now (map key_value assignments.now)) }
+        ++ spec.assignments_forms text.now (map parsed_assignment assignments.now)) }
 {
     for assignment in assignments {
         push_parts(text, &assignment.parts, out)?;
@@ -397,17 +402,17 @@ fn push_assignments<'de>(
     Ok(())
 }
 
-/// Lists what these sections use that TOML 1.0 lacks, in the order of the text: what TOML 1.1 added, and what only this
-/// parser reads.
+/// Lists what these sections use that TOML 1.0 lacks, in the order of the text: forms that TOML 1.1 added, and forms
+/// that only this parser accepts.
 ///
-/// `sections` are those that `read_sections` returns for the text. Takes time linear in the text. Fails if an
-/// allocation fails.
+/// `sections` must be what `read_sections` returned for the text. Takes time linear in the length of the text. Fails
+/// only if an allocation fails.
 pub fn newer_forms<'de>(
     alloc: Global,
     text: &str,
     sections: &[Section<'de>],
 ) -> Result<Vec<NewerForm>, AllocError>
-    ensures { IfOk result (λ forms. forms.items ≡ spec.newer_forms text.now (map block sections.now)) }
+    ensures { IfOk result (λ forms. forms.items ≡ spec.newer_forms text.now (map parsed_section sections.now)) }
 {
     let mut out = Vec::new(alloc);
     let start = text_start(text);

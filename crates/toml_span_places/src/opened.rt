@@ -1,4 +1,4 @@
-//! The number of elements that headers have added to each array of tables.
+//! Counts the elements that headers add to each array of tables.
 ghost use Rattle.std.specs.Prelude.{◌≡◌, ◌∷◌, [], IfOk, OnOk, map};
 ghost use Rattle.toml_span_tree.specs.Nodes.{step_of};
 ghost use Rattle.toml_span_places.specs.Mentions.{steps_of};
@@ -10,19 +10,20 @@ use std::alloc::{AllocError, Global};
 use std::collections::BTreeMap;
 use toml_span_tree::nodes::Step;
 
-/// A step that is ordered, so that paths can be looked up.
+/// A step of a path, with an order, so that a map can find paths.
 #[derive(Clone, Copy, PartialEq, Eq, PartialOrd, Ord)]
 enum SortedStep<'t> {
     Key(&'t str),
     Position(usize),
 }
 
-/// The number of elements added so far to each array of tables, by its path.
+/// How many elements the headers so far have added to each array of tables, by its path.
 #[derive(Drop)]
 pub(crate) struct Opened<'t> {
     elements: BTreeMap<Vec<SortedStep<'t>>, usize>,
 }
 
+/// Converts a step.
 fn sorted_step<'t>(step: Step<'t>) -> SortedStep<'t>
     ensures { spec.sorted_step result ≡ step_of step.entry }
 {
@@ -32,7 +33,7 @@ fn sorted_step<'t>(step: Step<'t>) -> SortedStep<'t>
     }
 }
 
-/// Converts a path so that it can be looked up. Fails if an allocation fails.
+/// Converts a path, to look it up in the map. Fails if an allocation fails.
 fn sorted_path<'t>(alloc: Global, path: &[Step<'t>]) -> Result<Vec<SortedStep<'t>>, AllocError>
     ensures { IfOk result (λ sorted. map spec.sorted_step sorted.items ≡ map step_of path.now) }
 {
@@ -54,7 +55,8 @@ impl<'t> Opened<'t> {
     }
 }
 
-/// Returns the number of elements added so far to the array of tables at a path. Fails if an allocation fails.
+/// Returns how many elements the headers so far have added to the array of tables at this path. Fails if an allocation
+/// fails.
 pub(crate) fn elements_of<'t>(
     alloc: Global,
     opened: &Opened<'t>,
@@ -69,7 +71,7 @@ pub(crate) fn elements_of<'t>(
     }
 }
 
-/// Counts another element of the array of tables at a path. If an allocation fails, the counts are unspecified.
+/// Counts one more element of the array of tables at this path. After a failed allocation, the counts are unspecified.
 pub(crate) fn add<'t>(
     alloc: Global,
     opened: &mut Opened<'t>,
@@ -86,8 +88,8 @@ pub(crate) fn add<'t>(
     Ok(())
 }
 
-/// Returns the path below which a section assigns, given the path of its header. With double brackets the new element
-/// is counted. Fails if an allocation fails.
+/// Returns the path of the table that a section fills, given the path of its header. If the header has double brackets
+/// (`array`), counts the element that it adds, and appends its position. Fails if an allocation fails.
 pub(crate) fn section_path<'t>(
     alloc: Global,
     array: bool,

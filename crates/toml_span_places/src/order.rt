@@ -1,4 +1,4 @@
-//! All values of a tree in the order of the text.
+//! Lists the values of a tree in the order of the text.
 ghost use Rattle.std.specs.Prelude.{◌≡◌, [], IfOk, None, map};
 ghost use Rattle.std.specs.List.Sorted.{IsNonDecreasingBy, IsPermutation};
 ghost use Rattle.toml_span_tree.specs.Nodes.{nodes_from, seen};
@@ -9,7 +9,7 @@ use std::alloc::{AllocError, Global};
 use toml_span_tree::Value;
 use toml_span_tree::nodes::{Visited, nodes};
 
-/// Returns the start of a value or of its key, whichever is first.
+/// Returns the start of a value or of its key, whichever comes first.
 fn first_start(node: &Visited<'_, '_>) -> usize
     ensures { result ≡ start_of node.now }
 {
@@ -20,11 +20,11 @@ fn first_start(node: &Visited<'_, '_>) -> usize
     }
 }
 
-/// Lists all values of a tree, like `nodes`, but in the order in which they start in the text: each by its key or its
-/// span, whichever starts first. A table starts with the first header that names it.
+/// Lists all values of a tree, as `nodes` does, but in the order in which they begin in the text. A value begins with
+/// its key or its span, whichever comes first, and a table with the first header that names it.
 ///
-/// Values that start at the same byte, such as the array and its first element in `[[a]]`, are in the order of `nodes`:
-/// each before those inside it. Fails if an allocation fails: for the list and its paths.
+/// Values that begin at the same byte are in the order of `nodes`, each before those inside it: for `[[a]]`, the array
+/// before its first element. Fails if an allocation fails, for the list or for a path.
 pub fn nodes_in_text_order<'t, 'de>(
     alloc: Global,
     value: &'t Value<'de>,

@@ -1,4 +1,4 @@
-//! Paths.
+//! Makes and compares paths.
 ghost use Rattle.std.specs.Prelude.{◌≡◌, ◌++◌, ◌∷◌, [], IfOk, map};
 ghost use Rattle.toml_span_tree.specs.Nodes.{step_of};
 ghost use Rattle.toml_span_read.specs.Data.{simple_key};
@@ -12,7 +12,7 @@ use std::alloc::{AllocError, Global};
 use toml_span_lex::key::Key;
 use toml_span_tree::nodes::Step;
 
-/// Returns the path followed by a step. Fails if an allocation fails.
+/// Appends a step to a path. Fails if an allocation fails.
 pub(crate) fn extended<'t>(
     mut path: Vec<Step<'t>>,
     step: Step<'t>,
@@ -23,7 +23,7 @@ pub(crate) fn extended<'t>(
     Ok(path)
 }
 
-/// Returns the path followed by a key. Fails if an allocation fails.
+/// Appends a key to a path. Fails if an allocation fails.
 pub(crate) fn with_key<'t, 'de>(
     path: Vec<Step<'t>>,
     key: &'t Key<'de>,
@@ -33,7 +33,7 @@ pub(crate) fn with_key<'t, 'de>(
     extended(path, Step::Key(key.name.as_ref()))
 }
 
-/// Copies a path. Fails if an allocation fails.
+/// Returns a copy of a path. Fails if an allocation fails.
 pub(crate) fn copied<'t>(alloc: Global, path: &[Step<'t>]) -> Result<Vec<Step<'t>>, AllocError>
     ensures { IfOk result (λ steps. steps_of steps ≡ map step_of path.now) }
 {
@@ -41,7 +41,7 @@ pub(crate) fn copied<'t>(alloc: Global, path: &[Step<'t>]) -> Result<Vec<Step<'t
     Ok(steps)
 }
 
-/// Returns the path of an element, given that of the array. Fails if an allocation fails.
+/// Returns the path of an element, given the path of its array. Fails if an allocation fails.
 pub(crate) fn element_path<'t>(
     alloc: Global,
     path: &[Step<'t>],
@@ -54,6 +54,7 @@ pub(crate) fn element_path<'t>(
     Ok(steps)
 }
 
+/// Returns whether two steps are equal.
 fn same_step(step: &Step<'_>, other: &Step<'_>) -> bool
     ensures { result ≡ spec.same_step (step_of step.now) (step_of other.now) }
 {
@@ -70,7 +71,7 @@ fn same_step(step: &Step<'_>, other: &Step<'_>) -> bool
 }
 
 #[tactic(auto, unfolding(toml_span::specs::Paths::same_path))]
-/// Returns whether two paths have the same steps.
+/// Returns whether two paths are equal.
 pub(crate) fn same_path(path: &[Step<'_>], other: &[Step<'_>]) -> bool
     ensures { result ≡ spec.same_path (map step_of path.now) (map step_of other.now) }
 {
@@ -83,8 +84,8 @@ pub(crate) fn same_path(path: &[Step<'_>], other: &[Step<'_>]) -> bool
     same_step(step, other_step) && same_path(path_rest, other_rest)
 }
 
-/// Returns the position of the latest element of the array of tables at a path, if it has elements. Fails if an
-/// allocation fails.
+/// Returns the position of the latest element of the array of tables at this path, or `None` if there is none. Fails if
+/// an allocation fails.
 pub(crate) fn latest<'t>(
     alloc: Global,
     opened: &Opened<'t>,
@@ -96,7 +97,7 @@ pub(crate) fn latest<'t>(
     Ok(added.checked_sub(1))
 }
 
-/// Returns the path followed by the position of an element, if there is one. Fails if an allocation fails.
+/// Appends the position of an element to a path, if it is given. Fails if an allocation fails.
 pub(crate) fn entered<'t>(
     path: Vec<Step<'t>>,
     element: Option<usize>,

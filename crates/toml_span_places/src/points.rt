@@ -1,9 +1,9 @@
-//! Where an assignment can be inserted into a table.
+//! Finds where to insert an assignment into a table.
 ghost use Rattle.std.specs.Prelude.{◌≡◌, IfOk, fold, map};
-ghost use Rattle.toml_span_read.specs.Data.{block};
+ghost use Rattle.toml_span_read.specs.Data.{parsed_section};
 ghost use Rattle.toml_span_tree.specs.Nodes.{step_of};
 ghost use Rattle.toml_span_places.specs.Points as spec;
-ghost use Rattle.toml_span_places.specs.Sections.{standing_section};
+ghost use Rattle.toml_span_places.specs.Sections.{section_mention};
 
 use crate::literals::byte_before;
 use crate::paths::same_path;
@@ -14,17 +14,17 @@ use toml_span_read::Section;
 use toml_span_read::gaps::byte_at;
 use toml_span_tree::nodes::Step;
 
-/// An offset at which a line can be inserted.
+/// An offset at which to insert a line.
 #[derive(Clone, Copy, Debug, PartialEq, Eq)]
 pub struct InsertionPoint {
-    /// The byte offset in the text.
+    /// The byte offset.
     pub offset: usize,
-    /// Whether the line before it has no line end, so that one must be written first. This occurs only at the end of
-    /// the text.
+    /// Whether the line before the offset has no line end, so that one must be written first. That happens only at the
+    /// end of the text.
     pub needs_line_end: bool,
 }
 
-/// Returns the start of a text, after a byte order mark.
+/// Returns the offset after a byte order mark at the start of the text, or 0 if there is none.
 pub(crate) fn text_start(text: &str) -> usize
     ensures { result ≡ spec.text_start text.now }
 {
@@ -34,7 +34,8 @@ pub(crate) fn text_start(text: &str) -> usize
     if is_marked { 3 } else { 0 }
 }
 
-/// Returns where a line can be inserted if no section assigns at the path: at the root, the start of the text.
+/// Returns where to insert a line in a table that no section fills: for the root, at the start of the text, and for
+/// other tables nowhere.
 fn without_section(text: &str, path: &[Step<'_>]) -> Option<InsertionPoint>
     ensures { result ≡ spec.without_section text.now (map step_of path.now) }
 {
@@ -47,9 +48,9 @@ fn without_section(text: &str, path: &[Step<'_>]) -> Option<InsertionPoint>
     })
 }
 
-/// Returns the insertion point after the last line of a section with this body.
-fn behind_body(text: &str, body: Span) -> InsertionPoint
-    ensures { result ≡ spec.behind_body text.now body }
+/// Returns the insertion point after the lines of a section's assignments, which span `body`.
+fn after_body(text: &str, body: Span) -> InsertionPoint
+    ensures { result ≡ spec.after_body text.now body }
 {
     InsertionPoint {
         offset: body.end,
@@ -57,34 +58,35 @@ fn behind_body(text: &str, body: Span) -> InsertionPoint
     }
 }
 
-/// Returns the insertion point after the last of these sections that assigns in the table at a path, or else `point`.
+/// Returns the insertion point after the last of these sections that fills the table at `path`, or `point` if none
+/// does.
 fn last_point(
     text: &str,
     path: &[Step<'_>],
     places: &[SectionPlace<'_>],
     point: Option<InsertionPoint>,
 ) -> Option<InsertionPoint>
-    ensures { result ≡ fold (spec.later_point text.now (map step_of path.now)) point (map standing_section places.now) }
+    ensures { result ≡ fold (spec.later_point text.now (map step_of path.now)) point (map section_mention places.now) }
 {
     let mut point = point;
     for place in places {
         if same_path(place.path.as_slice(), path) {
-            point = Some(behind_body(text, place.body));
+            point = Some(after_body(text, place.body));
         }
     }
     point
 }
 
-/// Returns where a line `key = value` can be inserted at the end of the own body of the table at a path: after the last
-/// line of the section that has its header, or after the header's line if it has no assignment.
+/// Returns where to insert a line `key = value` into the table at `path`: after the last assignment below its own
+/// header or, if there is none, after the line of the header.
 ///
-/// At the root that is after the last assignment before the first header, or, without such assignments, at the start of
-/// the text, after a byte order mark. The path of an array's element ends with its position. Returns `None` if the
-/// table has no body of its own: if it is named only by longer headers or dotted keys, is an inline table or an array,
-/// or does not exist.
+/// For the root, that is after the last assignment before the first header or, if there is none, at the start of the
+/// text, after a byte order mark. The path of an element ends with its position. Returns `None` if the table has no
+/// header of its own, because only longer headers or dotted keys name it, because it is an inline table or an array, or
+/// because it does not exist.
 ///
-/// Write the line with a line end after it, and one before it if `needs_line_end` is set. `sections` are those that
-/// `read_sections` returns for the text. Fails if an allocation fails.
+/// Write the line with a line end after it and, if `needs_line_end`, with one before it. `sections` must be what
+/// `read_sections` returned for the text. Fails if an allocation fails.
 pub fn insertion_point<'t, 'de>(
     alloc: Global,
     text: &str,
@@ -92,7 +94,7 @@ pub fn insertion_point<'t, 'de>(
     path: &[Step<'_>],
 ) -> Result<Option<InsertionPoint>, AllocError>
     ensures { IfOk result (λ point. point
-        ≡ spec.insertion_point text.now (map step_of path.now) (map block sections.now)) }
+        ≡ spec.insertion_point text.now (map step_of path.now) (map parsed_section sections.now)) }
 {
     let places = section_places(alloc, text, sections)?;
     let point = without_section(text, path);

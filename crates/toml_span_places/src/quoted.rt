@@ -1,4 +1,4 @@
-//! Keys and strings as TOML source.
+//! Writes keys and strings as TOML.
 ghost use Rattle.std.specs.Prelude.{◌≡◌, ◌<◌, ◌++◌, IfOk, OnOk, string_bytes, encode_utf8};
 ghost use Rattle.std.specs.Char.{digit_char};
 ghost use Rattle.std.specs.List.{list_all, list_any};
@@ -9,7 +9,7 @@ ghost use Rattle.toml_span_places.specs.Quoted as spec;
 use std::alloc::{AllocError, Global};
 use toml_span_lex::bytes::is_keylike;
 
-/// Returns the letter after the backslash of a character's escape, if it has one (TOML 1.1, String).
+/// Returns the letter of the character's short escape, if it has one (TOML 1.1, String): `n` for a line feed.
 fn letter_of(c: char) -> Option<char>
     ensures { result ≡ spec.letter_of c }
 {
@@ -39,7 +39,7 @@ fn push_digit(out: &mut String, digit: u32) -> Result<(), AllocError>
     out.push(char::from_digit(digit, 16).unwrap_or('0'))
 }
 
-/// Appends the escape of a character by the two digits of its number. Fails if an allocation fails.
+/// Appends the escape `\xHH` of a character. Fails if an allocation fails.
 fn push_number(out: &mut String, c: char) -> Result<(), AllocError>
     requires { c < 256 }
     ensures { OnOk result (string_bytes out.new ≡ string_bytes out.old ++ spec.number_escape c) }
@@ -49,7 +49,7 @@ fn push_number(out: &mut String, c: char) -> Result<(), AllocError>
     push_digit(out, c as u32 % 16)
 }
 
-/// Appends a backslash and a letter. Fails if an allocation fails.
+/// Appends the escape with this letter. Fails if an allocation fails.
 fn push_letter(out: &mut String, letter: char) -> Result<(), AllocError>
     ensures { OnOk result (string_bytes out.new ≡ string_bytes out.old ++ spec.letter_escape letter) }
 {
@@ -57,7 +57,7 @@ fn push_letter(out: &mut String, letter: char) -> Result<(), AllocError>
     out.push(letter)
 }
 
-/// Appends a character as basic strings contain it. Fails if an allocation fails.
+/// Appends a character as it is written in a basic string. Fails if an allocation fails.
 fn push_char(out: &mut String, c: char) -> Result<(), AllocError>
     ensures { OnOk result (string_bytes out.new ≡ string_bytes out.old ++ spec.basic_char c) }
 {
@@ -68,7 +68,7 @@ fn push_char(out: &mut String, c: char) -> Result<(), AllocError>
     }
 }
 
-/// Appends a text as basic strings contain it. Fails if an allocation fails.
+/// Appends a text as it is written in a basic string, without the quotes. Fails if an allocation fails.
 fn push_basic(out: &mut String, text: &str) -> Result<(), AllocError>
     ensures { OnOk result (string_bytes out.new ≡ string_bytes out.old ++ spec.basic text.now) }
 {
@@ -78,40 +78,42 @@ fn push_basic(out: &mut String, text: &str) -> Result<(), AllocError>
     Ok(())
 }
 
-/// Returns whether basic strings must escape the byte.
+/// Returns whether the byte must be escaped in a basic string.
 fn is_escaped(byte: u8) -> bool
     ensures { result ≡ spec.is_escaped byte }
 {
     byte == b'"' || byte == b'\\'
 }
 
-/// Returns whether literal strings must not contain the byte.
+/// Returns whether the byte must not occur in a literal string.
 fn is_unliteral(byte: u8) -> bool
     ensures { result ≡ spec.is_unliteral byte }
 {
     byte == b'\'' || (byte < b' ' && byte != b'\t') || byte == 0x7f
 }
 
+/// Returns whether one of the bytes must be escaped in a basic string.
 fn has_escaped(bytes: &[u8]) -> bool
     ensures { result ≡ list_any spec.is_escaped bytes.now }
 {
     bytes.iter().any(|byte| is_escaped(*byte))
 }
 
+/// Returns whether one of the bytes must not occur in a literal string.
 fn has_unliteral(bytes: &[u8]) -> bool
     ensures { result ≡ list_any spec.is_unliteral bytes.now }
 {
     bytes.iter().any(|byte| is_unliteral(*byte))
 }
 
-/// Returns whether the text is shorter as a literal string.
+/// Returns whether the text can be a literal string, and is shorter as one.
 fn is_literal(text: &str) -> bool
     ensures { result ≡ spec.is_literal text.now }
 {
     has_escaped(text.as_bytes()) && !has_unliteral(text.as_bytes())
 }
 
-/// Returns a text as a basic or literal string. Fails if an allocation fails.
+/// Returns the text as a basic or literal string, whichever is shorter. Fails if an allocation fails.
 fn spelled_string(alloc: Global, text: &str) -> Result<String, AllocError>
     ensures { IfOk result (λ out. string_bytes out ≡ spec.quoted text.now) }
 {
@@ -128,12 +130,14 @@ fn spelled_string(alloc: Global, text: &str) -> Result<String, AllocError>
     Ok(out)
 }
 
-/// Returns the shortest spelling of a string on one line: a basic string with the escapes that it needs, or a literal
-/// string if that is possible and shorter. Wherever it occurs in a text, it is read as this string, unless it continues
-/// after that (`parts_off`). Fails if an allocation fails.
+/// Returns the shortest string on one line that spells the text: a basic string with the necessary escapes, or a
+/// literal string if that is possible and shorter.
 ///
-/// `basic-string = quotation-mark *basic-char quotation-mark`,
-/// `literal-string = apostrophe *literal-char apostrophe` (TOML 1.1, String)
+/// Wherever a document contains it, it is read as this string, unless the characters after it continue it
+/// (`parts_off`). Fails only if an allocation fails.
+///
+/// `basic-string = quotation-mark *basic-char quotation-mark`, `literal-string = apostrophe *literal-char apostrophe`
+/// (TOML 1.1, String)
 pub fn quote_string(alloc: Global, text: &str) -> Result<String, AllocError>
     ensures spelling { IfOk result (λ out. string_bytes out ≡ spec.quoted text.now) }
     ensures reads { IfOk result (λ out. ReadsAsString text.now (string_bytes out)) }
@@ -141,6 +145,7 @@ pub fn quote_string(alloc: Global, text: &str) -> Result<String, AllocError>
     spelled_string(alloc, text)
 }
 
+/// Returns whether all bytes may occur in a bare key.
 fn all_keylike(bytes: &[u8]) -> bool
     ensures { result ≡ list_all is_keylike_byte bytes.now }
 {
@@ -154,7 +159,7 @@ fn is_bare(name: &str) -> bool
     !name.is_empty() && all_keylike(name.as_bytes())
 }
 
-/// Returns a name as a bare key or as a string. Fails if an allocation fails.
+/// Returns the name as a bare key if possible, otherwise as a string. Fails if an allocation fails.
 fn spelled_key(alloc: Global, name: &str) -> Result<String, AllocError>
     ensures { IfOk result (λ out. string_bytes out ≡ spec.key_text name.now) }
 {
@@ -165,9 +170,11 @@ fn spelled_key(alloc: Global, name: &str) -> Result<String, AllocError>
     }
 }
 
-/// Returns the shortest spelling of a key: as it is if it consists of letters, digits, dashes and underscores, or as a
-/// string. Wherever it occurs in a text, it is read as one simple key with this name, unless it continues after that
-/// (`parts_off`). Fails if an allocation fails.
+/// Returns the shortest key that spells the name: the name itself if it consists of ASCII letters, digits, `-` and `_`,
+/// otherwise a string.
+///
+/// Wherever a document contains it, it is read as one simple key with this name, unless the characters after it
+/// continue it (`parts_off`). Fails only if an allocation fails.
 ///
 /// `simple-key = quoted-key / unquoted-key` (TOML 1.1, Keys)
 pub fn quote_key(alloc: Global, name: &str) -> Result<String, AllocError>

@@ -10,14 +10,14 @@ use toml_span_lex::span::Span;
 use toml_span_lex::stop::Stop;
 use toml_span_read::gaps::byte_at;
 
-/// A byte span of a text, and the text that replaces it. With an empty span the text is inserted.
+/// A span of a text in bytes, end exclusive, and the text that replaces it. If the span is empty, the text is inserted.
 #[derive(Clone, Copy, Debug, PartialEq, Eq)]
 pub struct Replacement<'r> {
     pub span: Span,
     pub text: &'r str,
 }
 
-/// What is wrong with the span of a replacement.
+/// What is wrong with the span of a replacement: see `replace_all`.
 #[derive(Clone, Copy, Debug, PartialEq, Eq, Error)]
 pub enum SpanFault {
     #[error("the span ends before it starts")]
@@ -30,16 +30,16 @@ pub enum SpanFault {
     InsideCharacter,
 }
 
-/// Why a text is not changed: the first replacement with an invalid span.
+/// The first replacement whose span is invalid, and what is wrong with it.
 #[derive(Clone, Copy, Debug, PartialEq, Eq, Error)]
 #[error("replacement {index}: {fault}")]
 pub struct ReplaceError {
-    /// The index of the replacement, counted from 0.
+    /// The position of the replacement in the list, counted from 0.
     pub index: usize,
     pub fault: SpanFault,
 }
 
-/// Returns whether no character continues at `at` that began before it.
+/// Returns whether the offset `at` is at a character boundary, or beyond the text.
 fn is_boundary(text: &str, at: usize) -> bool
     ensures { result ≡ spec.is_boundary text.now at }
 {
@@ -47,7 +47,7 @@ fn is_boundary(text: &str, at: usize) -> bool
     byte < 0x80 || byte >= 0xC0
 }
 
-/// Returns what is wrong with a span that follows one which ends at `from`, if anything.
+/// Returns what is wrong with a span, if anything. `from` is the end of the span before it.
 fn fault_of(text: &str, from: usize, span: Span) -> Option<SpanFault>
     ensures { result ≡ spec.fault_of text.now from span }
 {
@@ -64,7 +64,7 @@ fn fault_of(text: &str, from: usize, span: Span) -> Option<SpanFault>
     }
 }
 
-/// Appends a part of a text, followed by another text. Fails if an allocation fails.
+/// Appends the bytes of `text` from `from` to `to`, and then the text `then`. Fails if an allocation fails.
 fn push_part(
     new: &mut String,
     text: &str,
@@ -81,9 +81,9 @@ fn push_part(
     new.push_str(then)
 }
 
-/// Returns the text with all replacements made. Bytes outside their spans are unchanged.
+/// Returns the text with all replacements made. The other bytes are unchanged.
 ///
-/// The spans must be in the order of the text, and must not overlap. Fails with the first one that is invalid
+/// The spans must be in the order of the text, and must not overlap. Fails with the first span that is invalid
 /// (`Stop::Fault`), or if an allocation fails.
 pub fn replace_all(
     alloc: Global,
@@ -106,7 +106,7 @@ pub fn replace_all(
     Ok(new)
 }
 
-/// Returns a replacement of each span by this text. Fails if an allocation fails.
+/// Returns a replacement for each of the spans, all by this text. Fails if an allocation fails.
 fn with_each<'r>(
     alloc: Global,
     spans: &[Span],
@@ -121,8 +121,8 @@ fn with_each<'r>(
     Ok(list)
 }
 
-/// Returns the text with `with` in place of each of these spans, like `replace_all`, or `None` if a span is invalid.
-/// Fails if an allocation fails.
+/// Returns the text with each of the spans replaced by `with`, or `None` if `replace_all` would refuse a span. Fails if
+/// an allocation fails.
 pub fn replaced(
     alloc: Global,
     text: &str,

@@ -1,9 +1,9 @@
-//! Sections, each with the path of the table in which it assigns.
+//! Lists the sections of a text, each with the path of the table that it fills.
 ghost use Rattle.std.specs.Prelude.{◌≡◌, IfOk, map, option_map};
-ghost use Rattle.toml_span_read.specs.Data.{block};
+ghost use Rattle.toml_span_read.specs.Data.{parsed_section};
 ghost use Rattle.toml_span_places.specs.Mentions.{mentioned};
 ghost use Rattle.toml_span_places.specs.Sections as spec;
-ghost use Rattle.toml_span_places.specs.Sections.{standing_section, document_sections};
+ghost use Rattle.toml_span_places.specs.Sections.{section_mention, document_sections};
 
 use crate::lines::{blanks_start, body_end};
 use crate::mentions::{Details, Mention, mentions};
@@ -17,28 +17,28 @@ use toml_span_tree::nodes::Step;
 /// How a section begins.
 #[derive(Clone, Copy, Debug, PartialEq, Eq)]
 pub enum SectionForm {
-    /// With the first assignment of the text, before any header.
+    /// With the first assignment, before any header.
     Root,
-    /// With the header of a standard table, in single brackets.
+    /// With a header in single brackets.
     Table,
-    /// With the header of an array's element, in double brackets.
+    /// With a header in double brackets.
     Element,
 }
 
-/// A section and where it is in the text.
+/// A section, the path of the table that it fills, and where it is in the text.
 #[derive(Drop)]
 pub struct SectionPlace<'t> {
-    /// The path from the root to the table in which the section assigns. For a header in double brackets, the last step
-    /// is the position of the element that the header adds.
+    /// The path from the root to the table that the section fills. If the header has double brackets, the last step is
+    /// the position of the element that it adds.
     pub path: Vec<Step<'t>>,
     pub form: SectionForm,
-    /// The header's line, from its first bracket to the end, line end included. `0..0` without a header.
+    /// The header's line, from its first bracket to the end of the line, including the line end. 0..0 without a header.
     pub header: Span,
-    /// The lines of its assignments, line ends included. Without assignments it is empty, after the header's line.
+    /// The lines of the assignments, including the line ends. Without assignments it is empty, after the header's line.
     pub body: Span,
 }
 
-/// Returns how a section begins, given how its header or the root is named.
+/// Returns how a section begins, given how the mention at its start names a table.
 fn form_of(named: Option<TableForm>) -> Option<SectionForm>
     ensures { result ≡ spec.form_of named }
 {
@@ -50,7 +50,7 @@ fn form_of(named: Option<TableForm>) -> Option<SectionForm>
     }
 }
 
-/// Returns the span of the lines of a section's assignments.
+/// Returns the span of the lines of a section's assignments, given the mention at its start.
 fn body_of(text: &str, form: SectionForm, details: Details) -> Span
     ensures { result ≡ spec.body_of text.now form details }
 {
@@ -62,9 +62,9 @@ fn body_of(text: &str, form: SectionForm, details: Details) -> Span
     Span { start, end }
 }
 
-/// Returns the section that begins with a mention, if there is one. Fails if an allocation fails.
+/// Returns the section that begins with a mention, or `None` if none does. Fails if an allocation fails.
 fn section_of<'t>(text: &str, mention: Mention<'t>) -> Result<Option<SectionPlace<'t>>, AllocError>
-    ensures { IfOk result (λ place. option_map standing_section place
+    ensures { IfOk result (λ place. option_map section_mention place
         ≡ spec.section_of text.now (mentioned mention.entry)) }
 {
     let Mention { path, details } = mention;
@@ -82,17 +82,17 @@ fn section_of<'t>(text: &str, mention: Mention<'t>) -> Result<Option<SectionPlac
     }))
 }
 
-/// Lists these sections in the order of the text, each with the path of its table.
+/// Lists these sections, in the order of the text, each with the path of the table that it fills.
 ///
-/// `sections` are those that `read_sections` returns for the text. The root has one only if there is an assignment
-/// before the first header. Fails if an allocation fails: for the list and its paths.
+/// `sections` must be what `read_sections` returned for the text. There is one for the root only if there are
+/// assignments before the first header. Fails if an allocation fails, for the list or for a path.
 pub fn section_places<'t, 'de>(
     alloc: Global,
     text: &str,
     sections: &'t [Section<'de>],
 ) -> Result<Vec<SectionPlace<'t>>, AllocError>
-    ensures { IfOk result (λ places. map standing_section places.items
-        ≡ document_sections text.now (map block sections.now)) }
+    ensures { IfOk result (λ places. map section_mention places.items
+        ≡ document_sections text.now (map parsed_section sections.now)) }
 {
     let mut out = Vec::new(alloc);
     for mention in mentions(alloc, sections, false)? {

@@ -1,4 +1,4 @@
-//! Values as TOML source.
+//! Writes values as TOML.
 ghost use Rattle.std.specs.Prelude.{◌≡◌, ◌++◌, IfOk, OnOk, true, string_bytes};
 ghost use Rattle.std.specs.Fmt.{signed_decimal};
 ghost use Rattle.std.specs.Str.{IsUtf8};
@@ -14,7 +14,7 @@ use std::alloc::{AllocError, Global};
 use std::fmt::Write;
 use toml_span_tree::{Table, Value, ValueInner};
 
-/// Appends a text as a string. Fails if an allocation fails.
+/// Appends a text as a TOML string. Fails if an allocation fails.
 fn push_string(alloc: Global, text: &str, out: &mut String) -> Result<(), AllocError>
     ensures text { OnOk result (string_bytes out.new ≡ string_bytes out.old ++ quoted.quoted text.now) }
     ensures held { OnOk result (IsUtf8 text.now) }
@@ -23,7 +23,7 @@ fn push_string(alloc: Global, text: &str, out: &mut String) -> Result<(), AllocE
     out.push_str(spelled.as_str())
 }
 
-/// Appends a name as a key, and the equals sign after it. Fails if an allocation fails.
+/// Appends a name as a TOML key, and ` = `. Fails if an allocation fails.
 fn push_key(alloc: Global, name: &str, out: &mut String) -> Result<(), AllocError>
     ensures text { OnOk result (string_bytes out.new ≡ string_bytes out.old ++ spec.key_equals name.now) }
     ensures held { OnOk result (IsUtf8 name.now) }
@@ -33,7 +33,7 @@ fn push_key(alloc: Global, name: &str, out: &mut String) -> Result<(), AllocErro
     out.push_str(" = ")
 }
 
-/// Appends an integer in decimal digits. Fails if an allocation fails.
+/// Appends an integer in decimal. Fails if an allocation fails.
 fn push_integer(number: i64, out: &mut String) -> Result<(), AllocError>
     ensures text { OnOk result (string_bytes out.new ≡ string_bytes out.old ++ signed_decimal number) }
     ensures held { OnOk result (IsHeldScalar (integer number)) }
@@ -41,14 +41,14 @@ fn push_integer(number: i64, out: &mut String) -> Result<(), AllocError>
     write!(out, "{number}")
 }
 
-/// Appends the separator before an element or a pair, which is empty for the first. Fails if an allocation fails.
+/// Appends the comma and space before an element or a pair, or nothing before the first. Fails if an allocation fails.
 fn push_separator(is_first: bool, out: &mut String) -> Result<(), AllocError>
     ensures { OnOk result (string_bytes out.new ≡ string_bytes out.old ++ spec.separator is_first) }
 {
     out.push_str(if is_first { "" } else { ", " })
 }
 
-/// Appends a value. One that has been taken has no text. Fails if an allocation fails.
+/// Appends a value. A value that has been taken has no text. Fails if an allocation fails.
 #[cycle(push_value)]
 fn push_value(alloc: Global, value: &Value<'_>, out: &mut String) -> Result<(), AllocError>
     ensures text { OnOk result (string_bytes out.new ≡ string_bytes out.old ++ spec.value_text (view value.now)) }
@@ -92,7 +92,7 @@ fn push_elements(alloc: Global, elements: &[Value<'_>], out: &mut String) -> Res
     Ok(())
 }
 
-/// Appends the pairs of a table, separated by commas. Fails if an allocation fails.
+/// Appends the entries of a table, separated by commas. Fails if an allocation fails.
 #[cycle(push_value)]
 fn push_entries(alloc: Global, table: &Table<'_>, out: &mut String) -> Result<(), AllocError>
     ensures text { OnOk result (string_bytes out.new ≡ string_bytes out.old
@@ -109,7 +109,7 @@ fn push_entries(alloc: Global, table: &Table<'_>, out: &mut String) -> Result<()
     Ok(())
 }
 
-/// Returns a value on one line. Fails if an allocation fails.
+/// Returns a value as TOML on one line. Fails if an allocation fails.
 fn spelled_value(alloc: Global, value: &Value<'_>) -> Result<String, AllocError>
     ensures text { IfOk result (λ text. string_bytes text ≡ spec.value_text (view value.now)) }
     ensures held { OnOk result (IsHeld (view value.now)) }
@@ -119,14 +119,14 @@ fn spelled_value(alloc: Global, value: &Value<'_>) -> Result<String, AllocError>
     Ok(out)
 }
 
-/// Returns the value as TOML source on one line: strings and keys as `quote_string` and `quote_key` spell them,
-/// integers in decimal digits, floats and dates by their texts, arrays, and inline tables with their keys in the order
-/// of their names.
+/// Returns a value as TOML on one line: strings and keys as `quote_string` and `quote_key` write them, integers in
+/// decimal, floats and dates as their texts, arrays in brackets, and tables as inline tables with their keys in the
+/// order of the names.
 ///
-/// Wherever the text occurs in a document, it is read as this value, unless it continues after that (`parts_off`). This
-/// requires that the value is whole (`is_whole`), is not nested deeper than the limit, and has floats whose texts are
-/// valid, as in every tree that `parse` returns. Otherwise the text is not a value, or another one. Fails only if an
-/// allocation fails.
+/// Wherever a document contains the result, it is read as this value, unless the characters after it continue it
+/// (`parts_off`). That holds if nothing has been taken from the value (`is_whole`), it is not nested deeper than the
+/// limit, and the texts of its floats are valid, as in every tree that `parse` returns. Otherwise the result may be no
+/// value, or another one. Fails only if an allocation fails.
 pub fn to_toml(alloc: Global, value: &Value<'_>) -> Result<String, AllocError>
     ensures spelling { IfOk result (λ text. string_bytes text ≡ spec.value_text (view value.now)) }
     ensures reads { IfOk result (λ text. ReadsAsValue (view value.now) (string_bytes text)) }

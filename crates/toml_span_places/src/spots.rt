@@ -1,4 +1,4 @@
-//! The key or value at a byte offset in a text.
+//! Finds the key or value at an offset in a text.
 ghost use Rattle.std.specs.Prelude.{◌≡◌, IfOk, Some, option_map};
 ghost use Rattle.toml_span_tree.specs.Nodes.{seen};
 ghost use Rattle.toml_span_tree.specs.Value.{view};
@@ -12,33 +12,34 @@ use toml_span_lex::span::Span;
 use toml_span_tree::Value;
 use toml_span_tree::nodes::{Step, Visited, nodes};
 
-/// A part of an entry or an element.
+/// Whether a place is the key of an entry, or the value of an entry or element.
 #[derive(Clone, Copy, Debug, PartialEq, Eq)]
 pub enum Part {
     Key,
     Value,
 }
 
-/// A key or a value of a tree, and where it is in the text.
+/// A key or a value of a tree, with its path and its span.
 #[derive(Drop)]
 pub struct NodePlace<'t, 'de> {
-    /// The path from the root to the value, or to the value that has the key.
+    /// The path from the root to the value, or to the value whose key this is.
     pub path: Vec<Step<'t>>,
     pub part: Part,
-    /// The span of the key or the value, with its quotes.
+    /// The span of the key or value, quotes included.
     pub span: Span,
-    /// The value at the path, even if `part` is its key.
+    /// The value at the path, even if `part` says that the place is its key.
     pub value: &'t Value<'de>,
 }
 
+/// Returns whether the span contains the offset.
 fn holds(span: Span, offset: usize) -> bool
     ensures { result ≡ spec.holds span offset }
 {
     span.start <= offset && offset < span.end
 }
 
-/// Returns the value or its key, whichever contains the offset, with its span. If both do, the one that starts last.
-/// The spans include quotes.
+/// Returns whether the offset is in the value or in its key, with the span of that one. If both contain the offset, it
+/// is the one that starts last. Spans include quotes.
 fn chosen(offset: usize, literal: Span, quoted: Option<Span>) -> (Part, Span)
     ensures { result ≡ spec.chosen offset literal quoted }
 {
@@ -53,7 +54,7 @@ fn chosen(offset: usize, literal: Span, quoted: Option<Span>) -> (Part, Span)
     }
 }
 
-/// Returns a value or its key, if one of them contains the offset.
+/// Returns the value or its key, whichever contains the offset, or `None` if neither does.
 fn spot_of<'t, 'de>(text: &str, offset: usize, node: Visited<'t, 'de>) -> Option<NodePlace<'t, 'de>>
     ensures { option_map spot result ≡ spec.spot_of text.now offset (seen node.entry) }
 {
@@ -71,7 +72,7 @@ fn spot_of<'t, 'de>(text: &str, offset: usize, node: Visited<'t, 'de>) -> Option
     })
 }
 
-/// Returns the one that starts last, or `place` if both start at the same offset.
+/// Returns the place that starts last, or `place` if both start at the same offset.
 fn later<'t, 'de>(best: Option<NodePlace<'t, 'de>>, place: NodePlace<'t, 'de>) -> NodePlace<'t, 'de>
     ensures { Some (spot result) ≡ spec.later (option_map spot best.entry) (spot place.entry) }
 {
@@ -81,13 +82,13 @@ fn later<'t, 'de>(best: Option<NodePlace<'t, 'de>>, place: NodePlace<'t, 'de>) -
     }
 }
 
-/// Returns the innermost key or value of a tree at a byte of the text, with its path, or `None` at or after the end of
-/// the text.
+/// Returns the innermost key or value that contains the byte at `offset`, with its path, or `None` if `offset` is not
+/// below the length of the text.
 ///
-/// Among the keys and values whose span contains the byte, quotes included, it is the one that starts last; if several
-/// start there, the one deepest in the tree. In a header that names a table again, for which the tree has no key, it is
-/// the table. `root` must be the tree that `parse` returns for the text. Fails if an allocation fails: for the path of
-/// each value.
+/// Of the keys and values whose spans contain the byte, quotes included, this is the one that starts last, and the
+/// deepest in the tree if several start there. In a header that names a table again, it is the table, since the tree
+/// keeps only one key of each table. `root` must be the tree that `parse` returned for the text. Fails if an allocation
+/// fails, for the path of a value.
 pub fn node_at<'t, 'de>(
     alloc: Global,
     root: &'t Value<'de>,

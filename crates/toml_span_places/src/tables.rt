@@ -1,10 +1,10 @@
-//! The tables of a text, wherever it names them.
+//! Lists the tables of a text, once for each place that names them.
 ghost use Rattle.std.specs.Prelude.{◌≡◌, IfOk, map, option_map};
-ghost use Rattle.toml_span_read.specs.Data.{block};
+ghost use Rattle.toml_span_read.specs.Data.{parsed_section};
 ghost use Rattle.toml_span_tree.specs.Nodes.{step_of};
 ghost use Rattle.toml_span_places.specs.Mentions.{mentioned};
 ghost use Rattle.toml_span_places.specs.Tables as spec;
-ghost use Rattle.toml_span_places.specs.Tables.{standing_table, document_tables};
+ghost use Rattle.toml_span_places.specs.Tables.{table_mention, document_tables};
 
 use crate::mentions::{Mention, mentions};
 use crate::paths::{entered, same_path};
@@ -16,33 +16,32 @@ use toml_span_tree::nodes::Step;
 /// How a text names a table.
 #[derive(Clone, Copy, Debug, PartialEq, Eq)]
 pub enum TableForm {
-    /// By the header of a standard table: `a.b` in `[a.b]`.
+    /// By a header in single brackets: `a.b` in `[a.b]`.
     Header,
     /// By a header in double brackets, which adds it to an array: the new element of `a.b` in `[[a.b]]`.
     Element,
-    /// By the header of a table inside it: `a` in `[a.b]` and `[[a.b]]`. If this is the only way, it is an implicit
-    /// table.
+    /// By a header of a table inside it: `a` in `[a.b]` and `[[a.b]]`.
     Passed,
     /// By a dotted key: `a` in `a.b = 1`.
     Dotted,
-    /// By braces: `a` in `a = {b = 1}`.
+    /// By the braces of an inline table: `a` in `a = {b = 1}`.
     Inline,
 }
 
-/// A table, and a place in the text that names it.
+/// A table, and one place in the text that names it.
 #[derive(Drop)]
 pub struct TablePlace<'t> {
     /// The path from the root to the table.
     pub path: Vec<Step<'t>>,
     pub form: TableForm,
-    /// The line of the header; the assignment with the dotted key, from the key to the end of the value; or the braces
-    /// and what is between them.
+    /// The header's line, including the line end; the assignment with the dotted key, from the key to the end of the
+    /// value; or the inline table with its braces.
     pub span: Span,
 }
 
-/// Returns the table of a mention, if it has one. Fails if an allocation fails.
+/// Returns the table that a mention names, if it names one. Fails if an allocation fails.
 fn table_of<'t>(mention: Mention<'t>) -> Result<Option<TablePlace<'t>>, AllocError>
-    ensures { IfOk result (λ place. option_map standing_table place ≡ spec.table_of (mentioned mention.entry)) }
+    ensures { IfOk result (λ place. option_map table_mention place ≡ spec.table_of (mentioned mention.entry)) }
 {
     let Mention { path, details } = mention;
     let Some(form) = details.form else {
@@ -53,17 +52,18 @@ fn table_of<'t>(mention: Mention<'t>) -> Result<Option<TablePlace<'t>>, AllocErr
     Ok(Some(TablePlace { path, form, span }))
 }
 
-/// Lists the tables of these sections in the order of the text, one for each place that names one. The root is not
-/// listed.
+/// Lists the tables of these sections in the order of the text, once for each header, dotted key or pair of braces that
+/// names one. The root is not listed.
 ///
-/// A table is listed each time a header, a key or braces name it: with `[a]`, `b.c = 1` and `[a.b.d]`, the table `a` is
-/// listed as a header and as passed, and `a.b` as dotted and as passed. `sections` are those that `read_sections`
-/// returns for the text. Fails if an allocation fails: for the list and its paths.
+/// For `[a]`, `b.c = 1` and `[a.b.d]`, the table `a` is listed as `Header` and as `Passed`, and `a.b` as `Dotted` and
+/// as `Passed`. `sections` must be what `read_sections` returned for the text. Fails if an allocation fails, for the
+/// list or for a path.
 pub fn table_places<'t, 'de>(
     alloc: Global,
     sections: &'t [Section<'de>],
 ) -> Result<Vec<TablePlace<'t>>, AllocError>
-    ensures { IfOk result (λ places. map standing_table places.items ≡ document_tables (map block sections.now)) }
+    ensures { IfOk result (λ places. map table_mention places.items
+        ≡ document_tables (map parsed_section sections.now)) }
 {
     let mut out = Vec::new(alloc);
     for mention in mentions(alloc, sections, true)? {
@@ -74,14 +74,14 @@ pub fn table_places<'t, 'de>(
     Ok(out)
 }
 
-/// Returns how these places name the table at a path. Fails if an allocation fails.
+/// Returns how each of the places with this path names the table. Fails if an allocation fails.
 fn forms_of(
     alloc: Global,
     places: &[TablePlace<'_>],
     path: &[Step<'_>],
 ) -> Result<Vec<TableForm>, AllocError>
     ensures { IfOk result (λ forms. forms.items
-        ≡ spec.forms_at (map step_of path.now) (map standing_table places.now)) }
+        ≡ spec.forms_at (map step_of path.now) (map table_mention places.now)) }
 {
     let mut forms = Vec::new(alloc);
     for place in places {
@@ -92,17 +92,17 @@ fn forms_of(
     Ok(forms)
 }
 
-/// Returns how the text names the table at a path, one form per place, in the order of the text. The list is empty at
-/// the root, and if the table does not exist.
+/// Returns how the text names the table at `path`: one form for each place that does, in the order of the text. The
+/// list is empty for the root, and if there is no such table.
 ///
-/// `sections` are those that `read_sections` returns for the text. Fails if an allocation fails.
+/// `sections` must be what `read_sections` returned for the text. Fails if an allocation fails.
 pub fn table_forms<'t, 'de>(
     alloc: Global,
     sections: &'t [Section<'de>],
     path: &[Step<'_>],
 ) -> Result<Vec<TableForm>, AllocError>
     ensures { IfOk result (λ forms. forms.items
-        ≡ spec.forms_at (map step_of path.now) (document_tables (map block sections.now))) }
+        ≡ spec.forms_at (map step_of path.now) (document_tables (map parsed_section sections.now))) }
 {
     let places = table_places(alloc, sections)?;
     forms_of(alloc, places.as_slice(), path)

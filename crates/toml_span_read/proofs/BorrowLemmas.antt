@@ -11,7 +11,7 @@ use Rattle.toml_span_read.specs.declared.value.ValKind.TheViews.{out-ValKind, ro
 use Rattle.toml_span_read.specs.declared.value.Assignment.{Assignment}
 use Rattle.toml_span_read.specs.declared.value.DottedKey.{DottedKey}
 use Rattle.toml_span_read.specs.Borrowed.{Written, IsWrittenRight, AreWrittenRight, joined, key_written, keys_written, dotted_written, written, kind_written, assignment_written, section_written, sections_written}
-use Rattle.toml_span_read.specs.Data.{ParsedInner, scalar, kind_view, from_to}
+use Rattle.toml_span_read.specs.Data.{ParsedInner, scalar, parsed_kind, from_to}
 use Rattle.toml_span_read.specs.code.Values.{is_scalar, ScalarGives}
 use Rattle.toml_span_read.specs.Read as read
 use Rattle.toml_span_read.proofs.ReadSound.{bare_sound}
@@ -27,13 +27,13 @@ pub all_front : {A : Type 0} (P : A → Type 0) (xs ys : List A) → AllByRecurs
 all_front P [] ys h = tt
 all_front P (x ∷ xs) ys h = (h.0, all_front P xs ys h.1)
 
-pub all_behind : {A : Type 0} (P : A → Type 0) (xs ys : List A) → AllByRecursion P (xs ++ ys) → AllByRecursion P ys
-all_behind P [] ys h = h
-all_behind P (x ∷ xs) ys h = all_behind P xs ys h.1
+pub all_after : {A : Type 0} (P : A → Type 0) (xs ys : List A) → AllByRecursion P (xs ++ ys) → AllByRecursion P ys
+all_after P [] ys h = h
+all_after P (x ∷ xs) ys h = all_after P xs ys h.1
 
 joined_push : {A : Type 0} (P : Written → Type 0) (f : A → List Written) (xs : List A) (x : A) → AllByRecursion P (joined (map f xs)) → AllByRecursion P (f x) → AllByRecursion P (joined (map f (xs ++ (x ∷ []))))
 joined_push P f [] x h k = all_append P (f x) [] k tt
-joined_push P f (y ∷ ys) x h k = grind (arith, all_append, all_front, all_behind, joined_push P f ys x)
+joined_push P f (y ∷ ys) x h k = grind (arith, all_append, all_front, all_after, joined_push P f ys x)
 
 -- one more at the end
 pub joined_more : {A : Type 0} (P : Written → Type 0) (f : A → List Written) (xs ys : List A) (x : A) → ys ≡ xs ++ (x ∷ []) → AllByRecursion P (joined (map f xs)) → AllByRecursion P (f x) → AllByRecursion P (joined (map f ys))
@@ -54,12 +54,12 @@ no_array : (k : ParsedInner) (s : Scalar) → is_scalar k ≡ false → k ≡ sc
 no_array k s a e = false≢true (sym a ∙ ap is_scalar e)
 
 -- a scalar that is not a string contains none
-plain_written : (kind : ValKind) (s : Scalar) (span : Span) → kind_view kind ≡ scalar s → ((v : List ℕ) → s ≡ text_scalar v → ⊥) → kind_written kind span ≡ []
+plain_written : (kind : ValKind) (s : Scalar) (span : Span) → parsed_kind kind ≡ scalar s → ((v : List ℕ) → s ≡ text_scalar v → ⊥) → kind_written kind span ≡ []
 plain_written kind s span e other = go (out-ValKind kind) (search (rules, the_lemmas))
   where
     go : (x : ValKind-F ValKind Assignment Val) → kind ≡ roll-ValKind x → kind_written kind span ≡ []
     go (ValKind-F.String c) is =
-        let seen : kind_view kind ≡ scalar (text_scalar (cow_str_bytes c)) = rw is (search (rules, the_lemmas)) in
+        let seen : parsed_kind kind ≡ scalar (text_scalar (cow_str_bytes c)) = rw is (search (rules, the_lemmas)) in
         let same : scalar s ≡ scalar (text_scalar (cow_str_bytes c)) = sym e ∙ seen in
         absurd (other (cow_str_bytes c) cc)
     go (ValKind-F.Integer n) is = rw is (search (rules, the_lemmas))
@@ -67,10 +67,10 @@ plain_written kind s span e other = go (out-ValKind kind) (search (rules, the_le
     go (ValKind-F.Boolean b) is = rw is (search (rules, the_lemmas))
     go (ValKind-F.Datetime d) is = rw is (search (rules, the_lemmas))
     go (ValKind-F.Array vs) is =
-        let seen : is_scalar (kind_view kind) ≡ false = rw is (search (rules, the_lemmas)) in
+        let seen : is_scalar (parsed_kind kind) ≡ false = rw is (search (rules, the_lemmas)) in
         absurd (no_array _ s seen e)
     go (ValKind-F.Inline ps) is =
-        let seen : is_scalar (kind_view kind) ≡ false = rw is (search (rules, the_lemmas)) in
+        let seen : is_scalar (parsed_kind kind) ≡ false = rw is (search (rules, the_lemmas)) in
         absurd (no_array _ s seen e)
 
 not_text : (v text : List ℕ) (s : Scalar) (span : Span) (i j : ℕ) → begins_bare (get_or text i 0) ≡ true → s ≡ text_scalar v → SpellsScalar s span text i j → ⊥

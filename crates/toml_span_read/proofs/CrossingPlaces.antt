@@ -5,7 +5,7 @@ use Rattle.toml_span_lex.specs.declared.stop.Stop.{Stop}
 use Rattle.toml_span_lex.specs.Bytes.{is_blank, MaximalRun}
 use Rattle.toml_span_read.specs.declared.fault.Fault.{Fault}
 use Rattle.toml_span_read.specs.declared.value.Assignment.{Assignment}
-use Rattle.toml_span_read.specs.Data.{ParsedValue, parsed, KeyValue, key_value, parsed_span, SimpleKey}
+use Rattle.toml_span_read.specs.Data.{ParsedValue, parsed, ParsedAssignment, parsed_assignment, parsed_span, SimpleKey}
 use Rattle.toml_span_read.specs.Gaps.{MaximalGap}
 use Rattle.toml_span_read.specs.Grammar.{Spells}
 use Rattle.toml_span_read.specs.Places.{Ascend}
@@ -15,7 +15,7 @@ use Rattle.toml_span_read.specs.code.Earlier.{AddsClear}
 use Rattle.toml_span_read.specs.code.Faults.{IsPlacedStop}
 use Rattle.toml_span_read.proofs.KeyOrder.{dotted_ascend}
 use Rattle.toml_span_read.proofs.InsideLemmas.{ascend_forward}
-use Rattle.toml_span_read.proofs.ReadSound.{PartsSound, key_value_sound, value_sound}
+use Rattle.toml_span_read.proofs.ReadSound.{PartsSound, assignment_sound, value_sound}
 use Rattle.toml_span_read.proofs.SpanLaws.{value_lies}
 
 -- ---- the parts of a key
@@ -31,32 +31,32 @@ ascend_before (p ∷ ps) i j n l (begins, some, rest) = (omega (arith, some, l, 
 -- ---- crossing keys
 
 -- the parts of the key start before x, and the value's span ends between x and j
-abbrev pub IsSpanned : KeyValue → ℕ → Type 0
+abbrev pub IsSpanned : ParsedAssignment → ℕ → Type 0
 IsSpanned e j = (x : ℕ) × StartBefore x e.parts × (x ≤ (parsed_span e.value).end) × ((parsed_span e.value).end ≤ j)
 
 value_ends : (v : ParsedValue) (text : List ℕ) (limit d i j : ℕ) → Spells v text limit d i j → (i ≤ (parsed_span v).end) × ((parsed_span v).end ≤ j)
 value_ends (parsed k span) text limit d i j h = let l = value_lies (parsed k span) text limit d i j h in (omega (arith, l.0.0, l.0.1), l.0.2)
 
 -- an assignment or a pair that is read, if what may be skipped moves forward
-pub key_value_spanned : (e : KeyValue) (text : List ℕ) (limit d : ℕ) (skipped : ℕ → ℕ → Type 0) (value : ℕ → ℕ → Reading ValueEnd) (i j : ℕ) → ((a b : ℕ) → skipped a b → a ≤ b) → PartsSound text limit d value
+pub parsed_assignment_spanned : (e : ParsedAssignment) (text : List ℕ) (limit d : ℕ) (skipped : ℕ → ℕ → Type 0) (value : ℕ → ℕ → Reading ValueEnd) (i j : ℕ) → ((a b : ℕ) → skipped a b → a ≤ b) → PartsSound text limit d value
     → read.keyval text limit skipped value i (Ok (e, j)) → IsSpanned e j
-key_value_spanned e text limit d skipped value i j on sound h =
-    let r = key_value_sound e text limit skipped value i j h in
+parsed_assignment_spanned e text limit d skipped value i j on sound h =
+    let r = assignment_sound e text limit skipped value i j h in
     let v = value_ends e.value text limit (d + length e.parts) r.from j (sound (length e.parts) e.value r.from j r.given) in
-    (r.from, ascend_before e.parts i r.key_end r.from (omega (arith, on r.key_end r.at r.before, on (r.at + 1) r.from r.behind)) (dotted_ascend e.parts text i r.key_end r.key).0, v.0, v.1)
+    (r.from, ascend_before e.parts i r.key_end r.from (omega (arith, on r.key_end r.at r.before, on (r.at + 1) r.from r.after)) (dotted_ascend e.parts text i r.key_end r.key).0, v.0, v.1)
 
 -- a pair below an inline table at depth d
-pub pair_spanned : (e : KeyValue) (text : List ℕ) (limit d i j : ℕ) → d ≤ limit → read.keyval text limit (MaximalGap text) (read.value text limit ((limit + 1) - (d + 1))) i (Ok (e, j)) → IsSpanned e j
+pub pair_spanned : (e : ParsedAssignment) (text : List ℕ) (limit d i j : ℕ) → d ≤ limit → read.keyval text limit (MaximalGap text) (read.value text limit ((limit + 1) - (d + 1))) i (Ok (e, j)) → IsSpanned e j
 pair_spanned e text limit d i j l h =
-    key_value_spanned e text limit (d + 1) (MaximalGap text) (read.value text limit ((limit + 1) - (d + 1))) i j (λ a b g. g.forward) (λ n v a b g. value_sound ((limit + 1) - (d + 1)) text limit (d + 1) n (omega (arith, l)) v a b g) h
+    parsed_assignment_spanned e text limit (d + 1) (MaximalGap text) (read.value text limit ((limit + 1) - (d + 1))) i j (λ a b g. g.forward) (λ n v a b g. value_sound ((limit + 1) - (d + 1)) text limit (d + 1) n (omega (arith, l)) v a b g) h
 
-pub assignment_spanned : (e : KeyValue) (text : List ℕ) (limit i j : ℕ) → read.keyval text limit (MaximalRun is_blank text) (read.value text limit (limit + 1)) i (Ok (e, j)) → IsSpanned e j
+pub assignment_spanned : (e : ParsedAssignment) (text : List ℕ) (limit i j : ℕ) → read.keyval text limit (MaximalRun is_blank text) (read.value text limit (limit + 1)) i (Ok (e, j)) → IsSpanned e j
 assignment_spanned e text limit i j h =
-    key_value_spanned e text limit 0 (MaximalRun is_blank text) (read.value text limit (limit + 1)) i j (λ a b g. g.forward) (λ n v a b g. value_sound (limit + 1) text limit 0 n (omega arith) v a b g) h
+    parsed_assignment_spanned e text limit 0 (MaximalRun is_blank text) (read.value text limit (limit + 1)) i j (λ a b g. g.forward) (λ n v a b g. value_sound (limit + 1) text limit 0 n (omega arith) v a b g) h
 
 part_before : (n : ℕ) (outer : List SimpleKey) (p : SimpleKey) (rest : List SimpleKey) → StartBefore n (outer ++ (p ∷ rest)) → p.span.start ≤ n
 part_before n [] p rest h = h.0
 part_before n (q ∷ outer) p rest h = part_before n outer p rest h.1
 
-pub crossing_placed : (stop : Stop Fault) (text : List ℕ) (old new : List Assignment) (next : Assignment) (j : ℕ) → j ≤ length text → IsSpanned (key_value next) j → AddsClear old new next (Err stop) → IsPlacedStop text stop
+pub crossing_placed : (stop : Stop Fault) (text : List ℕ) (old new : List Assignment) (next : Assignment) (j : ℕ) → j ≤ length text → IsSpanned (parsed_assignment next) j → AddsClear old new next (Err stop) → IsPlacedStop text stop
 crossing_placed stop text old new next j w h c = grind (arith, part_before)

@@ -3,11 +3,11 @@ use Rattle.toml_span_lex.proofs.Common.{common_steps, nat_tests, ◌≡◌, ℕ,
 use Rattle.toml_span_lex.specs.declared.span.Span.{Span}
 use Rattle.toml_span_read.specs.declared.earlier.Earlier.{Earlier}
 use Rattle.toml_span_read.specs.declared.fault.FaultKind.TheVariants as kinds
-use Rattle.toml_span_read.specs.Data.{KeyValue, key_value, parsed_span, SimpleKey, simple_key}
+use Rattle.toml_span_read.specs.Data.{ParsedAssignment, parsed_assignment, parsed_span, SimpleKey, simple_key}
 use Rattle.toml_span_lex.specs.declared.key.Key.{Key}
 use Rattle.toml_span_read.specs.declared.value.Assignment.{Assignment}
 use Rattle.toml_span_read.specs.Earlier.{part_names, NoneAt, EarliestAt, NoneThrough, Clear, Crossing}
-use Rattle.toml_span_read.specs.code.Earlier.{Holds, holds, Puts, HoldsNone, FindsOutermost, TellsEarliest, EachLonger, Knows}
+use Rattle.toml_span_read.specs.code.Earlier.{Holds, holds, Puts, HoldsNone, FindsOutermost, IsEarliestAt, EachLonger, Knows}
 use Rattle.toml_span_read.proofs.EarlierLemmas.{clear_of}
 use Rattle.toml_span_read.proofs.EarlierTree.{same, same_name, same-self}
 
@@ -27,71 +27,71 @@ same_path (x ∷ xs) (y ∷ ys) = grind (arith, name x y, same_path xs ys)
 
 -- ---- one more assignment
 
-none_more : (names : Path) (key_values : List KeyValue) (e : KeyValue) → NoneAt names key_values → (part_names e.parts ≡ names → ⊥) → NoneAt names (key_values ++ (e ∷ []))
+none_more : (names : Path) (assignments : List ParsedAssignment) (e : ParsedAssignment) → NoneAt names assignments → (part_names e.parts ≡ names → ⊥) → NoneAt names (assignments ++ (e ∷ []))
 none_more names [] e h apart = (apart, tt)
 none_more names (x ∷ xs) e h apart = (h.0, none_more names xs e h.1 apart)
 
-earliest_more : (names : Path) (key_values : List KeyValue) (e : KeyValue) (first : Span) → EarliestAt names key_values first → EarliestAt names (key_values ++ (e ∷ [])) first
-earliest_more names key_values e first h = grind (arith, nat_tests, common_steps)
+earliest_more : (names : Path) (assignments : List ParsedAssignment) (e : ParsedAssignment) (first : Span) → EarliestAt names assignments first → EarliestAt names (assignments ++ (e ∷ [])) first
+earliest_more names assignments e first h = grind (arith, nat_tests, common_steps)
 
-tells_other : (names : Path) (key_values : List KeyValue) (e : KeyValue) (o : Option Span) → (part_names e.parts ≡ names → ⊥) → TellsEarliest names key_values o → TellsEarliest names (key_values ++ (e ∷ [])) o
-tells_other names key_values e o apart h = grind (arith, none_more, earliest_more)
+tells_other : (names : Path) (assignments : List ParsedAssignment) (e : ParsedAssignment) (o : Option Span) → (part_names e.parts ≡ names → ⊥) → IsEarliestAt names assignments o → IsEarliestAt names (assignments ++ (e ∷ [])) o
+tells_other names assignments e o apart h = grind (arith, none_more, earliest_more)
 
-tells_same : (names : Path) (key_values : List KeyValue) (e : KeyValue) (inner : List SimpleKey) (last : SimpleKey) (o : Option Span) → part_names e.parts ≡ names → e.parts ≡ inner ++ (last ∷ [])
-    → TellsEarliest names key_values o → TellsEarliest names (key_values ++ (e ∷ [])) (Some (unwrap_or o last.span))
-tells_same names key_values e inner last o same key h = grind (arith, nat_tests, common_steps)
+tells_same : (names : Path) (assignments : List ParsedAssignment) (e : ParsedAssignment) (inner : List SimpleKey) (last : SimpleKey) (o : Option Span) → part_names e.parts ≡ names → e.parts ≡ inner ++ (last ∷ [])
+    → IsEarliestAt names assignments o → IsEarliestAt names (assignments ++ (e ∷ [])) (Some (unwrap_or o last.span))
+tells_same names assignments e inner last o same key h = grind (arith, nat_tests, common_steps)
 
 -- what the tree stores once another assignment is inserted
-pub tells_more : (key_values : List KeyValue) (e : KeyValue) (inner : List SimpleKey) (last : SimpleKey) (f g : Holds) → e.parts ≡ inner ++ (last ∷ [])
-    → ((names : Path) → TellsEarliest names key_values (f names)) → Puts (part_names (inner ++ (last ∷ []))) last.span f g → (names : Path) → TellsEarliest names (key_values ++ (e ∷ [])) (g names)
-tells_more key_values e inner last f g key tells puts names = elim (same_path (part_names e.parts) names) [
-  | inl same ↦ grind (arith, tells_same names key_values e inner last (f names) same key (tells names))
-  | inr apart ↦ grind (arith, tells_other names key_values e (f names) apart (tells names))
+pub tells_more : (assignments : List ParsedAssignment) (e : ParsedAssignment) (inner : List SimpleKey) (last : SimpleKey) (f g : Holds) → e.parts ≡ inner ++ (last ∷ [])
+    → ((names : Path) → IsEarliestAt names assignments (f names)) → Puts (part_names (inner ++ (last ∷ []))) last.span f g → (names : Path) → IsEarliestAt names (assignments ++ (e ∷ [])) (g names)
+tells_more assignments e inner last f g key tells puts names = elim (same_path (part_names e.parts) names) [
+  | inl same ↦ grind (arith, tells_same names assignments e inner last (f names) same key (tells names))
+  | inr apart ↦ grind (arith, tells_other names assignments e (f names) apart (tells names))
 ]
 
 -- ---- short keys
 
-none_shorter : (n : ℕ) (names : Path) (key_values : List KeyValue) → EachLonger n key_values → length names ≤ n → NoneAt names key_values
+none_shorter : (n : ℕ) (names : Path) (assignments : List ParsedAssignment) → EachLonger n assignments → length names ≤ n → NoneAt names assignments
 none_shorter n names [] h short = tt
 none_shorter n names (e ∷ es) h short = grind (arith, length-map, none_shorter n names es)
 
 -- a key with no more inner parts than any other goes through none of their values
-pub clear_short : (key_values : List KeyValue) (next : KeyValue) (inner : List SimpleKey) (last : SimpleKey) (n : ℕ) → next.parts ≡ inner ++ (last ∷ []) → EachLonger n key_values → length inner ≤ n → Clear key_values next
-clear_short key_values next inner last n key long short = grind (arith, nat_tests, common_steps, clear_of, none_shorter)
+pub clear_short : (assignments : List ParsedAssignment) (next : ParsedAssignment) (inner : List SimpleKey) (last : SimpleKey) (n : ℕ) → next.parts ≡ inner ++ (last ∷ []) → EachLonger n assignments → length inner ≤ n → Clear assignments next
+clear_short assignments next inner last n key long short = grind (arith, nat_tests, common_steps, clear_of, none_shorter)
 
-longer_more : (n : ℕ) (key_values : List KeyValue) (e : KeyValue) → EachLonger n key_values → n < length e.parts → EachLonger n (key_values ++ (e ∷ []))
+longer_more : (n : ℕ) (assignments : List ParsedAssignment) (e : ParsedAssignment) → EachLonger n assignments → n < length e.parts → EachLonger n (assignments ++ (e ∷ []))
 longer_more n [] e h long = (long, tt)
 longer_more n (x ∷ xs) e h long = (h.0, longer_more n xs e h.1 long)
 
-longer_than : (n m : ℕ) (key_values : List KeyValue) → m ≤ n → EachLonger n key_values → EachLonger m key_values
+longer_than : (n m : ℕ) (assignments : List ParsedAssignment) → m ≤ n → EachLonger n assignments → EachLonger m assignments
 longer_than n m [] le h = tt
 longer_than n m (x ∷ xs) le h = (omega (arith, h.0), longer_than n m xs le h.1)
 
 -- ---- what is stored
 
 -- one more key is counted
-pub knows_more : (old new : Earlier) (key_values : List KeyValue) (next : KeyValue) (inner : List SimpleKey) (last : SimpleKey) → next.parts ≡ inner ++ (last ∷ [])
-    → Knows old key_values → new.known ≡ old.known → holds new.tree ≡ holds old.tree → new.fewest ≤ old.fewest → new.fewest ≤ length inner → Knows new (key_values ++ (next ∷ []))
-knows_more old new key_values next inner last key h known tree fewer short = grind (arith, nat_tests, common_steps, longer_more, longer_than, take-append-le)
+pub knows_more : (old new : Earlier) (assignments : List ParsedAssignment) (next : ParsedAssignment) (inner : List SimpleKey) (last : SimpleKey) → next.parts ≡ inner ++ (last ∷ [])
+    → Knows old assignments → new.known ≡ old.known → holds new.tree ≡ holds old.tree → new.fewest ≤ old.fewest → new.fewest ≤ length inner → Knows new (assignments ++ (next ∷ []))
+knows_more old new assignments next inner last key h known tree fewer short = grind (arith, nat_tests, common_steps, longer_more, longer_than, take-append-le)
 
 -- ---- the verdict
 
-none_through : (key_values : List KeyValue) (f : Holds) (parts : List SimpleKey) → ((names : Path) → TellsEarliest names key_values (f names)) → HoldsNone f parts → NoneThrough parts key_values
-none_through key_values f parts tells none outer p rest split = grind (arith)
+none_through : (assignments : List ParsedAssignment) (f : Holds) (parts : List SimpleKey) → ((names : Path) → IsEarliestAt names assignments (f names)) → HoldsNone f parts → NoneThrough parts assignments
+none_through assignments f parts tells none outer p rest split = grind (arith)
 
-pub clear_found : (key_values : List KeyValue) (next : KeyValue) (inner : List SimpleKey) (last : SimpleKey) (f : Holds) → next.parts ≡ inner ++ (last ∷ [])
-    → ((names : Path) → TellsEarliest names key_values (f names)) → FindsOutermost f inner None → Clear key_values next
-clear_found key_values next inner last f key tells none = clear_of key_values next inner last key (none_through key_values f inner tells none)
+pub clear_found : (assignments : List ParsedAssignment) (next : ParsedAssignment) (inner : List SimpleKey) (last : SimpleKey) (f : Holds) → next.parts ≡ inner ++ (last ∷ [])
+    → ((names : Path) → IsEarliestAt names assignments (f names)) → FindsOutermost f inner None → Clear assignments next
+clear_found assignments next inner last f key tells none = clear_of assignments next inner last key (none_through assignments f inner tells none)
 
-pub behind_part : (rest : List SimpleKey) (last : SimpleKey) → (more : SimpleKey) × (others : List SimpleKey) × (rest ++ (last ∷ []) ≡ more ∷ others)
-behind_part [] last = (last, [], refl)
-behind_part (q ∷ qs) last = (q, qs ++ (last ∷ []), refl)
+pub after_part : (rest : List SimpleKey) (last : SimpleKey) → (more : SimpleKey) × (others : List SimpleKey) × (rest ++ (last ∷ []) ≡ more ∷ others)
+after_part [] last = (last, [], refl)
+after_part (q ∷ qs) last = (q, qs ++ (last ∷ []), refl)
 
-pub crossing_found : (key_values : List KeyValue) (next : KeyValue) (inner : List SimpleKey) (last : SimpleKey) (f : Holds) (start : ℕ) (first : Span) (end : ℕ) → next.parts ≡ inner ++ (last ∷ [])
-    → ((names : Path) → TellsEarliest names key_values (f names)) → FindsOutermost f inner (Some (start, first)) → end ≡ (parsed_span next.value).end
-    → Crossing key_values next (record { kind = kinds.DottedKeyInvalidType first; span = record { start = start; end = end } })
-crossing_found key_values next inner last f start first end key tells (outer, p, rest, split, none, at, begins) ending =
-    let more = behind_part rest last in
+pub crossing_found : (assignments : List ParsedAssignment) (next : ParsedAssignment) (inner : List SimpleKey) (last : SimpleKey) (f : Holds) (start : ℕ) (first : Span) (end : ℕ) → next.parts ≡ inner ++ (last ∷ [])
+    → ((names : Path) → IsEarliestAt names assignments (f names)) → FindsOutermost f inner (Some (start, first)) → end ≡ (parsed_span next.value).end
+    → Crossing assignments next (record { kind = kinds.DottedKeyInvalidType first; span = record { start = start; end = end } })
+crossing_found assignments next inner last f start first end key tells (outer, p, rest, split, none, at, begins) ending =
+    let more = after_part rest last in
     record {
       outer = outer;
       part = p;
@@ -99,26 +99,26 @@ crossing_found key_values next inner last f start first end key tells (outer, p,
       rest = more.1;
       first = first;
       key = key ∙ ap (λ ps. ps ++ (last ∷ [])) split ∙ append_assoc outer (p ∷ rest) (last ∷ []) ∙ ap (λ ps. outer ++ (p ∷ ps)) more.2;
-      outermost = none_through key_values f outer tells none;
-      met = subst (λ (o : Option Span). TellsEarliest (part_names (outer ++ (p ∷ []))) key_values o) at (tells (part_names (outer ++ (p ∷ []))));
+      outermost = none_through assignments f outer tells none;
+      met = subst (λ (o : Option Span). IsEarliestAt (part_names (outer ++ (p ∷ []))) assignments o) at (tells (part_names (outer ++ (p ∷ []))));
       fault_is = let a = begins in let b = ending in cc;
     }
 
 -- ---- the loop over the assignments
 
-pub tells_init : (old : Earlier) (values : List Assignment) → Knows old (map key_value values) → (names : Path) → TellsEarliest names (map key_value (take old.known values)) (holds old.tree names)
-tells_init old values h names = subst (λ (es : List KeyValue). TellsEarliest names es (holds old.tree names)) (take-map key_value old.known values) (h.tree names)
+pub tells_init : (old : Earlier) (values : List Assignment) → Knows old (map parsed_assignment values) → (names : Path) → IsEarliestAt names (map parsed_assignment (take old.known values)) (holds old.tree names)
+tells_init old values h names = subst (λ (es : List ParsedAssignment). IsEarliestAt names es (holds old.tree names)) (take-map parsed_assignment old.known values) (h.tree names)
 
 pub tells_next : (values : List Assignment) (i : ℕ) (v : Assignment) (inner keys : List Key) (last : Key) (f g : Holds) → i < length values → v ≡ get_or values i v → inner ≡ keys
-    → map simple_key inner ++ (simple_key last ∷ []) ≡ (key_value v).parts
-    → ((names : Path) → TellsEarliest names (map key_value (take i values)) (f names)) → Puts (part_names (map simple_key keys ++ (simple_key last ∷ []))) last.span f g
-    → (names : Path) → TellsEarliest names (map key_value (take (i + 1) values)) (g names)
+    → map simple_key inner ++ (simple_key last ∷ []) ≡ (parsed_assignment v).parts
+    → ((names : Path) → IsEarliestAt names (map parsed_assignment (take i values)) (f names)) → Puts (part_names (map simple_key keys ++ (simple_key last ∷ []))) last.span f g
+    → (names : Path) → IsEarliestAt names (map parsed_assignment (take (i + 1) values)) (g names)
 tells_next values i v inner keys last f g below at same key tells puts names =
-    let more : map key_value (take (i + 1) values) ≡ map key_value (take i values) ++ (key_value v ∷ []) = grind (arith, map_more) in
-    rw more (tells_more (map key_value (take i values)) (key_value v) (map simple_key inner) (simple_key last) f g (sym key) tells (rw (← same) at puts) names)
+    let more : map parsed_assignment (take (i + 1) values) ≡ map parsed_assignment (take i values) ++ (parsed_assignment v ∷ []) = grind (arith, map_more) in
+    rw more (tells_more (map parsed_assignment (take i values)) (parsed_assignment v) (map simple_key inner) (simple_key last) f g (sym key) tells (rw (← same) at puts) names)
 
 -- once all are in the tree, it stores all of them
-pub tells_all : (new : Earlier) (values : List Assignment) → Knows new (map key_value values) → new.known ≡ length values → (names : Path) → TellsEarliest names (map key_value values) (holds new.tree names)
+pub tells_all : (new : Earlier) (values : List Assignment) → Knows new (map parsed_assignment values) → new.known ≡ length values → (names : Path) → IsEarliestAt names (map parsed_assignment values) (holds new.tree names)
 tells_all new values h known names = grind (arith, nat_tests, common_steps)
 
 pub finds_same : (f : Holds) (xs ys : List Key) (r s : Option (ℕ × Span)) → xs ≡ ys → r ≡ s → FindsOutermost f (map simple_key xs) r → FindsOutermost f (map simple_key ys) s

@@ -1,6 +1,6 @@
 -- Paths of earlier values.
 use Rattle.toml_span_lex.proofs.Common.{arith, common_steps, nat_tests, ◌≡◌, ℕ, List, [], ◌∷◌, ◌++◌}
-use Rattle.toml_span_read.specs.Data.{SimpleKey, KeyValue}
+use Rattle.toml_span_read.specs.Data.{SimpleKey, ParsedAssignment}
 use Rattle.toml_span_read.specs.Earlier.{part_names, NoneThrough, Clear}
 
 -- every path that ends with one of the parts has the property
@@ -20,5 +20,5 @@ pub snoc_same : {A : Type 0} (xs ys : List A) (x y : A) → xs ++ (x ∷ []) ≡
 snoc_same xs ys x y e = grind (arith, nat_tests, common_steps)
 
 -- the parts of a key except the last
-pub clear_of : (key_values : List KeyValue) (next : KeyValue) (inner : List SimpleKey) (last : SimpleKey) → next.parts ≡ inner ++ (last ∷ []) → NoneThrough inner key_values → Clear key_values next
-clear_of key_values next inner last h h2 = grind (arith, nat_tests, common_steps)
+pub clear_of : (assignments : List ParsedAssignment) (next : ParsedAssignment) (inner : List SimpleKey) (last : SimpleKey) → next.parts ≡ inner ++ (last ∷ []) → NoneThrough inner assignments → Clear assignments next
+clear_of assignments next inner last h h2 = grind (arith, nat_tests, common_steps)

@@ -11,7 +11,7 @@ use Rattle.toml_span_read.specs.declared.earlier.Node.{Node as Tree, the_lemmas}
 use Rattle.toml_span_read.specs.declared.earlier.Node.TheViews.{roll-Node, out-Node}
 use Rattle.toml_span_read.specs.declared.earlier.Node.TheFolds.{fold-roll-Node}
 use Rattle.toml_span_read.specs.declared.earlier.Node.TheOpen.{Node-F}
-use Rattle.toml_span_read.specs.code.Earlier.{is_named, child, nothing, below, Holds, holds_step, holds, Puts, PutsBelow, HoldsNone, FindsOutermost}
+use Rattle.toml_span_read.specs.code.Earlier.{is_named, child, no_spans, below, Holds, holds_step, holds, Puts, PutsBelow, HoldsNone, FindsOutermost}
 use Rattle.toml_span_read.specs.Earlier.{part_names}
 
 -- the order of keys
@@ -109,7 +109,7 @@ puts-found n b k names first x w found value written =
 
 -- inserts a new child under a name that is missing
 pub puts-missing : (n : Tree) (lent : BTreeMap Key Tree) (k : List ℕ) (names : List (List ℕ)) (first : Span) (fresh w new : Holds)
-    → lent ≡ (out-Node n).below → child k (out-Node n).below.entries ≡ None → fresh ≡ nothing → Puts names first fresh w
+    → lent ≡ (out-Node n).below → child k (out-Node n).below.entries ≡ None → fresh ≡ no_spans → Puts names first fresh w
     → PutsBelow k w (holds (roll-Node (record { value = (out-Node n).value; below = lent }))) new → Puts (k ∷ names) first (holds n) new
 puts-missing n lent k names first fresh w new kept missing none h below =
     puts-child k names first fresh w (holds n) new (λ rest. grind (arith, holds-under n k rest None missing)) (grind (arith, roll-out n)) h

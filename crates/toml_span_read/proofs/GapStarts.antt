@@ -8,7 +8,7 @@ use Rattle.toml_span_read.specs.Gaps.{begins_gap, MaximalGap}
 use Rattle.toml_span_read.specs.Grammar.{SpellsScalar, Spells}
 use Rattle.toml_span_read.specs.Keys.{SpellsSimpleKey}
 use Rattle.toml_span_read.specs.Numbers.{SpecialFloat}
-use Rattle.toml_span_read.specs.Numerals.{is_digit_in, behind_sign, radix_at}
+use Rattle.toml_span_read.specs.Numerals.{is_digit_in, after_sign, radix_at}
 use Rattle.toml_span_read.proofs.NumberLemmas.{digit_keylike, slice_first}
 use Rattle.toml_span_read.proofs.ShortIntegers.{decimal_keylike}
 
@@ -27,10 +27,10 @@ pub keylike_no_gap : (c : ℕ) → is_keylike c ≡ true → NoGap c
 keylike_no_gap c h = grind (arith, nat_tests, common_steps)
 
 -- a sign, or what there is without one
-signed_no_gap : (text : List ℕ) (i : ℕ) → (behind_sign text i ≡ i → is_keylike (get_or text i 0) ≡ true) → NoGap (get_or text i 0)
+signed_no_gap : (text : List ℕ) (i : ℕ) → (after_sign text i ≡ i → is_keylike (get_or text i 0) ≡ true) → NoGap (get_or text i 0)
 signed_no_gap text i h = grind (arith, nat_tests, common_steps)
 
-digits_no_gap : (text : List ℕ) (i : ℕ) → is_digit_in 10 (get_or text (behind_sign text i) 0) ≡ true → NoGap (get_or text i 0)
+digits_no_gap : (text : List ℕ) (i : ℕ) → is_digit_in 10 (get_or text (after_sign text i) 0) ≡ true → NoGap (get_or text i 0)
 digits_no_gap text i h = signed_no_gap text i (λ at. digit_keylike 10 (get_or text i 0) (rw at at h))
 
 radix_no_gap : (text : List ℕ) (i radix : ℕ) → radix_at text i ≡ Some radix → NoGap (get_or text i 0)

@@ -1,11 +1,11 @@
 -- The keys and headers of a spelled document are inside the text.
 use Rattle.toml_span_lex.proofs.Common.{common_steps, nat_tests, ◌≡◌, ℕ, ◌+◌, ◌<◌, ◌≤◌, Bool, List, [], ◌∷◌, ◌++◌, length, map, arith, inl, inr}
 use Rattle.toml_span_read.specs.declared.section.Section.{Section}
-use Rattle.toml_span_read.specs.Data.{ParsedValue, parsed, scalar, array, inline, ParsedItems, no_items, item, ParsedPairs, no_pairs, pair, KeyValue, Block, block, first_block, SimpleKey}
+use Rattle.toml_span_read.specs.Data.{ParsedValue, parsed, scalar, array, inline, ParsedItems, no_items, item, ParsedPairs, no_pairs, pair, ParsedAssignment, ParsedSection, parsed_section, headerless_section, SimpleKey}
 use Rattle.toml_span_read.specs.Gaps.{Tail}
-use Rattle.toml_span_read.specs.Grammar.{Spells, SpellsLines, OpensHeader, ClosesHeader, SpellsHeader, SpellsSection, SpellsDocument, ItemsWith, PairsWith, KeyValuesWith, SectionsWith, SpellsScalar}
+use Rattle.toml_span_read.specs.Grammar.{Spells, SpellsLines, OpensHeader, ClosesHeader, SpellsHeader, SpellsSection, SpellsDocument, ItemsWith, PairsWith, AssignmentsWith, SectionsWith, SpellsScalar}
 use Rattle.toml_span_read.specs.Keys.{SpellsKey}
-use Rattle.toml_span_read.specs.Places.{Ascend, IsInside, PartsInside, KeysInside, ItemKeysInside, PairKeysInside, KeyValuesInside, SectionInside, SectionsInside}
+use Rattle.toml_span_read.specs.Places.{Ascend, IsInside, PartsInside, KeysInside, ItemKeysInside, PairKeysInside, AssignmentsInside, SectionInside, SectionsInside}
 use Rattle.toml_span_read.proofs.KeyOrder.{dotted_ascend}
 
 -- ---- keys
@@ -34,7 +34,7 @@ mutual
   items_keys (item v vs) text limit d i j (m, s, inl (e, close)) = (value_keys v text limit d i m s, rw e tt)
   items_keys (item v vs) text limit d i j (m, s, inr (p, sign, rest)) = (value_keys v text limit d i m s, items_keys vs text limit d p j rest)
 
-  pairs_keys : (ps : ParsedPairs) (es : List KeyValue) (text : List ℕ) (limit d i j : ℕ) → PairsWith SpellsScalar ps es text limit d i j → PairKeysInside (length text) ps
+  pairs_keys : (ps : ParsedPairs) (es : List ParsedAssignment) (text : List ℕ) (limit d i j : ℕ) → PairsWith SpellsScalar ps es text limit d i j → PairKeysInside (length text) ps
   pairs_keys no_pairs es text limit d i j h = tt
   pairs_keys (pair ss v extent ps) es text limit d i j (m, (a, b, key, few, sign, s, e), clear, inl (none, close)) =
       (dotted_inside ss text i a key, value_keys v text limit (d + length ss) b m s, rw none tt)
@@ -43,22 +43,22 @@ mutual
 
 -- ---- assignments
 
-key_values_keys : (evs earlier : List KeyValue) (text : List ℕ) (limit i j : ℕ) → KeyValuesWith SpellsScalar evs earlier text limit i j → KeyValuesInside (length text) evs
-key_values_keys [] earlier text limit i j h = tt
-key_values_keys (ev ∷ evs) earlier text limit i j h = grind (arith, dotted_inside, value_keys, key_values_keys evs (earlier ++ (ev ∷ [])))
+assignments_keys : (evs earlier : List ParsedAssignment) (text : List ℕ) (limit i j : ℕ) → AssignmentsWith SpellsScalar evs earlier text limit i j → AssignmentsInside (length text) evs
+assignments_keys [] earlier text limit i j h = tt
+assignments_keys (ev ∷ evs) earlier text limit i j h = grind (arith, dotted_inside, value_keys, assignments_keys evs (earlier ++ (ev ∷ [])))
 
-lines_keys : (evs : List KeyValue) (text : List ℕ) (limit i j : ℕ) → SpellsLines evs text limit i j → KeyValuesInside (length text) evs
-lines_keys evs text limit i j (k, gap, h) = key_values_keys evs [] text limit k j h
+lines_keys : (evs : List ParsedAssignment) (text : List ℕ) (limit i j : ℕ) → SpellsLines evs text limit i j → AssignmentsInside (length text) evs
+lines_keys evs text limit i j (k, gap, h) = assignments_keys evs [] text limit k j h
 
 -- ---- sections
 
 -- a block's header with its parts, and the keys of its assignments
-abbrev BlockInside : ℕ → Block → Type 0
-BlockInside n b = IsInside n b.header_span × PartsInside n b.header × KeyValuesInside n b.key_values
+abbrev ParsedSectionInside : ℕ → ParsedSection → Type 0
+ParsedSectionInside n b = IsInside n b.header_span × PartsInside n b.header × AssignmentsInside n b.assignments
 
-abbrev BlocksInside : ℕ → List Block → Type 0
-BlocksInside n [] = Unit {0}
-BlocksInside n (b ∷ bs) = BlockInside n b × BlocksInside n bs
+abbrev ParsedSectionsInside : ℕ → List ParsedSection → Type 0
+ParsedSectionsInside n [] = Unit {0}
+ParsedSectionsInside n (b ∷ bs) = ParsedSectionInside n b × ParsedSectionsInside n bs
 
 pub opens_on : (double : Bool) (text : List ℕ) (i j : ℕ) → OpensHeader double text i j → i < j
 opens_on double text i j h = grind (arith, nat_tests, common_steps)
@@ -72,34 +72,34 @@ tail_inside text i j h = grind (arith, nat_tests, common_steps)
 header_inside : (ps : List SimpleKey) (double : Bool) (text : List ℕ) (limit i j : ℕ) → SpellsHeader ps double text limit i j → ((i ≤ j) × (j ≤ length text)) × PartsInside (length text) ps
 header_inside ps double text limit i j h = grind (arith, nat_tests, common_steps, tail_inside, dotted_ascend, ascend_forward, opens_on, shuts_on, dotted_inside)
 
-section_block : (b : Block) (text : List ℕ) (limit i j : ℕ) → SpellsSection b text limit i j → BlockInside (length text) b
-section_block b text limit i j h =
+one_section_parsed : (b : ParsedSection) (text : List ℕ) (limit i j : ℕ) → SpellsSection b text limit i j → ParsedSectionInside (length text) b
+one_section_parsed b text limit i j h =
     let f = header_inside b.header b.array text limit i h.end h.header in
-    (rw h.header_span f.0, f.1, lines_keys b.key_values text limit h.end j h.lines)
+    (rw h.header_span f.0, f.1, lines_keys b.assignments text limit h.end j h.lines)
 
-sections_blocks : (bs : List Block) (text : List ℕ) (limit i : ℕ) → SectionsWith SpellsScalar bs text limit i → BlocksInside (length text) bs
-sections_blocks [] text limit i h = tt
-sections_blocks (b ∷ bs) text limit i (j, s, rest) = (section_block b text limit i j s, sections_blocks bs text limit j rest)
+sections_parsed : (bs : List ParsedSection) (text : List ℕ) (limit i : ℕ) → SectionsWith SpellsScalar bs text limit i → ParsedSectionsInside (length text) bs
+sections_parsed [] text limit i h = tt
+sections_parsed (b ∷ bs) text limit i (j, s, rest) = (one_section_parsed b text limit i j s, sections_parsed bs text limit j rest)
 
-first_inside : (n : ℕ) (evs : List KeyValue) (bs : List Block) → KeyValuesInside n evs → BlocksInside n bs → BlocksInside n (first_block evs ++ bs)
+first_inside : (n : ℕ) (evs : List ParsedAssignment) (bs : List ParsedSection) → AssignmentsInside n evs → ParsedSectionsInside n bs → ParsedSectionsInside n (headerless_section evs ++ bs)
 first_inside n evs bs h g = grind (arith, nat_tests, common_steps)
 
-document_blocks : (bs : List Block) (text : List ℕ) (limit : ℕ) → SpellsDocument bs text limit → BlocksInside (length text) bs
-document_blocks bs text limit h =
-    rw h.all (first_inside (length text) h.first h.rest (lines_keys h.first text limit h.start h.end h.lines) (sections_blocks h.rest text limit h.end h.sections))
+document_sections : (bs : List ParsedSection) (text : List ℕ) (limit : ℕ) → SpellsDocument bs text limit → ParsedSectionsInside (length text) bs
+document_sections bs text limit h =
+    rw h.all (first_inside (length text) h.first h.rest (lines_keys h.first text limit h.start h.end h.lines) (sections_parsed h.rest text limit h.end h.sections))
 
-of_blocks : (n : ℕ) (ss : List Section) → BlocksInside n (map block ss) → SectionsInside n ss
-of_blocks n [] h = tt
-of_blocks n (s ∷ ss) (a, rest) = (a, of_blocks n ss rest)
+of_sections : (n : ℕ) (ss : List Section) → ParsedSectionsInside n (map parsed_section ss) → SectionsInside n ss
+of_sections n [] h = tt
+of_sections n (s ∷ ss) (a, rest) = (a, of_sections n ss rest)
 
-pub section_inside : (s : Section) (text : List ℕ) (limit i j : ℕ) → SpellsSection (block s) text limit i j → SectionInside (length text) s
-section_inside s text limit i j h = section_block (block s) text limit i j h
+pub section_inside : (s : Section) (text : List ℕ) (limit i j : ℕ) → SpellsSection (parsed_section s) text limit i j → SectionInside (length text) s
+section_inside s text limit i j h = one_section_parsed (parsed_section s) text limit i j h
 
-before_inside : (n : ℕ) (evs : List KeyValue) → KeyValuesInside n evs → BlocksInside n (first_block evs)
+before_inside : (n : ℕ) (evs : List ParsedAssignment) → AssignmentsInside n evs → ParsedSectionsInside n (headerless_section evs)
 before_inside n evs h = grind (arith)
 
-pub first_sections_inside : (ss : List Section) (evs : List KeyValue) (text : List ℕ) (limit i j : ℕ) → SpellsLines evs text limit i j → map block ss ≡ first_block evs → SectionsInside (length text) ss
-first_sections_inside ss evs text limit i j h is = of_blocks (length text) ss (rw is (before_inside (length text) evs (lines_keys evs text limit i j h)))
+pub first_sections_inside : (ss : List Section) (evs : List ParsedAssignment) (text : List ℕ) (limit i j : ℕ) → SpellsLines evs text limit i j → map parsed_section ss ≡ headerless_section evs → SectionsInside (length text) ss
+first_sections_inside ss evs text limit i j h is = of_sections (length text) ss (rw is (before_inside (length text) evs (lines_keys evs text limit i j h)))
 
-pub document_inside : (ss : List Section) (text : List ℕ) (limit : ℕ) → SpellsDocument (map block ss) text limit → SectionsInside (length text) ss
-document_inside ss text limit h = of_blocks (length text) ss (document_blocks (map block ss) text limit h)
+pub document_inside : (ss : List Section) (text : List ℕ) (limit : ℕ) → SpellsDocument (map parsed_section ss) text limit → SectionsInside (length text) ss
+document_inside ss text limit h = of_sections (length text) ss (document_sections (map parsed_section ss) text limit h)

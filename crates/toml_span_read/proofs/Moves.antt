@@ -55,8 +55,8 @@ room d l u = record { after = u.after; moved = u.moved; inside = l }
 pub between : {s t n e : ℕ} (i j k l m : ℕ) → i ≤ m → m ≤ j → At s t n e i k → At s t n e j l → (x : ℕ) × At s t n e m x
 between {s} {t} i j k l m o p u v = ((m + t) - s, record { after = omega arith; moved = omega arith; inside = omega arith })
 
-pub behind : {s t n e : ℕ} {R S P Q : ℕ → ℕ → Type 0} → Moves (At s t n e) R S → Moves (At s t n e) P Q → Moves (At s t n e) (λ i j. (m : ℕ) × R i m × P m j) (λ k l. (m : ℕ) × S k m × Q m l)
-behind x y = joined between x y
+pub in_sequence : {s t n e : ℕ} {R S P Q : ℕ → ℕ → Type 0} → Moves (At s t n e) R S → Moves (At s t n e) P Q → Moves (At s t n e) (λ i j. (m : ℕ) × R i m × P m j) (λ k l. (m : ℕ) × S k m × Q m l)
+in_sequence x y = joined between x y
 
 pub nothing : {s t n e : ℕ} → Moves (At s t n e) (λ i j. j ≡ i) (λ k l. l ≡ k)
 nothing = record { on = λ i j h. omega arith; to = λ i j k l u v h. omega arith }

@@ -7,12 +7,12 @@ use Rattle.toml_span_read.specs.declared.numbers.Numeral.{Numeral}
 use Rattle.toml_span_read.specs.declared.numbers.Numeral.TheVariants as numerals
 use Rattle.toml_span_read.specs.Numbers.{Digits, IsSigned, UnsignedDecimal, DecimalInteger, RadixInteger, Exponent}
 use Rattle.toml_span_read.specs.Numbers.{Fraction, FloatLiteral, SpecialFloat, IsNumber}
-use Rattle.toml_span_read.specs.Numerals.{is_digit_in, magnitude, behind_sign, is_negative, radix_at, is_exponent}
+use Rattle.toml_span_read.specs.Numerals.{is_digit_in, magnitude, after_sign, is_negative, radix_at, is_exponent}
 use Rattle.toml_span_read.specs.Numerals as spec
 use Rattle.toml_span_read.specs.Numerals.{run_end, scalar_of, integer_part, exponent_digits, exponent, fraction, signed, decimal, special, special_end, unsigned, numeral, number, radix_integer}
 use Rattle.toml_span_read.specs.code.Numbers.{Passes}
-use Rattle.toml_span_read.proofs.NumberLemmas.{is_false, bool_cases, byte_is, clash, digit_keylike, figure_keylike, digits_complete, digits_on, run_is, run_passes, passes_on, sign_on, no_sign, behind_plus_sign}
-use Rattle.toml_span_read.proofs.NumberReads.{First, digits_to, first_plain, first_behind, zero_first, NoLetter, no_prefix, keylike_letter, prefix_some, word_keylike, word_first}
+use Rattle.toml_span_read.proofs.NumberLemmas.{is_false, bool_cases, byte_is, clash, digit_keylike, figure_keylike, digits_complete, digits_on, run_is, run_passes, passes_on, sign_on, no_sign, after_plus_sign}
+use Rattle.toml_span_read.proofs.NumberReads.{First, digits_to, first_plain, first_after, zero_first, NoLetter, no_prefix, keylike_letter, prefix_some, word_keylike, word_first}
 
 -- ---- runs
 
@@ -44,13 +44,13 @@ exponent_digits_complete text a b start from end d = rw (digits_complete 10 text
 exponent_complete : (text : List ℕ) (a b letter end j : ℕ) → letter < end → Passes text letter end → Exponent text letter j → is_keylike (get_or text j 0) ≡ false → exponent text a b letter end ≡ Ok j
 unfolding exponent
 exponent_complete text a b letter end j l r x n = elim (cases_lt (letter + 1) end) [
-  | inl k ↦ grind (arith, nat_tests, sign_on text (letter + 1), digits_with_run 10 text letter (behind_sign text (letter + 1)) j end r, exponent_digits_complete text a b (letter + 1) (behind_sign text (letter + 1)) end)
+  | inl k ↦ grind (arith, nat_tests, sign_on text (letter + 1), digits_with_run 10 text letter (after_sign text (letter + 1)) j end r, exponent_digits_complete text a b (letter + 1) (after_sign text (letter + 1)) end)
   | inr g ↦
       let e : letter + 1 ≡ end = omega arith in
-      let d : Digits 10 text (behind_sign text end) j = rw e at x.digits in
+      let d : Digits 10 text (after_sign text end) j = rw e at x.digits in
       elim (bool_cases (get_or text end 0 == 43)) [
         | inl p ↦
-            let f : Digits 10 text (end + 1) j = rw (behind_plus_sign text end (byte_is (get_or text end 0) 43 p)) at d in
+            let f : Digits 10 text (end + 1) j = rw (after_plus_sign text end (byte_is (get_or text end 0) 43 p)) at d in
             let q : run_end text (end + 1) ≡ j = run_of 10 text (end + 1) j f n in
             let o = digits_on 10 text (end + 1) j f in
             rw (le-ltb (letter + 1) end g, p, q, ne_eqb j (end + 1) (λ y. absurd (omega arith))) (exponent_digits_complete text a b (end + 1) (end + 1) j f)
@@ -92,9 +92,9 @@ decimal_integer text i a b j n g d =
     let o = g.some in
     let t = sign_on text a in
     let p = or_parts (is_keylike (get_or text j 0)) (get_or text j 0 == 46) d.ends in
-    let u : UnsignedDecimal text (behind_sign text a) j = rw g.sign at d.digits in
-    let e : j ≡ b = digits_with_run 10 text a (behind_sign text a) j b g.run t.0 (omega arith) u.digits p.0 in
-    rw (part_complete text a (behind_sign text a) b j u) (grind (arith, nat_tests, g.sign, g.negative, d.value, integer_complete))
+    let u : UnsignedDecimal text (after_sign text a) j = rw g.sign at d.digits in
+    let e : j ≡ b = digits_with_run 10 text a (after_sign text a) j b g.run t.0 (omega arith) u.digits p.0 in
+    rw (part_complete text a (after_sign text a) b j u) (grind (arith, nat_tests, g.sign, g.negative, d.value, integer_complete))
 
 decimal_float : (text : List ℕ) (i a b j : ℕ) → First text i a b → FloatLiteral text i j → decimal text i a b ≡ Ok (numerals.Finite, j)
 unfolding decimal
@@ -103,17 +103,17 @@ decimal_float text i a b j g f =
     let r = g.run in
     let t = sign_on text a in
     let m : ℕ = f.integer_end in
-    let u : UnsignedDecimal text (behind_sign text a) m = rw g.sign at f.integer_part in
-    let to : m ≤ b = digits_to 10 text (behind_sign text a) m b u.digits (omega arith) r.last in
+    let u : UnsignedDecimal text (after_sign text a) m = rw g.sign at f.integer_part in
+    let to : m ≤ b = digits_to 10 text (after_sign text a) m b u.digits (omega arith) r.last in
     let h = u.digits.run.forward in
     elim f.rest [
       | inl x ↦
           let y : m < b = before_end text m b to r.last x.letter in
-          rw (part_complete text a (behind_sign text a) b m u, lt-ltb m b y, x.letter, exponent_complete text a b m b j y (passes_on text a m b r (omega arith) to) x f.ends) refl
+          rw (part_complete text a (after_sign text a) b m u, lt-ltb m b y, x.letter, exponent_complete text a b m b j y (passes_on text a m b r (omega arith) to) x f.ends) refl
       | inr (p, y, z) ↦
-          let e : m ≡ b = digits_with_run 10 text a (behind_sign text a) m b r t.0 (omega arith) u.digits (rw y.point refl) in
+          let e : m ≡ b = digits_with_run 10 text a (after_sign text a) m b r t.0 (omega arith) u.digits (rw y.point refl) in
           let k : (get_or text b 0 == 46) ≡ true = rw (← e, y.point) refl in
-          rw (part_complete text a (behind_sign text a) b b (rw e at u), le-ltb b b (omega arith), k, fraction_complete text i a b p j (rw e at y) z f.ends) refl
+          rw (part_complete text a (after_sign text a) b b (rw e at u), le-ltb b b (omega arith), k, fraction_complete text i a b p j (rw e at y) z f.ends) refl
     ]
 
 -- ---- inf and nan
@@ -133,22 +133,22 @@ begun_here : (text : List ℕ) (i : ℕ) → (get_or text i 0 == 43) ≡ false �
 unfolding numeral
 begun_here text i p k n = record { first = first_plain text i k; plain = n; same = rw p refl }
 
-begun_behind : (text : List ℕ) (i : ℕ) → (get_or text i 0 == 43) ≡ true → is_keylike (get_or text (i + 1) 0) ≡ true → (get_or text (i + 1) 0 == 45) ≡ false → radix_at text (i + 1) ≡ None → Begun text i (i + 1)
+begun_after : (text : List ℕ) (i : ℕ) → (get_or text i 0 == 43) ≡ true → is_keylike (get_or text (i + 1) 0) ≡ true → (get_or text (i + 1) 0 == 45) ≡ false → radix_at text (i + 1) ≡ None → Begun text i (i + 1)
 unfolding numeral
-begun_behind text i p k q n = grind (arith, first_behind, byte_is, ne_eqb)
+begun_after text i p k q n = grind (arith, first_after, byte_is, ne_eqb)
 
-begun : (text : List ℕ) (i : ℕ) → is_keylike (get_or text (behind_sign text i) 0) ≡ true → (get_or text (behind_sign text i) 0 == 45) ≡ false → radix_at text (behind_sign text i) ≡ None → (a : ℕ) × Begun text i a
+begun : (text : List ℕ) (i : ℕ) → is_keylike (get_or text (after_sign text i) 0) ≡ true → (get_or text (after_sign text i) 0 == 45) ≡ false → radix_at text (after_sign text i) ≡ None → (a : ℕ) × Begun text i a
 begun text i k q n = elim (bool_cases (get_or text i 0 == 43)) [
-  | inl p ↦ let s = behind_plus_sign text i (byte_is (get_or text i 0) 43 p) in (i + 1, begun_behind text i p (rw s at k) (rw s at q) (rw s at n))
+  | inl p ↦ let s = after_plus_sign text i (byte_is (get_or text i 0) 43 p) in (i + 1, begun_after text i p (rw s at k) (rw s at q) (rw s at n))
   | inr p ↦ (i, begun_here text i p (grind (arith, nat_tests, no_sign text i p)) (grind (arith, nat_tests, no_sign text i p)))
 ]
 
 -- what begins with a digit is neither `inf` nor `nan`
-decimal_read : (text : List ℕ) (i a : ℕ) → Begun text i a → is_digit_in 10 (get_or text (behind_sign text i) 0) ≡ true → numeral text i ≡ decimal text i a (run_end text a)
+decimal_read : (text : List ℕ) (i a : ℕ) → Begun text i a → is_digit_in 10 (get_or text (after_sign text i) 0) ≡ true → numeral text i ≡ decimal text i a (run_end text a)
 unfolding unsigned
 decimal_read text i a g d =
     let b : ℕ = run_end text a in
-    let k : ℕ = behind_sign text a in
+    let k : ℕ = after_sign text a in
     let t = sign_on text a in
     let x : is_digit_in 10 (get_or text k 0) ≡ true = rw g.first.sign at d in
     let l : k < b = grind (arith, g.first.some, g.first.run.last, digit_keylike) in
@@ -161,7 +161,7 @@ unfolding unsigned special_end
 letters_at text word i a j n g h e f =
     let o = g.first.some in
     let p = or_parts (is_keylike (get_or text j 0)) (get_or text j 0 == 46) f.ends in
-    let all = word_keylike text word (behind_sign text i) j f.letters h f.within in
+    let all = word_keylike text word (after_sign text i) j f.letters h f.within in
     let t = sign_on text a in
     let same : j ≡ run_end text a = grind (arith, nat_tests, all, g.first.sign, g.first.run.passes, g.first.run.last, f.some) in
     rw (g.plain, ← same) (grind (arith, nat_tests, g.first.sign, g.first.negative, f.letters))
@@ -169,9 +169,9 @@ letters_at text word i a j n g h e f =
 letters_read : (text word : List ℕ) (i j : ℕ) (n : Numeral) → list_all is_keylike word ≡ true → (get_or word 0 0 == 45) ≡ false → (get_or word 0 0 ≡ 48 → ⊥) → special (is_negative text i) word ≡ Some n
     → SpecialFloat word text i j → numeral text i ≡ Ok (n, j)
 letters_read text word i j n h q z e f =
-    let first : get_or text (behind_sign text i) 0 ≡ get_or word 0 0 = word_first text word (behind_sign text i) j f.some f.letters in
-    let k = word_keylike text word (behind_sign text i) j f.letters h f.within (behind_sign text i) (omega arith) f.some in
-    let g = begun text i k (rw first q) (no_prefix text (behind_sign text i) (λ x. absurd (z (sym first ∙ x)))) in
+    let first : get_or text (after_sign text i) 0 ≡ get_or word 0 0 = word_first text word (after_sign text i) j f.some f.letters in
+    let k = word_keylike text word (after_sign text i) j f.letters h f.within (after_sign text i) (omega arith) f.some in
+    let g = begun text i k (rw first q) (no_prefix text (after_sign text i) (λ x. absurd (z (sym first ∙ x)))) in
     g.1.same ∙ letters_at text word i g.0 j n g.1 h e f
 
 -- ---- numbers with a prefix
@@ -193,7 +193,7 @@ rest_letter : (text : List ℕ) (m j : ℕ) → Exponent text m j ⊎ ((q : ℕ)
 rest_letter text m j h = grind (arith, nat_tests, common_steps)
 
 -- a number with an integer part, which ends at m
-decimal_begun : (text : List ℕ) (i m : ℕ) → UnsignedDecimal text (behind_sign text i) m → NoLetter (get_or text m 0) → (a : ℕ) × Begun text i a
+decimal_begun : (text : List ℕ) (i m : ℕ) → UnsignedDecimal text (after_sign text i) m → NoLetter (get_or text m 0) → (a : ℕ) × Begun text i a
 decimal_begun text i m u n = grind (arith, begun, digit_keylike, is_false, clash, byte_is, no_prefix)
 
 numeral_complete : (s : Scalar) (text : List ℕ) (i j : ℕ) → IsNumber s text i j → (n : Numeral) × (numeral text i ≡ Ok (n, j)) × (s ≡ scalar_of n (slice_range text i j))

@@ -5,7 +5,7 @@ use Rattle.std.proofs.lemmas.List.{get_or-drop}
 use Rattle.toml_span_lex.specs.Bytes.{is_keylike, MaximalRun}
 use Rattle.toml_span_lex.proofs.Unique.{run_unique}
 use Rattle.toml_span_read.specs.Numbers.{Digits, FloatLiteral, Exponent, Fraction, goes_on}
-use Rattle.toml_span_read.specs.Numerals.{is_digit_in, is_figure, behind_sign, is_exponent, sum_of_digits}
+use Rattle.toml_span_read.specs.Numerals.{is_digit_in, is_figure, after_sign, is_exponent, sum_of_digits}
 use Rattle.toml_span_read.specs.Numerals.{invalid_number, run_end, figures_end, are_digits, digits_end, signed}
 use Rattle.toml_span_read.specs.code.Numbers.{DigitGives, Passes}
 
@@ -213,14 +213,14 @@ no_digits_at_end radix text start from end was r w g n =
 
 -- ---- signs
 
-pub no_sign : (text : List ℕ) (i : ℕ) → (get_or text i 0 == 43) ≡ false → (get_or text i 0 == 45) ≡ false → behind_sign text i ≡ i
+pub no_sign : (text : List ℕ) (i : ℕ) → (get_or text i 0 == 43) ≡ false → (get_or text i 0 == 45) ≡ false → after_sign text i ≡ i
 no_sign text i p h = rw (p, h) refl
 
-pub behind_plus_sign : (text : List ℕ) (i : ℕ) → get_or text i 0 ≡ 43 → behind_sign text i ≡ i + 1
-behind_plus_sign text i h = rw h refl
+pub after_plus_sign : (text : List ℕ) (i : ℕ) → get_or text i 0 ≡ 43 → after_sign text i ≡ i + 1
+after_plus_sign text i h = rw h refl
 
 -- a sign is one byte
-pub sign_on : (text : List ℕ) (i : ℕ) → (i ≤ behind_sign text i) × (behind_sign text i ≤ i + 1)
+pub sign_on : (text : List ℕ) (i : ℕ) → (i ≤ after_sign text i) × (after_sign text i ≤ i + 1)
 sign_on text i = grind arith
 
 pub stands_alone : (text : List ℕ) (j : ℕ) → is_keylike (get_or text j 0) ≡ false → (get_or text j 0 == 46) ≡ false → goes_on text j ≡ false
@@ -265,14 +265,14 @@ signed_past negative m l = grind (arith, nat_tests, common_steps)
 digits_ascii : (radix : ℕ) (text : List ℕ) (i j k : ℕ) → Digits radix text i j → i ≤ k → k < j → get_or text k 0 < 128
 digits_ascii radix text i j k d a b = let h = figure_keylike radix (get_or text k 0) (d.run.passes k a b) in grind arith
 
-sign_ascii : (text : List ℕ) (i k : ℕ) → i ≤ k → k < behind_sign text i → get_or text k 0 < 128
+sign_ascii : (text : List ℕ) (i k : ℕ) → i ≤ k → k < after_sign text i → get_or text k 0 < 128
 sign_ascii text i k a b = grind (arith, nat_tests, common_steps)
 
 exponent_small : (c : ℕ) → is_exponent c ≡ true → c < 128
 exponent_small c h = grind arith
 
 exponent_ascii : (text : List ℕ) (i j k : ℕ) → Exponent text i j → i ≤ k → k < j → get_or text k 0 < 128
-exponent_ascii text i j k x a b = grind (arith, sign_ascii text (i + 1) k, digits_ascii 10 text (behind_sign text (i + 1)) j k x.digits, exponent_small (get_or text i 0) x.letter)
+exponent_ascii text i j k x a b = grind (arith, sign_ascii text (i + 1) k, digits_ascii 10 text (after_sign text (i + 1)) j k x.digits, exponent_small (get_or text i 0) x.letter)
 
 fraction_ascii : (text : List ℕ) (i j k : ℕ) → Fraction text i j → i ≤ k → k < j → get_or text k 0 < 128
 fraction_ascii text i j k x a b = grind (arith, digits_ascii 10 text (i + 1) j k x.digits, x.point)
@@ -282,7 +282,7 @@ rest_ascii text i j k (inl x) a b = exponent_ascii text i j k x a b
 rest_ascii text i j k (inr (m, f, o)) a b = grind (arith, fraction_ascii text i m k f, exponent_ascii text m j k)
 
 float_ascii : (text : List ℕ) (i j k : ℕ) → FloatLiteral text i j → i ≤ k → k < j → get_or text k 0 < 128
-float_ascii text i j k f a b = grind (arith, sign_ascii text i k, digits_ascii 10 text (behind_sign text i) f.integer_end k f.integer_part.digits, rest_ascii text f.integer_end j k f.rest)
+float_ascii text i j k f a b = grind (arith, sign_ascii text i k, digits_ascii 10 text (after_sign text i) f.integer_end k f.integer_part.digits, rest_ascii text f.integer_end j k f.rest)
 
 -- ---- slices
 

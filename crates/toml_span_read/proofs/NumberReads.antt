@@ -2,20 +2,20 @@
 use Rattle.toml_span_lex.proofs.Common.{common_steps, nat_tests, ◌≡◌, ℕ, ◌+◌, ◌-◌, ◌<◌, ◌≤◌, ◌⊎◌, Bool, true, false, List, length, get_or, arith, Ok, Err, Option, Some, None, is_some, inl, inr, refl, subst, cases_lt, not-true, not-false, or_parts, eqb-false, ltb-false, false≢true, list_all_at, bytes_eq-Decides, list_all, option_map_or, ℤ, not, ◌==◌, ◌||◌, ◌&&◌, nat_lt, slice_range, codes, if◌then◌else◌, IsUtf8}
 use Rattle.std.proofs.lemmas.Bool.{ltb-true}
 use Rattle.toml_span_lex.specs.Bytes.{is_keylike}
-use Rattle.toml_span_lex.proofs.Runs.{behind, keylike_ascii}
+use Rattle.toml_span_lex.proofs.Runs.{after_ascii, keylike_ascii}
 use Rattle.toml_span_tree.specs.Node.{Scalar, text as text_scalar, integer, float, boolean, datetime, finite, infinite, not_a_number}
 use Rattle.toml_span_read.specs.declared.fault.Fault.{Fault}
 use Rattle.toml_span_read.specs.declared.numbers.Numeral.{Numeral}
 use Rattle.toml_span_read.specs.declared.numbers.Numeral.TheVariants as numerals
 use Rattle.toml_span_read.specs.Numbers.{Digits, UnsignedDecimal, Exponent, Fraction, FloatLiteral, SpecialFloat}
 use Rattle.toml_span_read.specs.Numbers.{IsNumber, IsSigned}
-use Rattle.toml_span_read.specs.Numerals.{behind_sign, is_negative, radix_at, magnitude, is_exponent}
+use Rattle.toml_span_read.specs.Numerals.{after_sign, is_negative, radix_at, magnitude, is_exponent}
 use Rattle.toml_span_read.specs.Numerals as spec
 use Rattle.toml_span_read.specs.Numerals.{NumberRead, ◌>>=◌, invalid_number, run_end, scalar_of, digits_end, integer_part, exponent_digits, exponent, fraction, signed, decimal, special, special_end, unsigned, numeral, number, radix_integer}
 use Rattle.toml_span_read.specs.Faults.{StartsInside}
 use Rattle.toml_span_read.specs.code.Gaps.{Further}
 use Rattle.toml_span_read.specs.code.Numbers.{Passes, NumeralStands}
-use Rattle.toml_span_read.proofs.NumberLemmas.{bool_cases, byte_is, here, figure_keylike, digits_sound, digits_on, run_passes, passes_on, sign_on, behind_plus_sign, stands_alone, slice_some, range_length, range_at}
+use Rattle.toml_span_read.proofs.NumberLemmas.{bool_cases, byte_is, here, figure_keylike, digits_sound, digits_on, run_passes, passes_on, sign_on, after_plus_sign, stands_alone, slice_some, range_length, range_at}
 
 -- ---- steps that may fail
 
@@ -108,15 +108,15 @@ exponent_reads text a b letter end q x l r =
     (λ c. (
     let s = sign_on text (letter + 1) in
     let o = ltb-true (letter + 1) end c in
-    weaker text (exponent_digits text a b (letter + 1) (behind_sign text (letter + 1)) end) (Whole text (Digits 10 text (behind_sign text (letter + 1)))) _
-    (exponent_digits_reads text a b (letter + 1) (behind_sign text (letter + 1)) end q (record { forward = s.0; to = omega arith; within = r.within; last = r.last }))
+    weaker text (exponent_digits text a b (letter + 1) (after_sign text (letter + 1)) end) (Whole text (Digits 10 text (after_sign text (letter + 1)))) _
+    (exponent_digits_reads text a b (letter + 1) (after_sign text (letter + 1)) end q (record { forward = s.0; to = omega arith; within = r.within; last = r.last }))
     (λ j d. (record { letter = x; digits = d.0 }, d.1))))
     (λ c. choice text (not (get_or text end 0 == 43)) _ _ _ (λ n. fails text a b _ q)
     (λ n. choice text (run_end text (end + 1) == end + 1) _ _ _ (λ y. fails text a b _ q)
     (λ y. (
     let e : letter + 1 ≡ end = omega (arith, ltb-false (letter + 1) end c) in
     let plus : (get_or text end 0 == 43) ≡ true = not-false (get_or text end 0 == 43) n in
-    let s : behind_sign text (letter + 1) ≡ end + 1 = rw e (behind_plus_sign text end (byte_is (get_or text end 0) 43 plus)) in
+    let s : after_sign text (letter + 1) ≡ end + 1 = rw e (after_plus_sign text end (byte_is (get_or text end 0) 43 plus)) in
     let k : end < length text = here (λ c. c == 43) text end refl plus in
     let t = run_passes text (end + 1) (omega arith) in
     weaker text (exponent_digits text a b (end + 1) (end + 1) (run_end text (end + 1))) (Whole text (Digits 10 text (end + 1))) _
@@ -176,7 +176,7 @@ pub record First (text : List ℕ) (i a b : ℕ) : Type 0 where
   pub forward : i ≤ a
   pub some : a < b
   pub run : Passes text a b
-  pub sign : behind_sign text i ≡ behind_sign text a
+  pub sign : after_sign text i ≡ after_sign text a
   pub negative : is_negative text i ≡ is_negative text a
   pub prefixed : (radix : ℕ) → radix_at text a ≡ Some radix → a ≡ i
 
@@ -192,10 +192,10 @@ decimal_reads text i a b g =
     let w = r.within in
     let s = sign_on text a in
     let q : Placed text a b = (omega arith, omega arith) in
-    after text (integer_part text a (behind_sign text a) b) _ (PartTo text (behind_sign text a) b) _
-    (part_reads text a (behind_sign text a) b (record { forward = s.0; to = omega arith; within = w; last = r.last }))
+    after text (integer_part text a (after_sign text a) b) _ (PartTo text (after_sign text a) b) _
+    (part_reads text a (after_sign text a) b (record { forward = s.0; to = omega arith; within = w; last = r.last }))
     (λ m u. (
-    let v : UnsignedDecimal text (behind_sign text i) m = rw g.sign u.0 in
+    let v : UnsignedDecimal text (after_sign text i) m = rw g.sign u.0 in
     choice text (nat_lt m b) _ _ _
     (λ c. choice text (is_exponent (get_or text m 0)) _ _ _
     (λ x. after text (exponent text a b m b) _ (Whole text (Exponent text m)) _
@@ -204,13 +204,13 @@ decimal_reads text i a b g =
     (λ x. fails text a b _ q))
     (λ c. (
     let e : m ≡ b = omega (arith, u.2, ltb-false m b c) in
-    let t : UnsignedDecimal text (behind_sign text i) b = rw e at v in
+    let t : UnsignedDecimal text (after_sign text i) b = rw e at v in
     choice text (get_or text b 0 == 46) _ _ _
     (λ p. after text (fraction text i a b) _ (Whole text (FractionTo text b)) _
     (fraction_reads text i a b g.forward q (byte_is (get_or text b 0) 46 p))
     (λ j y. done text (numerals.Finite, j) (Spelled text i) (record { integer_end = b; integer_part = t; rest = inr y.0; ends = y.1 }, refl)))
-    (λ p. after text (spec.integer 10 text (is_negative text a) a (behind_sign text a) b) _ (IsSigned (is_negative text a) (magnitude 10 text (behind_sign text a) b)) _
-    (integer_reads 10 text (is_negative text a) a (behind_sign text a) b q)
+    (λ p. after text (spec.integer 10 text (is_negative text a) a (after_sign text a) b) _ (IsSigned (is_negative text a) (magnitude 10 text (after_sign text a) b)) _
+    (integer_reads 10 text (is_negative text a) a (after_sign text a) b q)
     (λ n h. done text (numerals.Integer n, b) (Spelled text i) (inl (record { digits = t; ends = stands_alone text b r.last p; value = rw (g.sign, g.negative) h }))))))))
 
 -- ---- inf and nan
@@ -220,12 +220,12 @@ special_sound : (negative : Bool) (word : List ℕ) (n : Numeral) → special ne
 unfolding special
 special_sound negative word n h = grind (arith, bool_cases, bytes_eq-Decides)
 
-letters : (text : List ℕ) (i a b : ℕ) (n : Numeral) → First text i a b → (get_or text b 0 == 46) ≡ false → special (is_negative text a) (slice_range text (behind_sign text a) b) ≡ Some n → Spelled text i (n, b)
+letters : (text : List ℕ) (i a b : ℕ) (n : Numeral) → First text i a b → (get_or text b 0 == 46) ≡ false → special (is_negative text a) (slice_range text (after_sign text a) b) ≡ Some n → Spelled text i (n, b)
 letters text i a b n g p h =
     let goes = stands_alone text b g.run.last p in
-    elim (special_sound (is_negative text a) (slice_range text (behind_sign text a) b) n h) [ inl x ↦ grind (arith, slice_some) | inr x ↦ grind (arith, slice_some) ]
+    elim (special_sound (is_negative text a) (slice_range text (after_sign text a) b) n h) [ inl x ↦ grind (arith, slice_some) | inr x ↦ grind (arith, slice_some) ]
 
-special_reads : (text : List ℕ) (i a b : ℕ) (n : Numeral) → First text i a b → special (is_negative text a) (slice_range text (behind_sign text a) b) ≡ Some n
+special_reads : (text : List ℕ) (i a b : ℕ) (n : Numeral) → First text i a b → special (is_negative text a) (slice_range text (after_sign text a) b) ≡ Some n
     → Reads text (special_end text i a b n) (Spelled text i)
 unfolding special_end
 special_reads text i a b n g h = grind (arith, choice, letters, not-true, fails)
@@ -261,7 +261,7 @@ unsigned_reads text i a b g =
     (radix_reads radix text (a + 2) b (record { forward = omega arith; to = o; within = g.run.within; last = g.run.last }))
     (λ n d. done text (numerals.Integer n, b) (Spelled text i)
     (inr (record { radix = radix; prefix = rw (← same) h; digits = rw (← same) d.0; ends = g.run.last; value = rw (← same) d.1 })))))
-    (λ h. some_or text (special_end text i a b) (special (is_negative text a) (slice_range text (behind_sign text a) b)) _ _
+    (λ h. some_or text (special_end text i a b) (special (is_negative text a) (slice_range text (after_sign text a) b)) _ _
     (λ n e. special_reads text i a b n g e) (λ e. decimal_reads text i a b g))
 
 run_some : (text : List ℕ) (i : ℕ) → is_keylike (get_or text i 0) ≡ true → i < run_end text i
@@ -270,8 +270,8 @@ run_some text i k = let w = here is_keylike text i refl k in let r = run_passes 
 pub first_plain : (text : List ℕ) (i : ℕ) → is_keylike (get_or text i 0) ≡ true → First text i i (run_end text i)
 first_plain text i k = record { forward = omega arith; some = run_some text i k; run = run_passes text i (omega (arith, here is_keylike text i refl k)); sign = refl; negative = refl; prefixed = λ radix h. refl }
 
-pub first_behind : (text : List ℕ) (i : ℕ) → get_or text i 0 ≡ 43 → is_keylike (get_or text (i + 1) 0) ≡ true → (get_or text (i + 1) 0 == 45) ≡ false → radix_at text (i + 1) ≡ None → First text i (i + 1) (run_end text (i + 1))
-first_behind text i p k m n =
+pub first_after : (text : List ℕ) (i : ℕ) → get_or text i 0 ≡ 43 → is_keylike (get_or text (i + 1) 0) ≡ true → (get_or text (i + 1) 0 == 45) ≡ false → radix_at text (i + 1) ≡ None → First text i (i + 1) (run_end text (i + 1))
+first_after text i p k m n =
     let w = here is_keylike text (i + 1) refl k in
     record {
       forward = omega arith;
@@ -303,7 +303,7 @@ numeral_reads text i begins =
     let o : i + 1 < run_end text (i + 1) = elim (cases_lt (i + 1) (run_end text (i + 1))) [ inl z ↦ z | inr z ↦ let e : run_end text (i + 1) ≡ i + 1 = omega arith in absurd (eqb-false (run_end text (i + 1)) (i + 1) x e) ] in
     let q = or_parts (get_or text (i + 1) 0 == 45) (is_some (radix_at text (i + 1))) y in
     unsigned_reads text i (i + 1) (run_end text (i + 1))
-    (first_behind text i (byte_is (get_or text i 0) 43 plus) (r.passes (i + 1) (omega arith) o) q.0 (grind (arith, nat_tests, common_steps))))))))
+    (first_after text i (byte_is (get_or text i 0) 43 plus) (r.passes (i + 1) (omega arith) o) q.0 (grind (arith, nat_tests, common_steps))))))))
 
 -- ---- where a number ends
 
@@ -322,17 +322,17 @@ digits_ended : (radix : ℕ) (text : List ℕ) (i k j : ℕ) → i ≤ k → Dig
 digits_ended radix text i k j f d = let o = digits_on radix text k j d in grind (arith, figure_keylike radix (get_or text (j - 1) 0))
 
 rest_ended : (text : List ℕ) (i m j : ℕ) → i ≤ m → Exponent text m j ⊎ FractionTo text m j → Ended text i j
-rest_ended text i m j f (inl x) = let s = sign_on text (m + 1) in digits_ended 10 text i (behind_sign text (m + 1)) j (omega arith) x.digits
+rest_ended text i m j f (inl x) = let s = sign_on text (m + 1) in digits_ended 10 text i (after_sign text (m + 1)) j (omega arith) x.digits
 rest_ended text i m j f (inr (q, y, inl e)) = rw e (digits_ended 10 text i (m + 1) q (omega arith) y.digits)
-rest_ended text i m j f (inr (q, y, inr x)) = let o = digits_on 10 text (m + 1) q y.digits in let s = sign_on text (q + 1) in digits_ended 10 text i (behind_sign text (q + 1)) j (omega arith) x.digits
+rest_ended text i m j f (inr (q, y, inr x)) = let o = digits_on 10 text (m + 1) q y.digits in let s = sign_on text (q + 1) in digits_ended 10 text i (after_sign text (q + 1)) j (omega arith) x.digits
 
 word_ended : (word text : List ℕ) (i j : ℕ) → list_all is_keylike word ≡ true → SpecialFloat word text i j → Ended text i j
 word_ended word text i j h f =
     let s = sign_on text i in
-    record { on = omega (arith, f.some); last = word_keylike text word (behind_sign text i) j f.letters h f.within (j - 1) (omega (arith, f.some)) (omega (arith, f.some)) }
+    record { on = omega (arith, f.some); last = word_keylike text word (after_sign text i) j f.letters h f.within (j - 1) (omega (arith, f.some)) (omega (arith, f.some)) }
 
 number_ended : (s : Scalar) (text : List ℕ) (i j : ℕ) → IsNumber s text i j → Ended text i j
-number_ended (integer n) text i j (inl d) = digits_ended 10 text i (behind_sign text i) j (sign_on text i).0 d.digits.digits
+number_ended (integer n) text i j (inl d) = digits_ended 10 text i (after_sign text i) j (sign_on text i).0 d.digits.digits
 number_ended (integer n) text i j (inr x) = digits_ended x.radix text i (i + 2) j (omega arith) x.digits
 number_ended (float (finite digits)) text i j (f, c) =
     let o = digits_on 10 text _ _ f.integer_part.digits in rest_ended text i f.integer_end j (omega (arith, (sign_on text i).0)) f.rest
@@ -350,7 +350,7 @@ float_on text i j f = grind (arith, number_ended, number_on)
 
 -- the end of a number is a character boundary
 pub number_further : (s : Scalar) (text : List ℕ) (i j : ℕ) → IsUtf8 text → IsNumber s text i j → Further text i j
-number_further s text i j u h = grind (arith, number_ended, behind, here, keylike_ascii)
+number_further s text i j u h = grind (arith, number_ended, after_ascii, here, keylike_ascii)
 
 -- ---- what the code returns
 

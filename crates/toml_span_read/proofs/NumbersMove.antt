@@ -5,10 +5,10 @@ use Rattle.toml_span_tree.specs.Node.{Scalar, text as text_scalar, integer, floa
 use Rattle.toml_span_read.specs.Dates.{is_date_byte}
 use Rattle.toml_span_read.specs.Numbers.{Digits, UnsignedDecimal, DecimalInteger, RadixInteger, Exponent, Fraction}
 use Rattle.toml_span_read.specs.Numbers.{FloatLiteral, SpecialFloat, IsNumber}
-use Rattle.toml_span_read.specs.Numerals.{is_digit_in, is_figure, sum_of_digits, magnitude, behind_sign, is_exponent}
+use Rattle.toml_span_read.specs.Numerals.{is_digit_in, is_figure, sum_of_digits, magnitude, after_sign, is_exponent}
 use Rattle.toml_span_read.specs.Numerals.{is_negative, radix_at, cleaned}
 use Rattle.toml_span_read.proofs.NumberLemmas.{digit_figure, digit_no_underscore, no_keylike_figure, digits_on, digits_stop, sign_on}
-use Rattle.toml_span_read.proofs.Moves.{Moves, either, said, also, Copied, At, further, behind, nothing, byte, stays, first, run, same_range}
+use Rattle.toml_span_read.proofs.Moves.{Moves, either, said, also, Copied, At, further, in_sequence, nothing, byte, stays, first, run, same_range}
 use Rattle.toml_span_read.proofs.Parts.{Part, next, within, each}
 
 -- ---- what a byte is not
@@ -47,13 +47,13 @@ module _ {a b : List ℕ} {s t n c : ℕ} (w : Copied a b s t n c) (off : is_dat
   }
 
   -- a sign
-  sign_at : {i k : ℕ} → At s t n 0 i k → k < n → At s t n 0 (behind_sign a i) (behind_sign b k)
+  sign_at : {i k : ℕ} → At s t n 0 i k → k < n → At s t n 0 (after_sign a i) (after_sign b k)
   sign_at {i} {k} u l = grind (arith, nat_tests, common_steps)
 
   negative_same : {i k : ℕ} → At s t n 0 i k → k < n → is_negative a i ≡ is_negative b k
   negative_same {i} {k} u l = ap (λ x. x == 45) (w.same i k u.after u.moved l)
 
-  signed : {R S : ℕ → ℕ → Type 0} → Moves (At s t n 0) R S → ((i j : ℕ) → R i j → i < j) → Moves (At s t n 0) (λ i j. R (behind_sign a i) j) (λ k l. S (behind_sign b k) l)
+  signed : {R S : ℕ → ℕ → Type 0} → Moves (At s t n 0) R S → ((i j : ℕ) → R i j → i < j) → Moves (At s t n 0) (λ i j. R (after_sign a i) j) (λ k l. S (after_sign b k) l)
   signed m some = grind (arith, nat_tests, common_steps)
 
   unsigned : Alike UnsignedDecimal
@@ -69,12 +69,12 @@ module _ {a b : List ℕ} {s t n c : ℕ} (w : Copied a b s t n c) (off : is_dat
   decimal : (m : ℤ) → Alike (DecimalInteger m)
   decimal m = said (λ i j h. (h.digits, h)) (λ k l h. h.1)
       (also (signed unsigned unsigned_on) (λ i j k l o u v d h. (
-      let some = unsigned_on (behind_sign a i) j d in
+      let some = unsigned_on (after_sign a i) j d in
       let on = (sign_on a i).0 in
       record {
         digits = (signed unsigned unsigned_on).to i j k l u v d;
         ends = stays w (λ x. is_keylike x || x == 46) v goes_off h.ends;
-        value = rw (magnitude_same 10 (behind_sign a i) j (behind_sign b k) l (omega arith) (sign_at u (omega arith)) v, negative_same u (omega arith)) at h.value;
+        value = rw (magnitude_same 10 (after_sign a i) j (after_sign b k) l (omega arith) (sign_at u (omega arith)) v, negative_same u (omega arith)) at h.value;
       })))
 
   with_prefix : (m : ℤ) → Alike (RadixInteger m)
@@ -101,7 +101,7 @@ module _ {a b : List ℕ} {s t n c : ℕ} (w : Copied a b s t n c) (off : is_dat
 
   pub literal : Alike FloatLiteral
   literal = said (λ i j h. ((h.integer_end, h.integer_part, h.rest), h.ends)) (λ k l h. record { integer_end = h.0.0; integer_part = h.0.1; rest = h.0.2; ends = h.1 })
-      (also (behind (signed unsigned unsigned_on) (either exponent (behind fraction (either nothing exponent)))) (λ i j k l o u v h x. stays w is_keylike v (off_bytes c off).0 x))
+      (also (in_sequence (signed unsigned unsigned_on) (either exponent (in_sequence fraction (either nothing exponent)))) (λ i j k l o u v h x. stays w is_keylike v (off_bytes c off).0 x))
 
   special : (word : List ℕ) → Alike (SpecialFloat word)
   special word = record {
@@ -111,7 +111,7 @@ module _ {a b : List ℕ} {s t n c : ℕ} (w : Copied a b s t n c) (off : is_dat
         let some = h.some in
         let x = sign_at u (omega arith) in
         record {
-          letters = sym (same_range w (behind_sign a i) j (behind_sign b k) l (omega arith) x v) ∙ h.letters;
+          letters = sym (same_range w (after_sign a i) j (after_sign b k) l (omega arith) x v) ∙ h.letters;
           some = omega arith;
           within = omega (arith, w.within);
           ends = stays w (λ x. is_keylike x || x == 46) v goes_off h.ends;

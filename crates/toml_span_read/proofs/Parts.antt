@@ -47,14 +47,14 @@ byte {text} {part} {rest} {i} p k h = sym (get_or-drop i text k 0) ∙ (ap (λ (
 pub byte_at : {text part rest : List ℕ} {i j : ℕ} → Part text part rest i j → (k : ℕ) → i ≤ k → k < j → get_or text k 0 ≡ get_or part (k - i) 0
 byte_at {text} {part} {rest} {i} p k a b = grind (arith, nat_tests, common_steps)
 
-pub behind : {text part rest : List ℕ} {i j : ℕ} → Part text part rest i j → (k : ℕ) → get_or text (j + k) 0 ≡ get_or rest k 0
-behind {text} {part} {rest} {i} {j} p k =
+pub past : {text part rest : List ℕ} {i j : ℕ} → Part text part rest i j → (k : ℕ) → get_or text (j + k) 0 ≡ get_or rest k 0
+past {text} {part} {rest} {i} {j} p k =
     let x = p.on in
     let at : j + k ≡ i + (length part + k) = omega arith in
     rw at (sym (get_or-drop i text (length part + k) 0) ∙ (ap (λ (l : List ℕ). get_or l (length part + k) 0) p.is ∙ get_or-append-add part rest k 0))
 
 pub next : {text part rest : List ℕ} {i j : ℕ} → Part text part rest i j → get_or text j 0 ≡ get_or rest 0 0
-next {text} {part} {rest} {i} {j} p = let z : j + 0 ≡ j = omega arith in let e : get_or text (j + 0) 0 ≡ get_or rest 0 0 = behind p 0 in rw z at e
+next {text} {part} {rest} {i} {j} p = let z : j + 0 ≡ j = omega arith in let e : get_or text (j + 0) 0 ≡ get_or rest 0 0 = past p 0 in rw z at e
 
 pub range : {text part rest : List ℕ} {i j : ℕ} → Part text part rest i j → slice_range text i j ≡ part
 range {text} {part} {rest} {i} {j} p = grind (arith, nat_tests, common_steps)

@@ -9,11 +9,11 @@ pub read_within : (text : List ℕ) (i : ℕ) → 0 < get_or text i 0 → i < le
 read_within text i h = elim (cases_lt i (length text)) [ inl lt ↦ lt | inr ge ↦ let z : get_or text i 0 ≡ 0 = get_or_past text i 0 ge in absurd (omega arith) ]
 
 -- after an ASCII byte
-pub behind_byte : (text : List ℕ) (i : ℕ) → IsUtf8 text → 0 < get_or text i 0 → get_or text i 0 < 128 → IsCharBoundary text (i + 1)
-behind_byte text i u s a = IsCharBoundary-after_ascii text i u (read_within text i s) a
+pub after_byte : (text : List ℕ) (i : ℕ) → IsUtf8 text → 0 < get_or text i 0 → get_or text i 0 < 128 → IsCharBoundary text (i + 1)
+after_byte text i u s a = IsCharBoundary-after_ascii text i u (read_within text i s) a
 
 pub further_byte : (text : List ℕ) (i : ℕ) → IsUtf8 text → 0 < get_or text i 0 → get_or text i 0 < 128 → Further text i (i + 1)
-further_byte text i u s a = record { on = omega arith; boundary = behind_byte text i u s a }
+further_byte text i u s a = record { on = omega arith; boundary = after_byte text i u s a }
 
 gap_longer : (text : List ℕ) (i j k : ℕ) (ks : List ℕ) → GapBy text i ks j → GapPiece text j k → GapBy text i (ks ++ (k ∷ [])) k
 gap_longer text i j k [] e h = rw e (h, refl)

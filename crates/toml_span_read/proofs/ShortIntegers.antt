@@ -4,11 +4,11 @@ use Rattle.toml_span_lex.specs.Bytes.{is_keylike}
 use Rattle.toml_span_lex.proofs.Runs.{boundary_after}
 use Rattle.toml_span_tree.specs.Node.{integer}
 use Rattle.toml_span_read.specs.declared.value.ValKind.{ValKind}
-use Rattle.toml_span_read.specs.Data.{kind_view, scalar}
+use Rattle.toml_span_read.specs.Data.{parsed_kind, scalar}
 use Rattle.toml_span_read.specs.Dates.{begins_date}
 use Rattle.toml_span_read.specs.code.Gaps.{Further}
 use Rattle.toml_span_read.specs.Numbers.{DecimalInteger, IsSigned}
-use Rattle.toml_span_read.specs.Numerals.{is_digit_in, magnitude, behind_sign}
+use Rattle.toml_span_read.specs.Numerals.{is_digit_in, magnitude, after_sign}
 use Rattle.toml_span_read.specs.Faults.{begins_number}
 use Rattle.toml_span_read.specs.Numerals.{number}
 use Rattle.toml_span_read.specs.Read as read
@@ -76,7 +76,7 @@ short_spelled n text i j m l w h v lead k dot colon value =
     let first = h i (omega arith) l in
     let plus : (get_or text i 0 == 43) ≡ false = grind (arith, nat_tests) in
     let dash : (get_or text i 0 == 45) ≡ false = grind (arith, nat_tests) in
-    let b : behind_sign text i ≡ i = no_sign text i plus dash in (
+    let b : after_sign text i ≡ i = no_sign text i plus dash in (
       is_false _ (date_no text i j l h k colon),
       record {
         digits = rw b (record { digits = grind (arith, decimal_digit, digit_figure, no_keylike_figure, digit_no_underscore); leading = lead });
@@ -85,7 +85,7 @@ short_spelled n text i j m l w h v lead k dot colon value =
       },
     )
 
-pub short_made : (kind : ValKind) (n : ℤ) (text : List ℕ) (i j m : ℕ) → kind_view kind ≡ scalar (integer n) → i < j → j ≤ length text → Decimals text i j → m ≡ magnitude 10 text i j
+pub short_made : (kind : ValKind) (n : ℤ) (text : List ℕ) (i j m : ℕ) → parsed_kind kind ≡ scalar (integer n) → i < j → j ≤ length text → Decimals text i j → m ≡ magnitude 10 text i j
     → (get_or text i 0 ≡ 48 → j ≡ i + 1) → is_keylike (get_or text j 0) ≡ false → (get_or text j 0 == 46) ≡ false → (get_or text j 0 == 58) ≡ false → IsSigned false m n → ScalarGives (read.bare text i) (Ok (kind, j))
 short_made kind n text i j m e l w h v lead k dot colon value =
     let s = short_spelled n text i j m l w h v lead k dot colon value in

@@ -3,7 +3,7 @@ use Rattle.toml_span_lex.proofs.Common.{common_steps, nat_tests, ◌≡◌, ℕ,
 use Rattle.toml_span_lex.specs.declared.span.Span.{Span}
 use Rattle.toml_span_tree.specs.Node.{Scalar, text as text_scalar, integer, float, boolean, datetime}
 use Rattle.toml_span_read.specs.Gaps.{Separator, Closes}
-use Rattle.toml_span_read.specs.Data.{SimpleKey, ParsedValue, parsed, ParsedInner, scalar, array, inline, ParsedItems, no_items, item, ParsedPairs, no_pairs, pair, KeyValue, from_to}
+use Rattle.toml_span_read.specs.Data.{SimpleKey, ParsedValue, parsed, ParsedInner, scalar, array, inline, ParsedItems, no_items, item, ParsedPairs, no_pairs, pair, ParsedAssignment, from_to}
 use Rattle.toml_span_read.specs.Places.{Ascend, Inside, InsideItems, InsidePairs}
 use Rattle.toml_span_read.specs.Grammar.{SpellsScalar, Spells, InnerWith, ItemsWith, PairsWith}
 use Rattle.toml_span_read.proofs.NumberReads.{number_on}
@@ -26,7 +26,7 @@ scalar_lies (float x) span t i j (b, h, e) = whole t i j span e (number_on (floa
 -- ---- values
 
 sign_onward : (c : ℕ) (text : List ℕ) (i j : ℕ) → Separator c text i j → i ≤ j
-sign_onward c text i j s = omega (arith, s.before.forward, s.behind.forward)
+sign_onward c text i j s = omega (arith, s.before.forward, s.after.forward)
 
 closes_on : (c : ℕ) (text : List ℕ) (i j : ℕ) → 0 < c → Closes c text i j → (i ≤ j) × (j ≤ length text)
 closes_on c text i j l s = grind (arith, nat_tests, common_steps)
@@ -61,7 +61,7 @@ mutual
       ] in
       ((m, nearer v n i m l a.0, r.0), omega (arith, l, a.1, r.1), r.2)
 
-  pairs_lie : (ps : ParsedPairs) (es : List KeyValue) (text : List ℕ) (limit d n i j : ℕ) → n ≤ i → PairsWith SpellsScalar ps es text limit d i j → InsidePairs ps n j × (n ≤ j) × (j ≤ length text)
+  pairs_lie : (ps : ParsedPairs) (es : List ParsedAssignment) (text : List ℕ) (limit d n i j : ℕ) → n ≤ i → PairsWith SpellsScalar ps es text limit d i j → InsidePairs ps n j × (n ≤ j) × (j ≤ length text)
   pairs_lie no_pairs es text limit d n i j l h = let w : i < length text = read_within text i (omega (arith, h.0)) in (omega (arith, h.1), omega (arith, h.1), omega (arith, h.1, w))
   pairs_lie (pair ss v x ps) es text limit d n i j l (m, (a, b, key, few, sign, h, extent), clear, rest) =
       let k = dotted_ascend ss text i a key in

@@ -4,14 +4,14 @@ use Rattle.std.proofs.lemmas.Bool.{eqb-true}
 use Rattle.toml_span_tree.specs.Node.{Scalar, text as text_scalar, integer, float, boolean, datetime, finite, infinite, not_a_number}
 use Rattle.toml_span_read.specs.Dates.{begins_date}
 use Rattle.toml_span_read.specs.Numbers.{Digits, Exponent, Fraction, SpecialFloat, IsNumber}
-use Rattle.toml_span_read.specs.Numerals.{is_figure, behind_sign}
+use Rattle.toml_span_read.specs.Numerals.{is_figure, after_sign}
 use Rattle.toml_span_read.proofs.NumberLemmas.{clash, digits_stop, no_sign}
 
 digit_other : (c k : ℕ) → is_ascii_digit c ≡ true → is_ascii_digit k ≡ false → (c == k) ≡ false
 digit_other c k h n = false_from_ne_true (c == k) (λ e. clash is_ascii_digit c k h (eqb-true c k e) n)
 
-behind_none : (text : List ℕ) (i : ℕ) → is_ascii_digit (get_or text i 0) ≡ true → behind_sign text i ≡ i
-behind_none text i h = no_sign text i (digit_other (get_or text i 0) 43 h refl) (digit_other (get_or text i 0) 45 h refl)
+after_none : (text : List ℕ) (i : ℕ) → is_ascii_digit (get_or text i 0) ≡ true → after_sign text i ≡ i
+after_none text i h = no_sign text i (digit_other (get_or text i 0) 43 h refl) (digit_other (get_or text i 0) 45 h refl)
 
 decimal_figure : (c : ℕ) → is_ascii_digit c ≡ true → is_figure 10 c ≡ true
 decimal_figure c h = grind arith
@@ -55,10 +55,10 @@ special_decimal text i j x xs s n d = grind (arith, nat_tests, common_steps)
 
 number_front : (s : Scalar) (text : List ℕ) (i j : ℕ) → begins_date text i ≡ true → is_ascii_digit (get_or text i 0) ≡ true → is_ascii_digit (get_or text (i + 1) 0) ≡ true → IsNumber s text i j → get_or text j 0 ≡ 58
 number_front (integer n) text i j d a b (inl h) =
-    elim (front_ends text i j d (rw (behind_none text i a) at h.digits.digits)) [ inl e ↦ e | inr e ↦ absurd (false≢true (sym h.ends ∙ (rw e refl))) ]
+    elim (front_ends text i j d (rw (after_none text i a) at h.digits.digits)) [ inl e ↦ e | inr e ↦ absurd (false≢true (sym h.ends ∙ (rw e refl))) ]
 number_front (integer n) text i j d a b (inr h) = grind (arith, nat_tests, common_steps, h.prefix)
 number_front (float (finite digits)) text i j d a b (h, c) =
-    absurd (front_rest text h.integer_end j (front_ends text i h.integer_end d (rw (behind_none text i a) at h.integer_part.digits)) h.rest)
+    absurd (front_rest text h.integer_end j (front_ends text i h.integer_end d (rw (after_none text i a) at h.integer_part.digits)) h.rest)
 number_front (float (infinite negative)) text i j d a b (h, c) = absurd (special_decimal text i j 105 _ h refl a)
 number_front (float (not_a_number negative)) text i j d a b (h, c) = absurd (special_decimal text i j 110 _ h refl a)
 number_front (text_scalar x) text i j d a b h = absurd h

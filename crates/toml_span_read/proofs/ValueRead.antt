@@ -9,15 +9,15 @@ use Rattle.toml_span_read.specs.declared.fault.Fault.{Fault}
 use Rattle.toml_span_read.specs.declared.fault.FaultKind.TheVariants as kinds
 use Rattle.toml_span_read.specs.declared.value.ValKind.{ValKind}
 use Rattle.toml_span_read.specs.declared.strings.StringToken.{StringToken}
-use Rattle.toml_span_read.specs.Data.{ParsedValue, parsed, ParsedInner, scalar, KeyValue, kind_view, from_to}
+use Rattle.toml_span_read.specs.Data.{ParsedValue, parsed, ParsedInner, scalar, ParsedAssignment, parsed_kind, from_to}
 use Rattle.toml_span_read.specs.Dates.{begins_date}
 use Rattle.toml_span_read.specs.Faults.{fault_at, opens_nested, begins_bare, begins_number}
 use Rattle.toml_span_read.specs.Gaps.{MaximalGap}
 use Rattle.toml_span_read.specs.Grammar.{truth_text}
 use Rattle.toml_span_read.specs.Numerals.{special, number, run_end}
 use Rattle.toml_span_read.specs.Read as read
-use Rattle.toml_span_read.specs.Read.{Reading, Turn, on, done, Loop, ends, stops as stops_there, goes_on, ValueEnd, Elements, Pairs, StandsAt, token, no_token}
-use Rattle.toml_span_read.specs.code.Faults.{Gives}
+use Rattle.toml_span_read.specs.Read.{Reading, LoopStep, on, done, Loop, ends, stops as stops_there, goes_on, ValueEnd, Elements, Pairs, IsNextToken, token, no_token}
+use Rattle.toml_span_read.specs.code.Faults.{MatchesReading}
 use Rattle.toml_span_read.specs.code.Values.{value_found, ScalarGives, IsTooDeep, IsOtherWord}
 use Rattle.toml_span_read.specs.code.Strings.{StringReads}
 use Rattle.toml_span_read.proofs.NumberLemmas.{is_false, same_byte, byte_is, clash, run_is}
@@ -31,7 +31,7 @@ not_word word w n = is_false (bytes_eq word w) (λ t. n ((bytes_eq-Decides word 
 run_here : (text bytes word : List ℕ) (i j : ℕ) → bytes ≡ text → MaximalRun is_keylike text i j → slice_range bytes i j ≡ word → (read.run_at text i ≡ word) × (run_end text i ≡ j)
 run_here text bytes word i j same run is = let e = run_is text i j run in (rw (e, ← same) is, e)
 
-pub truth_read : (b : Bool) (kind : ValKind) (text bytes : List ℕ) (i j : ℕ) → kind_view kind ≡ scalar (boolean b) → bytes ≡ text → begins_date text i ≡ false → begins_number (get_or text i 0) ≡ false
+pub truth_read : (b : Bool) (kind : ValKind) (text bytes : List ℕ) (i j : ℕ) → parsed_kind kind ≡ scalar (boolean b) → bytes ≡ text → begins_date text i ≡ false → begins_number (get_or text i 0) ≡ false
     → MaximalRun is_keylike text i j → slice_range bytes i j ≡ truth_text b → ScalarGives (read.bare text i) (Ok (kind, j))
 unfolding special
 truth_read true kind text bytes i j e same d n run is = let h = run_here text bytes _ i j same run is in (boolean true, e, inr (d, rw (n, h.0, h.1) refl))
@@ -100,12 +100,12 @@ string_there text i t (source, h, borrows, rest) = (token t.span (string source 
 -- ---- values past the limit
 
 pub string_deep : (stop : Stop Fault) (text : List ℕ) (limit d i : ℕ) (t : StringToken) → limit < d → (get_or text i 0 ≡ 34) ⊎ (get_or text i 0 ≡ 39) → StringReads text i (Ok t) → IsTooDeep i stop
-    → Gives value_found (read.value text limit ((limit + 1) - d) zero i) (Err stop)
+    → MatchesReading value_found (read.value text limit ((limit + 1) - d) zero i) (Err stop)
 string_deep (stops.Memory e) text limit d i t l q h is = absurd is
 string_deep (stops.Fault e) text limit d i t l q h is =
     let p = quote_plain (get_or text i 0) q in deep_plain text limit d i (Err e) l p.0 p.1 (inl (_, string_there text i t h, ap (λ y. Err y) is))
 
-pub begun_deep : (stop : Stop Fault) (text : List ℕ) (limit d i : ℕ) → limit < d → (opens_nested (get_or text i 0) || begins_bare (get_or text i 0)) ≡ true → IsTooDeep i stop → Gives value_found (read.value text limit ((limit + 1) - d) zero i) (Err stop)
+pub begun_deep : (stop : Stop Fault) (text : List ℕ) (limit d i : ℕ) → limit < d → (opens_nested (get_or text i 0) || begins_bare (get_or text i 0)) ≡ true → IsTooDeep i stop → MatchesReading value_found (read.value text limit ((limit + 1) - d) zero i) (Err stop)
 begun_deep stop text limit d i l b is = grind (arith, past_limit)
 
 -- ---- bare values within the limit
@@ -141,7 +141,7 @@ array_begins text limit d i k l here gap r h = within_limit text limit d i (nest
 
 -- ---- inline tables
 
-abbrev pub TableFrom : List ℕ → ℕ → ℕ → ℕ → List KeyValue → ℕ → Type 0
+abbrev pub TableFrom : List ℕ → ℕ → ℕ → ℕ → List ParsedAssignment → ℕ → Type 0
 TableFrom text limit d i es n =
     (r : Result (ParsedInner × ℕ) Fault) → Loop (read.next_pair text limit (below text limit d)) (es, n) r → read.value text limit ((limit + 1) - d) zero i (nested_of i r)
 

@@ -1,4 +1,4 @@
--- Spellings of values that read back as those values wherever they occur.
+-- Texts of values that are read as these values again, wherever they occur.
 use Rattle.std.specs.Prelude.{◌≡◌, ℕ, ◌+◌, ◌≤◌, Bool, true, false, not, ◌||◌, List, [], ◌∷◌, ◌++◌, length, slice_index}
 use Rattle.toml_span_lex.specs.Strings.{IsString}
 use Rattle.toml_span_lex.specs.declared.span.Span.{Span}
@@ -13,30 +13,30 @@ use Rattle.toml_span_read.specs.Earlier.{part_names}
 use Rattle.toml_span_read.specs.Grammar.{Spells, SpellsScalar}
 use Rattle.toml_span_read.specs.Keys.{SpellsSimpleKey, opens_string}
 
--- Whether a spelling may be followed by these bytes, which must not extend it: they do not begin with a letter, a
--- digit, a quote or one of `-_:.+`, nor with a space and a digit. They may be empty.
+-- Whether these bytes may follow a key or value without continuing it: they do not begin with a letter, a digit, a
+-- quote or one of `-_:.+`, nor with a space and a digit. They may be empty.
 abbrev pub parts_off : List ℕ → Bool
-parts_off behind =
-    not (is_date_byte (slice_index behind 0) || (opens_string (slice_index behind 0) || continues_date behind 0))
+parts_off after =
+    not (is_date_byte (slice_index after 0) || (opens_string (slice_index after 0) || continues_date after 0))
 
 -- Wherever this part occurs in a text, it is a single-line string with this content, from its first byte to its last.
 abbrev pub ReadsAsString : List ℕ → List ℕ → Type 0
 ReadsAsString content part =
-    (before behind : List ℕ) → parts_off behind ≡ true
+    (before after : List ℕ) → parts_off after ≡ true
     → (span : Span)
-    × IsString (before ++ (part ++ behind)) (length before) (length before + length part) span part content false
+    × IsString (before ++ (part ++ after)) (length before) (length before + length part) span part content false
 
 -- Wherever this part occurs in a text, it is a simple key with this name, from its first byte to its last.
 abbrev pub ReadsAsKey : List ℕ → List ℕ → Type 0
 ReadsAsKey name part =
-    (before behind : List ℕ) → parts_off behind ≡ true
+    (before after : List ℕ) → parts_off after ≡ true
     → (span : Span)
-    × SpellsSimpleKey (record { name = name; span = span }) (before ++ (part ++ behind)) (length before)
+    × SpellsSimpleKey (record { name = name; span = span }) (before ++ (part ++ after)) (length before)
     (length before + length part)
 
 -- ---- values
 
--- The value read equals the tree's value, apart from spans. Each key of its tables is read as one part.
+-- What was read equals the value of the tree, except for spans. Each key in its tables is read as one part.
 abbrev mutual
   pub HasValue : ParsedValue → Node → Type 0
   HasValue (parsed k span) (node i at) = HoldsValue k i
@@ -58,7 +58,7 @@ abbrev mutual
       (part_names parts ≡ name ∷ []) × HasValue v n × HaveEntries ps ms
   HaveEntries _ _ = ⊥
 
--- The text stored for a float with digits is itself a spelling of that float.
+-- The text of a float with digits is a literal of that float.
 abbrev pub IsFloatText : FloatValue → Type 0
 IsFloatText (finite digits) =
     SpellsScalar (float (finite digits)) (from_to 0 (length digits)) digits 0 (length digits)
@@ -88,8 +88,8 @@ abbrev mutual
   MembersHaveFloatTexts no_members = Unit {0}
   MembersHaveFloatTexts (member name key n ms) = HasFloatTexts n × MembersHaveFloatTexts ms
 
--- No value in this one, nor the value itself, is nested deeper than the limit. The depth of a value is the number of
--- brackets, braces and key parts around it, and d is the depth of this value. An entry of a table has one key part.
+-- Neither this value nor any value in it is nested deeper than the limit. d is the depth of this value: the number of
+-- brackets, braces and parts of keys around it. An entry of a table counts as one part of a key.
 abbrev mutual
   pub IsWithin : ℕ → ℕ → Node → Type 0
   IsWithin limit d (node i span) = (d ≤ limit) × InnerIsWithin limit d i
@@ -108,10 +108,11 @@ abbrev mutual
   MembersAreWithin limit d no_members = Unit {0}
   MembersAreWithin limit d (member name key n ms) = IsWithin limit (d + 1) n × MembersAreWithin limit d ms
 
--- Wherever this part occurs in a text, it is a value equal to this one of the tree, from its first byte to its last.
+-- Wherever this part occurs in a text, it is a value that equals this value of the tree, from its first byte to its
+-- last.
 abbrev pub ReadsAsValue : Node → List ℕ → Type 0
 ReadsAsValue n part =
     (limit depth : ℕ) → is_whole n ≡ true → IsWithin limit depth n → HasFloatTexts n
-    → (before behind : List ℕ) → parts_off behind ≡ true
+    → (before after : List ℕ) → parts_off after ≡ true
     → (v : ParsedValue)
-    × Spells v (before ++ (part ++ behind)) limit depth (length before) (length before + length part) × HasValue v n
+    × Spells v (before ++ (part ++ after)) limit depth (length before) (length before + length part) × HasValue v n

@@ -19,7 +19,7 @@ pub data Written : Type 0 where
   string : CowStr Global → Span → Written
   name : CowStr Global → Span → Written
 
--- It is borrowed exactly if it equals the text at its span.
+-- It is borrowed if and only if it equals the text at its span.
 abbrev pub IsWrittenRight : List ℕ → Written → Type 0
 IsWrittenRight text (string s span) = BorrowsWhereSame text span s
 IsWrittenRight text (name s span) = BorrowsWhereSame text span s
@@ -41,8 +41,8 @@ keys_written keys = map key_written keys
 abbrev pub dotted_written : DottedKey → List Written
 dotted_written key = keys_written key.inner.items ++ (key_written key.last ∷ [])
 
--- the strings and keys of one level of each type, with those of the values inside already collected; the span of a
--- string is that of its value
+-- one level of each type, with the strings and keys of the values inside collected already; a string has the span of
+-- its value
 abbrev pub kind_step : ValKind-F (Span → List Written) (List Written) (List Written) → Span → List Written
 kind_step (ValKind-F.String s) span = string s span ∷ []
 kind_step (ValKind-F.Array v) span = joined v.items
@@ -55,7 +55,7 @@ val_step v = v.kind v.span
 abbrev pub assignment_step : Assignment-F (Span → List Written) (List Written) (List Written) → List Written
 assignment_step a = dotted_written a.parts ++ a.value
 
--- the strings and keys of a value and of an assignment, in the order of the text
+-- the strings and keys in a value and in an assignment, in the order of the text
 abbrev pub written : Val → List Written
 written = fold-Val (Span → List Written) (List Written) (List Written) kind_step assignment_step val_step
 
@@ -69,7 +69,7 @@ assignment_written =
 abbrev pub assignments_written : List Assignment → List Written
 assignments_written found = joined (map assignment_written found)
 
--- those of a section, beginning with the parts of its header, and those of all sections
+-- those in a section, beginning with the parts of its header, and those in all sections
 abbrev pub section_written : Section → List Written
 section_written s = keys_written s.header.items ++ assignments_written s.assignments.items
 

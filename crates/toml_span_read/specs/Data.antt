@@ -1,4 +1,4 @@
--- What the parser reads, as plain data. A string is its bytes; whether it is borrowed is left out.
+-- What was read, as plain data. A string is its bytes, whether it is borrowed or not.
 use Rattle.std.specs.Prelude.{ℕ, Bool, false, List, [], ◌∷◌, ◌++◌, map}
 use Rattle.std.specs.Cow.{cow_str_bytes}
 use Rattle.toml_span_lex.specs.declared.key.Key.{Key}
@@ -39,7 +39,7 @@ mutual
     pair : List SimpleKey → ParsedValue → Span → ParsedPairs → ParsedPairs
 
 -- an assignment: the parts of its key, its value and its extent
-pub record KeyValue : Type 0 where
+pub record ParsedAssignment : Type 0 where
   pub parts : List SimpleKey
   pub value : ParsedValue
   pub extent : Span
@@ -48,50 +48,50 @@ pub record KeyValue : Type 0 where
 abbrev pub parsed_span : ParsedValue → Span
 parsed_span (parsed inner span) = span
 
--- A section: the parts of its header, which are empty before the first header; whether the header has double brackets;
--- the span of the header and the rest of its line; the extent from the header, or the first assignment, to the end of
--- the last assignment; and its assignments.
-pub record Block : Type 0 where
+-- A section: the parts of its header, of which there are none before the first header; whether the header has double
+-- brackets; the span of the header's line; the extent, from the header or the first assignment to the end of the last
+-- assignment; and the assignments.
+pub record ParsedSection : Type 0 where
   pub header : List SimpleKey
   pub array : Bool
   pub header_span : Span
   pub extent : Span
-  pub key_values : List KeyValue
+  pub assignments : List ParsedAssignment
 
 -- the span from offset i to offset j (exclusive)
 abbrev pub from_to : ℕ → ℕ → Span
 from_to i j = record { start = i; end = j }
 
--- the end of the last of these assignments, or else n
-abbrev pub last_end : ℕ → List KeyValue → ℕ
+-- the end of the last of these assignments, or n if there are none
+abbrev pub last_end : ℕ → List ParsedAssignment → ℕ
 last_end n [] = n
 last_end n (ev ∷ evs) = last_end ev.extent.end evs
 
--- The assignments before the first header, if any, form a section with an empty header at 0..0. Its extent begins at
--- the first assignment and ends after the last.
-abbrev pub first_block : List KeyValue → List Block
-first_block [] = []
-first_block (ev ∷ evs) =
+-- The assignments before the first header are a section, if there are any. Its header has no parts and the span 0..0.
+-- Its extent is from the first assignment to the end of the last.
+abbrev pub headerless_section : List ParsedAssignment → List ParsedSection
+headerless_section [] = []
+headerless_section (ev ∷ evs) =
     record {
       header = [];
       array = false;
       header_span = from_to 0 0;
       extent = from_to ev.extent.start (last_end ev.extent.end evs);
-      key_values = ev ∷ evs;
+      assignments = ev ∷ evs;
     } ∷ []
 
--- the highest limit that a caller may set, which is also the limit of `parse`
+-- the highest limit that a caller may set; `parse` uses it
 abbrev pub depth_limit : ℕ
 depth_limit = 128
 
 -- ---- the code's values as plain data
 
--- the list of values, followed by the items
+-- the items with this list of values before them
 abbrev pub onto : List ParsedValue → ParsedItems → ParsedItems
 onto [] rest = rest
 onto (n ∷ ns) rest = item n (onto ns rest)
 
-abbrev pub pairs_onto : List KeyValue → ParsedPairs → ParsedPairs
+abbrev pub pairs_onto : List ParsedAssignment → ParsedPairs → ParsedPairs
 pairs_onto [] rest = rest
 pairs_onto (p ∷ ps) rest = pair p.parts p.value p.extent (pairs_onto ps rest)
 
@@ -103,7 +103,7 @@ abbrev pub parts : DottedKey → List SimpleKey
 parts key = map simple_key key.inner.items ++ (simple_key key.last ∷ [])
 
 -- one level of each type, with the values inside already converted
-abbrev pub kind_step : ValKind-F ParsedInner KeyValue ParsedValue → ParsedInner
+abbrev pub kind_step : ValKind-F ParsedInner ParsedAssignment ParsedValue → ParsedInner
 kind_step (ValKind-F.String s) = scalar (text (cow_str_bytes s))
 kind_step (ValKind-F.Integer n) = scalar (integer n)
 kind_step (ValKind-F.Float x) = scalar (float (float_value x))
@@ -112,26 +112,26 @@ kind_step (ValKind-F.Datetime d) = scalar (datetime (date_bytes d))
 kind_step (ValKind-F.Array v) = array (onto v.items no_items)
 kind_step (ValKind-F.Inline v) = inline (pairs_onto v.items no_pairs)
 
-abbrev pub val_step : Val-F ParsedInner KeyValue ParsedValue → ParsedValue
+abbrev pub val_step : Val-F ParsedInner ParsedAssignment ParsedValue → ParsedValue
 val_step v = parsed v.kind v.span
 
-abbrev pub assignment_step : Assignment-F ParsedInner KeyValue ParsedValue → KeyValue
+abbrev pub assignment_step : Assignment-F ParsedInner ParsedAssignment ParsedValue → ParsedAssignment
 assignment_step a = record { parts = parts a.parts; value = a.value; extent = a.extent }
 
-abbrev pub view : Val → ParsedValue
-view = fold-Val ParsedInner KeyValue ParsedValue kind_step assignment_step val_step
+abbrev pub parsed_value : Val → ParsedValue
+parsed_value = fold-Val ParsedInner ParsedAssignment ParsedValue kind_step assignment_step val_step
 
-abbrev pub kind_view : ValKind → ParsedInner
-kind_view = fold-ValKind ParsedInner KeyValue ParsedValue kind_step assignment_step val_step
+abbrev pub parsed_kind : ValKind → ParsedInner
+parsed_kind = fold-ValKind ParsedInner ParsedAssignment ParsedValue kind_step assignment_step val_step
 
-abbrev pub key_value : Assignment → KeyValue
-key_value = fold-Assignment ParsedInner KeyValue ParsedValue kind_step assignment_step val_step
+abbrev pub parsed_assignment : Assignment → ParsedAssignment
+parsed_assignment = fold-Assignment ParsedInner ParsedAssignment ParsedValue kind_step assignment_step val_step
 
-abbrev pub block : Section → Block
-block s = record {
+abbrev pub parsed_section : Section → ParsedSection
+parsed_section s = record {
   header = map simple_key s.header.items;
   array = s.array;
   header_span = s.header_span;
   extent = s.extent;
-  key_values = map key_value s.assignments.items;
+  assignments = map parsed_assignment s.assignments.items;
 }

@@ -1,4 +1,4 @@
--- Faults as errors, and the names of tokens in messages. `Read` says which fault a text has, and where.
+-- Faults as errors, and the names of tokens in errors. `Read` says which fault a text has, and where.
 use Rattle.std.specs.Prelude.{◌≡◌, ℕ, ◌+◌, ◌≤◌, Bool, ◌||◌, ◌==◌, List, length}
 use Rattle.std.specs.Prelude.{if◌then◌else◌, Some, codes}
 use Rattle.std.specs.Char.{is_ascii_digit}
@@ -9,10 +9,10 @@ use Rattle.toml_span_lex.specs.Bytes.{is_keylike, plus, period, dash, colon, com
 use Rattle.toml_span_lex.specs.Bytes.{left_bracket, line_feed, right_brace}
 use Rattle.toml_span_lex.specs.Lines.{IsLineInfo}
 use Rattle.toml_span_tree.specs.Error as tree
-use Rattle.toml_span_read.specs.declared.fault.Due.{Due}
-use Rattle.toml_span_read.specs.declared.fault.Due.TheVariants as dues
-use Rattle.toml_span_read.specs.declared.fault.Found.{Found}
-use Rattle.toml_span_read.specs.declared.fault.Found.TheVariants as founds
+use Rattle.toml_span_read.specs.declared.fault.ExpectedToken.{ExpectedToken}
+use Rattle.toml_span_read.specs.declared.fault.ExpectedToken.TheVariants as expected_tokens
+use Rattle.toml_span_read.specs.declared.fault.FoundToken.{FoundToken}
+use Rattle.toml_span_read.specs.declared.fault.FoundToken.TheVariants as found_tokens
 use Rattle.toml_span_read.specs.declared.fault.Fault.{Fault}
 use Rattle.toml_span_read.specs.declared.fault.FaultKind.{FaultKind}
 use Rattle.toml_span_read.specs.declared.fault.FaultKind.TheVariants as kinds
@@ -20,32 +20,32 @@ use Rattle.toml_span_read.specs.declared.fault.FaultKind.TheVariants as kinds
 -- ---- words
 
 -- the name of the expected token in an error
-abbrev pub due_words : Due → List ℕ
-due_words dues.Value = codes "a value"
-due_words dues.TableKey = codes "a table key"
-due_words dues.Equals = codes "an equals"
-due_words dues.RightBracket = codes "a right bracket"
-due_words dues.Comma = codes "a comma"
-due_words dues.Newline = codes "newline"
+abbrev pub expected_words : ExpectedToken → List ℕ
+expected_words expected_tokens.Value = codes "a value"
+expected_words expected_tokens.TableKey = codes "a table key"
+expected_words expected_tokens.Equals = codes "an equals"
+expected_words expected_tokens.RightBracket = codes "a right bracket"
+expected_words expected_tokens.Comma = codes "a comma"
+expected_words expected_tokens.Newline = codes "newline"
 
 -- the name of the found token in an error
-abbrev pub found_words : Found → List ℕ
-found_words founds.EndOfText = codes "eof"
-found_words founds.Whitespace = codes "whitespace"
-found_words founds.Newline = codes "a newline"
-found_words founds.Comment = codes "a comment"
-found_words founds.Equals = codes "an equals"
-found_words founds.Period = codes "a period"
-found_words founds.Comma = codes "a comma"
-found_words founds.Colon = codes "a colon"
-found_words founds.Plus = codes "a plus"
-found_words founds.LeftBrace = codes "a left brace"
-found_words founds.RightBrace = codes "a right brace"
-found_words founds.LeftBracket = codes "a left bracket"
-found_words founds.RightBracket = codes "a right bracket"
-found_words founds.Keylike = codes "an identifier"
-found_words founds.OneLineString = codes "a string"
-found_words founds.MultilineString = codes "a multiline string"
+abbrev pub found_words : FoundToken → List ℕ
+found_words found_tokens.EndOfText = codes "eof"
+found_words found_tokens.Whitespace = codes "whitespace"
+found_words found_tokens.Newline = codes "a newline"
+found_words found_tokens.Comment = codes "a comment"
+found_words found_tokens.Equals = codes "an equals"
+found_words found_tokens.Period = codes "a period"
+found_words found_tokens.Comma = codes "a comma"
+found_words found_tokens.Colon = codes "a colon"
+found_words found_tokens.Plus = codes "a plus"
+found_words found_tokens.LeftBrace = codes "a left brace"
+found_words found_tokens.RightBrace = codes "a right brace"
+found_words found_tokens.LeftBracket = codes "a left bracket"
+found_words found_tokens.RightBracket = codes "a right bracket"
+found_words found_tokens.Keylike = codes "an identifier"
+found_words found_tokens.OneLineString = codes "a string"
+found_words found_tokens.MultilineString = codes "a multiline string"
 
 -- ---- faults as errors
 
@@ -66,25 +66,25 @@ error_kind kinds.UnterminatedString = tree.unterminated_string
 error_kind kinds.InvalidNumber = tree.invalid_number
 error_kind kinds.InvalidDatetime = tree.invalid_datetime
 error_kind kinds.UnquotedString = tree.unquoted_string
-error_kind (kinds.Wanted expected found) = tree.wanted (due_words expected) (found_words found)
+error_kind (kinds.Wanted expected found) = tree.wanted (expected_words expected) (found_words found)
 error_kind kinds.MultilineStringKey = tree.multiline_string_key
 error_kind (kinds.DottedKeyInvalidType first) = tree.dotted_key_invalid_type first
 
--- The fault starts within the text, and does not end before it starts.
+-- The fault starts inside the text, and its span is not reversed.
 pub record StartsInside (text : List ℕ) (fault : Fault) : Type 0 where
   pub within : fault.span.start ≤ length text
   pub forward : fault.span.start ≤ fault.span.end
 
 -- The error reports this fault, with its line and column in the text.
-abbrev pub Tells : List ℕ → Fault → tree.ErrorContent → Type 0
-Tells text fault error =
+abbrev pub ReportsFault : List ℕ → Fault → tree.ErrorContent → Type 0
+ReportsFault text fault error =
     (line column : ℕ) × IsLineInfo text fault.span.start line column
     × (error ≡ record { kind = error_kind fault.kind; span = fault.span; line_info = Some (line, column) })
 
--- ---- no token
+-- ---- faults of the tokenizer
 
--- The fault for an error of the tokenizer. Multi-line keys and unexpected tokens are not the tokenizer's own errors and
--- don't occur here.
+-- The fault for an error of the tokenizer. Errors about keys and expected tokens do not come from reading a token, and
+-- do not occur here.
 abbrev pub token_fault : Error → Fault
 token_fault (errors.InvalidCharInString at c) = fault_at (kinds.InvalidCharInString c) at
 token_fault (errors.InvalidEscape at c) = fault_at (kinds.InvalidEscape c) at
@@ -101,26 +101,26 @@ token_fault (errors.Wanted at expected found) = fault_at kinds.UnexpectedEof at
 -- ---- another token than the expected one
 
 -- the name of a token that was found where another one was expected
-abbrev pub found_of : Lexeme → Found
-found_of (whitespace s) = founds.Whitespace
-found_of newline = founds.Newline
-found_of (comment s) = founds.Comment
-found_of (keylike s) = founds.Keylike
-found_of (string src value multi) = if multi then founds.MultilineString else founds.OneLineString
+abbrev pub found_of : Lexeme → FoundToken
+found_of (whitespace s) = found_tokens.Whitespace
+found_of newline = found_tokens.Newline
+found_of (comment s) = found_tokens.Comment
+found_of (keylike s) = found_tokens.Keylike
+found_of (string src value multi) = if multi then found_tokens.MultilineString else found_tokens.OneLineString
 found_of (punctuator c) =
-    if c == equals then founds.Equals
-    else if c == period then founds.Period
-    else if c == comma then founds.Comma
-    else if c == colon then founds.Colon
-    else if c == plus then founds.Plus
-    else if c == left_brace then founds.LeftBrace
-    else if c == right_brace then founds.RightBrace
-    else if c == left_bracket then founds.LeftBracket
-    else founds.RightBracket
+    if c == equals then found_tokens.Equals
+    else if c == period then found_tokens.Period
+    else if c == comma then found_tokens.Comma
+    else if c == colon then found_tokens.Colon
+    else if c == plus then found_tokens.Plus
+    else if c == left_brace then found_tokens.LeftBrace
+    else if c == right_brace then found_tokens.RightBrace
+    else if c == left_bracket then found_tokens.LeftBracket
+    else found_tokens.RightBracket
 
--- At i there is another token than the expected one, or the text ends. The span is as long as the name of what was
--- found, and may end after the text.
-abbrev pub wanted_fault : Due → Found → ℕ → Fault
+-- At i there is another token than the expected one, or the text ends. The fault is as long as the name of what was
+-- found, so it may end after the text.
+abbrev pub wanted_fault : ExpectedToken → FoundToken → ℕ → Fault
 wanted_fault expected found i =
     record { kind = kinds.Wanted expected found; span = record { start = i; end = i + length (found_words found) } }
 

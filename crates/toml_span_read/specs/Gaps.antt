@@ -18,14 +18,14 @@ abbrev pub begins_gap : List ℕ → ℕ → Bool
 begins_gap text i =
     ((is_blank (slice_index text i) || slice_index text i == line_feed) || is_crlf text i) || slice_index text i == hash
 
--- such pieces, one after another, from i to j; the list has the end of each
+-- Such pieces follow one another from i to j. The list has the end of each.
 abbrev pub GapBy : List ℕ → ℕ → List ℕ → ℕ → Type 0
 GapBy text i [] j = i ≡ j
 GapBy text i (k ∷ ks) j = GapPiece text i k × GapBy text k ks j
 
 -- All spaces, tabs, line ends and comments from i on: `ws-comment-newline = *( wschar / [ comment ] newline )`, and
--- possibly one more comment without a line end. After that one the text ends or has a control character, so nothing
--- else can begin there.
+-- perhaps one more comment without a line end. After such a comment the text ends or has a control character, so
+-- nothing else begins there.
 pub record MaximalGap (text : List ℕ) (i j : ℕ) : Type 0 where
   pub ends : List ℕ
   pub pieces : GapBy text i ends j
@@ -43,20 +43,20 @@ pub record Skipped (text : List ℕ) (i j : ℕ) : Type 0 where
 abbrev pub Tail : List ℕ → ℕ → ℕ → Type 0
 Tail text i j = (k : ℕ) × Skipped text i k × (LineEnd text k j ⊎ ((k ≡ length text) × (j ≡ k)))
 
--- After the spaces, tabs and comment from i to k, there is neither a line end nor the end of the text.
+-- Spaces, tabs and a comment are from i to k, and neither a line end nor the end of the text is at k.
 abbrev pub NoTail : List ℕ → ℕ → ℕ → Type 0
 NoTail text i k = Skipped text i k × (k < length text) × NoLineEnd text k
 
 -- `expression = ws [ comment ]`: from i to j there are only lines like this, and the list has the end of each. The gap
--- before a key or a header consists of such lines and the spaces and tabs before it.
+-- before a key or header consists of such lines, and of the spaces and tabs before it.
 abbrev pub BlankLines : List ℕ → ℕ → List ℕ → ℕ → Type 0
 BlankLines text i [] j = i ≡ j
 BlankLines text i (k ∷ ks) j = Tail text i k × BlankLines text k ks j
 
--- The text ends at i, or the character there is one that comments may contain, so no comment ends before it at a
+-- The text ends at i, or a character that may occur in a comment is there, so a comment before it does not end at a
 -- control character.
-abbrev pub BehindLines : List ℕ → ℕ → Type 0
-BehindLines text i = (i ≡ length text) ⊎ (is_printed (slice_index text i) ≡ true)
+abbrev pub AfterLines : List ℕ → ℕ → Type 0
+AfterLines text i = (i ≡ length text) ⊎ (is_printed (slice_index text i) ≡ true)
 
 -- ---- separators and closing brackets, with the white space around them
 
@@ -65,7 +65,7 @@ pub record Dot (text : List ℕ) (i j : ℕ) : Type 0 where
   pub at : ℕ
   pub before : MaximalRun is_blank text i at
   pub here : slice_index text at ≡ period
-  pub behind : MaximalRun is_blank text (at + 1) j
+  pub after : MaximalRun is_blank text (at + 1) j
 
 -- No dot follows, not even after spaces and tabs.
 pub record NoDot (text : List ℕ) (i : ℕ) : Type 0 where
@@ -79,7 +79,7 @@ pub record Separator (c : ℕ) (text : List ℕ) (i j : ℕ) : Type 0 where
   pub at : ℕ
   pub before : MaximalGap text i at
   pub here : slice_index text at ≡ c
-  pub behind : MaximalGap text (at + 1) j
+  pub after : MaximalGap text (at + 1) j
 
 -- a closing bracket after a gap: `ws-comment-newline array-close`, where `array-close = %x5D`, or
 -- `ws-comment-newline inline-table-close`, where `inline-table-close = %x7D`
@@ -100,4 +100,4 @@ pub record Equals (text : List ℕ) (i j : ℕ) : Type 0 where
   pub at : ℕ
   pub before : MaximalRun is_blank text i at
   pub here : slice_index text at ≡ equals
-  pub behind : MaximalRun is_blank text (at + 1) j
+  pub after : MaximalRun is_blank text (at + 1) j

@@ -15,8 +15,8 @@ use Rattle.toml_span_read.specs.Numbers.{IsNumber}
 use Rattle.toml_span_read.specs.Gaps.{MaximalGap, Separator, Closes, Equals, Tail}
 use Rattle.toml_span_read.specs.Keys.{SpellsKey}
 use Rattle.toml_span_read.specs.Data.{SimpleKey, ParsedValue, parsed, ParsedInner, scalar, ParsedItems, no_items, item}
-use Rattle.toml_span_read.specs.Data.{first_block, from_to, last_end, ParsedPairs, no_pairs, pair, KeyValue}
-use Rattle.toml_span_read.specs.Data.{array as array_node, inline as inline_node, Block}
+use Rattle.toml_span_read.specs.Data.{headerless_section, from_to, last_end, ParsedPairs, no_pairs, pair}
+use Rattle.toml_span_read.specs.Data.{ParsedAssignment, array as array_node, inline as inline_node, ParsedSection}
 use Rattle.toml_span_read.specs.Earlier.{Clear}
 
 -- ---- values
@@ -26,8 +26,8 @@ abbrev pub truth_text : Bool → List ℕ
 truth_text true = codes "true"
 truth_text false = codes "false"
 
--- The text from i to j is this string, number, boolean or date, with this span. The span of a string is that of its
--- content. A number is read only where no date begins.
+-- The text from i to j is this string, number, boolean or date, with this span. A string has the span of its content. A
+-- number is read only where no date begins.
 --
 -- `string = ml-basic-string / basic-string / ml-literal-string / literal-string`, `boolean = true / false`,
 -- `date-time = offset-date-time / local-date-time / local-date / local-time`
@@ -40,14 +40,14 @@ SpellsScalar (datetime date) span t i j =
 SpellsScalar (integer n) span t i j = (begins_date t i ≡ false) × IsNumber (integer n) t i j × (span ≡ from_to i j)
 SpellsScalar (float x) span t i j = (begins_date t i ≡ false) × IsNumber (float x) t i j × (span ≡ from_to i j)
 
--- a relation that says which scalars the text from one offset to another spells, with their spans
+-- a relation that says which scalars the text between two offsets spells, with their spans
 abbrev pub Scalars : Type 1
 Scalars = Scalar → Span → List ℕ → ℕ → ℕ → Type 0
 
 abbrev mutual
-  -- The text from i to j spells this value, with its spans; S says which scalars a text spells. The depth d counts the
-  -- brackets and braces open around the value, the parts of its own key and those of the keys around it. It is at most
-  -- the limit.
+  -- The text from i to j spells this value, with its spans. S says which scalars a text spells. The depth d of the
+  -- value is the number of brackets, braces and parts of keys around it, including the parts of its own key. It is at
+  -- most the limit.
   --
   -- `val = string / boolean / array / inline-table / date-time / float / integer`
   pub SpellsWith : Scalars → ParsedValue → List ℕ → ℕ → ℕ → ℕ → ℕ → Type 0
@@ -76,13 +76,13 @@ abbrev mutual
       ⊎ ((p : ℕ) × Separator comma t m p × ItemsWith S vs t limit d p j))
 
   -- Pairs separated by commas, an optional trailing comma, and the closing brace. The pairs of `es` come before them.
-  -- Each key has at most `limit` parts and goes through the value of no earlier pair. Unlike in the standard's
-  -- `keyval = key keyval-sep val`, where `keyval-sep = ws %x3D ws`, there may be line ends and comments around the
-  -- equals sign. The extent of a pair runs from its key to the end of its value.
+  -- Each key has at most `limit` parts, and does not go through the value of an earlier pair. Unlike in the standard's
+  -- `keyval = key keyval-sep val`, where `keyval-sep = ws %x3D ws`, line ends and comments are allowed around the
+  -- equals sign. The extent of a pair is from its key to the end of its value.
   --
   -- `inline-table-keyvals = ws-comment-newline keyval ws-comment-newline inline-table-sep inline-table-keyvals`
   -- `inline-table-keyvals =/ ws-comment-newline keyval ws-comment-newline [ inline-table-sep ]`
-  pub PairsWith : Scalars → ParsedPairs → List KeyValue → List ℕ → ℕ → ℕ → ℕ → ℕ → Type 0
+  pub PairsWith : Scalars → ParsedPairs → List ParsedAssignment → List ℕ → ℕ → ℕ → ℕ → ℕ → Type 0
   PairsWith S no_pairs es t limit d i j = (slice_index t i ≡ right_brace) × (j ≡ i + 1)
   PairsWith S (pair ss v extent ps) es t limit d i j =
       (m : ℕ)
@@ -100,7 +100,7 @@ Spells = SpellsWith SpellsScalar
 -- ---- assignments
 
 -- The text from i to j is this assignment: `keyval = key keyval-sep val`.
-pub record KeyValueWith (S : Scalars) (ev : KeyValue) (text : List ℕ) (limit i j : ℕ) : Type 0 where
+pub record AssignmentWith (S : Scalars) (ev : ParsedAssignment) (text : List ℕ) (limit i j : ℕ) : Type 0 where
   pub key_end : ℕ
   pub from : ℕ
   pub key : SpellsKey ev.parts text i key_end
@@ -110,26 +110,27 @@ pub record KeyValueWith (S : Scalars) (ev : KeyValue) (text : List ℕ) (limit i
   pub extent : ev.extent ≡ record { start = i; end = j }
 
 -- From i to j there are these assignments, each with the rest of its line and the blank lines after it. No key goes
--- through an earlier value of its section.
+-- through an earlier value in its section.
 --
 -- `expression =/ ws keyval ws [ comment ]`
-abbrev pub KeyValuesWith : Scalars → List KeyValue → List KeyValue → List ℕ → ℕ → ℕ → ℕ → Type 0
-KeyValuesWith S [] earlier text limit i j = j ≡ i
-KeyValuesWith S (ev ∷ evs) earlier text limit i j =
-    (m n k : ℕ) × KeyValueWith S ev text limit i m × Tail text m n × Clear earlier ev × MaximalGap text n k
-    × KeyValuesWith S evs (earlier ++ (ev ∷ [])) text limit k j
+abbrev pub AssignmentsWith : Scalars → List ParsedAssignment → List ParsedAssignment → List ℕ → ℕ → ℕ → ℕ → Type 0
+AssignmentsWith S [] earlier text limit i j = j ≡ i
+AssignmentsWith S (ev ∷ evs) earlier text limit i j =
+    (m n k : ℕ) × AssignmentWith S ev text limit i m × Tail text m n × Clear earlier ev × MaximalGap text n k
+    × AssignmentsWith S evs (earlier ++ (ev ∷ [])) text limit k j
 
 -- From i to j there are blank lines, then these assignments.
-abbrev pub LinesWith : Scalars → List KeyValue → List ℕ → ℕ → ℕ → ℕ → Type 0
-LinesWith S evs text limit i j = (k : ℕ) × MaximalGap text i k × KeyValuesWith S evs [] text limit k j
+abbrev pub LinesWith : Scalars → List ParsedAssignment → List ℕ → ℕ → ℕ → ℕ → Type 0
+LinesWith S evs text limit i j = (k : ℕ) × MaximalGap text i k × AssignmentsWith S evs [] text limit k j
 
 -- the same for the scalars of TOML, which include dates
-abbrev pub SpellsLines : List KeyValue → List ℕ → ℕ → ℕ → ℕ → Type 0
+abbrev pub SpellsLines : List ParsedAssignment → List ℕ → ℕ → ℕ → ℕ → Type 0
 SpellsLines = LinesWith SpellsScalar
 
 -- ---- headers
 
--- One bracket that no second one follows, or two. The white space after them is part of `HeaderFront`.
+-- One bracket that is not followed by another one, or two brackets. The white space after them is part of
+-- `HeaderFront`.
 --
 -- `std-table-open = %x5B ws`, `array-table-open = %x5B.5B ws`
 abbrev pub OpensHeader : Bool → List ℕ → ℕ → ℕ → Type 0
@@ -155,9 +156,9 @@ pub record HeaderFront (parts : List SimpleKey) (array : Bool) (text : List ℕ)
   pub before : MaximalRun is_blank text inside start
   pub key : SpellsKey parts text start end
   pub few : length parts ≤ limit
-  pub behind : MaximalRun is_blank text end j
+  pub after : MaximalRun is_blank text end j
 
--- The text from i to j is a header with these parts, and the rest of its line.
+-- The text from i to j is a header with these parts, with the rest of its line.
 --
 -- `table = std-table / array-table`, `std-table = std-table-open key std-table-close`,
 -- `array-table = array-table-open key array-table-close`, `expression =/ ws table ws [ comment ]`
@@ -171,34 +172,34 @@ pub record SpellsHeader (parts : List SimpleKey) (array : Bool) (text : List ℕ
 -- ---- sections
 
 -- The text from i to j is this section: a header and its assignments. The header's span includes the rest of its line.
--- The extent ends with the last assignment, or, without assignments, with the header's span.
-pub record SectionWith (S : Scalars) (b : Block) (text : List ℕ) (limit i j : ℕ) : Type 0 where
+-- The extent ends with the last assignment or, without assignments, with the header's span.
+pub record SectionWith (S : Scalars) (b : ParsedSection) (text : List ℕ) (limit i j : ℕ) : Type 0 where
   pub end : ℕ
   pub header : SpellsHeader b.header b.array text limit i end
   pub header_span : b.header_span ≡ record { start = i; end = end }
-  pub lines : LinesWith S b.key_values text limit end j
-  pub extent : b.extent ≡ record { start = i; end = last_end end b.key_values }
+  pub lines : LinesWith S b.assignments text limit end j
+  pub extent : b.extent ≡ record { start = i; end = last_end end b.assignments }
 
 -- From i to the end of the text there are these sections.
-abbrev pub SectionsWith : Scalars → List Block → List ℕ → ℕ → ℕ → Type 0
+abbrev pub SectionsWith : Scalars → List ParsedSection → List ℕ → ℕ → ℕ → Type 0
 SectionsWith S [] text limit i = i ≡ length text
 SectionsWith S (b ∷ bs) text limit i = (j : ℕ) × SectionWith S b text limit i j × SectionsWith S bs text limit j
 
--- The text, after a byte order mark (which has no production), spells these sections:
--- `toml = expression *( newline expression )`.
-pub record DocumentWith (S : Scalars) (bs : List Block) (text : List ℕ) (limit : ℕ) : Type 0 where
+-- The text spells these sections, after a byte order mark, which has no production: `toml = expression *( newline
+-- expression )`.
+pub record DocumentWith (S : Scalars) (bs : List ParsedSection) (text : List ℕ) (limit : ℕ) : Type 0 where
   pub start : ℕ
   pub end : ℕ
-  pub first : List KeyValue
-  pub rest : List Block
+  pub first : List ParsedAssignment
+  pub rest : List ParsedSection
   pub begins : FirstPlace text start
   pub lines : LinesWith S first text limit start end
   pub sections : SectionsWith S rest text limit end
-  pub all : bs ≡ first_block first ++ rest
+  pub all : bs ≡ headerless_section first ++ rest
 
 -- the same for the scalars of TOML, which include dates
-abbrev pub SpellsSection : Block → List ℕ → ℕ → ℕ → ℕ → Type 0
+abbrev pub SpellsSection : ParsedSection → List ℕ → ℕ → ℕ → ℕ → Type 0
 SpellsSection = SectionWith SpellsScalar
 
-abbrev pub SpellsDocument : List Block → List ℕ → ℕ → Type 0
+abbrev pub SpellsDocument : List ParsedSection → List ℕ → ℕ → Type 0
 SpellsDocument = DocumentWith SpellsScalar

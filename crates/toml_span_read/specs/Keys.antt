@@ -19,8 +19,8 @@ SpellsSimpleKey p text i j =
 abbrev pub opens_string : ℕ → Bool
 opens_string c = c == quotation_mark || c == apostrophe
 
--- `*( dot-sep simple-key )`: after a key that ends at m, there are these keys up to j, each after a dot, and no other
--- dot follows
+-- `*( dot-sep simple-key )`: after a key that ends at m these keys follow, up to j, each after a dot; no other dot
+-- follows
 abbrev pub Onward : List SimpleKey → List ℕ → ℕ → ℕ → Type 0
 Onward [] text m j = (j ≡ m) × NoDot text m
 Onward (s ∷ ss) text m j = (p q : ℕ) × Dot text m p × SpellsSimpleKey s text p q × Onward ss text q j

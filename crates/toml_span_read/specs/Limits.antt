@@ -1,11 +1,11 @@
--- The limit on depths and on parts of keys.
+-- The limit on the depth of values and on the number of parts of a key.
 use Rattle.std.specs.Prelude.{ℕ, ◌+◌, ◌≤◌, List, [], ◌∷◌, map, length}
 use Rattle.toml_span_read.specs.Data.{ParsedValue, parsed, ParsedInner, scalar, array, inline, ParsedItems, no_items}
-use Rattle.toml_span_read.specs.Data.{item, ParsedPairs, no_pairs, pair, KeyValue, key_value}
+use Rattle.toml_span_read.specs.Data.{item, ParsedPairs, no_pairs, pair, ParsedAssignment, parsed_assignment}
 use Rattle.toml_span_read.specs.declared.section.Section.{Section}
 
--- The depth of a value is the number of brackets and braces open around it plus the number of key parts of its own
--- assignment or pair and of those around it. It is at most the limit, and so is the number of parts of each key.
+-- The depth of a value is the number of brackets and braces around it, plus the number of parts of its own key and of
+-- the keys around it. It is at most the limit, and so is the number of parts of each key.
 abbrev mutual
   pub Within : ℕ → ℕ → ParsedValue → Type 0
   Within limit d (parsed k span) = (d ≤ limit) × WithinInner limit d k
@@ -24,17 +24,18 @@ abbrev mutual
   WithinPairs limit d (pair ps v extent rest) =
       (length ps ≤ limit) × Within limit (d + length ps) v × WithinPairs limit d rest
 
--- an assignment inside d brackets, braces and key parts
-abbrev pub WithinKeyValue : ℕ → ℕ → KeyValue → Type 0
-WithinKeyValue limit d e = (length e.parts ≤ limit) × Within limit (d + length e.parts) e.value
+-- an assignment inside d brackets, braces and parts of keys
+abbrev pub WithinAssignment : ℕ → ℕ → ParsedAssignment → Type 0
+WithinAssignment limit d e = (length e.parts ≤ limit) × Within limit (d + length e.parts) e.value
 
-abbrev pub WithinKeyValues : ℕ → List KeyValue → Type 0
-WithinKeyValues limit [] = Unit {0}
-WithinKeyValues limit (e ∷ es) = WithinKeyValue limit 0 e × WithinKeyValues limit es
+abbrev pub WithinAssignments : ℕ → List ParsedAssignment → Type 0
+WithinAssignments limit [] = Unit {0}
+WithinAssignments limit (e ∷ es) = WithinAssignment limit 0 e × WithinAssignments limit es
 
 -- the parts of a section's header, and its assignments
 abbrev pub WithinSection : ℕ → Section → Type 0
-WithinSection limit s = (length s.header.items ≤ limit) × WithinKeyValues limit (map key_value s.assignments.items)
+WithinSection limit s =
+    (length s.header.items ≤ limit) × WithinAssignments limit (map parsed_assignment s.assignments.items)
 
 abbrev pub WithinSections : ℕ → List Section → Type 0
 WithinSections limit [] = Unit {0}

@@ -3,12 +3,12 @@ use Rattle.std.specs.Prelude.{◌≡◌, ℕ, ℤ, pos, neg_ℤ, ◌+◌, ◌^�
 use Rattle.std.specs.Prelude.{length, slice_index, slice_range, Some, codes}
 use Rattle.toml_span_lex.specs.Bytes.{underscore, MaximalRun, is_keylike, period, digit_zero}
 use Rattle.toml_span_tree.specs.Node.{finite, infinite, not_a_number, Scalar, integer, float}
-use Rattle.toml_span_read.specs.Numerals.{is_digit_in, is_figure, magnitude, behind_sign, is_negative, radix_at}
+use Rattle.toml_span_read.specs.Numerals.{is_digit_in, is_figure, magnitude, after_sign, is_negative, radix_at}
 use Rattle.toml_span_read.specs.Numerals.{is_exponent, cleaned}
 
 -- ---- digits
 
--- All digits and underscores from i on, which end at j. The first is a digit, and a digit follows each underscore.
+-- All digits and underscores from i on, up to j. The first is a digit, and a digit follows each underscore.
 --
 -- `zero-prefixable-int = DIGIT *( DIGIT / underscore DIGIT )`, and the same for other radixes
 pub record Digits (radix : ℕ) (text : List ℕ) (i j : ℕ) : Type 0 where
@@ -19,7 +19,7 @@ pub record Digits (radix : ℕ) (text : List ℕ) (i j : ℕ) : Type 0 where
 
 -- ---- integers
 
--- the magnitude with its sign, if it is within 64 bits
+-- the number with its sign, if it fits into 64 bits
 abbrev pub IsSigned : Bool → ℕ → ℤ → Type 0
 IsSigned false m n = (n ≡ pos m) × (m < 2 ^ 63)
 IsSigned true m n = (n ≡ neg_ℤ (pos m)) × (m ≤ 2 ^ 63)
@@ -29,15 +29,15 @@ pub record UnsignedDecimal (text : List ℕ) (i j : ℕ) : Type 0 where
   pub digits : Digits 10 text i j
   pub leading : slice_index text i ≡ digit_zero → j ≡ i + 1
 
--- a bare-key byte or a dot: what must not follow an integer without a prefix, `inf` or `nan`
+-- Whether a bare-key byte or a dot is at i, which must not follow an integer without a prefix, `inf` or `nan`.
 abbrev pub goes_on : List ℕ → ℕ → Bool
 goes_on text j = is_keylike (slice_index text j) || slice_index text j == period
 
 -- `dec-int = [ minus / plus ] unsigned-dec-int`
 pub record DecimalInteger (n : ℤ) (text : List ℕ) (i j : ℕ) : Type 0 where
-  pub digits : UnsignedDecimal text (behind_sign text i) j
+  pub digits : UnsignedDecimal text (after_sign text i) j
   pub ends : goes_on text j ≡ false
-  pub value : IsSigned (is_negative text i) (magnitude 10 text (behind_sign text i) j) n
+  pub value : IsSigned (is_negative text i) (magnitude 10 text (after_sign text i) j) n
 
 -- a prefix, and digits of its radix
 --
@@ -56,7 +56,7 @@ pub record RadixInteger (n : ℤ) (text : List ℕ) (i j : ℕ) : Type 0 where
 -- `exp = "e" float-exp-part`, `float-exp-part = [ minus / plus ] zero-prefixable-int`
 pub record Exponent (text : List ℕ) (i j : ℕ) : Type 0 where
   pub letter : is_exponent (slice_index text i) ≡ true
-  pub digits : Digits 10 text (behind_sign text (i + 1)) j
+  pub digits : Digits 10 text (after_sign text (i + 1)) j
 
 -- `frac = decimal-point zero-prefixable-int`, `decimal-point = %x2E`
 pub record Fraction (text : List ℕ) (i j : ℕ) : Type 0 where
@@ -66,20 +66,20 @@ pub record Fraction (text : List ℕ) (i j : ℕ) : Type 0 where
 -- `float = float-int-part ( exp / frac [ exp ] )`, `float-int-part = dec-int`
 pub record FloatLiteral (text : List ℕ) (i j : ℕ) : Type 0 where
   pub integer_end : ℕ
-  pub integer_part : UnsignedDecimal text (behind_sign text i) integer_end
+  pub integer_part : UnsignedDecimal text (after_sign text i) integer_end
   pub rest : Exponent text integer_end j ⊎ ((m : ℕ) × Fraction text integer_end m × ((j ≡ m) ⊎ Exponent text m j))
   pub ends : is_keylike (slice_index text j) ≡ false
 
 -- `special-float = [ minus / plus ] ( inf / nan )`
 pub record SpecialFloat (word : List ℕ) (text : List ℕ) (i j : ℕ) : Type 0 where
-  pub letters : slice_range text (behind_sign text i) j ≡ word
-  pub some : behind_sign text i < j
+  pub letters : slice_range text (after_sign text i) j ≡ word
+  pub some : after_sign text i < j
   pub within : j ≤ length text
   pub ends : goes_on text j ≡ false
 
 -- ---- numbers
 
--- The text from i to j is a literal of this number, and the literal does not extend further.
+-- The text from i to j is a literal of this number, and the bytes after j do not continue it.
 --
 -- `integer = dec-int / hex-int / oct-int / bin-int`, `float = float-int-part ( exp / frac [ exp ] )`,
 -- `float =/ special-float`

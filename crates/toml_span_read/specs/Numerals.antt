@@ -1,9 +1,9 @@
 -- How a number is read: functions from a text and an offset to the number there and its end, or to a fault. `Numbers`
--- says how numbers are spelled. The standard leaves open which fault a malformed number has, and where; these
--- definitions fix it.
+-- says how numbers are spelled. The standard does not say which fault an invalid number has, and where: these
+-- definitions do.
 --
 -- A number begins at i. Its first run of letters, digits, dashes and underscores is from a to b, where a is i or the
--- offset after a plus sign. Each later run is called a piece. It is from `start` to `end`, and its digits begin at
+-- offset after a plus sign. Each later run is called a piece: it is from `start` to `end`, and its digits begin at
 -- `from`.
 use Rattle.std.specs.Char.{is_ascii_hexdigit, digit_value}
 use Rattle.std.specs.List.{prefix_len, list_all, range_with_len}
@@ -50,12 +50,12 @@ is_digit_in radix c = is_ascii_hexdigit c && nat_lt (digit_value c) radix
 abbrev pub is_figure : ℕ → ℕ → Bool
 is_figure radix c = is_digit_in radix c || c == underscore
 
--- the sum of the digits, each times its power of the radix
+-- the number that a list of digits spells in this radix
 abbrev pub sum_of_digits : ℕ → List ℕ → ℕ
 sum_of_digits radix [] = 0
 sum_of_digits radix (c ∷ cs) = digit_value c * radix ^ length cs + sum_of_digits radix cs
 
--- the number that the digits from i to j denote, without underscores
+-- the number that the digits from i to j spell, with or without underscores
 abbrev pub magnitude : ℕ → List ℕ → ℕ → ℕ → ℕ
 magnitude radix text i j = sum_of_digits radix (filter (is_digit_in radix) (slice_range text i j))
 
@@ -84,8 +84,8 @@ digits_end radix text start from end =
 -- ---- integers
 
 -- `[ minus / plus ]`: the offset after a sign, or i
-abbrev pub behind_sign : List ℕ → ℕ → ℕ
-behind_sign text i = if slice_index text i == plus || slice_index text i == dash then i + 1 else i
+abbrev pub after_sign : List ℕ → ℕ → ℕ
+after_sign text i = if slice_index text i == plus || slice_index text i == dash then i + 1 else i
 
 abbrev pub is_negative : List ℕ → ℕ → Bool
 is_negative text i = slice_index text i == dash
@@ -107,12 +107,12 @@ integer_part text start from end =
     then Err (invalid_number (if slice_index text (from + 1) == underscore then from + 2 else from + 1) end)
     else Ok m)
 
--- the number with its sign, if it is within 64 bits
+-- the number with its sign, if it fits into 64 bits
 unfoldable pub signed : Bool → ℕ → Option ℤ
 signed false m = if nat_lt m (2 ^ 63) then Some (pos m) else None
 signed true m = if nat_le m (2 ^ 63) then Some (neg_ℤ (pos m)) else None
 
--- the integer that the digits denote, or a fault if it is out of range
+-- the integer that the digits spell, or a fault if it is out of range
 unfoldable pub integer : ℕ → List ℕ → Bool → ℕ → ℕ → ℕ → NumberRead ℤ
 integer radix text negative start from end =
     ok_or (signed negative (magnitude radix text from end)) (invalid_number start end)
@@ -134,11 +134,11 @@ unfoldable pub exponent_digits : List ℕ → ℕ → ℕ → ℕ → ℕ → �
 exponent_digits text a b start from end =
     digits_end 10 text start from end >>= (λ m. if nat_lt m end then Err (invalid_number a b) else Ok end)
 
--- `exp = "e" float-exp-part`, whose letter is in a run that ends at `end`: its digits are in the same run, or in the
--- run after a plus sign
+-- `exp = "e" float-exp-part`, with its letter in a run that ends at `end`: the digits are in the same run or, after a
+-- plus sign, in the next one
 unfoldable pub exponent : List ℕ → ℕ → ℕ → ℕ → ℕ → NumberRead ℕ
 exponent text a b letter end =
-    if nat_lt (letter + 1) end then exponent_digits text a b (letter + 1) (behind_sign text (letter + 1)) end
+    if nat_lt (letter + 1) end then exponent_digits text a b (letter + 1) (after_sign text (letter + 1)) end
     else if not (slice_index text end == plus) then Err (invalid_number a b)
     else if run_end text (end + 1) == end + 1 then Err (invalid_number a b)
     else exponent_digits text a b (end + 1) (end + 1) (run_end text (end + 1))
@@ -158,11 +158,11 @@ finite end = end >>= (λ j. Ok (numerals.Finite, j))
 -- `dec-int`, or `float-int-part ( exp / frac [ exp ] )`
 unfoldable pub decimal : List ℕ → ℕ → ℕ → ℕ → NumberRead (Numeral × ℕ)
 decimal text i a b =
-    integer_part text a (behind_sign text a) b >>= (λ m.
+    integer_part text a (after_sign text a) b >>= (λ m.
     if nat_lt m b
     then (if is_exponent (slice_index text m) then finite (exponent text a b m b) else Err (invalid_number a b))
     else if slice_index text b == period then finite (fraction text i a b)
-    else integer 10 text (is_negative text a) a (behind_sign text a) b >>= (λ n. Ok (numerals.Integer n, b)))
+    else integer 10 text (is_negative text a) a (after_sign text a) b >>= (λ n. Ok (numerals.Integer n, b)))
 
 -- `inf / nan`
 unfoldable pub special : Bool → List ℕ → Option Numeral
@@ -186,7 +186,7 @@ unsigned text i a b =
     option_map_or (λ radix. radix_integer radix text (a + 2) b >>= (λ n. Ok (numerals.Integer n, b)))
     (radix_at text a)
     (option_map_or (special_end text i a b)
-    (special (is_negative text a) (slice_range text (behind_sign text a) b))
+    (special (is_negative text a) (slice_range text (after_sign text a) b))
     (decimal text i a b))
 
 -- `integer = dec-int / hex-int / oct-int / bin-int`, `float = float-int-part ( exp / frac [ exp ] )`,
@@ -199,7 +199,7 @@ numeral text i =
     then Err (invalid_number i (run_end text (i + 1)))
     else unsigned text i (i + 1) (run_end text (i + 1))
 
--- The text of a float as it is stored: without plus signs and underscores, and with a capital `E`.
+-- The text that is stored for a float: its literal without plus signs and underscores, and with a capital `E`.
 abbrev pub cleaned : List ℕ → List ℕ
 cleaned literal =
     map (λ c. if c == small_e then capital_e else c) (filter (λ c. not (c == plus || c == underscore)) literal)

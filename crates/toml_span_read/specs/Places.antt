@@ -2,12 +2,13 @@
 use Rattle.std.specs.Prelude.{ℕ, ◌<◌, ◌≤◌, List, [], ◌∷◌, map}
 use Rattle.toml_span_lex.specs.declared.span.Span.{Span}
 use Rattle.toml_span_read.specs.Data.{SimpleKey, simple_key, ParsedValue, parsed, ParsedInner, scalar, array, inline}
-use Rattle.toml_span_read.specs.Data.{ParsedItems, no_items, item, ParsedPairs, no_pairs, pair, KeyValue, key_value}
+use Rattle.toml_span_read.specs.Data.{ParsedItems, no_items, item, ParsedPairs, no_pairs, pair, ParsedAssignment}
+use Rattle.toml_span_read.specs.Data.{parsed_assignment}
 use Rattle.toml_span_read.specs.declared.section.Section.{Section}
 
 -- ---- keys and headers are inside the text
 
--- The span does not end before it starts, nor after the first n bytes.
+-- The span is not reversed, and ends inside the first n bytes.
 abbrev pub IsInside : ℕ → Span → Type 0
 IsInside n span = (span.start ≤ span.end) × (span.end ≤ n)
 
@@ -16,7 +17,7 @@ abbrev pub PartsInside : ℕ → List SimpleKey → Type 0
 PartsInside n [] = Unit {0}
 PartsInside n (p ∷ ps) = IsInside n p.span × PartsInside n ps
 
--- the same for the keys of inline tables in a value, at any depth
+-- the same for the keys of inline tables inside a value, at any depth
 abbrev mutual
   pub KeysInside : ℕ → ParsedValue → Type 0
   KeysInside n (parsed k span) = InnerKeysInside n k
@@ -34,19 +35,19 @@ abbrev mutual
   PairKeysInside n no_pairs = Unit {0}
   PairKeysInside n (pair ps v extent rest) = PartsInside n ps × KeysInside n v × PairKeysInside n rest
 
--- the same for an assignment's key, and for the keys in its value
-abbrev pub KeyValueInside : ℕ → KeyValue → Type 0
-KeyValueInside n e = PartsInside n e.parts × KeysInside n e.value
+-- the same for an assignment's key, and for the keys inside its value
+abbrev pub AssignmentInside : ℕ → ParsedAssignment → Type 0
+AssignmentInside n e = PartsInside n e.parts × KeysInside n e.value
 
-abbrev pub KeyValuesInside : ℕ → List KeyValue → Type 0
-KeyValuesInside n [] = Unit {0}
-KeyValuesInside n (e ∷ es) = KeyValueInside n e × KeyValuesInside n es
+abbrev pub AssignmentsInside : ℕ → List ParsedAssignment → Type 0
+AssignmentsInside n [] = Unit {0}
+AssignmentsInside n (e ∷ es) = AssignmentInside n e × AssignmentsInside n es
 
--- the same for a section's header, its parts, and the keys of its assignments
+-- the same for a section's header, its parts, and the keys in its assignments
 abbrev pub SectionInside : ℕ → Section → Type 0
 SectionInside n s =
     IsInside n s.header_span × PartsInside n (map simple_key s.header.items)
-    × KeyValuesInside n (map key_value s.assignments.items)
+    × AssignmentsInside n (map parsed_assignment s.assignments.items)
 
 abbrev pub SectionsInside : ℕ → List Section → Type 0
 SectionsInside n [] = Unit {0}
@@ -54,13 +55,13 @@ SectionsInside n (s ∷ ss) = SectionInside n s × SectionsInside n ss
 
 -- ---- in the order of the text
 
--- Between i and j the spans of the parts ascend: none is empty, and each ends before the next begins.
+-- From i to j the parts follow each other: none is empty, and each ends before the next begins.
 abbrev pub Ascend : List SimpleKey → ℕ → ℕ → Type 0
 Ascend [] i j = i ≤ j
 Ascend (p ∷ ps) i j = (i ≤ p.span.start) × (p.span.start < p.span.end) × Ascend ps p.span.end j
 
 abbrev mutual
-  -- The span of a value is within i..j, and the spans of the values and keys in it are within its own.
+  -- The span of a value is inside i..j, and the spans of the values and keys in it are inside its own.
   pub Inside : ParsedValue → ℕ → ℕ → Type 0
   Inside (parsed k span) i j =
       (i ≤ span.start) × (span.start ≤ span.end) × (span.end ≤ j) × InsideInner k span.start span.end

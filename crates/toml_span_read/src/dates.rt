@@ -1,4 +1,4 @@
-//! Dates and times.
+//! Reads dates and times.
 ghost use Rattle.std.specs.Prelude.{◌≡◌, ◌≤◌, true, length, slice_index};
 ghost use Rattle.std.specs.Str.{IsCharBoundary};
 ghost use Rattle.toml_span_lex.specs.Bytes.{MaximalRun};
@@ -22,7 +22,8 @@ fn is_decimal_at(text: &str, at: usize) -> bool
     byte_at(text, at).is_ascii_digit()
 }
 
-/// Returns whether a date or a time begins at `at`: four digits and a dash, or two digits and a colon.
+/// Returns whether a value at `at` is read as a date or time: it begins with four digits and a dash, or with two digits
+/// and a colon.
 ///
 /// `date-fullyear = 4DIGIT`, `time-hour = 2DIGIT` (TOML 1.1, Local Date, Local Time)
 #[inline]
@@ -38,7 +39,7 @@ pub fn begins_date(text: &str, at: usize) -> bool
                 && byte_at(text, at + 4) == b'-'))
 }
 
-/// Returns whether dates and times may contain the byte.
+/// Returns whether the byte can be part of a date or time: a letter, a digit, or one of `-_:.+`.
 #[inline]
 fn is_date_byte(byte: u8) -> bool
     ensures { result ≡ spec.is_date_byte byte }
@@ -46,7 +47,7 @@ fn is_date_byte(byte: u8) -> bool
     is_keylike(byte) || byte == b':' || byte == b'.' || byte == b'+'
 }
 
-/// Returns the offset at which the run of such bytes that begins at `from` ends.
+/// Returns the end of the run of bytes from `from` on that can be part of a date or time (`is_date_byte`).
 fn date_run_end(text: &str, from: usize) -> usize
     requires { IsCharBoundary text.now from }
     ensures run { MaximalRun spec.is_date_byte text.now from result }
@@ -61,8 +62,8 @@ fn date_run_end(text: &str, from: usize) -> usize
     bytes.len()
 }
 
-/// Returns the offset after what should be a date or a time at `at`: a run of such bytes, and, if it has ten of them
-/// before a space and a digit, also the run after that space.
+/// Returns the end of what is read as the date or time at `at`: a run of bytes that can be part of one. If the run has
+/// ten bytes, and a space and a digit follow, the run after the space belongs to it too.
 fn date_end(text: &str, at: usize) -> usize
     requires { IsCharBoundary text.now at }
     ensures candidate { IsCandidate text.now at result }
@@ -77,9 +78,9 @@ fn date_end(text: &str, at: usize) -> usize
     }
 }
 
-/// Reads the date or time at `at`, and returns it with the offset after it.
+/// Reads the date or time at the byte offset `at`. Returns it with the offset after it.
 ///
-/// Fails with `InvalidDatetime`, which spans all bytes that could belong to it.
+/// Fails with `InvalidDatetime` if it is not valid. The fault spans all bytes that are read as part of it.
 ///
 /// `date-time = offset-date-time / local-date-time / local-date / local-time` (TOML 1.1, Offset Date-Time)
 #[inline(never)]

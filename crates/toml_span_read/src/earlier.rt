@@ -1,7 +1,7 @@
-//! The earlier values of a section or an inline table, by path.
+//! Finds keys that go through earlier values of their section or inline table.
 ghost use Rattle.std.specs.Prelude.{◌≡◌, ◌≤◌, ◌+◌, ◌++◌, ◌∷◌, [], map, length, OnOk, Some, unwrap_or};
 ghost use Rattle.std.specs.Cow.{cow_str_bytes};
-ghost use Rattle.toml_span_read.specs.Data.{parsed_span, key_value, simple_key, parts};
+ghost use Rattle.toml_span_read.specs.Data.{parsed_span, parsed_assignment, simple_key, parts};
 ghost use Rattle.toml_span_read.specs.Earlier as spec;
 ghost use Rattle.toml_span_read.specs.code.Earlier as code;
 
@@ -14,17 +14,17 @@ use toml_span_lex::key::Key;
 use toml_span_lex::span::Span;
 use toml_span_lex::stop::Stop;
 
-/// The value at a path, and the paths below it.
+/// A path: whether a value is assigned to it, and the paths below it.
 #[derive(Drop)]
 struct Node<'de> {
-    /// The span of the last key part of the first value at this path.
+    /// The span of the last part of the key by which the first value was assigned to this path, if any was.
     value: Option<Span>,
     below: BTreeMap<Key<'de>, Node<'de>>,
 }
 
-/// Returns a node without a value, and with none below it.
+/// Returns a node without a value and without paths below it.
 fn empty<'de>(alloc: Global) -> Node<'de>
-    ensures { code.holds result ≡ code.nothing }
+    ensures { code.holds result ≡ code.no_spans }
 {
     Node {
         value: None,
@@ -32,7 +32,7 @@ fn empty<'de>(alloc: Global) -> Node<'de>
     }
 }
 
-/// Stores a value at the path `inner`, `last`, unless there is one. Fails if an allocation fails.
+/// Records a value at the path of `inner` and `last`, unless there is one already. Fails if an allocation fails.
 fn put<'de>(
     alloc: Global,
     node: &mut Node<'de>,
@@ -55,7 +55,7 @@ fn put<'de>(
     }
 }
 
-/// Stores a value under the key `last`, unless there is one. Fails if an allocation fails.
+/// Records a value at the path `last`, unless there is one already. Fails if an allocation fails.
 fn put_last<'de>(alloc: Global, node: &mut Node<'de>, last: &Key<'de>) -> Result<(), AllocError>
     ensures { OnOk result (code.Puts (cow_str_bytes last.now.name ∷ []) last.now.span (code.holds node.old)
         (code.holds node.new)) }
@@ -75,7 +75,7 @@ fn put_last<'de>(alloc: Global, node: &mut Node<'de>, last: &Key<'de>) -> Result
     }
 }
 
-/// Inserts `child` under a key that has no child yet. Fails if an allocation fails.
+/// Adds `child` under a key that has no child yet. Fails if an allocation fails.
 fn put_child<'de>(
     alloc: Global,
     node: &mut Node<'de>,
@@ -90,8 +90,8 @@ fn put_child<'de>(
     Ok(())
 }
 
-/// Finds the first of these parts whose path has a value. Returns the offset of that part and the span of the value's
-/// key.
+/// Finds the first of these parts whose path has a value. Returns the offset of that part, and the span of the key of
+/// that value.
 fn crossing<'de>(node: &Node<'de>, inner: &[Key<'de>]) -> Option<(usize, Span)>
     ensures { code.FindsOutermost (code.holds node.now) (map simple_key inner.now) result }
 {
@@ -110,7 +110,7 @@ fn crossing<'de>(node: &Node<'de>, inner: &[Key<'de>]) -> Option<(usize, Span)>
 /// Returns the key of an assignment.
 #[inline]
 fn key_of<'x, 'de>(next: &'x Assignment<'de>) -> &'x DottedKey<'de>
-    ensures { parts result.now ≡ (key_value next.now).parts }
+    ensures { parts result.now ≡ (parsed_assignment next.now).parts }
 {
     &next.parts
 }
@@ -118,24 +118,24 @@ fn key_of<'x, 'de>(next: &'x Assignment<'de>) -> &'x DottedKey<'de>
 /// Returns the end of the span of an assignment's value.
 #[inline]
 fn value_end<'de>(next: &Assignment<'de>) -> usize
-    ensures { result ≡ (parsed_span (key_value next.now).value).end }
+    ensures { result ≡ (parsed_span (parsed_assignment next.now).value).end }
 {
     next.value.span.end
 }
 
-/// The earlier values of a section or an inline table, by path. They are stored in the tree only when a key has more
-/// inner parts than an earlier one, since no key can go through an earlier value before that.
+/// The values that have been assigned in a section or an inline table, by path. A key can only go through an earlier
+/// value if it has more inner parts than an earlier key. So values are added to the tree only when such a key comes.
 #[derive(Drop)]
 pub(crate) struct Earlier<'de> {
-    /// The smallest number of inner parts of a key.
+    /// The lowest number of inner parts of any key so far.
     fewest: usize,
-    /// The number of values that are in the tree.
+    /// How many of the values have been added to the tree.
     known: usize,
     tree: Node<'de>,
 }
 
 impl<'de> Earlier<'de> {
-    /// Returns an empty set of values.
+    /// Returns an empty collection.
     pub(crate) fn new(alloc: Global) -> Self
         ensures { code.Knows result [] }
     {
@@ -146,11 +146,11 @@ impl<'de> Earlier<'de> {
         }
     }
 
-    /// Stores the values that are not in the tree yet. Fails if an allocation fails.
+    /// Adds the values that are not in the tree yet. Fails if an allocation fails.
     #[inline(never)]
     fn catch_up(&mut self, alloc: Global, values: &[Assignment<'de>]) -> Result<(), AllocError>
-        requires { code.Knows self.now (map key_value values.now) }
-        ensures knows { OnOk result (code.Knows self.new (map key_value values.now)) }
+        requires { code.Knows self.now (map parsed_assignment values.now) }
+        ensures knows { OnOk result (code.Knows self.new (map parsed_assignment values.now)) }
         ensures all { OnOk result (self.new.known ≡ length values.now) }
         ensures fewest { OnOk result (self.new.fewest ≡ self.old.fewest) }
     {
@@ -162,16 +162,16 @@ impl<'de> Earlier<'de> {
         Ok(())
     }
 
-    /// Returns the fault of an assignment whose key goes through an earlier value. Otherwise takes note of the
-    /// assignment and returns `None`. Fails if an allocation fails.
+    /// Returns the fault of an assignment whose key goes through an earlier value. If it goes through none, updates the
+    /// counts and returns `None`. Fails if an allocation fails.
     fn fault(
         &mut self,
         alloc: Global,
         values: &[Assignment<'de>],
         next: &Assignment<'de>,
     ) -> Result<Option<Fault>, AllocError>
-        requires { code.Knows self.now (map key_value values.now) }
-        ensures { code.Judges self.new (map key_value values.now) (key_value next.now) result }
+        requires { code.Knows self.now (map parsed_assignment values.now) }
+        ensures { code.ChecksNext self.new (map parsed_assignment values.now) (parsed_assignment next.now) result }
     {
         let key = key_of(next);
         let inner = key.inner.len();
@@ -193,8 +193,7 @@ impl<'de> Earlier<'de> {
     }
 }
 
-/// Appends an assignment to the earlier ones. Fails if its key goes through one of their values, or if an allocation
-/// fails.
+/// Appends an assignment to the values. Fails if its key goes through one of them, or if an allocation fails.
 #[inline(always)]
 pub(crate) fn add_clear<'de>(
     alloc: Global,
@@ -202,9 +201,9 @@ pub(crate) fn add_clear<'de>(
     values: &mut Vec<Assignment<'de>>,
     next: Assignment<'de>,
 ) -> Result<(), Stop<Fault>>
-    requires knows { code.Knows earlier.now (map key_value values.now.items) }
+    requires knows { code.Knows earlier.now (map parsed_assignment values.now.items) }
     ensures adds { code.AddsClear values.old.items values.new.items next.entry result }
-    ensures knows { OnOk result (code.Knows earlier.new (map key_value values.new.items)) }
+    ensures knows { OnOk result (code.Knows earlier.new (map parsed_assignment values.new.items)) }
 {
     match earlier.fault(alloc, values, &next) {
         Err(e) => return Err(Stop::Memory(e)),

@@ -1,9 +1,9 @@
-//! Faults: what is wrong in a text, and where.
+//! Faults: what can't be read in a text, and where.
 ghost use Rattle.std.specs.Prelude.{◌≡◌, ◌<◌, ◌≤◌, length};
 ghost use Rattle.toml_span_tree.specs.Error.{kind_of, content_of};
 ghost use Rattle.toml_span_read.specs.Faults as spec;
 ghost use Rattle.toml_span_read.specs.Numerals as numerals;
-ghost use Rattle.toml_span_read.specs.Faults.{Tells};
+ghost use Rattle.toml_span_read.specs.Faults.{ReportsFault};
 ghost use Rattle.toml_span_read.specs.code.Faults.{Bounded};
 
 use toml_span_lex::lines::line_info;
@@ -11,40 +11,40 @@ use toml_span_lex::span::Span;
 use toml_span_lex::tokens::Error as TokenError;
 use toml_span_tree::{Error, ErrorKind};
 
-/// A token that is expected where there is another one.
+/// A token that was expected where there is another one.
 #[derive(Clone, Copy, Debug)]
-pub enum Due {
+pub enum ExpectedToken {
     Value,
     TableKey,
     Equals,
-    /// A right bracket. A comma or a dot may be possible too.
+    /// A right bracket. A comma or a dot may be allowed too.
     RightBracket,
-    /// A comma or a right brace.
+    /// A comma. A right brace is allowed too.
     Comma,
     Newline,
 }
 
-impl Due {
-    ghost use Rattle.toml_span_read.specs.Faults.{due_words};
+impl ExpectedToken {
+    ghost use Rattle.toml_span_read.specs.Faults.{expected_words};
 
-    /// Returns the name of the expected token in errors.
+    /// Returns the name of the token as the error `Wanted` has it.
     pub fn words(self) -> &'static str
-        ensures { result.now ≡ due_words self }
+        ensures { result.now ≡ expected_words self }
     {
         match self {
-            Due::Value => "a value",
-            Due::TableKey => "a table key",
-            Due::Equals => "an equals",
-            Due::RightBracket => "a right bracket",
-            Due::Comma => "a comma",
-            Due::Newline => "newline",
+            ExpectedToken::Value => "a value",
+            ExpectedToken::TableKey => "a table key",
+            ExpectedToken::Equals => "an equals",
+            ExpectedToken::RightBracket => "a right bracket",
+            ExpectedToken::Comma => "a comma",
+            ExpectedToken::Newline => "newline",
         }
     }
 }
 
-/// What is at an offset: a token, or the end of the text.
+/// What was found at an offset: a token, or the end of the text.
 #[derive(Clone, Copy, Debug)]
-pub enum Found {
+pub enum FoundToken {
     EndOfText,
     Whitespace,
     Newline,
@@ -63,36 +63,36 @@ pub enum Found {
     MultilineString,
 }
 
-impl Found {
+impl FoundToken {
     ghost use Rattle.toml_span_read.specs.Faults.{found_words};
 
-    /// Returns its name in errors.
+    /// Returns the name of what was found, as the error `Wanted` has it.
     pub fn words(self) -> &'static str
         ensures text { result.now ≡ found_words self }
         ensures short { length result.now ≤ 18 }
     {
         match self {
-            Found::EndOfText => "eof",
-            Found::Whitespace => "whitespace",
-            Found::Newline => "a newline",
-            Found::Comment => "a comment",
-            Found::Equals => "an equals",
-            Found::Period => "a period",
-            Found::Comma => "a comma",
-            Found::Colon => "a colon",
-            Found::Plus => "a plus",
-            Found::LeftBrace => "a left brace",
-            Found::RightBrace => "a right brace",
-            Found::LeftBracket => "a left bracket",
-            Found::RightBracket => "a right bracket",
-            Found::Keylike => "an identifier",
-            Found::OneLineString => "a string",
-            Found::MultilineString => "a multiline string",
+            FoundToken::EndOfText => "eof",
+            FoundToken::Whitespace => "whitespace",
+            FoundToken::Newline => "a newline",
+            FoundToken::Comment => "a comment",
+            FoundToken::Equals => "an equals",
+            FoundToken::Period => "a period",
+            FoundToken::Comma => "a comma",
+            FoundToken::Colon => "a colon",
+            FoundToken::Plus => "a plus",
+            FoundToken::LeftBrace => "a left brace",
+            FoundToken::RightBrace => "a right brace",
+            FoundToken::LeftBracket => "a left bracket",
+            FoundToken::RightBracket => "a right bracket",
+            FoundToken::Keylike => "an identifier",
+            FoundToken::OneLineString => "a string",
+            FoundToken::MultilineString => "a multiline string",
         }
     }
 }
 
-/// The kinds of faults.
+/// What is wrong: see the kinds of errors with the same names.
 #[derive(Clone, Copy, Debug)]
 pub enum FaultKind {
     UnexpectedEof,
@@ -106,12 +106,17 @@ pub enum FaultKind {
     InvalidNumber,
     InvalidDatetime,
     UnquotedString,
-    Wanted { expected: Due, found: Found },
+    Wanted {
+        expected: ExpectedToken,
+        found: FoundToken,
+    },
     MultilineStringKey,
-    DottedKeyInvalidType { first: Span },
+    DottedKeyInvalidType {
+        first: Span,
+    },
 }
 
-/// A fault and its span.
+/// What can't be read, and its span in bytes.
 #[derive(Clone, Copy, Debug)]
 pub struct Fault {
     pub kind: FaultKind,
@@ -130,7 +135,7 @@ pub(crate) fn fault_at(kind: FaultKind, at: usize) -> Fault
     Fault { kind, span }
 }
 
-/// Returns the fault that the bytes from `start` to `end` are not a number.
+/// Returns the fault that the bytes from `start` to `end` are not a valid number.
 pub(crate) fn invalid_number(start: usize, end: usize) -> Fault
     ensures { result ≡ numerals.invalid_number start end }
 {
@@ -168,7 +173,7 @@ pub(crate) fn token_fault(error: TokenError) -> Fault
     }
 }
 
-/// Converts the kind of a fault into the kind of error that reports it.
+/// Returns the kind of the error that reports this kind of fault.
 fn error_kind<'s>(kind: FaultKind) -> ErrorKind<'s>
     ensures { kind_of result ≡ spec.error_kind kind }
 {
@@ -193,10 +198,10 @@ fn error_kind<'s>(kind: FaultKind) -> ErrorKind<'s>
     }
 }
 
-/// Converts a fault into an error, with its line and column in `text`.
+/// Returns the error that reports a fault, with the line and column of its span in `text`.
 pub fn error_of<'s>(text: &str, fault: Fault) -> Error<'s>
     requires { fault.span.start ≤ length text.now }
-    ensures { Tells text.now fault (content_of result) }
+    ensures { ReportsFault text.now fault (content_of result) }
 {
     Error {
         kind: error_kind(fault.kind),

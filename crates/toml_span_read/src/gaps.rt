@@ -1,7 +1,7 @@
-//! White space, comments and line ends between tokens.
+//! Skips white space, comments and line ends between tokens.
 ghost use Rattle.std.specs.Prelude.{◌≡◌, ◌+◌, ◌<◌, slice_index};
 ghost use Rattle.std.specs.Str.{IsCharBoundary};
-ghost use Rattle.toml_span_read.specs.code.Gaps.{GapPieceGives, TailGives, DotGives, BehindGives, SeparatorGives};
+ghost use Rattle.toml_span_read.specs.code.Gaps.{GapPieceGives, TailGives, DotGives, AfterElementGives, SeparatorGives};
 ghost use Rattle.toml_span_read.specs.code.Gaps.{EqualsGives, Further};
 ghost use Rattle.toml_span_read.specs.Gaps.{MaximalGap};
 ghost use Rattle.toml_span_lex.specs.Bytes.{comma, equals};
@@ -9,7 +9,7 @@ ghost use Rattle.toml_span_lex.specs.Bytes.{comma, equals};
 use toml_span_lex::bytes::{blanks_end, printed_end};
 use toml_span_lex::text::line_end;
 
-/// Returns the byte at `at`, or 0 at the end of the text.
+/// Returns the byte at the offset `at`, or 0 if that is the end of the text.
 #[inline]
 pub fn byte_at(text: &str, at: usize) -> u8
     ensures { result ≡ slice_index text.now at }
@@ -18,7 +18,7 @@ pub fn byte_at(text: &str, at: usize) -> u8
     if at < bytes.len() { bytes[at] } else { 0 }
 }
 
-/// Returns the offset after a space, a tab, a line end or a comment at `at`, or `None` at anything else.
+/// Returns the offset after the space, tab, line end or comment at `at`, or `None` if something else is there.
 ///
 /// `wschar = %x20 / %x09`, `newline = %x0A / %x0D.0A`, `comment = comment-start-symbol *non-eol` (TOML 1.1, Comment)
 #[inline]
@@ -49,7 +49,8 @@ pub fn gap_end(text: &str, from: usize) -> usize
     at
 }
 
-/// Returns the offset after the rest of the line. Fails with the offset of the first token that cannot be there.
+/// Skips spaces, tabs and a comment up to the end of the line, and returns the offset after the line end, or the end of
+/// the text. Fails with the offset of the first byte that belongs to something else.
 ///
 /// `ws [ comment ] ( newline / end of text )` (TOML 1.1, Overall Structure)
 pub fn line_rest(text: &str, from: usize) -> Result<usize, usize>
@@ -87,19 +88,19 @@ pub fn dot(text: &str, at: usize) -> Option<usize>
 
 /// Returns the offset after the ASCII byte at `at`.
 #[inline]
-pub(crate) fn behind_byte(text: &str, at: usize) -> usize
+pub(crate) fn after_byte(text: &str, at: usize) -> usize
     requires some { 0 < slice_index text.now at }
     requires ascii { slice_index text.now at < 128 }
     ensures value { result ≡ at + 1 }
     ensures further { Further text.now at result }
 {
-    // Toolchain: in a cycle of calls a `&str` is not known to be UTF-8 (`c.utf8`), so a step over one character is a
-    // function.
+    // Toolchain: in a recursive group of functions, a `&str` is not known to be valid UTF-8 (`c.utf8`), so this step
+    // over one character is a separate function.
     let _text = text;
     at + 1
 }
 
-/// Returns the offset after the opening bracket or brace at `at`, and the gap after it.
+/// Returns the offset after the bracket or brace at `at`, and after the gap that follows it.
 ///
 /// `array-open = %x5B`, `inline-table-open = %x7B` (TOML 1.1, Array, Inline Table)
 pub(crate) fn opened(text: &str, at: usize) -> usize
@@ -108,47 +109,46 @@ pub(crate) fn opened(text: &str, at: usize) -> usize
     ensures run { MaximalGap text.now (at + 1) result }
     ensures further { Further text.now at result }
 {
-    gap_end(text, behind_byte(text, at))
+    gap_end(text, after_byte(text, at))
 }
 
-/// What follows an element of an array or a pair of an inline table, with a byte offset.
-pub(crate) enum Behind {
-    /// A comma, with the offset after it and the gap that follows.
+/// What follows an element of an array or a pair of an inline table.
+pub(crate) enum AfterElement {
+    /// A comma. The number is the offset after it and after the gap that follows it.
     Comma(usize),
-    /// The closing bracket, with the offset after it.
+    /// The closing bracket or brace. The number is the offset after it.
     Closed(usize),
-    /// Neither, with the offset of the other token or of the end of the text.
+    /// Something else, or the end of the text. The number is its offset.
     Neither(usize),
 }
 
-/// Returns what follows an element that ends at `at`, and the gap after it: a comma, the closing bracket or another
-/// token.
+/// Returns what follows an element or pair that ends at `at`, after a gap.
 ///
 /// `array-sep = %x2C`, `inline-table-sep = %x2C`, `array-close = %x5D`, `inline-table-close = %x7D` (TOML 1.1,
 /// Array, Inline Table)
 #[inline(always)]
-pub(crate) fn after_element(text: &str, at: usize, close: u8) -> Behind
+pub(crate) fn after_element(text: &str, at: usize, close: u8) -> AfterElement
     requires boundary { IsCharBoundary text.now at }
     requires some { 0 < close }
     requires ascii { close < 128 }
     requires other { close ≡ comma → ⊥ }
-    ensures { BehindGives close text.now at result }
+    ensures { AfterElementGives close text.now at result }
 {
     let end = gap_end(text, at);
     let byte = byte_at(text, end);
     if byte == b',' {
-        Behind::Comma(opened(text, end))
+        AfterElement::Comma(opened(text, end))
     } else if byte == close {
-        Behind::Closed(behind_byte(text, end))
+        AfterElement::Closed(after_byte(text, end))
     } else {
-        Behind::Neither(end)
+        AfterElement::Neither(end)
     }
 }
 
-/// Returns the offset after an equals sign and the gaps around it. Fails with the offset at which it was expected.
+/// Returns the offset after the equals sign of a pair, and after the gaps around it. Fails with the offset at which the
+/// sign was expected.
 ///
-/// `keyval-sep = ws %x3D ws` of a pair (TOML 1.1, Inline Table); unlike in the standard, also with line ends and
-/// comments
+/// `keyval-sep = ws %x3D ws` (TOML 1.1, Inline Table). Unlike in the standard, line ends and comments are allowed too.
 pub(crate) fn pair_equals(text: &str, at: usize) -> Result<usize, usize>
     requires { IsCharBoundary text.now at }
     ensures { SeparatorGives equals text.now at result }
@@ -161,8 +161,8 @@ pub(crate) fn pair_equals(text: &str, at: usize) -> Result<usize, usize>
     }
 }
 
-/// Returns the offset after an equals sign and the spaces and tabs around it. Fails with the offset at which it was
-/// expected.
+/// Returns the offset after the equals sign of an assignment, and after the spaces and tabs around it. Fails with the
+/// offset at which the sign was expected.
 ///
 /// `keyval-sep = ws %x3D ws` (TOML 1.1, Key/Value Pair)
 pub(crate) fn line_equals(text: &str, at: usize) -> Result<usize, usize>
@@ -171,7 +171,7 @@ pub(crate) fn line_equals(text: &str, at: usize) -> Result<usize, usize>
 {
     let end = blanks_end(text, at);
     if byte_at(text, end) == b'=' {
-        Ok(blanks_end(text, behind_byte(text, end)))
+        Ok(blanks_end(text, after_byte(text, end)))
     } else {
         Err(end)
     }

@@ -1,4 +1,4 @@
-//! Keys and dotted keys.
+//! Reads keys.
 ghost use Rattle.std.specs.Prelude.{◌≡◌, ◌<◌, ◌⊎◌, true, false, length, slice_index, [], IfOk};
 ghost use Rattle.toml_span_read.specs.Data as read_data;
 ghost use Rattle.std.specs.Str.{IsCharBoundary};
@@ -7,9 +7,9 @@ ghost use Rattle.toml_span_lex.specs.Strings.{BorrowsWhereSame};
 ghost use Rattle.toml_span_read.specs.Borrowed.{AreWrittenRight, dotted_written, keys_written};
 ghost use Rattle.toml_span_read.specs.Read as spec;
 ghost use Rattle.toml_span_read.specs.code.Keys.{key_found, parts_found, header_found, PartGives};
-ghost use Rattle.toml_span_read.specs.code.Faults.{Advances, Gives};
+ghost use Rattle.toml_span_read.specs.code.Faults.{Advances, MatchesReading};
 
-use crate::fault::{Due, Fault, FaultKind, fault_at};
+use crate::fault::{ExpectedToken, Fault, FaultKind, fault_at};
 use crate::gaps::{byte_at, dot};
 use crate::lists::add;
 use crate::strings::{opens_string, string};
@@ -23,7 +23,7 @@ use toml_span_lex::key::Key;
 use toml_span_lex::span::Span;
 use toml_span_lex::stop::Stop;
 
-/// Reads the string at `at` as a key, and returns it with the offset after it.
+/// Reads the quoted key at `at`. Returns it with the offset after it. Fails like `simple_key`.
 ///
 /// `quoted-key = basic-string / literal-string` (TOML 1.1, Keys)
 #[tactic(auto, using(crate::proofs::KeyLemmas::string_stops))]
@@ -35,7 +35,7 @@ fn quoted_key<'de>(
 ) -> Result<(Key<'de>, usize), Stop<Fault>>
     requires within { at < length text.now }
     requires quote { (slice_index text.now at ≡ quotation_mark) ⊎ (slice_index text.now at ≡ apostrophe) }
-    ensures key { Gives key_found (spec.simple_key_at text.now at) result }
+    ensures key { MatchesReading key_found (spec.simple_key_at text.now at) result }
     ensures borrows { IfOk result (λ found. BorrowsWhereSame text.now found.0.span found.0.name) }
     ensures advances { Advances text.now at result }
 {
@@ -57,10 +57,10 @@ fn quoted_key<'de>(
     Ok((key, token.end))
 }
 
-/// Reads the key at `at`, and returns it with the offset after it.
+/// Reads the simple key at the byte offset `at`. Returns it with the offset after it.
 ///
-/// Fails with `Wanted` at another token, with `MultilineStringKey` at a multi-line string, with the fault of a
-/// malformed string, or if an allocation fails.
+/// Fails with `Wanted` if there is another token, with `MultilineStringKey` if there is a multi-line string, with the
+/// fault of a string that is not valid, or if an allocation fails.
 ///
 /// `simple-key = quoted-key / unquoted-key` (TOML 1.1, Keys)
 #[tactic(auto, using(crate::proofs::KeyLemmas::wanted_stops))]
@@ -71,7 +71,7 @@ pub(crate) fn simple_key<'de>(
     at: usize,
 ) -> Result<(Key<'de>, usize), Stop<Fault>>
     requires { IsCharBoundary text.now at }
-    ensures key { Gives key_found (spec.simple_key_at text.now at) result }
+    ensures key { MatchesReading key_found (spec.simple_key_at text.now at) result }
     ensures borrows { IfOk result (λ found. BorrowsWhereSame text.now found.0.span found.0.name) }
     ensures advances { Advances text.now at result }
 {
@@ -84,12 +84,12 @@ pub(crate) fn simple_key<'de>(
     } else if opens_string(byte) {
         quoted_key(alloc, text, at)
     } else {
-        Err(wanted(alloc, text, at, Due::TableKey))
+        Err(wanted(alloc, text, at, ExpectedToken::TableKey))
     }
 }
 
-/// Returns the fault that the key has more parts than the limit allows. It spans the part in a header, else the byte at
-/// `at`.
+/// Returns the fault that a dotted key has more parts than the limit allows. In a header it spans the part, elsewhere
+/// only its first byte, at `at`.
 fn one_too_many(key: &Key<'_>, at: usize, in_header: bool) -> Fault
     requires { at < usize.MAX }
     ensures { result ≡ spec.one_too_many in_header at (read_data.simple_key key.now) }
@@ -103,8 +103,8 @@ fn one_too_many(key: &Key<'_>, at: usize, in_header: bool) -> Fault
     }
 }
 
-/// Reads the key part at `at`, which follows `others` parts. Returns it with the offset after it and, if a dot follows,
-/// the offset after the dot.
+/// Reads the part of a dotted key at `at`, after `others` other parts. Returns it with the offset after it and, if a
+/// dot follows, the offset of the next part.
 ///
 /// `dot-sep simple-key` (TOML 1.1, Keys)
 #[tactic(auto, using(crate::proofs::KeyLemmas::part_stops))]
@@ -128,12 +128,12 @@ fn part<'de>(
     Ok((key, end, dot(text, end)))
 }
 
-/// Reads the dotted key at `at`, which may have at most `limit` parts. Returns it with the offset after it.
+/// Reads the key of an assignment or pair at `at`. Returns it with the offset after it.
 ///
-/// Fails like `simple_key`, or with `ExceededDepthLimit` at the part past the limit.
+/// Fails like `simple_key`, or with `ExceededDepthLimit` if it has more than `limit` parts.
 ///
 /// `key = simple-key / dotted-key`, `dotted-key = simple-key 1*( dot-sep simple-key )` (TOML 1.1, Keys)
-#[tactic(auto, using(crate::proofs::KeyLemmas::part_placed, crate::proofs::KeyLemmas::none_behind))]
+#[tactic(auto, using(crate::proofs::KeyLemmas::part_placed, crate::proofs::KeyLemmas::none_after))]
 #[inline(always)]
 pub(crate) fn dotted_key<'de>(
     alloc: Global,
@@ -142,15 +142,15 @@ pub(crate) fn dotted_key<'de>(
     limit: usize,
 ) -> Result<(DottedKey<'de>, usize), Stop<Fault>>
     requires boundary { IsCharBoundary text.now at }
-    ensures key { Gives parts_found (spec.key false text.now limit [] at) result }
+    ensures key { MatchesReading parts_found (spec.key false text.now limit [] at) result }
     ensures borrows { IfOk result (λ found. AreWrittenRight text.now (dotted_written found.0)) }
     ensures advances { Advances text.now at result }
 {
     let mut inner = Vec::new(alloc);
     let mut next = at;
     'parts: loop {
-        let (key, end, behind) = part(alloc, text, next, inner.len(), limit, false)?;
-        match behind {
+        let (key, end, after) = part(alloc, text, next, inner.len(), limit, false)?;
+        match after {
             None => return Ok((DottedKey { inner, last: key }, end)),
             Some(on) => {
                 if let Err(e) = add(&mut inner, key) {
@@ -162,11 +162,10 @@ pub(crate) fn dotted_key<'de>(
     }
 }
 
-/// Reads the parts of the header's key at `at`, at most `limit`. Returns them with the offset after them. Fails like
-/// `dotted_key`.
+/// Reads the key of a header at `at`. Returns its parts with the offset after them. Fails like `dotted_key`.
 ///
 /// `key = simple-key / dotted-key`, in `std-table = std-table-open key std-table-close` (TOML 1.1, Table)
-#[tactic(auto, using(crate::proofs::KeyLemmas::part_placed, crate::proofs::KeyLemmas::none_behind))]
+#[tactic(auto, using(crate::proofs::KeyLemmas::part_placed, crate::proofs::KeyLemmas::none_after))]
 pub(crate) fn header_key<'de>(
     alloc: Global,
     text: &'de str,
@@ -174,18 +173,18 @@ pub(crate) fn header_key<'de>(
     limit: usize,
 ) -> Result<(SmallVec<Key<'de>, 3>, usize), Stop<Fault>>
     requires boundary { IsCharBoundary text.now at }
-    ensures key { Gives header_found (spec.key true text.now limit [] at) result }
+    ensures key { MatchesReading header_found (spec.key true text.now limit [] at) result }
     ensures borrows { IfOk result (λ found. AreWrittenRight text.now (keys_written found.0.items)) }
     ensures advances { Advances text.now at result }
 {
     let mut parts = SmallVec::new(alloc);
     let mut next = at;
     'parts: loop {
-        let (key, end, behind) = part(alloc, text, next, parts.len(), limit, true)?;
+        let (key, end, after) = part(alloc, text, next, parts.len(), limit, true)?;
         if let Err(e) = parts.push(key) {
             return Err(Stop::Memory(e.into()));
         }
-        match behind {
+        match after {
             None => return Ok((parts, end)),
             Some(on) => next = on,
         }

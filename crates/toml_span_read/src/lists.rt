@@ -1,4 +1,4 @@
-//! A list that grows.
+//! Appends to a list.
 ghost use Rattle.std.specs.Prelude.{◌≡◌, [], ◌∷◌, ◌++◌, OnOk};
 
 use std::alloc::AllocError;

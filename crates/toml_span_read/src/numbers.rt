@@ -1,4 +1,4 @@
-//! Numbers.
+//! Reads numbers.
 ghost use Rattle.std.specs.Prelude.{◌≡◌, ℕ, ◌+◌, ◌*◌, ◌<◌, ◌≤◌, ◌||◌, ◌==◌, not, true, false, length};
 ghost use Rattle.std.specs.Prelude.{slice_index, slice_range, filter, string_bytes, IfOk, IfSome, Ok};
 ghost use Rattle.std.specs.Char.{is_ascii_digit};
@@ -6,9 +6,9 @@ ghost use Rattle.std.specs.Str.{IsCharBoundary};
 ghost use Rattle.toml_span_lex.specs.Bytes.{is_keylike, period, underscore, plus, small_e};
 ghost use Rattle.toml_span_tree.specs.Node.{integer, float};
 ghost use Rattle.toml_span_tree.specs.Value.{float_value};
-ghost use Rattle.toml_span_read.specs.Data.{kind_view, scalar};
+ghost use Rattle.toml_span_read.specs.Data.{parsed_kind, scalar};
 ghost use Rattle.toml_span_read.specs.Numbers as spec;
-ghost use Rattle.toml_span_read.specs.Numerals.{sum_of_digits, is_digit_in, behind_sign};
+ghost use Rattle.toml_span_read.specs.Numerals.{sum_of_digits, is_digit_in, after_sign};
 ghost use Rattle.toml_span_read.specs.Numerals as numerals;
 ghost use Rattle.toml_span_read.specs.code.Faults.{Advances};
 ghost use Rattle.toml_span_read.specs.code.Gaps.{Further};
@@ -25,7 +25,7 @@ use toml_span_lex::span::Span;
 use toml_span_lex::stop::Stop;
 use toml_span_tree::FloatText;
 
-/// A number that was read. The text of a finite float has its value.
+/// A number, as it was read. The text of a finite float is not kept here.
 #[derive(Clone, Copy)]
 pub enum Numeral {
     Integer(i64),
@@ -34,7 +34,7 @@ pub enum Numeral {
     NotANumber { negative: bool },
 }
 
-/// Returns the offset at which the run of letters, digits, dashes and underscores from `from` on ends.
+/// Returns the end of the run of letters, digits, dashes and underscores that begins at `from`.
 #[inline]
 fn run_end(text: &str, from: usize) -> usize
     requires { IsCharBoundary text.now from }
@@ -44,7 +44,7 @@ fn run_end(text: &str, from: usize) -> usize
     keylike_end(text, from)
 }
 
-/// Returns the value of a digit, or `None` if it is not a digit of this radix.
+/// Returns the value of a digit in this radix, or `None` if the byte is not one.
 #[inline]
 fn digit(byte: u8, radix: u8) -> Option<u8>
     ensures { DigitGives radix byte result }
@@ -58,10 +58,11 @@ fn digit(byte: u8, radix: u8) -> Option<u8>
     if value < radix { Some(value) } else { None }
 }
 
-/// Returns the offset after the digits of a piece of a number, which begin at `from` and may have single underscores
-/// between them.
+/// Returns the offset after the digits of a piece of a number. They begin at `from`, and single underscores may
+/// separate them.
 ///
-/// Fails with `InvalidNumber`, which begins at a leading underscore, or else spans the whole piece.
+/// Fails with `InvalidNumber`, which begins at a leading underscore if there is one, and otherwise spans the whole
+/// piece.
 ///
 /// `zero-prefixable-int = DIGIT *( DIGIT / underscore DIGIT )` (TOML 1.1, Float)
 fn digits_end(text: &str, piece: Span, from: usize, radix: u8) -> Result<usize, Fault>
@@ -94,7 +95,7 @@ fn digits_end(text: &str, piece: Span, from: usize, radix: u8) -> Result<usize, 
     }
 }
 
-/// Returns the number with one more digit appended, or `None` if that is 2^64 or more.
+/// Returns the number with one more digit, or `None` if that is 2^64 or more.
 #[inline]
 fn with_digit(number: u64, radix: u8, digit: u8) -> Option<u64>
     ensures { WithinGives (number * radix + digit) result }
@@ -104,7 +105,7 @@ fn with_digit(number: u64, radix: u8, digit: u8) -> Option<u64>
         .checked_add(u64::from(digit))
 }
 
-/// Returns the number that the digits denote, ignoring underscores, or `None` if it is 2^64 or more.
+/// Returns the number that the digits spell, with or without underscores, or `None` if it is 2^64 or more.
 fn magnitude(digits: &[u8], radix: u8) -> Option<u64>
     ensures { WithinGives (sum_of_digits radix (filter (is_digit_in radix) digits.now)) result }
 {
@@ -117,7 +118,7 @@ fn magnitude(digits: &[u8], radix: u8) -> Option<u64>
     Some(value)
 }
 
-/// Returns the number with its sign, or `None` if it does not fit in an `i64`.
+/// Returns the number with its sign, or `None` if it does not fit into an `i64`.
 #[tactic(auto, unfolding(crate::specs::Numerals::signed))]
 fn signed(negative: bool, magnitude: u64) -> Option<i64>
     ensures { result ≡ numerals.signed negative magnitude }
@@ -134,7 +135,8 @@ fn signed(negative: bool, magnitude: u64) -> Option<i64>
     }
 }
 
-/// Returns the integer that the digits from `from` on denote. Fails if it is out of range.
+/// Returns the integer that the digits from `from` to the end of the piece spell. Fails if it does not fit into an
+/// `i64`.
 #[tactic(auto, unfolding(crate::specs::Numerals::integer))]
 fn integer(text: &str, piece: Span, from: usize, radix: u8, negative: bool) -> Result<i64, Fault>
     requires forward { from ≤ piece.end }
@@ -151,7 +153,7 @@ fn integer(text: &str, piece: Span, from: usize, radix: u8, negative: bool) -> R
     }
 }
 
-/// Returns the radix of a prefix `0x`, `0o` or `0b` at `run`, or `None` at anything else.
+/// Returns the radix of the prefix `0x`, `0o` or `0b` at `run`, or `None` if there is no prefix.
 ///
 /// `hex-prefix = %x30.78`, `oct-prefix = %x30.6F`, `bin-prefix = %x30.62` (TOML 1.1, Integer)
 #[inline]
@@ -170,7 +172,7 @@ fn radix_of(text: &str, run: usize) -> Option<u8>
     }
 }
 
-/// Returns the integer of a run that begins with a prefix. Fails if its digits are invalid or it is out of range.
+/// Returns the integer that a run with a prefix spells. Fails if its digits are not valid, or if it is out of range.
 ///
 /// `hex-int`, `oct-int`, `bin-int` (TOML 1.1, Integer)
 #[tactic(auto, unfolding(crate::specs::Numerals::radix_integer))]
@@ -191,7 +193,8 @@ fn radix_integer(text: &str, run: Span, radix: u8) -> Result<i64, Fault>
     integer(text, piece, piece.start, radix, false)
 }
 
-/// Returns the offset after the integer part of a decimal number. Fails if its digits are invalid.
+/// Returns the offset after the integer part of a decimal number, whose digits begin at `from`. Fails if they are not
+/// valid.
 ///
 /// `dec-int = [ minus / plus ] unsigned-dec-int` (TOML 1.1, Integer)
 #[tactic(auto, unfolding(crate::specs::Numerals::integer_part))]
@@ -214,7 +217,7 @@ fn integer_part(text: &str, run: Span, from: usize) -> Result<usize, Fault>
     Ok(end)
 }
 
-/// Returns whether the exponent of a float begins with this byte.
+/// Returns whether the byte begins the exponent of a float: `e` or `E`.
 #[inline]
 fn is_exponent(byte: u8) -> bool
     ensures { result ≡ numerals.is_exponent byte }
@@ -222,8 +225,8 @@ fn is_exponent(byte: u8) -> bool
     byte == b'e' || byte == b'E'
 }
 
-/// Returns the offset after the exponent whose letter is at `letter`, in a run that ends at `end`. Fails if its digits
-/// are invalid.
+/// Returns the offset after an exponent, whose letter is at `letter`, in the run that ends at `end`. Fails if its
+/// digits are not valid.
 ///
 /// `exp = "e" float-exp-part`, `float-exp-part = [ minus / plus ] zero-prefixable-int` (TOML 1.1, Float)
 #[tactic(auto, unfolding(crate::specs::Numerals::exponent))]
@@ -255,8 +258,8 @@ fn exponent_end(text: &str, first: Span, letter: usize, end: usize) -> Result<us
     exponent_digits(text, first, piece, start)
 }
 
-/// Returns the offset after the digits of an exponent. Fails unless they are valid and extend from `from` to the end of
-/// their piece.
+/// Returns the offset after the digits of an exponent, which begin at `from`. Fails unless they are valid, and extend
+/// to the end of their piece.
 #[tactic(auto, unfolding(crate::specs::Numerals::exponent_digits))]
 fn exponent_digits(text: &str, first: Span, piece: Span, from: usize) -> Result<usize, Fault>
     requires within { piece.end ≤ length text.now }
@@ -270,8 +273,8 @@ fn exponent_digits(text: &str, first: Span, piece: Span, from: usize) -> Result<
     Ok(piece.end)
 }
 
-/// Returns the offset after the float whose decimal point follows the run `first`, and whose first character is at
-/// `start`. Fails if its digits are invalid.
+/// Returns the offset after a float that has a decimal point after the run `first`. The number begins at `start`. Fails
+/// if its digits are not valid.
 ///
 /// `frac = decimal-point zero-prefixable-int` (TOML 1.1, Float)
 #[tactic(auto, unfolding(crate::specs::Numerals::fraction))]
@@ -298,12 +301,12 @@ fn fraction_end(text: &str, start: usize, first: Span) -> Result<usize, Fault>
     }
 }
 
-/// Returns the offset after a minus sign at `at`, or else `at`.
+/// Returns the offset after the minus sign at `at`, or `at` if there is none.
 #[inline]
-fn behind_minus(text: &str, at: usize) -> usize
+fn after_minus(text: &str, at: usize) -> usize
     requires within { at < length text.now }
     requires run { is_keylike (slice_index text.now at) ≡ true }
-    ensures { result ≡ behind_sign text.now at }
+    ensures { result ≡ after_sign text.now at }
 {
     if byte_at(text, at) == b'-' {
         at + 1
@@ -312,8 +315,8 @@ fn behind_minus(text: &str, at: usize) -> usize
     }
 }
 
-/// Reads the number without a prefix that begins with the run `first`, and returns it with the offset after it. Fails
-/// if it is malformed or out of range.
+/// Reads a number without a prefix, which begins with the run `first`. Returns it with the offset after it. Fails if it
+/// is not valid or out of range.
 ///
 /// `float = float-int-part ( exp / frac [ exp ] )` (TOML 1.1, Float)
 #[tactic(auto, unfolding(crate::specs::Numerals::decimal))]
@@ -323,7 +326,7 @@ fn decimal_number(text: &str, start: usize, first: Span) -> Result<(Numeral, usi
     ensures { result ≡ numerals.decimal text.now start first.start first.end }
 {
     let negative = byte_at(text, first.start) == b'-';
-    let from = behind_minus(text, first.start);
+    let from = after_minus(text, first.start);
     let end = integer_part(text, first, from)?;
     if end < first.end {
         if is_exponent(text.as_bytes()[end]) {
@@ -340,7 +343,7 @@ fn decimal_number(text: &str, start: usize, first: Span) -> Result<(Numeral, usi
     ))
 }
 
-/// Returns the float that a word denotes, which is `inf` or `nan`, or `None` for any other word.
+/// Returns the float that the word `inf` or `nan` denotes, with this sign, or `None` for any other word.
 ///
 /// `special-float = [ minus / plus ] ( inf / nan )` (TOML 1.1, Float)
 #[tactic(auto, unfolding(crate::specs::Numerals::special))]
@@ -354,7 +357,8 @@ fn special_float(word: &[u8], negative: bool) -> Option<Numeral>
     }
 }
 
-/// Returns `inf` or `nan` with the offset after it. Fails if a dot follows, as in `inf.5`.
+/// Returns `inf` or `nan`, which was read as `numeral`, with the offset after it. Fails if a dot follows, as in
+/// `inf.5`.
 #[tactic(auto, unfolding(crate::specs::Numerals::special_end))]
 fn special_end(
     text: &str,
@@ -368,16 +372,16 @@ fn special_end(
     if byte_at(text, first.end) != b'.' {
         return Ok((numeral, first.end));
     }
-    let behind = first.end + 1;
-    if run_end(text, behind) == behind {
-        Err(invalid_number(start, behind))
+    let after = first.end + 1;
+    if run_end(text, after) == after {
+        Err(invalid_number(start, after))
     } else {
         Err(invalid_number(first.start, first.end))
     }
 }
 
-/// Reads the number whose first character is at `start` and whose first run, after a plus sign if there is one, is
-/// `first`. Returns it with the offset after it. Fails if it is malformed or out of range.
+/// Reads the number that begins at `start`. `first` is its first run, after a plus sign if there is one. Returns it
+/// with the offset after it. Fails if it is not valid or out of range.
 #[tactic(auto, unfolding(crate::specs::Numerals::unsigned))]
 fn unsigned(text: &str, start: usize, first: Span) -> Result<(Numeral, usize), Fault>
     requires some { first.start < first.end }
@@ -391,14 +395,14 @@ fn unsigned(text: &str, start: usize, first: Span) -> Result<(Numeral, usize), F
         ));
     }
     let negative = byte_at(text, first.start) == b'-';
-    let from = behind_minus(text, first.start);
+    let from = after_minus(text, first.start);
     match special_float(&text.as_bytes()[from..first.end], negative) {
         Some(numeral) => special_end(text, start, first, numeral),
         None => decimal_number(text, start, first),
     }
 }
 
-/// Reads the number at `at`, and returns it with the offset after it. Fails if it is malformed or out of range.
+/// Reads the number at `at`. Returns it with the offset after it. Fails if it is not valid or out of range.
 ///
 /// `integer = dec-int / hex-int / oct-int / bin-int`, `float = float-int-part ( exp / frac [ exp ] )`,
 /// `float =/ special-float` (TOML 1.1, Integer, Float)
@@ -429,7 +433,8 @@ fn number_at(text: &str, at: usize) -> Result<(Numeral, usize), Fault>
     unsigned(text, at, first)
 }
 
-/// Returns the number that the first digits from `from` on denote, which is below 2^60, with the offset after them.
+/// Returns the number that the digits from `from` on spell, at most as many as fit below 2^60, with the offset after
+/// them.
 fn few_digits(text: &str, from: usize) -> (u64, usize)
     requires { from ≤ length text.now }
     ensures forward { from ≤ result.1 }
@@ -449,8 +454,8 @@ fn few_digits(text: &str, from: usize) -> (u64, usize)
     (value, bytes.len())
 }
 
-/// Returns the integer at `at`, if it consists of a few digits only, with the offset after it. `None` means that there
-/// may be a date, or a number with a sign, an underscore, a prefix, a dot, an exponent or more digits.
+/// Returns the integer at `at` if it has only a few digits and nothing else, with the offset after it. Otherwise
+/// returns `None`: there may be a date, or a number that `number` reads.
 pub(crate) fn short_integer<'de>(text: &'de str, at: usize) -> Option<(ValKind<'de>, usize)>
     requires { IsCharBoundary text.now at }
     ensures scalar { IfSome result (λ found. ScalarGives (read.bare text.now at) (Ok found)) }
@@ -460,8 +465,8 @@ pub(crate) fn short_integer<'de>(text: &'de str, at: usize) -> Option<(ValKind<'
     if at == end || (byte_at(text, at) == b'0' && at + 1 < end) {
         return None;
     }
-    let behind = byte_at(text, end);
-    if is_keylike(behind) || behind == b'.' || behind == b':' {
+    let after = byte_at(text, end);
+    if is_keylike(after) || after == b'.' || after == b':' {
         return None;
     }
     match signed(false, value) {
@@ -470,7 +475,7 @@ pub(crate) fn short_integer<'de>(text: &'de str, at: usize) -> Option<(ValKind<'
     }
 }
 
-/// Returns whether a byte is kept as it is in the stored text of a float.
+/// Returns whether the stored text of a float contains this byte of its literal unchanged.
 #[inline]
 fn is_clean(byte: u8) -> bool
     ensures { result ≡ not ((byte == underscore || byte == plus) || byte == small_e) }
@@ -478,7 +483,7 @@ fn is_clean(byte: u8) -> bool
     byte != b'_' && byte != b'+' && byte != b'e'
 }
 
-/// Returns whether the literal of a float is stored unchanged.
+/// Returns whether the stored text of a float is its literal, without a plus sign before it.
 fn is_kept(literal: &str) -> bool
     ensures { result ≡ true → numerals.cleaned literal.now ≡ literal.now }
 {
@@ -490,8 +495,8 @@ fn is_kept(literal: &str) -> bool
     true
 }
 
-/// Copies a float's literal without plus signs and underscores, and with `E` before its exponent. Fails if an
-/// allocation fails.
+/// Returns the text to store for a float: its literal without plus signs and underscores, and with `E` before the
+/// exponent. Fails if an allocation fails.
 fn cleaned(alloc: Global, literal: &str) -> Result<String, AllocError>
     requires ascii { (k : ℕ) → slice_index literal.now k < 128 }
     ensures { IfOk result (λ kept. string_bytes kept ≡ numerals.cleaned literal.now) }
@@ -510,23 +515,23 @@ fn cleaned(alloc: Global, literal: &str) -> Result<String, AllocError>
     Ok(text)
 }
 
-/// Returns an integer as a value.
+/// Wraps an integer.
 #[inline]
 fn integer_kind<'de>(value: i64) -> ValKind<'de>
-    ensures { kind_view result ≡ scalar (integer value) }
+    ensures { parsed_kind result ≡ scalar (integer value) }
 {
     ValKind::Integer(value)
 }
 
-/// Returns a float as a value.
+/// Wraps a float.
 #[inline]
 fn float_kind<'de>(text: FloatText) -> ValKind<'de>
-    ensures { kind_view result ≡ scalar (float (float_value text)) }
+    ensures { parsed_kind result ≡ scalar (float (float_value text)) }
 {
     ValKind::Float(text)
 }
 
-/// Returns the literal of a float without its plus sign.
+/// Returns the literal of a float, which spans `at..end`, without a plus sign before it.
 fn float_literal<'a>(text: &'a str, at: usize, end: usize) -> &'a str
     requires start { IsCharBoundary text.now at }
     requires end { IsCharBoundary text.now end }
@@ -541,7 +546,7 @@ fn float_literal<'a>(text: &'a str, at: usize, end: usize) -> &'a str
     }
 }
 
-/// Returns the number `numeral`, which was read from `at` to `end`, as a value. Fails if an allocation fails.
+/// Converts the number that was read at `at..end` into a value. Fails if an allocation fails.
 fn number_kind<'de>(
     alloc: Global,
     text: &str,
@@ -553,7 +558,7 @@ fn number_kind<'de>(
     requires end { IsCharBoundary text.now end }
     requires here { NumeralStands text.now at end numeral }
     ensures { IfOk result
-        (λ kind. kind_view kind ≡ scalar (numerals.scalar_of numeral (slice_range text.now at end))) }
+        (λ kind. parsed_kind kind ≡ scalar (numerals.scalar_of numeral (slice_range text.now at end))) }
 {
     match numeral {
         Numeral::Integer(value) => Ok(integer_kind(value)),
@@ -566,8 +571,8 @@ fn number_kind<'de>(
     }
 }
 
-/// Reads the number at `at`, and returns it as a value with the offset after it. Fails if it is malformed or out of
-/// range, or if an allocation fails.
+/// Reads the number at `at`. Returns it as a value, with the offset after it. Fails if it is not valid or out of range,
+/// or if an allocation fails.
 pub(crate) fn number<'de>(
     alloc: Global,
     text: &'de str,

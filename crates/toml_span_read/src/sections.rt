@@ -1,25 +1,25 @@
-//! Lines, headers and sections.
+//! Reads headers, assignments and sections.
 ghost use Rattle.std.specs.Prelude.{◌≡◌, ℕ, ◌<◌, ◌≤◌, ◌+◌, ◌++◌, ◌⊎◌, map, length, slice_index, IfSome, IfOk};
 ghost use Rattle.std.specs.Str.{IsCharBoundary};
 ghost use Rattle.toml_span_read.specs.Borrowed.{AreWrittenRight, keys_written, assignment_written, assignments_written};
 ghost use Rattle.toml_span_read.specs.Borrowed.{section_written, sections_written};
-ghost use Rattle.toml_span_read.specs.Data as blocks;
-ghost use Rattle.toml_span_read.specs.Data.{key_value, block, first_block, depth_limit};
+ghost use Rattle.toml_span_read.specs.Data as plain;
+ghost use Rattle.toml_span_read.specs.Data.{parsed_assignment, parsed_section, headerless_section, depth_limit};
 ghost use Rattle.toml_span_read.specs.Grammar.{OpensHeader};
 ghost use Rattle.toml_span_read.specs.Read as spec;
-ghost use Rattle.toml_span_read.specs.code.Sections.{EndsAtHeader, HeaderReads, FirstReads, SectionReads, first_blocks};
-ghost use Rattle.toml_span_read.specs.code.Sections.{EndsBehind, LineReads, first_found, head_found, lines_found};
-ghost use Rattle.toml_span_read.specs.code.Sections.{section_found, sections_found};
-ghost use Rattle.toml_span_read.specs.code.Values.{key_value_found};
+ghost use Rattle.toml_span_read.specs.code.Sections.{EndsAtHeader, HeaderReads, FirstReads, SectionReads};
+ghost use Rattle.toml_span_read.specs.code.Sections.{first_sections, EndsAfter, LineReads, first_found, head_found};
+ghost use Rattle.toml_span_read.specs.code.Sections.{lines_found, section_found, sections_found};
+ghost use Rattle.toml_span_read.specs.code.Values.{assignment_found};
 ghost use Rattle.toml_span_read.specs.Reading.{OnlyFormsTakeMemory, ReadsDocument, RefusedInside};
-ghost use Rattle.toml_span_read.specs.code.Faults.{Advances, Gives, IsPlacedEnd};
+ghost use Rattle.toml_span_read.specs.code.Faults.{Advances, MatchesReading, IsPlacedEnd};
 ghost use Rattle.toml_span_read.specs.code.Gaps.{Further};
 ghost use Rattle.toml_span_lex.specs.Bytes.{is_blank, left_bracket, MaximalRun};
 ghost use Rattle.toml_span_lex.specs.Text.{FirstPlace};
 
 use crate::earlier::{Earlier, add_clear};
-use crate::fault::{Due, Fault, error_of};
-use crate::gaps::{behind_byte, byte_at, gap_end, line_equals, line_rest};
+use crate::fault::{ExpectedToken, Fault, error_of};
+use crate::gaps::{after_byte, byte_at, gap_end, line_equals, line_rest};
 use crate::keys::{dotted_key, header_key};
 use crate::lists::add;
 use crate::section::Section;
@@ -35,8 +35,8 @@ use toml_span_lex::stop::Stop;
 use toml_span_lex::tokenizer::first_place;
 use toml_span_tree::Error;
 
-/// Reads the assignment at `at`, and returns it with the offset after it. Fails with its first fault, or if an
-/// allocation fails.
+/// Reads the assignment at `at`. Returns it with the offset after it. Fails with its first fault, or if an allocation
+/// fails.
 ///
 /// `keyval = key keyval-sep val`, `keyval-sep = ws %x3D ws` (TOML 1.1, Key/Value Pair)
 fn assignment<'de>(
@@ -48,14 +48,14 @@ fn assignment<'de>(
     requires boundary { IsCharBoundary text.now at }
     requires small { limit ≤ depth_limit }
     ensures advances { Advances text.now at result }
-    ensures pair { Gives key_value_found (spec.keyval text.now limit (MaximalRun is_blank text.now)
+    ensures pair { MatchesReading assignment_found (spec.keyval text.now limit (MaximalRun is_blank text.now)
         (spec.value text.now limit (limit + 1)) at) result }
     ensures borrows { IfOk result (λ found. AreWrittenRight text.now (assignment_written found.0)) }
 {
     let (parts, key_end) = dotted_key(alloc, text, at, limit)?;
     let from = match line_equals(text, key_end) {
         Ok(from) => from,
-        Err(here) => return Err(wanted(alloc, text, here, Due::Equals)),
+        Err(here) => return Err(wanted(alloc, text, here, ExpectedToken::Equals)),
     };
     let depth = parts.inner.len() + 1;
     match value(alloc, text, from, depth, limit) {
@@ -64,23 +64,23 @@ fn assignment<'de>(
     }
 }
 
-/// Returns the offset after the rest of the line. Fails if there is anything but white space and a comment.
+/// Returns the offset after the rest of the line. Fails if it has anything but blanks and a comment.
 ///
 /// `ws [ comment ]` and the line end in `expression =/ ws keyval ws [ comment ]` (TOML 1.1, Overall Structure)
 #[inline(always)]
 fn next_line(alloc: Global, text: &str, at: usize) -> Result<usize, Stop<Fault>>
     requires { IsCharBoundary text.now at }
     ensures reads { LineReads text.now at result }
-    ensures rest { Gives (λ j. j) (spec.tail text.now at) result }
+    ensures rest { MatchesReading (λ j. j) (spec.tail text.now at) result }
 {
     match line_rest(text, at) {
         Ok(next) => Ok(next),
-        Err(here) => Err(wanted(alloc, text, here, Due::Newline)),
+        Err(here) => Err(wanted(alloc, text, here, ExpectedToken::Newline)),
     }
 }
 
-/// Reads the assignments from `from` up to the next header or the end of the text, and returns them with the offset
-/// after them. Fails with the first fault, or if an allocation fails.
+/// Reads the assignments from `from` up to the next header or the end of the text. Returns them with the offset after
+/// them. Fails with the first fault, or if an allocation fails.
 fn assignments<'de>(
     alloc: Global,
     text: &'de str,
@@ -89,9 +89,9 @@ fn assignments<'de>(
 ) -> Result<(Vec<Assignment<'de>>, usize), Stop<Fault>>
     requires boundary { IsCharBoundary text.now from }
     requires small { limit ≤ depth_limit }
-    ensures read { EndsBehind text.now from result }
+    ensures read { EndsAfter text.now from result }
     ensures header { EndsAtHeader text.now result }
-    ensures lines { Gives lines_found (spec.lines text.now limit from) result }
+    ensures lines { MatchesReading lines_found (spec.assignment_lines text.now limit from) result }
     ensures borrows { IfOk result (λ found. AreWrittenRight text.now (assignments_written found.0.items)) }
     ensures memory { OnlyFormsTakeMemory text.now from result }
 {
@@ -115,7 +115,7 @@ fn assignments<'de>(
     Ok((found, at))
 }
 
-/// Returns whether the header at `at` has double brackets, and the offset after the opening ones.
+/// Returns whether the header at `at` has double brackets, and the offset after these and the blanks that follow.
 ///
 /// `std-table-open = %x5B ws`, `array-table-open = %x5B.5B ws` (TOML 1.1, Table, Array of Tables)
 fn header_open(text: &str, at: usize) -> (bool, usize)
@@ -123,38 +123,38 @@ fn header_open(text: &str, at: usize) -> (bool, usize)
     ensures opens { OpensHeader result.0 text.now at result.1 }
     ensures further { Further text.now at result.1 }
 {
-    let behind = behind_byte(text, at);
-    if byte_at(text, behind) == b'[' {
-        (true, behind_byte(text, behind))
+    let after = after_byte(text, at);
+    if byte_at(text, after) == b'[' {
+        (true, after_byte(text, after))
     } else {
-        (false, behind)
+        (false, after)
     }
 }
 
-/// Returns the offset after a header's closing brackets. Fails if one is missing.
+/// Returns the offset after the closing brackets of a header. Fails if one is missing.
 ///
 /// `std-table-close = ws %x5D`, `array-table-close = ws %x5D.5D` (TOML 1.1, Table, Array of Tables)
 fn header_close(alloc: Global, text: &str, at: usize, array: bool) -> Result<usize, Stop<Fault>>
     requires { IsCharBoundary text.now at }
     ensures reads { LineReads text.now at result }
-    ensures closes { Gives (λ j. j)
-        (spec.behind (MaximalRun is_blank text.now) at (spec.closing array text.now)) result }
+    ensures closes { MatchesReading (λ j. j)
+        (spec.skipping (MaximalRun is_blank text.now) at (spec.closing array text.now)) result }
 {
     let close = blanks_end(text, at);
     if byte_at(text, close) != b']' {
-        return Err(wanted(alloc, text, close, Due::RightBracket));
+        return Err(wanted(alloc, text, close, ExpectedToken::RightBracket));
     }
-    let behind = behind_byte(text, close);
+    let after = after_byte(text, close);
     if !array {
-        return Ok(behind);
+        return Ok(after);
     }
-    if byte_at(text, behind) != b']' {
-        return Err(wanted(alloc, text, behind, Due::RightBracket));
+    if byte_at(text, after) != b']' {
+        return Err(wanted(alloc, text, after, ExpectedToken::RightBracket));
     }
-    Ok(behind_byte(text, behind))
+    Ok(after_byte(text, after))
 }
 
-/// A header: its parts, whether it has double brackets, and its extent with the rest of its line.
+/// A header: its parts, whether it has double brackets, and the span of its line, including the line end.
 #[derive(Drop)]
 struct Header<'de> {
     parts: SmallVec<Key<'de>, 3>,
@@ -173,7 +173,7 @@ fn read_header<'de>(
 ) -> Result<Header<'de>, Stop<Fault>>
     requires opens { slice_index text.now at ≡ left_bracket }
     ensures reads { HeaderReads text.now at result }
-    ensures header { Gives head_found (spec.header text.now limit at) result }
+    ensures header { MatchesReading head_found (spec.header text.now limit at) result }
     ensures borrows { IfOk result (λ header. AreWrittenRight text.now (keys_written header.parts.items)) }
 {
     let (array, open) = header_open(text, at);
@@ -187,17 +187,17 @@ fn read_header<'de>(
     })
 }
 
-/// Returns the extent of an assignment.
+/// Returns the span of an assignment, from its key to the end of its value.
 #[inline]
 fn extent_of(assignment: &Assignment<'_>) -> Span
-    ensures { result ≡ (key_value assignment.now).extent }
+    ensures { result ≡ (parsed_assignment assignment.now).extent }
 {
     assignment.extent
 }
 
-/// Returns the end of the last of these assignments, or else `without`.
+/// Returns the end of the last assignment, or `without` if there is none.
 fn last_end(assignments: &[Assignment<'_>], without: usize) -> usize
-    ensures { result ≡ blocks.last_end without (map key_value assignments.now) }
+    ensures { result ≡ plain.last_end without (map parsed_assignment assignments.now) }
 {
     match assignments.last() {
         Some(last) => extent_of(last).end,
@@ -205,10 +205,11 @@ fn last_end(assignments: &[Assignment<'_>], without: usize) -> usize
     }
 }
 
-/// Returns the section of a header and its assignments.
+/// Returns the section with this header and these assignments.
 fn section_of<'de>(header: Header<'de>, assignments: Vec<Assignment<'de>>) -> Section<'de>
-    ensures block { block result
-        ≡ spec.block_at header.entry.extent.start (head_found header.entry) (map key_value assignments.entry.items) }
+    ensures parsed_section { parsed_section result
+        ≡ spec.headed_section header.entry.extent.start (head_found header.entry)
+        (map parsed_assignment assignments.entry.items) }
     ensures written { section_written result ≡ keys_written header.entry.parts.items
         ++ assignments_written assignments.entry.items }
 {
@@ -230,9 +231,10 @@ fn section_of<'de>(header: Header<'de>, assignments: Vec<Assignment<'de>>) -> Se
     }
 }
 
-/// Returns the section of the assignments before the first header, if any.
+/// Returns the section with these assignments and no header, or `None` if there are no assignments.
 fn first_section<'de>(alloc: Global, assignments: Vec<Assignment<'de>>) -> Option<Section<'de>>
-    ensures block { first_blocks result ≡ first_block (map key_value assignments.entry.items) }
+    ensures parsed_section { first_sections result
+        ≡ headerless_section (map parsed_assignment assignments.entry.items) }
     ensures written { IfSome result (λ section. section_written section ≡ assignments_written assignments.entry.items) }
 {
     let start = extent_of(assignments.first()?).start;
@@ -247,9 +249,10 @@ fn first_section<'de>(alloc: Global, assignments: Vec<Assignment<'de>>) -> Optio
 }
 
 /// Reads the assignments before the first header. Returns their section, if there are any, with the offset of the first
-/// header or of the end of the text.
+/// header, or of the end of the text.
 ///
-/// Fails with the first fault there, or if an allocation fails.
+/// Fails with the first fault there, or if an allocation fails. `limit` is the limit on the depth of values and on the
+/// number of parts of a key.
 pub fn read_first<'de>(
     alloc: Global,
     text: &'de str,
@@ -257,17 +260,18 @@ pub fn read_first<'de>(
 ) -> Result<(Option<Section<'de>>, usize), Stop<Fault>>
     requires small { limit ≤ depth_limit }
     ensures reads { FirstReads text.now result }
-    ensures first { Gives first_found (spec.before_headers text.now limit) result }
+    ensures first { MatchesReading first_found (spec.before_headers text.now limit) result }
     ensures memory { (start : ℕ) × FirstPlace text.now start × OnlyFormsTakeMemory text.now start result }
 {
     let (before, end) = assignments(alloc, text, first_place(text), limit)?;
     Ok((first_section(alloc, before), end))
 }
 
-/// Reads the section whose header begins at `at`. Returns it with the offset of the next header or of the end of the
-/// text.
+/// Reads the section whose header begins at the byte offset `at`. Returns it with the offset of the next header, or of
+/// the end of the text.
 ///
-/// Fails with the first fault there, or if an allocation fails.
+/// Fails with the first fault there, or if an allocation fails. `limit` is the limit on the depth of values and on the
+/// number of parts of a key.
 #[inline(never)]
 pub fn read_section<'de>(
     alloc: Global,
@@ -278,14 +282,14 @@ pub fn read_section<'de>(
     requires opens { slice_index text.now at ≡ left_bracket }
     requires small { limit ≤ depth_limit }
     ensures reads { SectionReads text.now at result }
-    ensures section { Gives section_found (spec.section text.now limit at) result }
+    ensures section { MatchesReading section_found (spec.section text.now limit at) result }
 {
     let header = read_header(alloc, text, at, limit)?;
-    let (behind, end) = assignments(alloc, text, header.extent.end, limit)?;
-    Ok((section_of(header, behind), end))
+    let (after, end) = assignments(alloc, text, header.extent.end, limit)?;
+    Ok((section_of(header, after), end))
 }
 
-/// Reads the sections of a text. Fails with the first fault, or if an allocation fails.
+/// Reads all sections of a text. Fails with the first fault, or if an allocation fails.
 fn sections<'de>(
     alloc: Global,
     text: &'de str,
@@ -293,7 +297,7 @@ fn sections<'de>(
 ) -> Result<Vec<Section<'de>>, Stop<Fault>>
     requires small { limit ≤ depth_limit }
     ensures placed { IsPlacedEnd text.now result }
-    ensures document { Gives sections_found (spec.document text.now limit) result }
+    ensures document { MatchesReading sections_found (spec.document text.now limit) result }
     ensures borrows { IfOk result (λ found. AreWrittenRight text.now (sections_written found.items)) }
     ensures memory { (start : ℕ) × FirstPlace text.now start × OnlyFormsTakeMemory text.now start result }
 {
@@ -317,7 +321,10 @@ fn sections<'de>(
     Ok(found)
 }
 
-/// Reads the sections of a document, in the order of the text. Fails with the first fault, or if an allocation fails.
+/// Reads the sections of a document, in the order of the text. They may clash. `limit` is the limit on the depth of
+/// values and on the number of parts of a key, as in `parse_with_limit`.
+///
+/// Fails with the first fault, or if an allocation fails.
 ///
 /// `toml = expression *( newline expression )` (TOML 1.1, Overall Structure)
 pub fn read_sections<'de>(
@@ -327,12 +334,12 @@ pub fn read_sections<'de>(
 ) -> Result<Vec<Section<'de>>, Stop<Error<'de>>>
     requires some { 1 ≤ limit }
     requires small { limit ≤ depth_limit }
-    // The result is what the definition `document` reads: these sections, or this fault.
+    // The result is what the definition `document` says: these sections, or this fault.
     ensures document { ReadsDocument text.now limit result }
     ensures placed { RefusedInside text.now result }
-    // An allocation can fail only if the text has more than comments and blank lines.
+    // Nothing is allocated for a text of comments and blank lines.
     ensures memory { (start : ℕ) × FirstPlace text.now start × OnlyFormsTakeMemory text.now start result }
-    // Strings and keys are borrowed exactly if they equal the text at their span. Empty single-line ones are borrowed.
+    // A string or key is borrowed if and only if it equals the text at its span, or is empty and on a single line.
     ensures borrows { IfOk result (λ found. AreWrittenRight text.now (sections_written found.items)) }
 {
     match sections(alloc, text, limit) {

@@ -1,4 +1,4 @@
-//! Strings, as values and as keys.
+//! Reads strings, as values and as keys.
 ghost use Rattle.std.specs.Prelude.{◌≡◌, ◌<◌, ◌||◌, ◌==◌, ◌⊎◌, length, slice_index, IfOk, IfSome, Ok};
 ghost use Rattle.toml_span_lex.specs.Bytes.{quotation_mark, apostrophe};
 ghost use Rattle.toml_span_lex.specs.Strings.{BorrowsWhereSame};
@@ -15,7 +15,7 @@ use toml_span_lex::stop::Stop;
 use toml_span_lex::strings::string_at;
 use toml_span_lex::tokens::Token;
 
-/// A string that was read, and the offset after it.
+/// A string, as it was read, with the offset after it.
 #[derive(Drop)]
 pub struct StringToken<'de> {
     pub content: CowStr<'de>,
@@ -24,7 +24,7 @@ pub struct StringToken<'de> {
     pub end: usize,
 }
 
-/// Returns whether strings begin with this byte.
+/// Returns whether the byte opens a string.
 #[inline]
 pub(crate) fn opens_string(byte: u8) -> bool
     ensures { result ≡ (byte == quotation_mark || byte == apostrophe) }
@@ -32,8 +32,8 @@ pub(crate) fn opens_string(byte: u8) -> bool
     byte == b'"' || byte == b'\''
 }
 
-/// Reads the single-line string at `at` if it is not empty and has no escapes. `None` only means that it must be read
-/// in pieces.
+/// Reads the single-line string at `at` if it is not empty and has no escapes. Otherwise returns `None`: the string, or
+/// its fault, is read piece by piece.
 #[inline(always)]
 pub(crate) fn short_string<'de>(text: &'de str, at: usize) -> Option<StringToken<'de>>
     requires within { at < length text.now }
@@ -55,7 +55,7 @@ pub(crate) fn short_string<'de>(text: &'de str, at: usize) -> Option<StringToken
     })
 }
 
-/// Reads the string at `at` piece by piece. Fails with its fault, or if an allocation fails.
+/// Reads the string at `at` piece by piece. Fails if it is not valid, or if an allocation fails.
 #[inline(never)]
 fn pieced_string<'de>(
     alloc: Global,
@@ -87,7 +87,7 @@ fn pieced_string<'de>(
     }
 }
 
-/// Reads the string at `at`. Fails with the fault of the string as a token, or if an allocation fails.
+/// Reads the string at `at`. Fails with the fault of the tokenizer if it is not valid, or if an allocation fails.
 ///
 /// `string = ml-basic-string / basic-string / ml-literal-string / literal-string` (TOML 1.1, String)
 #[inline(always)]

@@ -1,20 +1,20 @@
-//! Values as they are written in a text, and the keys to which they are assigned.
+//! Values as they were read, and the keys to which they are assigned.
 use std::borrow::CowStr;
 use toml_span_lex::key::Key;
 use toml_span_lex::span::Span;
 use toml_span_tree::{DateText, FloatText};
 
-/// A value and its span.
+/// A value as it was read, with its span in bytes.
 #[cycle(val)]
 #[derive(Debug, Drop)]
 pub struct Val<'de> {
     pub kind: ValKind<'de>,
-    /// For a string, the span of its content, or of the opening quote if it is single-line and empty. For any other
-    /// value all of it, brackets and a plus sign included.
+    /// The bytes of the value, with brackets and a sign. For a string, its content without the quotes or, if it is
+    /// empty and on a single line, the opening quote.
     pub span: Span,
 }
 
-/// The types of values.
+/// The kinds of values.
 #[cycle(val)]
 #[derive(Debug, Drop)]
 pub enum ValKind<'de> {
@@ -24,7 +24,7 @@ pub enum ValKind<'de> {
     Boolean(bool),
     Datetime(DateText<'de>),
     Array(Vec<Val<'de>>),
-    /// The pairs of an inline table, in the order of the text.
+    /// An inline table: its pairs, in the order of the text. They may clash.
     Inline(Vec<Assignment<'de>>),
 }
 
@@ -34,14 +34,14 @@ pub enum ValKind<'de> {
 pub struct Assignment<'de> {
     pub parts: DottedKey<'de>,
     pub value: Val<'de>,
-    /// From the start of the key to the end of the value, closing quotes included.
+    /// From the start of the key to the end of the value, quotes included.
     pub extent: Span,
 }
 
-/// A dotted key, which has at least one part. A key with one part needs no memory.
+/// A dotted key, or a simple key as its only part. Nothing is allocated for a key of one part.
 #[derive(Debug, Drop)]
 pub struct DottedKey<'de> {
-    /// The parts before the last one.
+    /// The parts before the last, in order.
     pub inner: Vec<Key<'de>>,
     pub last: Key<'de>,
 }

@@ -1,12 +1,12 @@
-//! Values.
-ghost use Rattle.toml_span_read.specs.Data.{depth_limit, view, kind_view, key_value, parsed, scalar as scalar_node};
-ghost use Rattle.toml_span_read.specs.Data.{array as array_node, parts as parts_of, inline as inline_node, onto};
-ghost use Rattle.toml_span_read.specs.Data.{pairs_onto, no_items, no_pairs};
+//! Reads values.
+ghost use Rattle.toml_span_read.specs.Data.{depth_limit, parsed_value, parsed_kind, parsed_assignment, parsed};
+ghost use Rattle.toml_span_read.specs.Data.{scalar as scalar_node, array as array_node, parts as parts_of};
+ghost use Rattle.toml_span_read.specs.Data.{inline as inline_node, onto, pairs_onto, no_items, no_pairs};
 ghost use Rattle.std.specs.Prelude.{◌≡◌, ◌+◌, ◌-◌, ◌<◌, ◌≤◌, ◌||◌, ◌==◌, ◌⊎◌, ◌++◌, ◌∷◌, [], true, false, length};
 ghost use Rattle.std.specs.Prelude.{slice_index, map, IfOk};
 ghost use Rattle.std.specs.Str.{IsCharBoundary};
 ghost use Rattle.toml_span_lex.specs.Bytes.{is_keylike, quotation_mark, apostrophe, left_bracket, left_brace};
-ghost use Rattle.toml_span_read.specs.code.Faults.{Advances, Gives, IsPlacedStop};
+ghost use Rattle.toml_span_read.specs.code.Faults.{Advances, MatchesReading, IsPlacedStop};
 ghost use Rattle.std.specs.Cow.{cow_str_bytes};
 ghost use Rattle.toml_span_tree.specs.Node.{text as text_node, boolean, datetime};
 ghost use Rattle.toml_span_tree.specs.Value.{date_bytes};
@@ -15,14 +15,14 @@ ghost use Rattle.toml_span_read.specs.Borrowed.{joined, assignment_written, assi
 ghost use Rattle.toml_span_read.specs.Faults.{opens_nested, begins_bare, begins_number};
 ghost use Rattle.toml_span_read.specs.Gaps.{MaximalGap};
 ghost use Rattle.toml_span_read.specs.Read as spec;
-ghost use Rattle.toml_span_read.specs.code.Values.{IsRunOf, IsTooDeep, ScalarGives, value_found, key_value_found};
+ghost use Rattle.toml_span_read.specs.code.Values.{IsRunOf, IsTooDeep, ScalarGives, value_found, assignment_found};
 ghost use Rattle.toml_span_read.specs.Dates as date_spec;
 ghost use Rattle.toml_span_read.specs.Keys.{opens_string};
 
 use crate::dates::{begins_date, date};
 use crate::earlier::{Earlier, add_clear};
-use crate::fault::{Due, Fault, FaultKind, fault_at};
-use crate::gaps::{Behind, after_element, behind_byte, byte_at, opened, pair_equals};
+use crate::fault::{ExpectedToken, Fault, FaultKind, fault_at};
+use crate::gaps::{AfterElement, after_byte, after_element, byte_at, opened, pair_equals};
 use crate::keys::dotted_key;
 use crate::lists::add;
 use crate::numbers::{number, short_integer};
@@ -36,10 +36,11 @@ use toml_span_lex::span::Span;
 use toml_span_lex::stop::Stop;
 use toml_span_tree::DateText;
 
-/// Reads the value at `at`, which is nested inside `depth` brackets and key parts. Returns it with the offset after it.
+/// Reads the value at the byte offset `at`, which is nested inside `depth` brackets, braces and parts of keys. Returns
+/// it with the offset after it.
 ///
-/// Fails with the first fault of the value, with `ExceededDepthLimit` if it is nested deeper than `limit`, or if an
-/// allocation fails.
+/// Fails with the first fault of the value, with `ExceededDepthLimit` if it is nested more than `limit` levels deep, or
+/// if an allocation fails.
 ///
 /// `val = string / boolean / array / inline-table / date-time / float / integer` (TOML 1.1, Key/Value Pair)
 #[cycle(read)]
@@ -54,7 +55,7 @@ pub(crate) fn value<'de>(
     requires boundary { IsCharBoundary text.now at }
     requires small { limit ≤ depth_limit }
     ensures advances { Advances text.now at result }
-    ensures value { Gives value_found (spec.value text.now limit ((limit + 1) - depth) 0 at) result }
+    ensures value { MatchesReading value_found (spec.value text.now limit ((limit + 1) - depth) 0 at) result }
     ensures borrows { IfOk result (λ found. AreWrittenRight text.now (written found.0)) }
 {
     match byte_at(text, at) {
@@ -66,7 +67,7 @@ pub(crate) fn value<'de>(
     }
 }
 
-/// Returns the fault of a value that is nested too deeply.
+/// Returns the fault of a value at `at` that is nested too deep.
 fn too_deep(text: &str, at: usize) -> Stop<Fault>
     requires { at ≤ length text.now }
     ensures fault { IsTooDeep at result }
@@ -76,7 +77,7 @@ fn too_deep(text: &str, at: usize) -> Stop<Fault>
     Stop::Fault(fault_at(FaultKind::ExceededDepthLimit, at))
 }
 
-/// Reads the string at `at`, and returns it with the offset after it.
+/// Reads the string at `at`. Returns it with the offset after it. Fails like `value`.
 ///
 /// `string = ml-basic-string / basic-string / ml-literal-string / literal-string` (TOML 1.1, String)
 #[inline(always)]
@@ -90,7 +91,7 @@ fn string_value<'de>(
     requires boundary { IsCharBoundary text.now at }
     requires quote { (slice_index text.now at ≡ quotation_mark) ⊎ (slice_index text.now at ≡ apostrophe) }
     ensures advances { Advances text.now at result }
-    ensures value { Gives value_found (spec.value text.now limit ((limit + 1) - depth) 0 at) result }
+    ensures value { MatchesReading value_found (spec.value text.now limit ((limit + 1) - depth) 0 at) result }
     ensures borrows { IfOk result (λ found. AreWrittenRight text.now (written found.0)) }
 {
     let token = string(alloc, text, at)?;
@@ -100,7 +101,8 @@ fn string_value<'de>(
     Ok((string_of(token.content, token.span), token.end))
 }
 
-/// Reads the value at `at`, which begins with neither a quote nor a bracket, and returns it with the offset after it.
+/// Reads the value at `at`, which begins with neither a quote nor a bracket. Returns it with the offset after it. Fails
+/// like `value`.
 fn scalar<'de>(
     alloc: Global,
     text: &'de str,
@@ -111,7 +113,7 @@ fn scalar<'de>(
     requires boundary { IsCharBoundary text.now at }
     requires plain { (opens_nested (slice_index text.now at) || opens_string (slice_index text.now at)) ≡ false }
     ensures advances { Advances text.now at result }
-    ensures value { Gives value_found (spec.value text.now limit ((limit + 1) - depth) 0 at) result }
+    ensures value { MatchesReading value_found (spec.value text.now limit ((limit + 1) - depth) 0 at) result }
     ensures borrows { IfOk result (λ found. AreWrittenRight text.now (written found.0)) }
 {
     let byte = byte_at(text, at);
@@ -125,7 +127,8 @@ fn scalar<'de>(
     Ok((scalar_of(kind, at, end), end))
 }
 
-/// Reads the date, number or boolean at `at`, and returns it with the offset after it.
+/// Reads the date, number or boolean at `at`. Returns it with the offset after it. Fails if it is not valid, or if an
+/// allocation fails.
 ///
 /// `val =/ boolean / date-time / float / integer` (TOML 1.1, Key/Value Pair)
 fn bare<'de>(alloc: Global, text: &'de str, at: usize) -> Result<(ValKind<'de>, usize), Stop<Fault>>
@@ -151,7 +154,7 @@ fn bare<'de>(alloc: Global, text: &'de str, at: usize) -> Result<(ValKind<'de>, 
     }
 }
 
-/// A run of letters, digits, dashes and underscores.
+/// What a run of letters, digits, dashes and underscores spells: one of these words, or something else.
 pub(crate) enum Run {
     True,
     False,
@@ -160,12 +163,12 @@ pub(crate) enum Run {
     Other,
 }
 
-/// Returns what kind of run these bytes are.
+/// Returns what the bytes of a run spell.
 fn run_of(bytes: &[u8]) -> Run
     ensures { IsRunOf bytes.now result }
 {
-    // Toolchain: a match on byte strings has a goal for each way through the bytes. In a function that returns an enum
-    // they are proved without help.
+    // Toolchain: a match on byte strings has one goal for each way through the bytes. They are proved without help in a
+    // function that returns an enum.
     match bytes {
         b"true" => Run::True,
         b"false" => Run::False,
@@ -174,7 +177,8 @@ fn run_of(bytes: &[u8]) -> Run
     }
 }
 
-/// Reads the boolean, or `inf` or `nan`, at `at`, and returns it with the offset after it.
+/// Reads the boolean, or `inf` or `nan`, at `at`. Returns it with the offset after it. Fails with `UnquotedString` at
+/// any other word.
 ///
 /// `boolean = true / false` (TOML 1.1, Boolean)
 fn word<'de>(alloc: Global, text: &'de str, at: usize) -> Result<(ValKind<'de>, usize), Stop<Fault>>
@@ -197,7 +201,7 @@ fn word<'de>(alloc: Global, text: &'de str, at: usize) -> Result<(ValKind<'de>, 
     }
 }
 
-/// Reads the array at `at`, and returns it with the offset after it.
+/// Reads the array at `at`. Returns it with the offset after it. Fails like `value`.
 ///
 /// `array = array-open [ array-values ] ws-comment-newline array-close` (TOML 1.1, Array)
 #[cycle(read)]
@@ -213,14 +217,14 @@ fn array<'de>(
     requires small { limit ≤ depth_limit }
     requires depth { depth ≤ limit }
     ensures advances { Advances text.now at result }
-    ensures value { Gives value_found (spec.value text.now limit ((limit + 1) - depth) 0 at) result }
+    ensures value { MatchesReading value_found (spec.value text.now limit ((limit + 1) - depth) 0 at) result }
     ensures borrows { IfOk result (λ found. AreWrittenRight text.now (written found.0)) }
 {
     let mut items = Vec::new(alloc);
     let mut next = opened(text, at);
     'items: loop {
         if byte_at(text, next) == b']' {
-            let close = behind_byte(text, next);
+            let close = after_byte(text, next);
             return Ok((array_of(items, at, close), close));
         }
         let (item, end) = match value(alloc, text, next, depth + 1, limit) {
@@ -231,14 +235,19 @@ fn array<'de>(
             return Err(Stop::Memory(e));
         }
         match after_element(text, end, b']') {
-            Behind::Comma(on) => next = on,
-            Behind::Closed(close) => return Ok((array_of(items, at, close), close)),
-            Behind::Neither(here) => return Err(wanted(alloc, text, here, Due::RightBracket)),
+            AfterElement::Comma(on) => next = on,
+            AfterElement::Closed(close) => return Ok((array_of(items, at, close), close)),
+            AfterElement::Neither(here) => return Err(wanted(
+                alloc,
+                text,
+                here,
+                ExpectedToken::RightBracket,
+            )),
         }
     }
 }
 
-/// Reads the inline table at `at`, and returns it with the offset after it.
+/// Reads the inline table at `at`. Returns it with the offset after it. Fails like `value`.
 ///
 /// `inline-table = inline-table-open [ inline-table-keyvals ] ws-comment-newline inline-table-close`
 /// (TOML 1.1, Inline Table)
@@ -255,7 +264,7 @@ fn inline_table<'de>(
     requires small { limit ≤ depth_limit }
     requires depth { depth ≤ limit }
     ensures advances { Advances text.now at result }
-    ensures value { Gives value_found (spec.value text.now limit ((limit + 1) - depth) 0 at) result }
+    ensures value { MatchesReading value_found (spec.value text.now limit ((limit + 1) - depth) 0 at) result }
     ensures borrows { IfOk result (λ found. AreWrittenRight text.now (written found.0)) }
 {
     let mut pairs = Vec::new(alloc);
@@ -263,7 +272,7 @@ fn inline_table<'de>(
     let mut next = opened(text, at);
     'pairs: loop {
         if byte_at(text, next) == b'}' {
-            let close = behind_byte(text, next);
+            let close = after_byte(text, next);
             return Ok((inline_of(pairs, at, close), close));
         }
         let (found, end) = match pair(alloc, text, next, depth + 1, limit) {
@@ -274,14 +283,20 @@ fn inline_table<'de>(
             return Err(stop);
         }
         match after_element(text, end, b'}') {
-            Behind::Comma(on) => next = on,
-            Behind::Closed(close) => return Ok((inline_of(pairs, at, close), close)),
-            Behind::Neither(here) => return Err(wanted(alloc, text, here, Due::Comma)),
+            AfterElement::Comma(on) => next = on,
+            AfterElement::Closed(close) => return Ok((inline_of(pairs, at, close), close)),
+            AfterElement::Neither(here) => return Err(wanted(
+                alloc,
+                text,
+                here,
+                ExpectedToken::Comma,
+            )),
         }
     }
 }
 
-/// Reads the pair of an inline table at `at`, and returns it with the offset after it.
+/// Reads the pair of an inline table at `at`. Returns it with the offset after it. Fails like `value`, or with the
+/// fault of its key.
 ///
 /// `keyval = key keyval-sep val` (TOML 1.1, Inline Table)
 #[cycle(read)]
@@ -297,14 +312,14 @@ fn pair<'de>(
     requires small { limit ≤ depth_limit }
     requires depth { depth ≤ limit + 1 }
     ensures advances { Advances text.now at result }
-    ensures pair { Gives key_value_found
+    ensures pair { MatchesReading assignment_found
         (spec.keyval text.now limit (MaximalGap text.now) (spec.value text.now limit ((limit + 1) - depth)) at) result }
     ensures borrows { IfOk result (λ found. AreWrittenRight text.now (assignment_written found.0)) }
 {
     let (parts, key_end) = dotted_key(alloc, text, at, limit)?;
     let from = match pair_equals(text, key_end) {
         Ok(from) => from,
-        Err(here) => return Err(wanted(alloc, text, here, Due::Equals)),
+        Err(here) => return Err(wanted(alloc, text, here, ExpectedToken::Equals)),
     };
     let inside = depth + (parts.inner.len() + 1);
     match value(alloc, text, from, inside, limit) {
@@ -313,41 +328,42 @@ fn pair<'de>(
     }
 }
 
-/// Returns a string as a value.
+/// Wraps a string with its span.
 fn string_of<'de>(content: CowStr<'de>, span: Span) -> Val<'de>
-    ensures view { view result ≡ parsed (scalar_node (text_node (cow_str_bytes content.entry))) span }
+    ensures parsed_value { parsed_value result ≡ parsed (scalar_node (text_node (cow_str_bytes content.entry))) span }
     ensures written { written result ≡ string_written content.entry span ∷ [] }
 {
     let kind = ValKind::String(content);
     Val { kind, span }
 }
 
-/// Returns a boolean as a value.
+/// Wraps a boolean.
 fn truth<'de>(value: bool) -> ValKind<'de>
-    ensures { kind_view result ≡ scalar_node (boolean value) }
+    ensures { parsed_kind result ≡ scalar_node (boolean value) }
 {
     ValKind::Boolean(value)
 }
 
-/// Returns a date or time as a value.
+/// Wraps a date or time.
 fn dated<'de>(date: DateText<'de>) -> ValKind<'de>
-    ensures { kind_view result ≡ scalar_node (datetime (date_bytes date.entry)) }
+    ensures { parsed_kind result ≡ scalar_node (datetime (date_bytes date.entry)) }
 {
     ValKind::Datetime(date)
 }
 
-/// Returns a value of this kind, which is not a string, with its span.
+/// Wraps a value of this kind, which is not a string, with the span `start..end`.
 fn scalar_of<'de>(kind: ValKind<'de>, start: usize, end: usize) -> Val<'de>
-    ensures view { view result ≡ parsed (kind_view kind.entry) (record { start = start; end = end }) }
+    ensures parsed_value { parsed_value result ≡ parsed (parsed_kind kind.entry) (record { start = start; end = end }) }
     ensures written { written result ≡ kind_written kind.entry (record { start = start; end = end }) }
 {
     let span = Span { start, end };
     Val { kind, span }
 }
 
-/// Returns an array of these elements, with its span.
+/// Wraps the elements of an array, with the span `start..end`.
 fn array_of<'de>(items: Vec<Val<'de>>, start: usize, end: usize) -> Val<'de>
-    ensures view { view result ≡ parsed (array_node (onto (map view items.entry.items) no_items))
+    ensures parsed_value { parsed_value result
+        ≡ parsed (array_node (onto (map parsed_value items.entry.items) no_items))
         (record { start = start; end = end }) }
     ensures written { written result ≡ joined (map written items.entry.items) }
 {
@@ -358,9 +374,10 @@ fn array_of<'de>(items: Vec<Val<'de>>, start: usize, end: usize) -> Val<'de>
     }
 }
 
-/// Returns an inline table of these pairs, with its span.
+/// Wraps the pairs of an inline table, with the span `start..end`.
 fn inline_of<'de>(pairs: Vec<Assignment<'de>>, start: usize, end: usize) -> Val<'de>
-    ensures view { view result ≡ parsed (inline_node (pairs_onto (map key_value pairs.entry.items) no_pairs))
+    ensures parsed_value { parsed_value result
+        ≡ parsed (inline_node (pairs_onto (map parsed_assignment pairs.entry.items) no_pairs))
         (record { start = start; end = end }) }
     ensures written { written result ≡ assignments_written pairs.entry.items }
 {
@@ -371,17 +388,17 @@ fn inline_of<'de>(pairs: Vec<Assignment<'de>>, start: usize, end: usize) -> Val<
     }
 }
 
-/// Returns the assignment of a value to a key, with its extent.
+/// Returns the assignment of a value to a key. Its extent is `start..end`.
 pub(crate) fn assigned<'de>(
     parts: DottedKey<'de>,
     value: Val<'de>,
     start: usize,
     end: usize,
 ) -> Assignment<'de>
-    ensures key_value { key_value result
+    ensures parsed_assignment { parsed_assignment result
         ≡ record {
           parts = parts_of parts.entry;
-          value = view value.entry;
+          value = parsed_value value.entry;
           extent = record { start = start; end = end };
         } }
     ensures written { assignment_written result ≡ dotted_written parts.entry ++ written value.entry }

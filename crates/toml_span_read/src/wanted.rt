@@ -1,4 +1,4 @@
-//! The faults that report another token than the expected one.
+//! Faults for a token where another one is expected.
 ghost use Rattle.std.specs.Prelude.{◌≡◌, if◌then◌else◌, slice_index, false};
 ghost use Rattle.std.specs.Str.{IsCharBoundary};
 ghost use Rattle.toml_span_lex.specs.Tokens.{lexeme};
@@ -7,7 +7,7 @@ ghost use Rattle.toml_span_read.specs.Keys as spec;
 ghost use Rattle.toml_span_read.specs.code.Faults as faults_code;
 ghost use Rattle.toml_span_read.specs.code.Wanted.{FoundGives, WantedGives, NoValueGives};
 
-use crate::fault::{Due, Fault, FaultKind, Found, fault_at, token_fault};
+use crate::fault::{ExpectedToken, Fault, FaultKind, FoundToken, fault_at, token_fault};
 use crate::strings::{opens_string, string};
 use std::alloc::Global;
 use toml_span_lex::span::Span;
@@ -15,48 +15,48 @@ use toml_span_lex::stop::Stop;
 use toml_span_lex::tokenizer::token_at;
 use toml_span_lex::tokens::Token;
 
-/// Returns the name of a token that was found where another one was expected.
-fn found_of(token: &Token<'_>) -> Found
+/// Returns what `Wanted` reports for a token that was found where another one is expected.
+fn found_of(token: &Token<'_>) -> FoundToken
     ensures { result ≡ faults.found_of (lexeme token.now) }
 {
     match token {
-        Token::Whitespace(_) => Found::Whitespace,
-        Token::Newline => Found::Newline,
-        Token::Comment(_) => Found::Comment,
-        Token::Equals => Found::Equals,
-        Token::Period => Found::Period,
-        Token::Comma => Found::Comma,
-        Token::Colon => Found::Colon,
-        Token::Plus => Found::Plus,
-        Token::LeftBrace => Found::LeftBrace,
-        Token::RightBrace => Found::RightBrace,
-        Token::LeftBracket => Found::LeftBracket,
-        Token::RightBracket => Found::RightBracket,
-        Token::Keylike(_) => Found::Keylike,
+        Token::Whitespace(_) => FoundToken::Whitespace,
+        Token::Newline => FoundToken::Newline,
+        Token::Comment(_) => FoundToken::Comment,
+        Token::Equals => FoundToken::Equals,
+        Token::Period => FoundToken::Period,
+        Token::Comma => FoundToken::Comma,
+        Token::Colon => FoundToken::Colon,
+        Token::Plus => FoundToken::Plus,
+        Token::LeftBrace => FoundToken::LeftBrace,
+        Token::RightBrace => FoundToken::RightBrace,
+        Token::LeftBracket => FoundToken::LeftBracket,
+        Token::RightBracket => FoundToken::RightBracket,
+        Token::Keylike(_) => FoundToken::Keylike,
         Token::String { multiline, .. } => string_found(*multiline),
     }
 }
 
-/// Returns the name of a string that was found where another token was expected.
-fn string_found(is_multiline: bool) -> Found
-    ensures { result ≡ (if is_multiline then Found.MultilineString else Found.OneLineString) }
+/// Returns what `Wanted` reports for a string that was found where another token is expected.
+fn string_found(is_multiline: bool) -> FoundToken
+    ensures { result ≡ (if is_multiline then FoundToken.MultilineString else FoundToken.OneLineString) }
 {
     if is_multiline {
-        Found::MultilineString
+        FoundToken::MultilineString
     } else {
-        Found::OneLineString
+        FoundToken::OneLineString
     }
 }
 
-/// Returns the token that begins at `at`, or the end of the text, with the offset after it. Fails with the tokenizer's
-/// fault, or if an allocation fails.
-fn found_at(alloc: Global, text: &str, at: usize) -> Result<(Found, usize), Stop<Fault>>
+/// Returns what is at `at`, a token or the end of the text, with the offset after it. Fails with the fault of the
+/// tokenizer, or if an allocation fails.
+fn found_at(alloc: Global, text: &str, at: usize) -> Result<(FoundToken, usize), Stop<Fault>>
     requires { IsCharBoundary text.now at }
     ensures found { FoundGives text.now at result }
     ensures placed { faults_code.IsPlacedEnd text.now result }
 {
     if at == text.len() {
-        return Ok((Found::EndOfText, at));
+        return Ok((FoundToken::EndOfText, at));
     }
     if opens_string(text.as_bytes()[at]) {
         return match string(alloc, text, at) {
@@ -70,10 +70,11 @@ fn found_at(alloc: Global, text: &str, at: usize) -> Result<(Found, usize), Stop
     }
 }
 
-/// Returns the fault that the expected token is not at `at`. The span of `Wanted` is as long as the name of what was
-/// found, so it may end after the text. A fault of the tokenizer takes precedence.
+/// Returns the fault `Wanted` at `at`, where another token than the expected one is. Its span is as long as the name of
+/// what was found, so it may end after the text. If no token can be read there, returns the fault of the tokenizer
+/// instead.
 #[cold]
-pub(crate) fn wanted(alloc: Global, text: &str, at: usize, expected: Due) -> Stop<Fault>
+pub(crate) fn wanted(alloc: Global, text: &str, at: usize, expected: ExpectedToken) -> Stop<Fault>
     requires { IsCharBoundary text.now at }
     ensures fault { WantedGives text.now at expected result }
     ensures placed { faults_code.IsPlacedStop text.now result }
@@ -93,7 +94,8 @@ pub(crate) fn wanted(alloc: Global, text: &str, at: usize, expected: Due) -> Sto
     }
 }
 
-/// Returns the fault that a value is expected at `at`, where the text ends or another token begins.
+/// Returns the fault for a missing value at `at`: `UnexpectedEof` at the end of the text, otherwise `Wanted`, or the
+/// fault of the tokenizer.
 #[cold]
 pub(crate) fn no_value(alloc: Global, text: &str, at: usize) -> Stop<Fault>
     requires boundary { IsCharBoundary text.now at }
@@ -106,7 +108,7 @@ pub(crate) fn no_value(alloc: Global, text: &str, at: usize) -> Stop<Fault>
     }
     match found_at(alloc, text, at) {
         Ok((found, end)) => {
-            let expected = Due::Value;
+            let expected = ExpectedToken::Value;
             Stop::Fault(Fault {
                 kind: FaultKind::Wanted { expected, found },
                 span: Span { start: at, end },

@@ -32,8 +32,8 @@ pub line_start-zero : (text : List ℕ) → 0 ≡ line_start text 0
 unfolding line_start
 line_start-zero text = refl
 
-pub behind_feed : (text : List ℕ) (n : ℕ) → IsUtf8 text → 0 < n → n ≤ length text → get_or text (n - 1) 0 ≡ 10 → IsCharBoundary text n
-behind_feed text n utf8 some within feed =
+pub after_feed : (text : List ℕ) (n : ℕ) → IsUtf8 text → 0 < n → n ≤ length text → get_or text (n - 1) 0 ≡ 10 → IsCharBoundary text n
+after_feed text n utf8 some within feed =
     let e : n ≡ n - 1 + 1 = omega arith in
     rw e (IsCharBoundary-after_ascii text (n - 1) utf8 (omega arith) (omega arith))
 

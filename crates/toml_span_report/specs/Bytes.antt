@@ -54,41 +54,41 @@ is_in class.Straight b = is_line b && not (b == 0xE2)
 abbrev pub begins : List ℕ → ℕ → List ℕ → Bool
 begins text at front = starts_with nat_eq (drop at text) front
 
--- the first offset, starting at one, whose byte is not of a class
+-- the first offset from a given one on whose byte is not of the class
 abbrev pub is_out : Class → ℕ → Bool
 is_out kind b = not (is_in kind b)
 
 unfoldable pub end_of : Class → List ℕ → ℕ → ℕ
 end_of kind text at = at + position_or_len (is_out kind) (drop at text)
 
--- the lowest offset, up to one, from which on all bytes are of a class
+-- the start of the run of bytes of the class that ends at an offset
 unfoldable pub start_of : Class → List ℕ → ℕ → ℕ
 start_of kind text zero = 0
 start_of kind text (suc i) = if is_in kind (slice_index text i) then start_of kind text i else suc i
 
--- the offset some bytes further on, or the end of the text
+-- the offset this many bytes further on, at most the length of the text
 abbrev pub ahead : List ℕ → ℕ → ℕ → ℕ
 ahead text at count = min (at + count) (length text)
 
--- the nearest bytes before and after an offset that are not blanks, or 0
+-- the nearest byte before or after an offset that is not a blank, or 0 if there is none
 abbrev pub byte_before : List ℕ → ℕ → ℕ
 byte_before text at =
     let end = start_of class.Blank text at in if end == 0 then 0 else slice_index text (end - 1)
 
-abbrev pub byte_behind : List ℕ → ℕ → ℕ
-byte_behind text at = slice_index text (end_of class.Blank text at)
+abbrev pub byte_after : List ℕ → ℕ → ℕ
+byte_after text at = slice_index text (end_of class.Blank text at)
 
--- where a line has its first byte that is not a blank, and where it ends without trailing blanks
+-- the offset of the first byte of a line that is not a blank, and the end of a line without trailing blanks
 abbrev pub first_of_line : List ℕ → ℕ → ℕ
 first_of_line text at = end_of class.Blank text (start_of class.Line text at)
 
 abbrev pub last_of_line : List ℕ → ℕ → ℕ
 last_of_line text at = start_of class.Blank text (end_of class.Line text at)
 
--- only blanks follow on the line
+-- whether only blanks follow on the line
 abbrev pub is_last : List ℕ → ℕ → Bool
-is_last text at = byte_behind text at == 0 || byte_behind text at == 10 || byte_behind text at == 13
+is_last text at = byte_after text at == 0 || byte_after text at == 10 || byte_after text at == 13
 
--- a part of a text, whose offsets are moved back to character boundaries
+-- the part of a text between two offsets, which are moved back to character boundaries
 unfoldable pub part : List ℕ → ℕ → ℕ → List ℕ
 part text from to = slice_range text (place text from) (max (place text to) (place text from))

@@ -24,8 +24,8 @@ use Rattle.toml_span_report.specs.declared.colours.Style.{Style}
 use Rattle.toml_span_report.specs.declared.report.Severity.{Severity}
 use Rattle.toml_span_report.specs.declared.report.Severity.TheVariants as severities
 
--- Unknown keys are named, between back quotes, and each is marked. Any other error has the text that it prints, and the
--- labels of its diagnostic.
+-- Unknown keys are named in backticks, and each is marked. Any other error has its message, and the labels of its
+-- diagnostic.
 abbrev pub message : Kind → List ℕ
 message (unexpected_keys keys expected) = unknown_keys (map (λ key. key.0) keys)
 message (unexpected_value expected value) = one_of expected
@@ -48,14 +48,14 @@ abbrev pub notes : Kind → List (List ℕ)
 notes (unexpected_keys keys expected) = what_is_expected expected ∷ []
 notes kind = []
 
--- the name nearest to unknown keys, or to a text that is not among the expected ones, and the range of a type
+-- the name nearest to an unknown key or value, and the range of a number type
 abbrev pub help : Kind → List (List ℕ)
 help (unexpected_keys keys expected) = suggestions (map (λ key. key.0) keys) expected
 help (unexpected_value expected (Some value)) = suggestions (value ∷ []) expected
 help (out_of_range name) = option_to_list (range_help name)
 help kind = []
 
--- the report of an error, at the token at its place, or at its span
+-- the report of an error without a recognized mistake, which marks this span
 abbrev pub report_of : Severity → Span → Kind → ReportContent
 report_of severity span kind = record {
   severity = severity;
@@ -71,7 +71,7 @@ abbrev pub TellsKind : Severity → List ℕ → ErrorContent → ReportContent 
 TellsKind severity text error report =
     (span : Span) × IsMarked text error.kind error.span span × (report ≡ report_of severity span error.kind)
 
--- the report of an error that comes from a mistake, in the words for it
+-- the report of an error that a recognized mistake caused
 abbrev pub headline : Kind → FindingContent → List ℕ
 headline kind f = if length f.words.headline == 0 then message kind else f.words.headline
 
@@ -86,7 +86,7 @@ mistaken severity kind f = record {
   replacements = repairs.repairs f;
 }
 
--- the report of an error: on the mistake that it comes from, if one is known
+-- the report of an error: that of the mistake, if one is recognized
 abbrev pub TellsFinding : Severity → List ℕ → ErrorContent → Option FindingContent → ReportContent → Type 0
 TellsFinding severity text error (Some f) report = report ≡ mistaken severity error.kind f
 TellsFinding severity text error None report = TellsKind severity text error report
@@ -101,7 +101,7 @@ IsReport style name text error out =
     (report : ReportContent) × TellsError severities.Error text error report
     × (out ≡ report_text style report name text)
 
--- the report of each error follows those before it
+-- The reports of these errors follow those before them.
 abbrev pub AddsReports : Severity → List ℕ → List ErrorContent → List ReportContent → List ReportContent → Type 0
 AddsReports severity text [] before after = after ≡ before
 AddsReports severity text (error ∷ errors) before after =
@@ -114,7 +114,7 @@ AreReports style name text errors out =
     (reports : List ReportContent) × AddsReports severities.Error text errors [] reports
     × AreReportTexts style name text reports out
 
--- Out of memory has no text.
+-- A failed allocation has no text.
 abbrev pub AreShown : Style → List ℕ → List ℕ → Stop Errors → List ℕ → Type 0
 AreShown style name text (stop.Fault faults) out = AreReports style name text (all faults) out
 AreShown style name text (stop.Memory e) out = ⊥

@@ -1,4 +1,4 @@
--- The pages of codes.
+-- The explanations of codes.
 use Rattle.std.specs.Prelude.{ℕ, List, map, Option}
 use Rattle.toml_span_report.specs.Tables.{text_in}
 use Rattle.toml_span_report.specs.declared.explanations.TheConstants.{PAGES}

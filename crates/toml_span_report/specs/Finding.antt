@@ -1,4 +1,4 @@
--- A mistake found in a text: what is marked, and the code to write.
+-- Findings: a typical mistake in a text, what to mark, and the code to write.
 use Rattle.std.specs.Prelude.{ℕ, nat_lt, List, [], codes, Option, Some, None, if◌then◌else◌}
 use Rattle.toml_span_lex.specs.declared.span.Span.{Span}
 use Rattle.toml_span_report.specs.Bytes.{end_of, part}
@@ -8,7 +8,7 @@ use Rattle.toml_span_report.specs.declared.finding.Finding.{Finding}
 use Rattle.toml_span_report.specs.declared.finding.Meant.{Meant}
 use Rattle.toml_span_report.specs.Words.{WordsContent, words_content, texts}
 
--- code in pieces, with a number after them
+-- a text in pieces, with a number after them
 pub record CodeContent : Type 0 where
   pub first : List ℕ
   pub second : List ℕ
@@ -29,7 +29,7 @@ code_content c = record {
   number = c.number;
 }
 
--- a finding by content
+-- a finding as plain data
 pub record FindingContent : Type 0 where
   pub words : WordsContent
   pub mark : Span
@@ -50,7 +50,7 @@ finding_content f = record {
   other = code_content f.other;
 }
 
--- what a word or a character probably stands for
+-- what a word or character of another notation means in TOML
 pub record MeantContent : Type 0 where
   pub mistake : WordsContent
   pub name : List ℕ
@@ -62,7 +62,7 @@ meant_content m = record { mistake = texts m.mistake; name = m.name.now; code = 
 abbrev pub as_meant : WordsContent → List ℕ → List ℕ → MeantContent
 as_meant mistake name code = record { mistake = mistake; name = name; code = code }
 
--- code of six pieces, and of three
+-- six pieces joined, and three
 abbrev pub six : List ℕ → List ℕ → List ℕ → List ℕ → List ℕ → List ℕ → CodeContent
 six a b c d e f =
     record { first = a; second = b; third = c; fourth = d; fifth = e; sixth = f; number = None }
@@ -73,7 +73,7 @@ pieces first second third = six first second third [] [] []
 abbrev pub span_of : ℕ → ℕ → Span
 span_of start end = record { start = start; end = end }
 
--- a mistake with the code to write, and without a replacement, and one without code
+-- a finding with code but without a replacement, and one without code
 abbrev pub shown : WordsContent → Span → Span → CodeContent → FindingContent
 shown words mark also code = record {
   words = words;
@@ -88,7 +88,7 @@ shown words mark also code = record {
 abbrev pub marked : WordsContent → ℕ → ℕ → FindingContent
 marked words from to = shown words (span_of from to) (span_of from to) (pieces [] [] [])
 
--- one that code can replace, also at another place, and one whose mark can be removed
+-- findings with a replacement: of another span, of the marked one, and by nothing
 abbrev pub mended : WordsContent → Span → Span → CodeContent → FindingContent
 mended words mark edit code = record (shown words mark mark code) { edit = Some edit }
 
@@ -98,7 +98,7 @@ replaced words from to code = mended words (span_of from to) (span_of from to) c
 abbrev pub removed : WordsContent → ℕ → ℕ → FindingContent
 removed words from to = replaced words from to (pieces [] [] [])
 
--- A text with backslashes goes between single quotes, where it keeps its meaning.
+-- A text with backslashes is put between single quotes, where they keep their meaning.
 abbrev pub quote_for : List ℕ → ℕ → ℕ → List ℕ
 quote_for text from to = if nat_lt (end_of class.Unescaped text from) to then codes "'" else codes "\""
 
@@ -106,7 +106,7 @@ abbrev pub quoted : WordsContent → List ℕ → ℕ → ℕ → FindingContent
 quoted words text from to =
     replaced words from to (pieces (quote_for text from to) (part text from to) (quote_for text from to))
 
--- the first of two that was found
+-- the first finding, or the second if there is no first
 abbrev pub first_found : Option FindingContent → Option FindingContent → Option FindingContent
 first_found (Some f) other = Some f
 first_found None other = other

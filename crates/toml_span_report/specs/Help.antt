@@ -1,4 +1,4 @@
--- Help for numbers out of a type's range.
+-- Help for numbers that are out of range.
 use Rattle.std.specs.Prelude.{ℕ, List, codes, Option, Some, None, if◌then◌else◌}
 use Rattle.std.specs.Str.{bytes_eq}
 

@@ -10,30 +10,30 @@ use Rattle.toml_span_report.specs.Visible.{quoted}
 
 -- ---- labels
 
--- the front of a label: whether it is primary
+-- the beginning of a label, with the member `primary`
 abbrev pub role_json : Bool → List ℕ
 role_json true = codes "{\"primary\":true"
 role_json false = codes "{\"primary\":false"
 
--- its bytes, counted from 0
+-- the bytes of a label, as offsets from 0
 unfoldable pub span_json : Span → List ℕ
 span_json span = codes ",\"start\":" ++ decimal span.start ++ codes ",\"end\":" ++ decimal span.end
 
--- the line and the column where it begins, both counted from 1
+-- the line and the column of its start, both from 1
 unfoldable pub place_json : List ℕ → ℕ → List ℕ
 place_json text at =
     codes ",\"line\":" ++ decimal (line_number text (place text at))
     ++ codes ",\"column\":" ++ decimal (column text (place text at))
 
--- its place
+-- its bytes, line and column
 unfoldable pub spot_json : List ℕ → Span → List ℕ
 spot_json text span = span_json span ++ place_json text span.start
 
--- a member whose value is a text, after what is there already
+-- a member whose value is a string, after the title
 abbrev pub member_json : List ℕ → List ℕ → List ℕ
 member_json title text = title ++ quoted text
 
--- a label, from its parts
+-- a label of these parts
 unfoldable pub parts_json : List ℕ → Bool → Span → List ℕ → List ℕ
 parts_json text is_primary span message =
     role_json is_primary ++ spot_json text span ++ member_json (codes ",\"message\":") message ++ codes "}"
@@ -43,14 +43,14 @@ label_json text mark = parts_json text mark.primary mark.span mark.message
 
 -- ---- reports
 
--- labels and texts as arrays, separated by commas
+-- labels and strings as arrays, separated by commas
 abbrev pub labels_json : List ℕ → List Place → List ℕ
 labels_json text marks = codes "[" ++ join_by (label_json text) (codes ",") marks ++ codes "]"
 
 abbrev pub texts_json : List (List ℕ) → List ℕ
 texts_json texts = codes "[" ++ join_by quoted (codes ",") texts ++ codes "]"
 
--- a replacement, from its parts
+-- a replacement of these parts
 abbrev pub safety_json : Bool → List ℕ
 safety_json true = codes "{\"safe\":true"
 safety_json false = codes "{\"safe\":false"

@@ -1,4 +1,4 @@
--- The text of many reports.
+-- The text of several reports.
 use Rattle.std.specs.Prelude.{◌≡◌, ℕ, zero, suc, Bool, true, false, ◌==◌, List, [], ◌∷◌, ◌++◌, map, codes}
 use Rattle.std.specs.Prelude.{if◌then◌else◌, Option, Some, None, string_bytes}
 use Rattle.std.specs.Fmt.{decimal}
@@ -13,7 +13,7 @@ use Rattle.toml_span_report.specs.declared.many.Drawn.{Drawn}
 use Rattle.toml_span_report.specs.declared.report.Severity.{Severity}
 use Rattle.toml_span_report.specs.declared.report.Severity.TheVariants.{Error, Warning, Note}
 
--- the offset of a report, which is 0 without labels, and its text
+-- the offset by which a report is sorted, which is 0 without labels, with its text
 abbrev pub place_of : Option MarkedLine → ℕ
 place_of None = 0
 place_of (Some p) = p.at
@@ -25,7 +25,7 @@ drawn style name text r =
 abbrev pub drawn_content : Drawn → ℕ × List ℕ
 drawn_content d = (d.at, string_bytes d.text)
 
--- The places are in order, and the reports of one place are the same, in the same order.
+-- The reports are sorted by their places. Those at one place keep their order.
 pub record AreInOrder (given ordered : List (ℕ × List ℕ)) : Type 0 where
   pub places : IsNonDecreasingBy (λ d. d.0) ordered
   pub same : IsStableByKey (λ d. d.0) nat_cmp given ordered
@@ -44,7 +44,7 @@ is_same _ _ = false
 abbrev pub is_of : Severity → ReportContent → Bool
 is_of severity r = is_same severity r.severity
 
--- a line with one more count, after a comma if there is something before it, or unchanged if the count is 0
+-- a line with one more count, after a comma unless it is the first, or the line itself if the count is 0
 abbrev pub comma : List ℕ → List ℕ
 comma [] = []
 comma (x ∷ xs) = codes ", "
@@ -64,7 +64,7 @@ total rs =
 abbrev pub joined : List (ℕ × List ℕ) → List ReportContent → List ℕ
 joined ordered rs = flat_map with_blank_line ordered ++ before (codes "\n") (total rs)
 
--- the texts of reports in the order of their places, each with a blank line after it, and the numbers of reports
+-- the texts of the reports, sorted by their places, each with a blank line after it, and the last line
 abbrev pub AreReportTexts : Style → List ℕ → List ℕ → List ReportContent → List ℕ → Type 0
 AreReportTexts style name text rs out =
     (ordered : List (ℕ × List ℕ)) × AreInOrder (map (drawn style name text) rs) ordered × (out ≡ joined ordered rs)

@@ -1,4 +1,4 @@
--- The typical mistake that an error probably comes from.
+-- The typical mistake that probably caused an error.
 use Rattle.std.specs.Prelude.{ℕ, List, Option, Some, None}
 use Rattle.toml_span_lex.specs.declared.span.Span.{Span}
 use Rattle.toml_span_tree.specs.Error.{Kind, unexpected_eof, invalid_char_in_string, invalid_escape}

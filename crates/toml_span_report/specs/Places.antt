@@ -1,15 +1,15 @@
--- Places in a text, and their lines.
+-- Offsets in a text, and the lines and columns where they are.
 use Rattle.std.specs.Prelude.{ℕ, zero, suc, ◌+◌, ◌-◌, max, Bool, ◌==◌, ◌&&◌, ◌||◌, not, nat_lt, nat_le, List, length}
 use Rattle.std.specs.Prelude.{take, drop, slice_index, slice_range, if◌then◌else◌}
 use Rattle.std.specs.List.{count_by, position_or_len}
 use Rattle.std.specs.Str.{chars}
 use Rattle.toml_span_lex.specs.declared.span.Span.{Span}
 
--- a character begins at i, or the text ends there
+-- whether a character begins at i, or the text ends there
 abbrev pub is_between : List ℕ → ℕ → Bool
 is_between text i = nat_le i (length text) && not (nat_le 128 (slice_index text i) && nat_lt (slice_index text i) 192)
 
--- i, or the nearest character boundary before it, or the end of the text
+-- the nearest character boundary at or before i, at most the length of the text
 unfoldable pub place : List ℕ → ℕ → ℕ
 place text zero = 0
 place text (suc i) = if is_between text (suc i) then suc i else place text i
@@ -17,18 +17,18 @@ place text (suc i) = if is_between text (suc i) then suc i else place text i
 abbrev pub is_line_feed : ℕ → Bool
 is_line_feed byte = byte == 10
 
--- where a byte order mark at the start of the text ends, or 0
+-- the length of the byte order mark at the start of the text, or 0
 unfoldable pub mark_end : List ℕ → ℕ
 mark_end text =
     if slice_index text 0 == 0xEF && (slice_index text 1 == 0xBB && slice_index text 2 == 0xBF) then 3 else 0
 
--- where the line of a place begins: after the nearest line feed before it, or after a byte order mark at the start of
--- the text
+-- the start of the line of an offset: after the nearest line feed before it or, if there is none, after a byte order
+-- mark
 unfoldable pub line_start : List ℕ → ℕ → ℕ
 line_start text zero = 0
 line_start text (suc i) = if suc i == mark_end text || slice_index text i == 10 then suc i else line_start text i
 
--- where the line of a place ends: before the line feed, and before the carriage return in front of that
+-- the end of the line of an offset: before its LF or CRLF
 abbrev pub without_return : List ℕ → ℕ → ℕ → ℕ
 without_return text at end =
     if nat_lt at end && (nat_lt end (length text) && slice_index text (end - 1) == 13) then end - 1 else end
@@ -36,16 +36,16 @@ without_return text at end =
 unfoldable pub line_end : List ℕ → ℕ → ℕ
 line_end text at = without_return text at (at + position_or_len is_line_feed (drop at text))
 
--- the number of the line of a place, counted from 1
+-- the number of the line of an offset, counted from 1
 unfoldable pub line_number : List ℕ → ℕ → ℕ
 line_number text at = count_by is_line_feed (take at text) + 1
 
--- the column of a place, in characters counted from 1
+-- the column of an offset, counted from 1 in characters
 unfoldable pub column : List ℕ → ℕ → ℕ
 column text at = length (chars (slice_range text (line_start text at) at)) + 1
 
--- Where a span begins and ends in a text. A byte order mark at the start of the text and a line feed at the span's end
--- are left out, and a reversed span is empty.
+-- The start and the end of a span, as character boundaries. A byte order mark at the start of the text and a line feed
+-- at the span's end are left out, and a reversed span is empty.
 unfoldable pub span_start : List ℕ → Span → ℕ
 span_start text span = max (place text span.start) (mark_end text)
 

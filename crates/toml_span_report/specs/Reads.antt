@@ -14,7 +14,7 @@ errors_of (Ok x) = []
 errors_of (Err (stop.Fault faults)) = all faults
 errors_of (Err (stop.Memory error)) = []
 
--- the warnings of a read, followed by its errors
+-- These are the reports of the warnings of a read and of its errors.
 abbrev pub AreReportsOf : {T : Type 0} → Result T (Stop Errors) → List ErrorContent → List ℕ → List ReportContent
     → Type 0
 AreReportsOf read warnings text reports =

@@ -16,21 +16,21 @@ use Rattle.toml_span_report.specs.declared.colours.Ink.TheVariants.{Red, Yellow,
 use Rattle.toml_span_report.specs.declared.colours.Style.{Style}
 use Rattle.toml_span_report.specs.declared.strips.Window.{Window}
 
--- a text that is not empty, after something
-abbrev pub behind : List ℕ → List ℕ → List ℕ
-behind sign [] = []
-behind sign (x ∷ xs) = sign ++ x ∷ xs
+-- a sign and a text, or nothing if the text is empty
+abbrev pub after : List ℕ → List ℕ → List ℕ
+after sign [] = []
+after sign (x ∷ xs) = sign ++ x ∷ xs
 
--- dots show where a text is cut
+-- `...` if a text is cut
 abbrev pub dots : Bool → List ℕ
 dots true = codes "..."
 dots false = []
 
--- a code, a message or a name as it is shown, cut after 1,000 bytes
-unfoldable pub told : List ℕ → List ℕ
-told text = let end = place text 1000 in shown (take end text) ++ dots (nat_lt end (length text))
+-- the printed form of a code, message or name, cut after 1,000 bytes
+unfoldable pub shortened : List ℕ → List ℕ
+shortened text = let end = place text 1000 in shown (take end text) ++ dots (nat_lt end (length text))
 
--- the front of a report, and its colour
+-- the word with which a report begins, and its color
 abbrev pub word : Severity → List ℕ
 word Error = codes "error"
 word Warning = codes "warning"
@@ -49,10 +49,10 @@ in_brackets (x ∷ xs) = codes "[" ++ (x ∷ xs) ++ codes "]"
 -- `error[code]: message`
 abbrev pub headline : Style → ReportContent → List ℕ
 headline style r =
-    painted style (ink_of r.severity) (word r.severity ++ in_brackets (told r.code))
-    ++ painted style Bold (behind (codes ": ") (told r.message)) ++ codes "\n"
+    painted style (ink_of r.severity) (word r.severity ++ in_brackets (shortened r.code))
+    ++ painted style Bold (after (codes ": ") (shortened r.message)) ++ codes "\n"
 
--- the first line that a primary label marks
+-- the first strip of a primary label
 abbrev pub first_primary : List MarkedLine → Option MarkedLine
 first_primary [] = None
 first_primary (p ∷ ps) = if p.is_primary then Some p else first_primary ps
@@ -61,19 +61,19 @@ abbrev pub first_of : List MarkedLine → Option MarkedLine
 first_of [] = None
 first_of (p ∷ ps) = Some p
 
-abbrev pub or_else : Option MarkedLine → Option MarkedLine → Option MarkedLine
-or_else (Some p) other = Some p
-or_else None other = other
+abbrev pub line_or : Option MarkedLine → Option MarkedLine → Option MarkedLine
+line_or (Some p) other = Some p
+line_or None other = other
 
 abbrev pub main_part : List MarkedLine → Option MarkedLine
-main_part parts = or_else (first_primary parts) (first_of parts)
+main_part parts = line_or (first_primary parts) (first_of parts)
 
 -- `:line:column`, both counted from 1
 abbrev pub place_told : Option MarkedLine → List ℕ
 place_told None = []
 place_told (Some p) = codes ":" ++ decimal p.number ++ codes ":" ++ decimal p.column
 
--- the columns of the highest line number
+-- the number of columns of the highest line number
 abbrev pub greatest : List MarkedLine → ℕ
 greatest parts = fold (λ n p. max p.number n) 0 parts
 
@@ -84,14 +84,14 @@ width_of parts = length (decimal (greatest parts))
 abbrev pub gutter : Style → ℕ → List ℕ → List ℕ
 gutter style width number = painted style Blue (replicate (width - length number) 32 ++ number ++ codes " |")
 
--- what is shown of the line
+-- the source line
 abbrev pub source : MarkedLine → List ℕ
-source p = dots p.is_cut_before ++ shown p.before ++ shown p.marked ++ shown p.behind ++ dots p.is_cut_behind
+source p = dots p.is_cut_before ++ shown p.before ++ shown p.marked ++ shown p.after ++ dots p.is_cut_after
 
 abbrev pub source_line : Style → ℕ → MarkedLine → List ℕ
-source_line style width p = gutter style width (decimal p.number) ++ behind (codes " ") (source p) ++ codes "\n"
+source_line style width p = gutter style width (decimal p.number) ++ after (codes " ") (source p) ++ codes "\n"
 
--- the marks under it, as many as the marked text takes columns, and at least one; and the message
+-- the marks under it, one for each column of the marked part and at least one, and the message
 abbrev pub sign : Bool → ℕ
 sign true = 94
 sign false = 45
@@ -107,10 +107,10 @@ ink severity false = Blue
 abbrev pub marks_line : Style → Severity → ℕ → MarkedLine → List ℕ
 marks_line style severity width p =
     gutter style width [] ++ codes " "
-    ++ painted style (ink severity p.is_primary) (marks p ++ behind (codes " ") (told p.message)) ++ codes "\n"
+    ++ painted style (ink severity p.is_primary) (marks p ++ after (codes " ") (shortened p.message)) ++ codes "\n"
 
--- The first line has a bar above it. A line is not shown again if the window above shows the part, and dots show that
--- lines between are left out.
+-- The first source line has a bar above it. A line is not printed again if the window above shows it, and `...` is
+-- printed if lines between are left out.
 abbrev pub opening : Style → ℕ → Option Window → MarkedLine → List ℕ
 opening style width None p = gutter style width [] ++ codes "\n" ++ source_line style width p
 opening style width (Some above) p =
@@ -125,7 +125,7 @@ drawn style severity width above (p ∷ ps) =
     opening style width above (seen_in window p) ++ marks_line style severity width (seen_in window p)
     ++ drawn style severity width (Some window) ps
 
--- the notes and the help below the lines, with a bar above them
+-- the notes and the help, with a bar above them
 abbrev pub bar : Style → ℕ → List ℕ
 bar style width = gutter style width [] ++ codes "\n"
 
@@ -135,21 +135,21 @@ bar_above style width (text ∷ texts) = bar style width
 
 abbrev pub remark : Style → ℕ → List ℕ → List ℕ → List ℕ
 remark style width title text =
-    painted style Blue (replicate width 32 ++ codes " = ") ++ painted style Bold title ++ told text ++ codes "\n"
+    painted style Blue (replicate width 32 ++ codes " = ") ++ painted style Bold title ++ shortened text ++ codes "\n"
 
 abbrev pub remarks : Style → ℕ → ReportContent → List ℕ
 remarks style width r =
     bar_above style width (r.notes ++ r.help) ++ flat_map (remark style width (codes "note: ")) r.notes
     ++ flat_map (remark style width (codes "help: ")) r.help
 
--- the headline and the place of the report
+-- the first line, and the line with the place
 abbrev pub front : Style → ReportContent → List ℕ → List MarkedLine → List ℕ
 front style r name parts =
     headline style r
-    ++ painted style Blue (replicate (width_of parts) 32 ++ codes "--> ") ++ told name
+    ++ painted style Blue (replicate (width_of parts) 32 ++ codes "--> ") ++ shortened name
     ++ place_told (main_part parts) ++ codes "\n"
 
--- The whole text: these, the lines of the labels with their messages, and notes and help if there are any.
+-- The whole text: these, the source lines with marks and messages, and notes and help, if there are any.
 abbrev pub drawn_report : Style → ReportContent → List ℕ → List MarkedLine → List ℕ
 drawn_report style r name parts =
     front style r name parts ++ drawn style r.severity (width_of parts) None parts ++ remarks style (width_of parts) r
@@ -157,26 +157,26 @@ drawn_report style r name parts =
 abbrev pub report_text : Style → ReportContent → List ℕ → List ℕ → List ℕ
 report_text style r name text = drawn_report style r name (all_marked_lines text r.labels)
 
--- a text that is not empty, before something
+-- a text and a sign, or nothing if the text is empty
 abbrev pub before : List ℕ → List ℕ → List ℕ
 before sign [] = []
 before sign (x ∷ xs) = (x ∷ xs) ++ sign
 
--- In a one-line report, no word marks an error.
+-- In a one-line report, an error has no word.
 abbrev pub grade : Severity → List ℕ
 grade Error = []
 grade Warning = codes "warning: "
 grade Note = codes "note: "
 
--- before a name that begins like a workflow command of GitHub, so that no line of ours is one
+-- what precedes a name that begins like a workflow command of GitHub, so that no output line is taken for one
 abbrev pub unlike_command : List ℕ → List ℕ
 unlike_command name = if starts_with nat_eq (trim_start name) (codes "::") then codes "./" else []
 
 -- one line: `name:line:column: code: message`, with `warning: ` or `note: ` before the code
 abbrev pub brief : ReportContent → List ℕ → List MarkedLine → List ℕ
 brief r name parts =
-    unlike_command name ++ told name ++ place_told (main_part parts) ++ codes ": " ++ grade r.severity
-    ++ before (codes ": ") (told r.code) ++ told r.message ++ codes "\n"
+    unlike_command name ++ shortened name ++ place_told (main_part parts) ++ codes ": " ++ grade r.severity
+    ++ before (codes ": ") (shortened r.code) ++ shortened r.message ++ codes "\n"
 
 abbrev pub report_line : ReportContent → List ℕ → List ℕ → List ℕ
 report_line r name text = brief r name (all_marked_lines text r.labels)

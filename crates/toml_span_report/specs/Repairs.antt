@@ -1,4 +1,4 @@
--- The parts of a report on a mistake that was found.
+-- The help, labels and replacements of a finding.
 use Rattle.std.specs.Prelude.{ℕ, Bool, true, false, ◌==◌, ◌||◌, List, [], ◌∷◌, ◌++◌, codes, length}
 use Rattle.std.specs.Prelude.{Option, Some, None, if◌then◌else◌}
 use Rattle.std.specs.Fmt.{decimal}
@@ -14,12 +14,12 @@ digits (Some n) = decimal n
 unfoldable pub code_text : CodeContent → List ℕ
 code_text c = c.first ++ c.second ++ c.third ++ c.fourth ++ c.fifth ++ c.sixth ++ digits c.number
 
--- code after a joint, if there are both
+-- the joint and the code, if neither is empty
 abbrev pub code_shown : List ℕ → List ℕ → List ℕ
 code_shown joint code =
     if length joint == 0 || length code == 0 then [] else joint ++ codes "`" ++ visible code ++ codes "`"
 
--- the code to write after the help, and other code that may be meant
+-- the help with the code to write, and other code that may have been meant
 abbrev pub help : FindingContent → List (List ℕ)
 help f =
     if length f.words.help == 0 then []
@@ -29,7 +29,7 @@ help f =
 abbrev pub label : Bool → Span → List ℕ → List Place
 label is_primary span text = record { primary = is_primary; file = tt; span = span; message = text } ∷ []
 
--- the other place, if it has a label, and the primary one
+-- the second label, if the mistake has one, and the primary one
 abbrev pub labels : FindingContent → List Place
 labels f =
     (if length f.words.also == 0 then [] else label false f.also f.words.also)

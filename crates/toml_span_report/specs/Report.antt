@@ -1,4 +1,4 @@
--- A report by content: what a program reports about a text, and where.
+-- Reports as plain data: what a program has to say about a text, and where.
 use Rattle.std.specs.Prelude.{ℕ, Bool, true, false, List, [], ◌∷◌, ◌++◌, map, string_bytes}
 use Rattle.toml_span_lex.specs.declared.span.Span.{Span}
 use Rattle.toml_span_tree.specs.Diagnostic.{LabelContent, label_content}
@@ -6,11 +6,11 @@ use Rattle.toml_span_report.specs.declared.report.Replacement.{Replacement}
 use Rattle.toml_span_report.specs.declared.report.Report.{Report}
 use Rattle.toml_span_report.specs.declared.report.Severity.{Severity}
 
--- A label's place, whether it is primary, and its message. It names no file.
+-- The span of a label, whether it is primary, and its message.
 abbrev pub Place : Type 0
 Place = LabelContent (Unit {0})
 
--- a replacement by content
+-- a replacement as plain data
 pub record Repair : Type 0 where
   pub span : Span
   pub text : List ℕ

@@ -1,4 +1,4 @@
--- Reports that outlive their text.
+-- Reports that outlive the source.
 use Rattle.std.specs.Prelude.{ℕ, List, []}
 use Rattle.toml_span_lex.specs.declared.stop.Stop.{Stop}
 use Rattle.toml_span_lex.specs.declared.stop.Stop.TheVariants as stop
@@ -15,7 +15,7 @@ abbrev pub AreReported : Style → List ℕ → List ℕ → List ErrorContent �
 AreReported style name text errors reports out =
     AddsReports severities.Error text errors [] reports × AreReportTexts style name text reports out
 
--- Out of memory has no report.
+-- A failed allocation has no reports.
 abbrev pub AreTold : Style → List ℕ → List ℕ → Stop Errors → List ReportContent → List ℕ → Type 0
 AreTold style name text (stop.Fault faults) reports out = AreReported style name text (all faults) reports out
 AreTold style name text (stop.Memory e) reports out = ⊥

@@ -1,4 +1,4 @@
--- What is open before an offset of a text: brackets, or a string.
+-- Which brackets, or which string, are open at an offset.
 use Rattle.std.specs.Prelude.{ℕ, zero, suc, ◌+◌, ◌-◌, min, Bool, false, ◌==◌, ◌&&◌, ◌||◌, not, nat_lt, List}
 use Rattle.std.specs.Prelude.{[], ◌∷◌, length, slice_index, if◌then◌else◌}
 use Rattle.toml_span_report.specs.Bytes.{begins, first_of_line}
@@ -7,7 +7,7 @@ use Rattle.toml_span_report.specs.declared.scan.Open.{Open}
 abbrev pub is_long : List ℕ → ℕ → Bool
 is_long text at = begins text at (34 ∷ 34 ∷ 34 ∷ []) || begins text at (39 ∷ 39 ∷ 39 ∷ [])
 
--- after a byte outside of strings and comments
+-- what is open after a byte outside strings and comments
 abbrev pub opened : List ℕ → Open → ℕ → Open
 opened text state at =
     if slice_index text at == 34 || slice_index text at == 39 then record state {
@@ -26,7 +26,7 @@ opened text state at =
 abbrev pub outside : List ℕ → Open → ℕ → Open
 outside text state at = if slice_index text at == 35 then record state { quote = 35 } else opened text state at
 
--- after a byte of a string
+-- what is open after a byte of a string
 abbrev pub inside : List ℕ → Open → ℕ → Open
 inside text state at =
     if slice_index text at == 92 && state.quote == 34 then record state { skip = 1 }
@@ -36,7 +36,7 @@ inside text state at =
     then record state { quote = 0; skip = 2 }
     else state
 
--- after one more byte
+-- what is open after one more byte
 unfoldable pub step : List ℕ → Open → ℕ → Open
 step text state at =
     if nat_lt 0 state.skip then record state { skip = state.skip - 1 }
@@ -44,7 +44,7 @@ step text state at =
     else if state.quote == 35 then record state { quote = if slice_index text at == 10 then 0 else 35 }
     else inside text state at
 
--- after this many bytes of the text
+-- what is open after this many bytes of the text
 unfoldable pub scanned : List ℕ → ℕ → Open
 scanned text zero =
     record { depth = 0; bracket = 0; quote = 0; string = 0; is_long = false; skip = 0 }
@@ -53,6 +53,6 @@ scanned text (suc i) = step text (scanned text i) i
 abbrev pub open_before : List ℕ → ℕ → Open
 open_before text at = scanned text (min at (length text))
 
--- the outermost bracket is that of a table header, which begins its line
+-- whether the outermost open bracket is that of a table header: it begins a line
 abbrev pub is_in_header : List ℕ → Open → Bool
 is_in_header text state = nat_lt 0 state.depth && first_of_line text state.bracket == state.bracket

@@ -1,4 +1,4 @@
--- What labels mark in a text: strips, each on one line.
+-- Strips: the parts of source lines that labels mark.
 use Rattle.std.specs.Prelude.{ℕ, ◌+◌, ◌-◌, min, Bool, false, ◌==◌, ◌&&◌, ◌||◌, nat_lt, nat_le, List, [], ◌∷◌, length}
 use Rattle.std.specs.Prelude.{take, drop, slice_range, Option, Some, None, if◌then◌else◌}
 use Rattle.std.specs.List.{fold, insert, position_or_len}
@@ -7,7 +7,7 @@ use Rattle.toml_span_report.specs.declared.strips.Strip.{Strip}
 use Rattle.toml_span_report.specs.declared.strips.Window.{Window}
 use Rattle.toml_span_report.specs.Places.{place, line_start, line_end, line_number, column, span_start, span_end}
 
--- A marked part of a line, with what is shown of the line before and after it.
+-- A marked part of a line, with what is printed of the line before and after it.
 pub record MarkedLine : Type 0 where
   pub at : ℕ
   pub number : ℕ
@@ -15,12 +15,12 @@ pub record MarkedLine : Type 0 where
   pub is_cut_before : Bool
   pub before : List ℕ
   pub marked : List ℕ
-  pub behind : List ℕ
-  pub is_cut_behind : Bool
+  pub after : List ℕ
+  pub is_cut_after : Bool
   pub is_primary : Bool
   pub message : List ℕ
 
--- a strip by content
+-- a strip as plain data
 abbrev pub marked_line_of : Strip → MarkedLine
 marked_line_of s = record {
   at = s.at;
@@ -29,13 +29,13 @@ marked_line_of s = record {
   is_cut_before = s.is_cut_before;
   before = s.before.now;
   marked = s.marked.now;
-  behind = s.behind.now;
-  is_cut_behind = s.is_cut_behind;
+  after = s.after.now;
+  is_cut_after = s.is_cut_after;
   is_primary = s.is_primary;
   message = s.message.now;
 }
 
--- the strip from one place up to another, as far as the line of the first goes
+-- the strip from one offset to another, or to the end of its line if that comes first
 unfoldable pub marked_line : List ℕ → ℕ → ℕ → Bool → List ℕ → MarkedLine
 marked_line text from to is_primary message =
     let end = line_end text from in
@@ -46,13 +46,13 @@ marked_line text from to is_primary message =
       is_cut_before = false;
       before = slice_range text (line_start text from) from;
       marked = slice_range text from (min to end);
-      behind = slice_range text (min to end) end;
-      is_cut_behind = false;
+      after = slice_range text (min to end) end;
+      is_cut_after = false;
       is_primary = is_primary;
       message = message;
     }
 
--- what a span marks: on its line, or on its first and last line, where the last has the message
+-- the strips of a span: one or, if it ends on another line, one for that line too, which then has the message
 abbrev pub marked_lines_between : List ℕ → ℕ → ℕ → ℕ → Bool → List ℕ → List MarkedLine
 marked_lines_between text from again to is_primary message =
     if nat_le again from then marked_line text from to is_primary message ∷ []
@@ -63,25 +63,25 @@ marked_lines_of text mark =
     let to = span_end text mark.span in
     marked_lines_between text (span_start text mark.span) (line_start text to) to mark.primary mark.message
 
--- the number of parts before the first that begins later
+-- how many strips begin at or before an offset
 abbrev pub earlier : List MarkedLine → ℕ → ℕ
 earlier parts at = position_or_len (λ p. nat_lt at p.at) parts
 
--- with a part inserted before the first that begins later
+-- the strips with one more, after those that begin at the same offset
 abbrev pub placed : List MarkedLine → MarkedLine → List MarkedLine
 placed parts p = insert parts (earlier parts p.at) p
 
--- the parts of all labels, in the order of the text
+-- the strips of all labels, sorted by their offsets
 unfoldable pub all_marked_lines : {F : Type 0} → List ℕ → List (LabelContent F) → List MarkedLine
 all_marked_lines text marks = fold (λ parts mark. fold placed parts (marked_lines_of text mark)) [] marks
 
--- ---- what is shown of a long line
+-- ---- what is printed of a long line
 
--- A line is shown for the first label in it, together with those that begin at most 240 bytes after it.
+-- A window shows the strips of one line that begin within 240 bytes of its first strip.
 abbrev pub is_near : Window → MarkedLine → Bool
 is_near window p = p.number == window.number && nat_le (p.at - window.first) 240
 
--- where the last of these begins
+-- the start of the last of these
 abbrev pub last_near : Window → List MarkedLine → ℕ
 last_near window [] = window.last
 last_near window (p ∷ ps) =
@@ -92,14 +92,14 @@ abbrev pub window_from : Window → List MarkedLine → Window
 window_from window ps =
     record { number = window.number; first = window.first; last = last_near window ps }
 
--- the window of a part: the one above it, or a new one for the part and those that follow it
+-- the window that shows a strip: the one above, or a new one for it and those that follow
 abbrev pub window_of : Option Window → MarkedLine → List MarkedLine → Window
 window_of None p ps = window_from (record { number = p.number; first = p.at; last = p.at }) ps
 window_of (Some window) p ps =
     if is_near window p then window
     else window_from (record { number = p.number; first = p.at; last = p.at }) ps
 
--- What a window shows of a part's line: 80 bytes before the first label in it, and 160 from the last one on.
+-- What a window shows of the line: 80 bytes before its first strip, and 160 bytes from its last strip on.
 abbrev pub hidden : Window → MarkedLine → ℕ
 hidden window p = length p.before - (p.at - window.first) - 80
 
@@ -110,7 +110,7 @@ unfoldable pub seen_in : Window → MarkedLine → MarkedLine
 seen_in window p =
     let left = place p.before (hidden window p) in
     let marked = place p.marked (room window p) in
-    let behind = place p.behind (room window p - length p.marked) in
+    let after = place p.after (room window p - length p.marked) in
     record {
       at = p.at;
       number = p.number;
@@ -118,8 +118,8 @@ seen_in window p =
       is_cut_before = nat_lt 0 left;
       before = drop left p.before;
       marked = take marked p.marked;
-      behind = take behind p.behind;
-      is_cut_behind = nat_lt marked (length p.marked) || nat_lt behind (length p.behind);
+      after = take after p.after;
+      is_cut_after = nat_lt marked (length p.marked) || nat_lt after (length p.after);
       is_primary = p.is_primary;
       message = p.message;
     }

@@ -1,4 +1,4 @@
--- Tables of texts.
+-- Constant tables of texts.
 use Rattle.std.specs.Prelude.{ℕ, List, [], ◌∷◌, Option, Some, None, if◌then◌else◌}
 use Rattle.std.specs.Str.{bytes_eq}
 

@@ -1,39 +1,39 @@
--- The token at an error's place.
+-- What to mark for an error whose span is only a place.
 use Rattle.std.specs.Prelude.{◌≡◌, ℕ, ◌-◌, ◌⊎◌, min, Bool, true, false, ◌==◌, ◌&&◌, ◌||◌, nat_eq, List, codes, length}
 use Rattle.std.specs.Prelude.{Option, Some, None, if◌then◌else◌, slice_index}
 use Rattle.std.specs.List.{starts_with}
 use Rattle.toml_span_lex.specs.declared.span.Span.{Span}
-use Rattle.toml_span_lex.specs.Tokens.{Lexeme, Stands}
+use Rattle.toml_span_lex.specs.Tokens.{Lexeme, IsLexeme}
 use Rattle.toml_span_tree.specs.Error.{Kind, wanted, missing_field, multiline_string_key}
 use Rattle.toml_span_report.specs.Places.{place, line_end}
 
--- where the token at a place ends, or that there is none, as at the end of the text
+-- the end of the token at an offset, or None if there is no token, as at the end of the text
 abbrev pub FindsToken : List ℕ → ℕ → Option ℕ → Type 0
-FindsToken text at (Some j) = (span : Span) × (token : Lexeme) × Stands text at j span token
-FindsToken text at None = (j : ℕ) (span : Span) (token : Lexeme) → Stands text at j span token → ⊥
+FindsToken text at (Some j) = (span : Span) × (token : Lexeme) × IsLexeme text at j span token
+FindsToken text at None = (j : ℕ) (span : Span) (token : Lexeme) → IsLexeme text at j span token → ⊥
 
--- A token is marked as far as its line goes. If there is none, the marks end where they begin.
+-- A token is marked up to the end of its line. Without a token, the mark is empty.
 abbrev pub MarksToken : List ℕ → ℕ → ℕ → Type 0
 MarksToken text at end =
     ((j : ℕ) × FindsToken text at (Some j) × (end ≡ min j (line_end text at)))
     ⊎ (FindsToken text at None × (end ≡ at))
 
--- What was found is a token or the end of the text, and described as `a comma`, `an equals`, `eof` or `whitespace`. A
--- kind of value is described by one word, such as `string`.
+-- Whether an error found a token or the end of the text, which it calls `a comma`, `an equals`, `eof` or `whitespace`,
+-- rather than a kind of value, which it calls by one word, such as `string`.
 abbrev pub names_token : List ℕ → Bool
 names_token found =
     starts_with nat_eq found (codes "a ") || starts_with nat_eq found (codes "an ")
     || starts_with nat_eq found (codes "eof") || starts_with nat_eq found (codes "whitespace")
 
--- The span of an error is only the place of a token: it is as long as the description of what was found, or as the
--- value of a multi-line string, which may be longer than the token.
+-- Whether the span of an error says only where the token begins: it is as long as the name of what was found or, for a
+-- multi-line string, as its value, and may be longer than the token.
 abbrev pub is_at_token : Kind → Span → Bool
 is_at_token (wanted expected found) span = names_token found && span.end - span.start == length found
 is_at_token multiline_string_key span = true
 is_at_token _ span = false
 
--- For a missing field of the root, the span is the whole text, whose start is marked; of a table with a header it is
--- the section, and the header is marked up to the end of its line. The span of an inline table begins at its braces.
+-- For a missing field of the root, the span is the whole text, and its start is marked. For a table with a header, it
+-- is the section, and the header is marked up to the end of its line. For an inline table, its braces are marked.
 unfoldable pub table_mark : List ℕ → Span → Span
 table_mark text told =
     let at = place text told.start in
@@ -50,6 +50,6 @@ IsMarkedWhere text kind true told span =
     (span.start ≡ told.start) × MarksToken text (place text told.start) span.end
 IsMarkedWhere text kind false told span = span ≡ own_mark text kind told
 
--- what is marked in a text for an error: the token at its place, or the head of a table, or else its span
+-- What is marked for an error: the token at its place, the header or braces of a table, or its span.
 abbrev pub IsMarked : List ℕ → Kind → Span → Span → Type 0
 IsMarked text kind told span = IsMarkedWhere text kind (is_at_token kind told) told span

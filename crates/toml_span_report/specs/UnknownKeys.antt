@@ -1,4 +1,4 @@
--- What is reported for unknown keys.
+-- The messages for unknown keys.
 use Rattle.std.specs.Prelude.{ℕ, List, [], ◌∷◌, ◌++◌, ◌==◌, codes, length, if◌then◌else◌, Option}
 use Rattle.std.specs.List.{flat_map, join_by}
 use Rattle.std.specs.Option.{option_map, option_to_list}
@@ -22,11 +22,11 @@ abbrev pub what_is_expected : List (List ℕ) → List ℕ
 what_is_expected [] = codes "no key is expected"
 what_is_expected (name ∷ names) = codes "expected " ++ listed (name ∷ names)
 
--- the message for a text that is not among these
+-- the note for a value that is not among these
 abbrev pub one_of : List (List ℕ) → List ℕ
 one_of names = (if length names == 1 then codes "expected " else codes "expected one of ") ++ listed names
 
--- the message for a key that has a new name
+-- the message that a key has a new name
 abbrev pub deprecated : List ℕ → List ℕ → List ℕ
 deprecated old new = named old ++ codes " is deprecated, use " ++ named new
 
@@ -34,7 +34,7 @@ deprecated old new = named old ++ codes " is deprecated, use " ++ named new
 abbrev pub key_label : List ℕ × Span → Place
 key_label key = primary tt key.1 (codes "unknown key")
 
--- the help for one of several keys
+-- the help for one of several unknown keys
 abbrev pub in_place_of : ℕ → List ℕ → List ℕ
 in_place_of count name = if count == 1 then [] else codes " in place of " ++ named name
 

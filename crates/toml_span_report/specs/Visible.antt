@@ -1,4 +1,4 @@
--- Texts without the characters that terminals act on.
+-- Texts in which the characters that terminals act on are escaped.
 use Rattle.std.specs.Prelude.{ℕ, ◌/◌, ◌%◌, Bool, ◌==◌, ◌||◌, ◌&&◌, nat_lt, nat_le, List, ◌++◌, codes, encode_utf8}
 use Rattle.std.specs.Prelude.{if◌then◌else◌}
 use Rattle.std.specs.Char.{digit_char}
@@ -21,17 +21,17 @@ escape c = codes "\\u" ++ digit (c / 4096) ++ digit (c / 256 % 16) ++ digit (c /
 abbrev pub visible_char : ℕ → List ℕ
 visible_char c = if is_escaped c then escape c else encode_utf8 c
 
--- a text with its hidden characters written by their numbers
+-- a text in which hidden characters are written by number
 unfoldable pub visible : List ℕ → List ℕ
 visible text = flat_map visible_char (chars text)
 
 abbrev pub line_char : ℕ → List ℕ
 line_char c = if c == 10 then encode_utf8 c else visible_char c
 
--- the same for lines, which end with line feeds
+-- the same, except for line feeds
 unfoldable pub visible_lines : List ℕ → List ℕ
 visible_lines text = flat_map line_char (chars text)
 
--- a text in quotes, as JSON has it
+-- a text as a JSON string
 abbrev pub quoted : List ℕ → List ℕ
 quoted text = visible (print.quoted text)

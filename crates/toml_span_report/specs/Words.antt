@@ -1,4 +1,4 @@
--- The messages for mistakes, whose texts are those of the table in `src/words.rt`.
+-- The messages for typical mistakes: those of the table in `src/words.rt`.
 use Rattle.std.specs.Prelude.{ℕ, Bool, List}
 use Rattle.std.specs.Borrow.{Bor}
 use Rattle.toml_span_report.specs.declared.words.Words.{Words}
@@ -31,14 +31,14 @@ in_order headline label also help joint is_safe = record {
   is_safe = is_safe;
 }
 
--- the messages of a constant of the table
+-- the messages in a constant of the table
 abbrev pub Text : Type 0
 Text = record { now : List ℕ }
 
 abbrev pub said : Text × Text × Text × Text × Text × Bool → WordsContent
 said m = in_order m.0.now m.1.now m.2.now m.3.now m.4.now m.5
 
--- the messages of a mistake that a function takes
+-- the messages in a parameter
 abbrev pub Lent : Type 0
 Lent = Bor (List ℕ)
 

@@ -1,4 +1,4 @@
--- Typical mistakes, by what was found.
+-- How typical mistakes are recognized, by what was found.
 pub mod Values
 pub mod Keys
 pub mod Lists

@@ -1,4 +1,4 @@
-//! Bytes of a text at offsets that may lie outside it, and runs of bytes of a class.
+//! Bytes of a text at offsets that may lie beyond its end, and runs of bytes of one class.
 ghost use Rattle.std.specs.Prelude.{◌≡◌, ◌≤◌, length, slice_index};
 ghost use Rattle.std.specs.List.{position_or_len};
 ghost use Rattle.toml_span_report.specs.Bytes as spec;
@@ -12,21 +12,21 @@ pub(crate) enum Class {
     Blank,
     /// A space, a tab or a byte of a line end.
     Gap,
-    /// Any byte except those of line ends.
+    /// Any byte except those of a line end, LF and CR.
     Line,
-    /// A byte of a line other than quotes and backticks.
+    /// A byte of `Line`, except quotes and backticks.
     Unquoted,
-    /// A byte of a line other than `}` and `)`.
+    /// A byte of `Line`, except `}` and `)`.
     Enclosed,
-    /// A byte of a line other than `=` and `#`.
+    /// A byte of `Line`, except `=` and `#`.
     Left,
-    /// A byte of a value without quotes: anything except blanks, quotes, commas and closing brackets.
+    /// A byte of an unquoted value: anything except blanks, line ends, quotes, commas and closing brackets.
     Word,
-    /// The same, without `=` and opening brackets.
+    /// A byte of `Word`, except `=` and opening brackets.
     Atom,
-    /// A byte of several words: one of `Word`, or a blank, but not `=` or `#`.
+    /// A byte of several unquoted words: one of `Word` or a blank, but not `=` or `#`.
     Phrase,
-    /// A byte of a key without quotes, whether or not TOML allows it there: one of `Atom`, but not `.`, `#` or `:`.
+    /// A byte of an unquoted key, even one that TOML does not allow there: one of `Atom`, but not `.`, `#` or `:`.
     Name,
     /// A byte of `Name`, or `.`.
     Dotted,
@@ -50,59 +50,59 @@ pub(crate) enum Class {
     Zero,
     /// Any byte except a backslash.
     Unescaped,
-    /// A byte of a line other than `"`.
+    /// A byte of `Line`, except `"`.
     WithoutDouble,
-    /// A byte of a line other than an apostrophe.
+    /// A byte of `Line`, except `'`.
     WithoutSingle,
-    /// A continuation byte of a character beyond ASCII.
+    /// A continuation byte: any byte of a character beyond ASCII except its first.
     Continuation,
-    /// A byte of a line that does not begin a character from U+2000 to U+2FFF.
+    /// A byte of `Line` that does not begin a character from U+2000 to U+2FFF.
     Straight,
 }
 
-/// Returns whether a byte belongs to a value without quotes.
+/// Returns whether the byte is of the class `Word`.
 fn is_word(byte: u8) -> bool
     ensures { result ≡ spec.is_word byte }
 {
     byte > 32 && !matches!(byte, b'"' | b'\'' | b',' | b']' | b'}' | 127)
 }
 
-/// Returns whether a byte belongs to a value without quotes, `=` and opening brackets.
+/// Returns whether the byte is of the class `Atom`.
 fn is_atom(byte: u8) -> bool
     ensures { result ≡ spec.is_atom byte }
 {
     is_word(byte) && !matches!(byte, b'=' | b'[' | b'{')
 }
 
-/// Returns whether a byte belongs to a key without quotes, whether or not TOML allows it there.
+/// Returns whether the byte is of the class `Name`.
 fn is_name(byte: u8) -> bool
     ensures { result ≡ spec.is_name byte }
 {
     is_atom(byte) && !matches!(byte, b'.' | b'#' | b':')
 }
 
-/// Returns whether a byte is a space or a tab.
+/// Returns whether the byte is of the class `Blank`.
 fn is_blank(byte: u8) -> bool
     ensures { result ≡ spec.is_blank byte }
 {
     matches!(byte, b' ' | b'\t')
 }
 
-/// Returns whether a byte is not part of a line end.
+/// Returns whether the byte is of the class `Line`.
 fn is_line(byte: u8) -> bool
     ensures { result ≡ spec.is_line byte }
 {
     !matches!(byte, b'\n' | b'\r')
 }
 
-/// Returns whether a byte is a digit.
+/// Returns whether the byte is of the class `Digit`.
 fn is_digit(byte: u8) -> bool
     ensures { result ≡ spec.is_digit byte }
 {
     matches!(byte, b'0'..=b'9')
 }
 
-/// Returns whether a byte is of a class.
+/// Returns whether the byte is of the class.
 pub(crate) fn is_in(class: Class, byte: u8) -> bool
     ensures { result ≡ spec.is_in class byte }
 {
@@ -137,7 +137,7 @@ pub(crate) fn is_in(class: Class, byte: u8) -> bool
     }
 }
 
-/// Returns the byte at an offset, or 0 at the end of the text and beyond.
+/// Returns the byte at the offset `at`, or 0 if the text ends before it.
 pub(crate) fn byte_at(text: &str, at: usize) -> u8
     ensures { result ≡ slice_index text.now at }
 {
@@ -145,14 +145,14 @@ pub(crate) fn byte_at(text: &str, at: usize) -> u8
     if at < bytes.len() { bytes[at] } else { 0 }
 }
 
-/// Returns the offset some bytes further on, or the end of the text.
+/// Returns the offset `count` bytes after `at`, but at most the length of the text.
 pub(crate) fn ahead(text: &str, at: usize, count: usize) -> usize
     ensures { result ≡ spec.ahead text.now at count }
 {
     at.saturating_add(count).min(text.len())
 }
 
-/// Returns whether the text has these bytes at an offset.
+/// Returns whether the text has the bytes `front` at the offset `at`.
 pub(crate) fn begins(text: &str, at: usize, front: &[u8]) -> bool
     ensures { result ≡ spec.begins text.now at front.now }
 {
@@ -161,7 +161,7 @@ pub(crate) fn begins(text: &str, at: usize, front: &[u8]) -> bool
     rest.starts_with(front)
 }
 
-/// Returns the number of bytes of a class at the beginning.
+/// Returns the number of bytes at the beginning of `bytes` that are of the class.
 fn run_of(class: Class, bytes: &[u8]) -> usize
     ensures value { result ≡ position_or_len (spec.is_out class) bytes.now }
     ensures within { result ≤ length bytes.now }
@@ -174,7 +174,7 @@ fn run_of(class: Class, bytes: &[u8]) -> usize
     bytes.len()
 }
 
-/// Returns the first offset, starting at `from`, whose byte is not of the class.
+/// Returns the first offset from `at` on whose byte is not of the class, or the length of the text.
 #[tactic(auto, unfolding(crate::specs::Bytes::end_of))]
 pub(crate) fn end_of(class: Class, text: &str, at: usize) -> usize
     ensures { result ≡ spec.end_of class text.now at }
@@ -187,7 +187,7 @@ pub(crate) fn end_of(class: Class, text: &str, at: usize) -> usize
     at + run_of(class, rest)
 }
 
-/// Returns the lowest offset, up to a given one, from which on all bytes are of the class.
+/// Returns the start of the run of bytes of the class that ends at the offset `at`; `at` itself if the run is empty.
 #[tactic(auto, unfolding(crate::specs::Bytes::start_of))]
 pub(crate) fn start_of(class: Class, text: &str, at: usize) -> usize
     ensures { result ≡ spec.start_of class text.now at }
@@ -199,7 +199,7 @@ pub(crate) fn start_of(class: Class, text: &str, at: usize) -> usize
     start
 }
 
-/// Returns the last byte before an offset that is not a blank, or 0 if there is none.
+/// Returns the last byte before the offset `at` that is not a blank, or 0 if there is none.
 pub(crate) fn byte_before(text: &str, at: usize) -> u8
     ensures { result ≡ spec.byte_before text.now at }
 {
@@ -207,36 +207,36 @@ pub(crate) fn byte_before(text: &str, at: usize) -> u8
     if end == 0 { 0 } else { byte_at(text, end - 1) }
 }
 
-/// Returns the first byte at or after an offset that is not a blank, or 0 at the end of the text.
-pub(crate) fn byte_behind(text: &str, at: usize) -> u8
-    ensures { result ≡ spec.byte_behind text.now at }
+/// Returns the first byte from the offset `at` on that is not a blank, or 0 if there is none.
+pub(crate) fn byte_after(text: &str, at: usize) -> u8
+    ensures { result ≡ spec.byte_after text.now at }
 {
     byte_at(text, end_of(Class::Blank, text, at))
 }
 
-/// Returns the offset of the first byte on the line that is not a blank.
+/// Returns the offset of the first byte that is not a blank on the line of the offset `at`.
 pub(crate) fn first_of_line(text: &str, at: usize) -> usize
     ensures { result ≡ spec.first_of_line text.now at }
 {
     end_of(Class::Blank, text, start_of(Class::Line, text, at))
 }
 
-/// Returns where the line ends, without trailing blanks.
+/// Returns the end of the line of the offset `at`, without trailing blanks.
 pub(crate) fn last_of_line(text: &str, at: usize) -> usize
     ensures { result ≡ spec.last_of_line text.now at }
 {
     start_of(Class::Blank, text, end_of(Class::Line, text, at))
 }
 
-/// Returns whether only blanks follow on the line.
+/// Returns whether only blanks follow the offset `at` on its line.
 pub(crate) fn is_last(text: &str, at: usize) -> bool
     ensures { result ≡ spec.is_last text.now at }
 {
-    matches!(byte_behind(text, at), 0 | b'\n' | b'\r')
+    matches!(byte_after(text, at), 0 | b'\n' | b'\r')
 }
 
-/// Returns a part of a text. An offset within a character, or beyond the text, is moved back to the nearest character
-/// boundary.
+/// Returns the part of the text between two offsets. An offset inside a character, or beyond the text, is moved back to
+/// the nearest character boundary.
 #[tactic(auto, unfolding(crate::specs::Bytes::part))]
 pub(crate) fn part<'a>(text: &'a str, from: usize, to: usize) -> &'a str
     ensures { result.now ≡ spec.part text.now from to }

@@ -1,12 +1,12 @@
-//! How the characters of a text are shown.
+//! How characters of the source are printed.
 ghost use Rattle.std.specs.Prelude.{◌≡◌, ◌++◌, ◌<◌, IfOk, OnOk, string_bytes, replicate};
 ghost use Rattle.toml_span_report.specs.Characters as spec;
 
 use std::alloc::{AllocError, Global};
 use unicode_width::UnicodeWidthStr;
 
-/// Returns whether a character is shown as U+FFFD: a control character from U+0080 on, or one that ends a line or
-/// changes the direction of the text.
+/// Returns whether a character is printed as U+FFFD: a control character from U+0080 on, or a character that ends a
+/// line or changes the direction of the text.
 fn is_hidden(c: char) -> bool
     ensures { result ≡ spec.is_hidden c }
 {
@@ -22,7 +22,8 @@ fn is_hidden(c: char) -> bool
     )
 }
 
-/// Appends a character as it is shown.
+/// Appends a character in its printed form: a tab as four spaces, any other control character below U+0080 as its
+/// picture, a character of `is_hidden` as U+FFFD. Fails if an allocation fails.
 fn push_char(out: &mut String, c: char) -> Result<(), AllocError>
     ensures { OnOk result (string_bytes out.new ≡ string_bytes out.old ++ spec.shown_char c) }
 {
@@ -42,7 +43,7 @@ fn push_char(out: &mut String, c: char) -> Result<(), AllocError>
     }
 }
 
-/// Appends a text as it is shown.
+/// Appends a text in its printed form, character by character. Fails if an allocation fails.
 pub(crate) fn push_shown(out: &mut String, text: &str) -> Result<(), AllocError>
     ensures { OnOk result (string_bytes out.new ≡ string_bytes out.old ++ spec.shown text.now) }
 {
@@ -52,7 +53,7 @@ pub(crate) fn push_shown(out: &mut String, text: &str) -> Result<(), AllocError>
     Ok(())
 }
 
-/// Returns a text as it is shown.
+/// Returns a text in its printed form. Fails if an allocation fails.
 pub(crate) fn shown(alloc: Global, text: &str) -> Result<String, AllocError>
     ensures { IfOk result (λ out. string_bytes out ≡ spec.shown text.now) }
 {
@@ -61,7 +62,7 @@ pub(crate) fn shown(alloc: Global, text: &str) -> Result<String, AllocError>
     Ok(out)
 }
 
-/// Returns the number of columns that a text takes as it is shown.
+/// Returns the number of columns that a text has in its printed form.
 #[tactic(auto, unfolding(crate::specs::Characters::columns))]
 pub(crate) fn columns(text: &str) -> usize
     ensures { result ≡ spec.columns text.now }
@@ -69,7 +70,7 @@ pub(crate) fn columns(text: &str) -> usize
     text.width()
 }
 
-/// Appends a character several times.
+/// Appends the character `times` times. Fails if an allocation fails.
 pub(crate) fn push_times(out: &mut String, times: usize, c: char) -> Result<(), AllocError>
     requires { c < 128 }
     ensures { OnOk result (string_bytes out.new ≡ string_bytes out.old ++ replicate times c) }

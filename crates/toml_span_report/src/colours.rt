@@ -1,34 +1,34 @@
-//! Colours of a report.
+//! The colors of a report.
 ghost use Rattle.std.specs.Prelude.{◌≡◌, ◌++◌, OnOk, string_bytes};
 ghost use Rattle.toml_span_report.specs.Colours as spec;
 
 use std::alloc::AllocError;
 
-/// Whether a report is coloured.
+/// Whether the text of a report has colors.
 #[derive(Clone, Copy, PartialEq, Eq)]
 pub enum Style {
     /// Plain text.
     Plain,
-    /// With the escape sequences by which terminals set colours (ECMA-48, SGR).
+    /// With the escape sequences by which terminals set colors (ECMA-48, SGR).
     Coloured,
 }
 
-/// The parts of a report that have a colour of their own.
+/// The parts of a report that have colors of their own.
 #[derive(Clone, Copy, PartialEq, Eq)]
 pub(crate) enum Ink {
-    /// The front of an error's headline, and the marks and messages of its primary labels.
+    /// The word `error` with its code, and the marks and messages of primary labels.
     Red,
-    /// The same for a warning.
+    /// The word `warning` with its code, and the marks and messages of primary labels in a warning.
     Yellow,
-    /// The same for a note.
+    /// The word `note` with its code, and the marks and messages of primary labels in a note.
     Green,
-    /// The margin to the left of the lines, and other marks.
+    /// The left margin, and the marks and messages of secondary labels.
     Blue,
     /// The message.
     Bold,
 }
 
-/// Returns the escape sequence that begins a colour.
+/// Returns the escape sequence that switches to a color.
 fn beginning(ink: Ink) -> &'static str
     ensures { result.now ≡ spec.beginning ink }
 {
@@ -41,7 +41,7 @@ fn beginning(ink: Ink) -> &'static str
     }
 }
 
-/// Appends a text, in a colour if the style has colours.
+/// Appends a text, in a color if the style has colors. Fails if an allocation fails.
 pub(crate) fn push_painted(
     out: &mut String,
     style: Style,

@@ -1,4 +1,4 @@
-//! The reports of errors, and their text.
+//! Makes reports of errors, and their text.
 ghost use Rattle.std.specs.Prelude.{◌≡◌, [], IfOk, OnOk, map, string_bytes};
 ghost use Rattle.std.specs.Option.{option_to_list};
 ghost use Rattle.toml_span_tree.specs.Diagnostic.{label_content, labels_of};
@@ -30,7 +30,7 @@ use toml_span_lex::stop::Stop;
 use toml_span_tree::{Error, ErrorKind, Label};
 use toml_span_typed::DeserError;
 
-/// Returns the message of an error.
+/// Returns the message of an error without a recognized mistake. Fails if an allocation fails.
 fn message(alloc: Global, error: &Error<'_>) -> Result<String, AllocError>
     ensures { IfOk result (λ text. string_bytes text ≡ spec.message (kind_of error.now.kind)) }
 {
@@ -47,7 +47,7 @@ fn message(alloc: Global, error: &Error<'_>) -> Result<String, AllocError>
     }
 }
 
-/// Returns the only label, at a span.
+/// Returns a list of one label, which is primary. Fails if an allocation fails.
 fn one_label(alloc: Global, span: Span, text: &str) -> Result<Vec<Label<()>>, AllocError>
     ensures { IfOk result (λ labels. map label_content labels.items ≡ spec.one_label span text.now) }
 {
@@ -61,7 +61,7 @@ fn one_label(alloc: Global, span: Span, text: &str) -> Result<Vec<Label<()>>, Al
     Ok(labels)
 }
 
-/// Returns the labels of an error's own diagnostic, at a span.
+/// Returns the labels of `Error::to_diagnostic`, with the primary one moved to `span`. Fails if an allocation fails.
 fn own_labels(alloc: Global, error: &Error<'_>, span: Span) -> Result<Vec<Label<()>>, AllocError>
     ensures { IfOk result (λ labels. map label_content labels.items ≡ labels_of tt span (kind_of error.now.kind)) }
 {
@@ -71,7 +71,8 @@ fn own_labels(alloc: Global, error: &Error<'_>, span: Span) -> Result<Vec<Label<
     Ok(diagnostic.labels)
 }
 
-/// Returns the labels of an error at a span.
+/// Returns the labels of an error without a recognized mistake. `span` is what the primary label marks. Fails if an
+/// allocation fails.
 fn labels(alloc: Global, error: &Error<'_>, span: Span) -> Result<Vec<Label<()>>, AllocError>
     ensures { IfOk result (λ labels. map label_content labels.items ≡ spec.labels span (kind_of error.now.kind)) }
 {
@@ -84,7 +85,7 @@ fn labels(alloc: Global, error: &Error<'_>, span: Span) -> Result<Vec<Label<()>>
     }
 }
 
-/// Returns the notes of an error.
+/// Returns the notes of an error, such as the list of expected keys. Fails if an allocation fails.
 fn notes(alloc: Global, kind: &ErrorKind<'_>) -> Result<Vec<String>, AllocError>
     ensures { IfOk result (λ notes. map string_bytes notes.items ≡ spec.notes (kind_of kind.now)) }
 {
@@ -96,7 +97,8 @@ fn notes(alloc: Global, kind: &ErrorKind<'_>) -> Result<Vec<String>, AllocError>
     Ok(notes)
 }
 
-/// Returns the range of a type, if its name is known.
+/// Returns a line of help with the range of the number type of this name, or no line if there is no such type. Fails if
+/// an allocation fails.
 fn range(alloc: Global, name: &str) -> Result<Vec<String>, AllocError>
     ensures { IfOk result (λ help. map string_bytes help.items ≡ option_to_list (range_help name.now)) }
 {
@@ -107,7 +109,7 @@ fn range(alloc: Global, name: &str) -> Result<Vec<String>, AllocError>
     Ok(help)
 }
 
-/// Returns the help for an error.
+/// Returns the lines of help for an error without a recognized mistake. Fails if an allocation fails.
 fn help(alloc: Global, kind: &ErrorKind<'_>) -> Result<Vec<String>, AllocError>
     ensures { IfOk result (λ help. map string_bytes help.items ≡ spec.help (kind_of kind.now)) }
 {
@@ -126,7 +128,7 @@ fn help(alloc: Global, kind: &ErrorKind<'_>) -> Result<Vec<String>, AllocError>
     }
 }
 
-/// Returns the message for a mistake: its headline, or else the message of the error.
+/// Returns the headline of the mistake or, if it has none, the message of the error. Fails if an allocation fails.
 fn headline(alloc: Global, error: &Error<'_>, finding: Finding<'_>) -> Result<String, AllocError>
     ensures { IfOk result (λ text. string_bytes text
         ≡ spec.headline (kind_of error.now.kind) (finding_content finding.entry)) }
@@ -138,7 +140,7 @@ fn headline(alloc: Global, error: &Error<'_>, finding: Finding<'_>) -> Result<St
     }
 }
 
-/// Makes the report of an error that comes from a known mistake.
+/// Makes the report of an error that a recognized mistake caused. Fails if an allocation fails.
 fn mistaken(
     alloc: Global,
     severity: Severity,
@@ -159,7 +161,7 @@ fn mistaken(
     })
 }
 
-/// Makes the report of an error that comes from no known mistake.
+/// Makes the report of an error without a recognized mistake. Fails if an allocation fails.
 fn told(
     alloc: Global,
     severity: Severity,
@@ -180,7 +182,7 @@ fn told(
     })
 }
 
-/// Makes the report of an error, with this severity.
+/// Makes the report of an error with this severity. Fails if an allocation fails.
 fn report_of(
     alloc: Global,
     severity: Severity,
@@ -196,17 +198,17 @@ fn report_of(
 }
 
 impl Report {
-    /// Makes the report of an error in this source.
+    /// Makes the report of an error in the source `text`.
     ///
-    /// If the source has a typical mistake at the error's span, the report names it, marks all of it, and says what to
-    /// write, with a replacement. Otherwise the report has the error's message, its labels, and help:
+    /// If there is a typical mistake at the error's span, the report names it, marks all of it, and says what to write,
+    /// with a replacement if the repair is known. Otherwise it has the message and labels of the error, except:
     ///
-    /// - The span of a `Wanted` error of `parse` may be only the place of a token. Then the token is marked, up to the
-    ///   end of its line, or the place alone if there is no token, as at the end of the source.
-    /// - A table that lacks a key is marked at its header, up to the end of the line, or at its braces; the root is
+    /// - A `Wanted` error of `parse` may span more or less than the token at its start. Then that token is marked, up
+    ///   to the end of its line at most. If there is no token, as at the end of the source, the mark is empty.
+    /// - A table that lacks a key is marked at its header, up to the end of the line, or at its braces. The root is
     ///   marked at the start of the source.
-    /// - Each unknown key is marked, a note lists the expected keys, and help names the nearest of them (`nearest`).
-    ///   Help also names the nearest text if a text is not among the expected ones.
+    /// - Each unknown key is marked. A note lists the expected keys, and a line of help names the nearest one
+    ///   (`nearest`). For an unexpected value, too, a line of help names the nearest expected value.
     ///
     /// Fails only if an allocation fails.
     pub fn from_error(alloc: Global, error: &Error<'_>, text: &str) -> Result<Report, AllocError>
@@ -216,7 +218,7 @@ impl Report {
         report_of(alloc, Severity::Error, error, text)
     }
 
-    /// Makes the report as a warning, for a program that goes on in spite of the error.
+    /// Makes the same report as `from_error`, but as a warning, for a program that continues in spite of the error.
     pub fn from_warning(alloc: Global, error: &Error<'_>, text: &str) -> Result<Report, AllocError>
         ensures { IfOk result (λ made. TellsError severities.Warning text.now (content_of error.now)
             (report_content made)) }
@@ -225,7 +227,8 @@ impl Report {
     }
 }
 
-/// Returns the text of an error: its report as `render` shows it. Fails only if an allocation fails.
+/// Returns the report of an error as text, as `render` formats it. `name` is the name of the file, `text` the source.
+/// Fails only if an allocation fails.
 pub fn render_error(
     alloc: Global,
     style: Style,
@@ -239,7 +242,7 @@ pub fn render_error(
     render(alloc, style, &report, name, text)
 }
 
-/// Appends the reports of errors.
+/// Appends the report of each error. Fails if an allocation fails.
 pub(crate) fn push_errors(
     alloc: Global,
     errors: &DeserError<'_>,
@@ -255,7 +258,7 @@ pub(crate) fn push_errors(
     Ok(())
 }
 
-/// Returns the reports of all errors of a read.
+/// Returns the report of each error of a read, in order. Fails if an allocation fails.
 pub(crate) fn error_reports(
     alloc: Global,
     errors: &DeserError<'_>,
@@ -269,8 +272,8 @@ pub(crate) fn error_reports(
     Ok(reports)
 }
 
-/// Returns the text of all errors of a read: their reports as `render_all` shows them. Fails only if an allocation
-/// fails.
+/// Returns the reports of all errors of a read as text, as `render_all` formats them. `name` is the name of the file,
+/// `text` the source. Fails only if an allocation fails.
 pub fn render_errors(
     alloc: Global,
     style: Style,
@@ -284,8 +287,9 @@ pub fn render_errors(
     render_all(alloc, style, reports.as_slice(), name, text)
 }
 
-/// Returns the text that explains why `from_str` failed, as `render_errors` formats it: the one error for which the
-/// text was refused, or all errors of the read. If memory ran out there is no such text, and that error is returned.
+/// Returns the reason why `from_str` failed as text, as `render_errors` formats it: the one error of `parse`, or all
+/// errors of the read. `name` is the name of the file, `text` the source. Fails if `stop` is `Stop::Memory`, or if an
+/// allocation fails.
 pub fn render_stop(
     alloc: Global,
     style: Style,

@@ -4,8 +4,7 @@ ghost use Rattle.toml_span_report.specs.Explanations as spec;
 
 use crate::tables::text_in;
 
-/// The codes that `explain` knows, in the order of the documentation: first those of `parse`, then those of typed
-/// reads, then that of a check as TOML 1.0.
+/// The codes that `explain` knows: those of `parse`, those of typed reads, and last that of a check for TOML 1.0.
 pub const CODES: [&str; 25] = [
     "unexpected",
     "unterminated-string",
@@ -34,23 +33,23 @@ pub const CODES: [&str; 25] = [
     "newer-toml",
 ];
 
-/// The codes, each with its page.
+/// The explanation of each code.
 const PAGES: [(&str, &str); 25] = [
     (
         "unexpected",
-        "a character that is not part of TOML here\n\nA character begins no token of TOML where it stands outside of strings and\ncomments. Keys of other characters than A-Z, a-z, 0-9, `_` and `-` need quotes,\nand so does each value that is not a number, a boolean, a date or a time.\n\n    größe = 1         # write \"größe\" = 1\n    home = ~/data     # write home = \"~/data\"\n    // a comment      # write # a comment",
+        "a character that is not part of TOML here\n\nTOML does not use this character outside strings and comments. Keys need quotes\nif they have other characters than A-Z, a-z, 0-9, `_` and `-`, and so does each\nvalue that is not a number, a boolean, a date or a time.\n\n    größe = 1         # write \"größe\" = 1\n    home = ~/data     # write home = \"~/data\"\n    // a comment      # write # a comment",
     ),
     (
         "unterminated-string",
-        "a string that is not closed before the end of the file\n\nThe string ends with the quotes with which it begins: three where it has several\nlines, else one.\n\n    text = \"\"\"\n    hello\n\nWrite `\"\"\"` at the end of the string.",
+        "a string that is not closed before the end of the file\n\nA string ends with the same quotes that it begins with: three if it has several\nlines, otherwise one.\n\n    text = \"\"\"\n    hello\n\nWrite `\"\"\"` at the end of the string.",
     ),
     (
         "invalid-char-in-string",
-        "a character that a string cannot contain\n\nA string in one quote ends on its line, and strings contain no control\ncharacters but tabs.\n\n    name = \"x         # write name = \"x\"\n\nClose the string, use three quotes for one of several lines, or write a control\ncharacter as an escape, such as `\\u0001`.",
+        "a character that a string cannot contain\n\nA string that begins with one quote ends on the same line. Strings contain no\ncontrol characters except tabs.\n\n    name = \"x         # write name = \"x\"\n\nClose the string, use three quotes if it has several lines, or write a control\ncharacter as an escape, such as `\\u0001`.",
     ),
     (
         "invalid-escape",
-        "a backslash that begins no escape\n\nEscapes are `\\b`, `\\t`, `\\n`, `\\f`, `\\r`, `\\e`, `\\\"`, `\\\\`, `\\xHH`, `\\uHHHH` and\n`\\UHHHHHHHH`. They occur in strings in double quotes.\n\n    path = \"C:\\dir\"   # write path = 'C:\\dir'\n\nWrite two backslashes for one, or use single quotes.",
+        "a backslash that does not begin an escape\n\nEscapes are `\\b`, `\\t`, `\\n`, `\\f`, `\\r`, `\\e`, `\\\"`, `\\\\`, `\\xHH`, `\\uHHHH` and\n`\\UHHHHHHHH`. They occur in strings in double quotes.\n\n    path = \"C:\\dir\"   # write path = 'C:\\dir'\n\nWrite two backslashes for one, or use single quotes.",
     ),
     (
         "invalid-hex-escape",
@@ -58,11 +57,11 @@ const PAGES: [(&str, &str); 25] = [
     ),
     (
         "invalid-escape-value",
-        "an escape that is no character\n\nCharacters are U+0000 to U+10FFFF without the surrogates, U+D800 to U+DFFF.\n\n    a = \"\\uD83D\\uDE00\"   # write a = \"\\U0001F600\"\n\nWrite the character itself, or its own number after `\\U`.",
+        "an escape that does not name a character\n\nCharacters are U+0000 to U+10FFFF, except for the surrogates U+D800 to U+DFFF.\n\n    a = \"\\uD83D\\uDE00\"   # write a = \"\\U0001F600\"\n\nWrite the character itself, or its own number after `\\U`.",
     ),
     (
         "multiline-string-key",
-        "a string of several lines as a key\n\nA key has no quotes, or one on each side.\n\n    \"\"\"a\"\"\" = 1         # write \"a\" = 1",
+        "a string of several lines as a key\n\nA key has no quotes, or one on each side, and is on one line.\n\n    \"\"\"a\"\"\" = 1         # write \"a\" = 1",
     ),
     (
         "unquoted-string",
@@ -70,7 +69,7 @@ const PAGES: [(&str, &str); 25] = [
     ),
     (
         "invalid-number",
-        "a number that TOML does not have\n\nNumbers have no leading zeros, a digit on both sides of the point and of each\n`_`, one sign at most, and the prefixes `0x`, `0o` and `0b`, which have no sign.\nIntegers fit into 64 bits.\n\n    mode = 0755       # write mode = 0o755\n    half = .5         # write half = 0.5\n    time = 10s        # write time = \"10s\"",
+        "a number that is not valid in TOML\n\nA number has no leading zeros, at most one sign, and a digit on both sides of\neach `_` and of the point. A number with a prefix, `0x`, `0o` or `0b`, has no\nsign. Integers fit into 64 bits.\n\n    mode = 0755       # write mode = 0o755\n    half = .5         # write half = 0.5\n    time = 10s        # write time = \"10s\"",
     ),
     (
         "invalid-datetime",
@@ -82,23 +81,23 @@ const PAGES: [(&str, &str); 25] = [
     ),
     (
         "wanted",
-        "something else was expected here\n\nA line of TOML is a key, `=` and a value, or a header in brackets. Elements of\narrays and pairs of inline tables are separated by commas, and both are closed.\n\n    port: 80          # write port = 80\n    a = [1 2]         # write a = [1, 2]\n    [server           # write [server]\n\nWhere a program reads the values, one is of another kind than the program\nexpects, such as a string where it expects an integer.",
+        "something else was expected here\n\nA line of TOML is a key, `=` and a value, or a header in brackets. Elements of\narrays and pairs of inline tables are separated by commas, and both are closed.\n\n    port: 80          # write port = 80\n    a = [1 2]         # write a = [1, 2]\n    [server           # write [server]\n\nIf a program reports this, a value may be of another kind than the program\nexpects, such as a string instead of an integer.",
     ),
     (
         "exceeded-depth-limit",
-        "keys or values that are too deeply nested\n\nBrackets, braces and the parts of keys are nested no deeper than a limit, which\nis 128. Remove some levels.",
+        "keys or values that are too deeply nested\n\nValues may be nested 128 levels deep. Each bracket, brace and part of a key is a\nlevel. Remove some of them.",
     ),
     (
         "dotted-key-invalid-type",
-        "a dotted key that goes through a value\n\nEach part of a dotted key before the last names a table that is open. A number\nor a string is no table, and an inline table is closed by its brace.\n\n    a = {x = 1}\n    a.y = 2           # write a = {x = 1, y = 2}",
+        "a dotted key that goes through a value\n\nEach part of a dotted key before the last names a table. A number or a string is\nnot a table, and nothing can be added to an inline table after its brace.\n\n    a = {x = 1}\n    a.y = 2           # write a = {x = 1, y = 2}",
     ),
     (
         "duplicate-key",
-        "a key that is defined twice\n\nA table has each key once. A header, too, defines the last of its keys.\n\n    port = 80\n    port = 8080       # remove one of the two",
+        "a key that is defined twice\n\nA table has each key once. A header defines a key too: the last one in it.\n\n    port = 80\n    port = 8080       # remove one of the two",
     ),
     (
         "duplicate-table",
-        "a table that is defined twice\n\nA table has one header. A list of tables has a header `[[name]]` for each.\n\n    [server]\n    port = 80\n    [server]          # write its keys below the first header\n    host = \"h\"",
+        "a table that is defined twice\n\nA table has one header. In a list of tables, each has a header `[[name]]`.\n\n    [server]\n    port = 80\n    [server]          # write its keys below the first header\n    host = \"h\"",
     ),
     (
         "redefine-as-array",
@@ -106,19 +105,19 @@ const PAGES: [(&str, &str); 25] = [
     ),
     (
         "out-of-range",
-        "a number that is too large or too small\n\nThe program reads this number into a type that does not hold it. The help says\nfrom where to where the type goes.\n\n    port = 70000      # a port is from 0 to 65535",
+        "a number that is too large or too small\n\nThe type that the program uses can't represent this number. The help says which\nnumbers it can represent.\n\n    port = 70000      # a port is from 0 to 65535",
     ),
     (
         "custom",
-        "a value that the program refuses\n\nThe message is the program's own, and says what is expected.",
+        "a value that the program refuses\n\nThe message comes from the program, and says what it expects.",
     ),
     (
         "unexpected-keys",
-        "keys that the program does not know\n\nThey may be misspelt, or belong to another table.\n\n    hots = \"h\"        # write host = \"h\"\n\nThe note lists the keys of the table, and the help the nearest of them.",
+        "keys that the program does not know\n\nThey may be misspelled, or belong to another table.\n\n    hots = \"h\"        # write host = \"h\"\n\nThe note lists the keys that the program knows, and the help suggests one.",
     ),
     (
         "missing-field",
-        "a key is missing\n\nThe program needs a key that the table does not have. Write it below the header\nthat is marked. The root table is marked at the start of the file.",
+        "a key is missing\n\nThe program needs a key that the table does not have. Write it below the marked\nheader or, if the start of the file is marked, before the first header.",
     ),
     (
         "deprecated",
@@ -126,7 +125,7 @@ const PAGES: [(&str, &str); 25] = [
     ),
     (
         "unexpected-value",
-        "a text that is not one of those expected\n\n    log = \"trminal\"   # write log = \"terminal\"\n\nThe message lists the texts that are expected.",
+        "a text that is not one of the expected ones\n\n    log = \"trminal\"   # write log = \"terminal\"\n\nThe report lists the expected ones.",
     ),
     (
         "duplicate-name",
@@ -138,16 +137,16 @@ const PAGES: [(&str, &str); 25] = [
     ),
 ];
 
-/// Returns the explanation of an error code: a title, an empty line, and a few lines with an example and how to repair
-/// it. Lines have at most 80 columns, and the last one has no line feed. Returns `None` for other codes, such as those
-/// of a program's own reports.
+/// Returns the explanation of an error code: a title, an empty line, and a few lines with an example and the repair.
+/// Lines have at most 80 columns, and the last one does not end with a line feed. Returns `None` for a code that is not
+/// in `CODES`, such as one of a program's own reports.
 pub fn explain(code: &str) -> Option<&'static str>
     ensures { option_map (λ page. page.now) result ≡ spec.explained code.now }
 {
     text_in(&PAGES, code)
 }
 
-/// The codes of the pages are those of `CODES`, in their order.
+/// Proves that the explanations are those of `CODES`, in the same order. Does nothing at run time.
 pub(crate) fn all_codes()
     ensures { map (λ entry. entry.0.now) PAGES ≡ map (λ code. code.now) CODES }
 {}

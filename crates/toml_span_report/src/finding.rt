@@ -1,4 +1,4 @@
-//! A mistake found in a text: what is marked, and the code to write.
+//! Findings: a typical mistake in a text, what to mark, and the code to write.
 ghost use Rattle.std.specs.Prelude.{◌≡◌, Some, option_map};
 ghost use Rattle.toml_span_report.specs.Finding as spec;
 ghost use Rattle.toml_span_report.specs.Finding.{code_content, finding_content, meant_content};
@@ -8,7 +8,7 @@ use crate::bytes::{Class, end_of, part};
 use crate::words::{Mistake, Words, words_of};
 use toml_span_lex::span::Span;
 
-/// Code or another text, in pieces of the source and of our own.
+/// A text in up to six pieces, some of the source and some constant. Most often it is code to write.
 #[derive(Clone, Copy)]
 pub(crate) struct Code<'a> {
     pub(crate) first: &'a str,
@@ -17,38 +17,38 @@ pub(crate) struct Code<'a> {
     pub(crate) fourth: &'a str,
     pub(crate) fifth: &'a str,
     pub(crate) sixth: &'a str,
-    /// A number after the pieces.
+    /// A number to append after the pieces.
     pub(crate) number: Option<u64>,
 }
 
-/// A mistake found in a text.
+/// A typical mistake that was recognized in a text.
 #[derive(Clone, Copy)]
 pub(crate) struct Finding<'a> {
     pub(crate) words: Words,
-    /// What the primary label marks.
+    /// The span that the primary label marks.
     pub(crate) mark: Span,
-    /// Another place, if the messages of the mistake have a label for one.
+    /// A second span, which is marked if `words.also` is not empty.
     pub(crate) also: Span,
-    /// The primary label, if it differs from that of the messages.
+    /// The message of the primary label. If it is empty, the message is `words.label`.
     pub(crate) label: Code<'a>,
-    /// The span that `code` replaces.
+    /// The span that `code` replaces, if there is a replacement.
     pub(crate) edit: Option<Span>,
-    /// The code to write, which may be empty.
+    /// The code to write, which is empty if there is none.
     pub(crate) code: Code<'a>,
-    /// Other code that may be meant, which may be empty.
+    /// Other code that may have been meant, which is empty if there is none.
     pub(crate) other: Code<'a>,
 }
 
-/// What a word or a character probably stands for.
+/// What a word or character of another notation means in TOML.
 #[derive(Clone, Copy)]
 pub(crate) struct Meant {
     pub(crate) mistake: Mistake,
-    /// The name of a character.
+    /// The Unicode name of the character, or an empty string for a word.
     pub(crate) name: &'static str,
     pub(crate) code: &'static str,
 }
 
-/// Returns what a word probably stands for.
+/// Returns a `Meant` with these parts.
 pub(crate) fn as_meant(mistake: Mistake, name: &'static str, code: &'static str) -> Option<Meant>
     ensures { option_map meant_content result ≡ Some (spec.as_meant (texts mistake.entry) name.now code.now) }
 {
@@ -59,7 +59,7 @@ pub(crate) fn as_meant(mistake: Mistake, name: &'static str, code: &'static str)
     })
 }
 
-/// Makes code of six pieces.
+/// Joins six pieces.
 pub(crate) fn six<'a>(
     first: &'a str,
     second: &'a str,
@@ -81,21 +81,21 @@ pub(crate) fn six<'a>(
     }
 }
 
-/// Makes code of three pieces.
+/// Joins three pieces.
 pub(crate) fn pieces<'a>(first: &'a str, second: &'a str, third: &'a str) -> Code<'a>
     ensures { code_content result ≡ spec.pieces first.now second.now third.now }
 {
     six(first, second, third, "", "", "")
 }
 
-/// Makes a span.
+/// Returns the span from `start` to `end`.
 pub(crate) fn span_of(start: usize, end: usize) -> Span
     ensures { result ≡ spec.span_of start end }
 {
     Span { start, end }
 }
 
-/// Makes a mistake at a place, with the code to write, and without a replacement.
+/// Returns a finding that marks `mark` and `also`, and shows code to write, without a replacement.
 pub(crate) fn shown<'a>(mistake: Mistake, mark: Span, also: Span, code: Code<'a>) -> Finding<'a>
     ensures { finding_content result ≡ spec.shown (texts mistake.entry) mark also (code_content code.entry) }
 {
@@ -110,7 +110,7 @@ pub(crate) fn shown<'a>(mistake: Mistake, mark: Span, also: Span, code: Code<'a>
     }
 }
 
-/// Makes a mistake at a place, without code.
+/// Returns a finding that marks the bytes from `from` to `to`, without code.
 pub(crate) fn marked<'a>(mistake: Mistake, from: usize, to: usize) -> Finding<'a>
     ensures { finding_content result ≡ spec.marked (texts mistake.entry) from to }
 {
@@ -118,7 +118,7 @@ pub(crate) fn marked<'a>(mistake: Mistake, from: usize, to: usize) -> Finding<'a
     shown(mistake, mark, mark, pieces("", "", ""))
 }
 
-/// Makes a mistake at a place, repaired by code at another.
+/// Returns a finding that marks `mark`, with code that replaces `edit`.
 pub(crate) fn mended<'a>(mistake: Mistake, mark: Span, edit: Span, code: Code<'a>) -> Finding<'a>
     ensures { finding_content result ≡ spec.mended (texts mistake.entry) mark edit (code_content code.entry) }
 {
@@ -127,21 +127,22 @@ pub(crate) fn mended<'a>(mistake: Mistake, mark: Span, edit: Span, code: Code<'a
     found
 }
 
-/// Makes a mistake at a place that code can replace.
+/// Returns a finding that marks the bytes from `from` to `to`, with code that replaces them.
 pub(crate) fn replaced<'a>(mistake: Mistake, from: usize, to: usize, code: Code<'a>) -> Finding<'a>
     ensures { finding_content result ≡ spec.replaced (texts mistake.entry) from to (code_content code.entry) }
 {
     mended(mistake, span_of(from, to), span_of(from, to), code)
 }
 
-/// Makes a mistake of a part that code can remove.
+/// Returns a finding that marks the bytes from `from` to `to`, and removes them.
 pub(crate) fn removed<'a>(mistake: Mistake, from: usize, to: usize) -> Finding<'a>
     ensures { finding_content result ≡ spec.removed (texts mistake.entry) from to }
 {
     replaced(mistake, from, to, pieces("", "", ""))
 }
 
-/// Returns the quotes for a part: single ones if it contains backslashes, so that they keep their meaning.
+/// Returns the quote to put around a part of the text: `'` if it contains a backslash, which then keeps its meaning,
+/// otherwise `"`.
 pub(crate) fn quote_for<'a>(text: &'a str, from: usize, to: usize) -> &'a str
     ensures { result.now ≡ spec.quote_for text.now from to }
 {
@@ -152,7 +153,7 @@ pub(crate) fn quote_for<'a>(text: &'a str, from: usize, to: usize) -> &'a str
     }
 }
 
-/// Makes a mistake of a part that needs quotes.
+/// Returns a finding that marks a part of the text, and puts it in quotes.
 pub(crate) fn quoted<'a>(mistake: Mistake, text: &'a str, from: usize, to: usize) -> Finding<'a>
     ensures { finding_content result ≡ spec.quoted (texts mistake.entry) text.now from to }
 {

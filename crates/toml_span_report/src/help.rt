@@ -1,8 +1,8 @@
-//! Help for numbers out of a type's range.
+//! Help for numbers that are out of range.
 ghost use Rattle.std.specs.Prelude.{◌≡◌, option_map};
 ghost use Rattle.toml_span_report.specs.Help as spec;
 
-/// Returns the help line with the range of the float type of this name, or None for another name.
+/// Returns the help line with the range of `f32` or `f64`, or `None` for another name.
 #[tactic(auto, unfolding(crate::specs::Help::float_help))]
 fn float_help(name: &str) -> Option<&'static str>
     ensures { option_map (λ help. help.now) result ≡ spec.float_help name.now }
@@ -16,7 +16,7 @@ fn float_help(name: &str) -> Option<&'static str>
     }
 }
 
-/// Returns the range of the number type with this name.
+/// Returns the help line with the range of the number type of this name, or `None` if there is no such type.
 #[tactic(auto, unfolding(crate::specs::Help::range_help))]
 pub(crate) fn range_help(name: &str) -> Option<&'static str>
     ensures { option_map (λ help. help.now) result ≡ spec.range_help name.now }

@@ -1,4 +1,4 @@
-//! A report as one line of JSON.
+//! Formats a report as one line of JSON.
 ghost use Rattle.std.specs.Prelude.{◌≡◌, ◌++◌, codes, IfOk, OnOk, map, string_bytes};
 ghost use Rattle.std.specs.Fmt.{decimal};
 ghost use Rattle.std.specs.List.{flat_map, join_by};
@@ -16,7 +16,7 @@ use std::fmt::Write;
 use toml_span_lex::span::Span;
 use toml_span_tree::Label;
 
-/// Appends a title and a number.
+/// Appends a member whose value is a number. `title` is what precedes the number. Fails if an allocation fails.
 fn push_number(out: &mut String, title: &str, number: usize) -> Result<(), AllocError>
     ensures { OnOk result (string_bytes out.new ≡ string_bytes out.old ++ title.now ++ decimal number) }
 {
@@ -24,7 +24,7 @@ fn push_number(out: &mut String, title: &str, number: usize) -> Result<(), Alloc
     write!(out, "{number}")
 }
 
-/// Appends a member whose value is a text, after what is there already.
+/// Appends a member whose value is a string. `title` is what precedes the string. Fails if an allocation fails.
 fn push_member(alloc: Global, out: &mut String, title: &str, text: &str) -> Result<(), AllocError>
     ensures { OnOk result (string_bytes out.new ≡ string_bytes out.old ++ spec.member_json title.now text.now) }
 {
@@ -32,7 +32,7 @@ fn push_member(alloc: Global, out: &mut String, title: &str, text: &str) -> Resu
     push_quoted(alloc, out, text)
 }
 
-/// Appends the start of a label.
+/// Appends the beginning of a label's object, with the member `primary`. Fails if an allocation fails.
 fn push_role(out: &mut String, is_primary: bool) -> Result<(), AllocError>
     ensures { OnOk result (string_bytes out.new ≡ string_bytes out.old ++ spec.role_json is_primary) }
 {
@@ -43,7 +43,7 @@ fn push_role(out: &mut String, is_primary: bool) -> Result<(), AllocError>
     }
 }
 
-/// Appends the bytes of a label.
+/// Appends the members `start` and `end` of a label. Fails if an allocation fails.
 #[tactic(auto, unfolding(crate::specs::JsonLine::span_json))]
 fn push_span(out: &mut String, span: Span) -> Result<(), AllocError>
     ensures { OnOk result (string_bytes out.new ≡ string_bytes out.old ++ spec.span_json span) }
@@ -52,7 +52,7 @@ fn push_span(out: &mut String, span: Span) -> Result<(), AllocError>
     push_number(out, ",\"end\":", span.end)
 }
 
-/// Appends the line and column of an offset.
+/// Appends the members `line` and `column` of an offset. Fails if an allocation fails.
 #[tactic(auto, unfolding(crate::specs::JsonLine::place_json))]
 fn push_place(out: &mut String, text: &str, at: usize) -> Result<(), AllocError>
     ensures { OnOk result (string_bytes out.new ≡ string_bytes out.old ++ spec.place_json text.now at) }
@@ -62,7 +62,7 @@ fn push_place(out: &mut String, text: &str, at: usize) -> Result<(), AllocError>
     push_number(out, ",\"column\":", column)
 }
 
-/// Appends the place of a label.
+/// Appends the bytes, line and column of a label. Fails if an allocation fails.
 #[tactic(auto, unfolding(crate::specs::JsonLine::spot_json))]
 fn push_spot(out: &mut String, text: &str, span: Span) -> Result<(), AllocError>
     ensures { OnOk result (string_bytes out.new ≡ string_bytes out.old ++ spec.spot_json text.now span) }
@@ -71,7 +71,7 @@ fn push_spot(out: &mut String, text: &str, span: Span) -> Result<(), AllocError>
     push_place(out, text, span.start)
 }
 
-/// Appends a label with these parts as a JSON object.
+/// Appends a label of these parts as a JSON object. Fails if an allocation fails.
 #[tactic(auto, unfolding(crate::specs::JsonLine::parts_json))]
 fn push_parts(
     alloc: Global,
@@ -90,7 +90,7 @@ fn push_parts(
     out.push_str("}")
 }
 
-/// Appends a label as a JSON object.
+/// Appends a label as a JSON object. Fails if an allocation fails.
 #[tactic(auto, unfolding(crate::specs::JsonLine::label_json))]
 fn push_label(
     alloc: Global,
@@ -105,7 +105,7 @@ fn push_label(
     push_parts(alloc, out, text, is_primary, span, label.message.as_str())
 }
 
-/// Appends further labels, each after a comma.
+/// Appends each label as a JSON object after a comma. Fails if an allocation fails.
 fn push_more_labels(
     alloc: Global,
     out: &mut String,
@@ -122,7 +122,7 @@ fn push_more_labels(
     Ok(())
 }
 
-/// Appends labels separated by commas.
+/// Appends the labels as JSON objects, separated by commas. Fails if an allocation fails.
 fn push_labels(
     alloc: Global,
     out: &mut String,
@@ -141,7 +141,7 @@ fn push_labels(
     }
 }
 
-/// Appends further texts, each after a comma.
+/// Appends each text as a JSON string after a comma. Fails if an allocation fails.
 fn push_more_texts(alloc: Global, out: &mut String, texts: &[String]) -> Result<(), AllocError>
     ensures { OnOk result (string_bytes out.new ≡ string_bytes out.old
         ++ flat_map (λ text. codes "," ++ quoted text) (map string_bytes texts.now)) }
@@ -153,7 +153,7 @@ fn push_more_texts(alloc: Global, out: &mut String, texts: &[String]) -> Result<
     Ok(())
 }
 
-/// Appends texts separated by commas.
+/// Appends the texts as JSON strings, separated by commas. Fails if an allocation fails.
 fn push_texts(alloc: Global, out: &mut String, texts: &[String]) -> Result<(), AllocError>
     ensures { OnOk result (string_bytes out.new ≡ string_bytes out.old
         ++ join_by quoted (codes ",") (map string_bytes texts.now)) }
@@ -167,7 +167,8 @@ fn push_texts(alloc: Global, out: &mut String, texts: &[String]) -> Result<(), A
     }
 }
 
-/// Appends texts as an array, after a title.
+/// Appends a member whose value is an array of strings. `title` is what precedes the array. Fails if an allocation
+/// fails.
 fn push_array(
     alloc: Global,
     out: &mut String,
@@ -183,7 +184,7 @@ fn push_array(
     out.push_str("]")
 }
 
-/// Appends the start of a replacement.
+/// Appends the beginning of a replacement's object, with the member `safe`. Fails if an allocation fails.
 fn push_safety(out: &mut String, is_safe: bool) -> Result<(), AllocError>
     ensures { OnOk result (string_bytes out.new ≡ string_bytes out.old ++ spec.safety_json is_safe) }
 {
@@ -194,7 +195,7 @@ fn push_safety(out: &mut String, is_safe: bool) -> Result<(), AllocError>
     }
 }
 
-/// Appends a replacement with these parts as a JSON object.
+/// Appends a replacement of these parts as a JSON object. Fails if an allocation fails.
 #[tactic(auto, unfolding(crate::specs::JsonLine::fix_parts_json))]
 fn push_fix_parts(
     alloc: Global,
@@ -212,7 +213,7 @@ fn push_fix_parts(
     out.push_str("}")
 }
 
-/// Appends a replacement as a JSON object.
+/// Appends a replacement as a JSON object. Fails if an allocation fails.
 #[tactic(auto, unfolding(crate::specs::JsonLine::fix_json))]
 fn push_fix(alloc: Global, out: &mut String, fix: &Replacement) -> Result<(), AllocError>
     ensures { OnOk result (string_bytes out.new ≡ string_bytes out.old
@@ -222,7 +223,7 @@ fn push_fix(alloc: Global, out: &mut String, fix: &Replacement) -> Result<(), Al
     push_fix_parts(alloc, out, is_safe, span, fix.text.as_str())
 }
 
-/// Appends further replacements, each after a comma.
+/// Appends each replacement as a JSON object after a comma. Fails if an allocation fails.
 fn push_more_fixes(alloc: Global, out: &mut String, fixes: &[Replacement]) -> Result<(), AllocError>
     ensures { OnOk result (string_bytes out.new ≡ string_bytes out.old
         ++ flat_map (λ fix. codes "," ++ spec.fix_json fix) (map repair_of fixes.now)) }
@@ -234,7 +235,7 @@ fn push_more_fixes(alloc: Global, out: &mut String, fixes: &[Replacement]) -> Re
     Ok(())
 }
 
-/// Appends replacements separated by commas.
+/// Appends the replacements as JSON objects, separated by commas. Fails if an allocation fails.
 fn push_fixes(alloc: Global, out: &mut String, fixes: &[Replacement]) -> Result<(), AllocError>
     ensures { OnOk result (string_bytes out.new ≡ string_bytes out.old
         ++ join_by spec.fix_json (codes ",") (map repair_of fixes.now)) }
@@ -248,7 +249,7 @@ fn push_fixes(alloc: Global, out: &mut String, fixes: &[Replacement]) -> Result<
     }
 }
 
-/// Appends the name of the file, the code and the message.
+/// Appends the members `file`, `code` and `message`. Fails if an allocation fails.
 fn push_head(alloc: Global, out: &mut String, report: &Report, name: &str) -> Result<(), AllocError>
     ensures { OnOk result (string_bytes out.new ≡ string_bytes out.old
         ++ spec.head_json (report_content report.now) name.now) }
@@ -258,7 +259,7 @@ fn push_head(alloc: Global, out: &mut String, report: &Report, name: &str) -> Re
     push_member(alloc, out, ",\"message\":", report.message.as_str())
 }
 
-/// Appends the severity, the notes and the help.
+/// Appends the members `severity`, `notes` and `help`. Fails if an allocation fails.
 fn push_remarks(alloc: Global, out: &mut String, report: &Report) -> Result<(), AllocError>
     ensures { OnOk result (string_bytes out.new ≡ string_bytes out.old
         ++ spec.remarks_json (report_content report.now)) }
@@ -268,14 +269,14 @@ fn push_remarks(alloc: Global, out: &mut String, report: &Report) -> Result<(), 
     push_array(alloc, out, ",\"help\":", report.help.as_slice())
 }
 
-/// Returns a report on this text, whose file has this name, as one line of JSON: an object with the members `file`,
-/// `code`, `message`, `labels`, `severity` (`error`, `warning` or `note`), `notes`, `help` and `fixes`, in this order,
-/// and a line feed.
+/// Returns a report as one line of JSON, which ends with a line feed. `name` is the name of the file, `text` the
+/// source. The line is an object with the members `file`, `code`, `message`, `labels`, `severity` (`error`, `warning`
+/// or `note`), `notes`, `help` and `fixes`, in this order.
 ///
-/// A label is an object with the members `primary`, `start` and `end` (bytes of the text from 0, the end exclusive),
-/// `line` and `column` of its start (both from 1, as `line_column` counts them) and `message`. Labels are in the
-/// report's order. A fix has the members `safe`, `start`, `end` (as in a label) and `text`, which replaces these bytes.
-/// Nothing is cut, and strings are escaped as `visible::push_quoted` does. Fails only if an allocation fails.
+/// A label is an object with the members `primary`, `start` and `end` (byte offsets from 0, end exclusive), `line` and
+/// `column` of its start (both from 1, as `line_column` counts them) and `message`. Labels are in the order of the
+/// report. A fix has the members `safe`, `start` and `end` (as in a label), and `text`, which replaces these bytes.
+/// Nothing is cut, and strings are escaped as in `visible::push_quoted`. Fails only if an allocation fails.
 pub fn render_json(
     alloc: Global,
     report: &Report,

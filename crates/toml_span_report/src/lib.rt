@@ -1,5 +1,5 @@
-//! Reports on TOML documents, of errors or of a program's own findings, and their text: a message, source lines, and
-//! marks below them.
+//! Reports on TOML documents: errors, or findings of a program's own. Formats them as text with a message, source
+//! lines, and marks below these.
 #![tactic(auto)]
 
 mod bytes;

@@ -1,4 +1,4 @@
-//! The text of many reports.
+//! Formats several reports.
 ghost use Rattle.std.specs.Prelude.{◌≡◌, ◌++◌, codes, IfOk, OnOk, map, option_map, string_bytes};
 ghost use Rattle.std.specs.List.{count_by, flat_map};
 ghost use Rattle.toml_span_report.specs.Many as spec;
@@ -13,14 +13,14 @@ use crate::strips::{Strip, all_strips};
 use std::alloc::{AllocError, Global};
 use std::fmt::Write;
 
-/// The text of a report, and the offset of the report.
+/// A formatted report, and the offset at which it is sorted.
 #[derive(Drop)]
 pub(crate) struct Drawn {
     at: usize,
     text: String,
 }
 
-/// Returns where a strip begins.
+/// Returns the offset of a strip, or 0 if there is none.
 fn place_of(strip: Option<Strip<'_>>) -> usize
     ensures { result ≡ spec.place_of (option_map marked_line_of strip.entry) }
 {
@@ -30,7 +30,7 @@ fn place_of(strip: Option<Strip<'_>>) -> usize
     }
 }
 
-/// Renders a report.
+/// Formats a report. Fails if an allocation fails.
 fn draw(
     alloc: Global,
     style: Style,
@@ -47,7 +47,7 @@ fn draw(
     Ok(Drawn { at, text })
 }
 
-/// Renders reports.
+/// Formats each report. Fails if an allocation fails.
 fn draw_all(
     alloc: Global,
     style: Style,
@@ -65,7 +65,7 @@ fn draw_all(
     Ok(made)
 }
 
-/// Appends the texts, with a blank line after each.
+/// Appends each text with a blank line after it. Fails if an allocation fails.
 fn push_texts(out: &mut String, drawn: &[Drawn]) -> Result<(), AllocError>
     ensures { OnOk result (string_bytes out.new ≡ string_bytes out.old
         ++ flat_map spec.with_blank_line (map drawn_content drawn.now)) }
@@ -77,6 +77,7 @@ fn push_texts(out: &mut String, drawn: &[Drawn]) -> Result<(), AllocError>
     Ok(())
 }
 
+/// Returns whether the report has this severity.
 fn is_of(severity: Severity, report: &Report) -> bool
     ensures { result ≡ spec.is_of severity (report_content report.now) }
 {
@@ -100,7 +101,8 @@ fn count_of(severity: Severity, reports: &[Report]) -> usize
     count
 }
 
-/// Appends a count, after a comma if there is something before it, or nothing if the count is 0.
+/// Appends a count with its word, such as `3 errors`, after a comma unless it is the first. Appends nothing if the
+/// count is 0. Fails if an allocation fails.
 fn push_count(line: &mut String, count: usize, word: &str) -> Result<(), AllocError>
     ensures { OnOk result (string_bytes line.new ≡ spec.with_count (string_bytes line.old) count word.now) }
 {
@@ -117,7 +119,7 @@ fn push_count(line: &mut String, count: usize, word: &str) -> Result<(), AllocEr
     Ok(())
 }
 
-/// Returns the numbers of errors, warnings and notes.
+/// Returns the last line, which counts errors, warnings and notes. Fails if an allocation fails.
 fn total(alloc: Global, reports: &[Report]) -> Result<String, AllocError>
     ensures { IfOk result (λ line. string_bytes line ≡ spec.total (map report_content reports.now)) }
 {
@@ -140,7 +142,7 @@ fn total(alloc: Global, reports: &[Report]) -> Result<String, AllocError>
     Ok(line)
 }
 
-/// Returns the texts and the last line.
+/// Joins the texts and the last line. Fails if an allocation fails.
 fn joined(alloc: Global, drawn: &[Drawn], reports: &[Report]) -> Result<String, AllocError>
     ensures { IfOk result (λ out. string_bytes out
         ≡ spec.joined (map drawn_content drawn.now) (map report_content reports.now)) }
@@ -152,10 +154,11 @@ fn joined(alloc: Global, drawn: &[Drawn], reports: &[Report]) -> Result<String, 
     Ok(out)
 }
 
-/// Returns the text of reports on one text: each as `render` shows it, with a blank line after it, in the order of
-/// their places in the text, and a last line such as `3 errors, 1 warning`. Reports at one place keep their order, and
-/// one without labels counts as at the start of the text. Without reports the text is empty. Fails only if an
-/// allocation fails.
+/// Returns the text of several reports on one source: each as `render` formats it, followed by a blank line, and at the
+/// end a line such as `3 errors, 1 warning`. `name` is the name of the file, `text` the source.
+///
+/// Reports are sorted by their places in the source. Those at one place keep their order, and a report without labels
+/// counts as one at the start. Without reports, the text is empty. Fails only if an allocation fails.
 pub fn render_all(
     alloc: Global,
     style: Style,

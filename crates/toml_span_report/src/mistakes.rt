@@ -1,4 +1,4 @@
-//! The typical mistake that an error probably comes from.
+//! Recognizes the typical mistake that probably caused an error.
 ghost use Rattle.std.specs.Prelude.{◌≡◌, option_map};
 ghost use Rattle.toml_span_tree.specs.Error.{kind_of};
 ghost use Rattle.toml_span_report.specs.Finding.{finding_content};
@@ -19,7 +19,9 @@ use crate::words::ARRAY_AFTER_TABLE;
 use toml_span_lex::span::Span;
 use toml_span_tree::ErrorKind;
 
-/// Returns the mistake that an error of this kind, at this span of the text, probably comes from.
+/// Returns the mistake that probably caused an error of this kind, with this span of the source `text`, or `None` if it
+/// is not a typical one. The functions of these modules take byte offsets in `text`; `at` is the place of the error
+/// unless they say otherwise.
 pub(crate) fn mistake_of<'a>(kind: &ErrorKind<'_>, text: &'a str, span: Span) -> Option<Finding<'a>>
     ensures { option_map finding_content result ≡ spec.mistake_of (kind_of kind.now) text.now span }
 {

@@ -1,4 +1,4 @@
-//! The name that a misspelt word probably means.
+//! Suggests the name that a misspelled word probably means.
 ghost use Rattle.std.specs.Prelude.{◌≡◌, ◌≤◌, IfOk, length, map, option_map};
 ghost use Rattle.toml_span_report.specs.Names as spec;
 
@@ -6,7 +6,7 @@ use crate::places::characters;
 use std::alloc::{AllocError, Global};
 use strsim::osa_distance;
 
-/// Returns how far a name may be from a word to be suggested for it: a third of the word's characters, rounded.
+/// Returns the highest distance at which a name is suggested for a word: a third of the word's characters, rounded.
 #[tactic(auto, unfolding(crate::specs::Names::reach))]
 fn reach(word: &str) -> usize
     ensures value { result ≡ spec.reach word.now }
@@ -15,7 +15,7 @@ fn reach(word: &str) -> usize
     (characters(word) + 1) / 3
 }
 
-/// Returns the distance of a name from a word.
+/// Returns the distance between a word and a name. Fails if an allocation fails.
 #[tactic(auto, unfolding(crate::specs::Names::distance))]
 fn distance(alloc: Global, word: &str, name: &str) -> Result<usize, AllocError>
     ensures { IfOk result (λ d. d ≡ spec.distance word.now name.now) }
@@ -23,12 +23,12 @@ fn distance(alloc: Global, word: &str, name: &str) -> Result<usize, AllocError>
     osa_distance(alloc, word, name)
 }
 
-/// Returns the name that a misspelt word probably means: the first of the nearest names, if it is near enough. The
-/// distance is the number of characters inserted, removed or replaced, and of neighbours swapped
-/// (`strsim::osa_distance`). It is at most a third of the word's characters, rounded, so a word of one character
-/// matches only itself.
+/// Returns the name that a misspelled word probably means: the nearest name, or the first of several that are equally
+/// near. Returns `None` if none is near enough.
 ///
-/// Allocates for one name at a time. Fails only if an allocation fails.
+/// Distance is the number of characters to insert, remove or replace, and of neighbors to swap
+/// (`strsim::osa_distance`). It may be a third of the word's characters, rounded, so a word of one character matches
+/// only itself. Fails only if an allocation fails.
 pub fn nearest<'a>(
     alloc: Global,
     word: &str,

@@ -1,4 +1,4 @@
-//! Places in a text, and their lines.
+//! Offsets in a text, and the lines and columns where they are.
 ghost use Rattle.std.specs.Prelude.{◌≡◌, ℕ, ◌<◌, ◌≤◌, length, slice_index};
 ghost use Rattle.std.specs.List.{position_or_len};
 ghost use Rattle.std.specs.Str.{IsCharBoundary, chars};
@@ -6,7 +6,7 @@ ghost use Rattle.toml_span_report.specs.Places as spec;
 
 use toml_span_lex::span::Span;
 
-/// Returns the offset, or the nearest character boundary before it, or the end of the text.
+/// Returns the nearest character boundary at or before the offset `at`, at most the length of the text.
 pub(crate) fn place(text: &str, at: usize) -> usize
     ensures value { result ≡ spec.place text.now at }
     ensures boundary { IsCharBoundary text.now result }
@@ -16,7 +16,7 @@ pub(crate) fn place(text: &str, at: usize) -> usize
     text.floor_char_boundary(at)
 }
 
-/// Returns where a byte order mark at the start of the text ends, or 0.
+/// Returns the length of the byte order mark at the start of the text, or 0 if there is none.
 #[tactic(auto, using(crate::proofs::PlaceLemmas::mark_boundary), unfolding(crate::specs::Places::mark_end))]
 fn mark_end(text: &str) -> usize
     ensures value { result ≡ spec.mark_end text.now }
@@ -30,7 +30,7 @@ fn mark_end(text: &str) -> usize
     }
 }
 
-/// Returns where the line of a place begins.
+/// Returns the offset at which the line of an offset begins.
 pub(crate) fn line_start(text: &str, at: usize) -> usize
     requires { IsCharBoundary text.now at }
     ensures value { result ≡ spec.line_start text.now at }
@@ -46,7 +46,7 @@ pub(crate) fn line_start(text: &str, at: usize) -> usize
     start
 }
 
-/// Returns the offset of the first line feed, or the end of the text.
+/// Returns the offset of the first line feed, or the length of the text if there is none.
 fn line_feed(bytes: &[u8]) -> usize
     ensures value { result ≡ position_or_len spec.is_line_feed bytes.now }
     ensures within { result ≤ length bytes.now }
@@ -60,8 +60,7 @@ fn line_feed(bytes: &[u8]) -> usize
     bytes.len()
 }
 
-/// Returns where the line of a place ends: before its line feed and a carriage return in front of that, or with the
-/// text.
+/// Returns the offset at which the line of an offset ends: before its LF or CRLF, or at the end of the text.
 pub(crate) fn line_end(text: &str, at: usize) -> usize
     requires { IsCharBoundary text.now at }
     ensures value { result ≡ spec.line_end text.now at }
@@ -78,7 +77,7 @@ pub(crate) fn line_end(text: &str, at: usize) -> usize
     }
 }
 
-/// Returns the number of the line of a place, counted from 1.
+/// Returns the number of the line of an offset, counted from 1.
 #[tactic(auto, unfolding(crate::specs::Places::line_number))]
 pub(crate) fn line_number(text: &str, at: usize) -> usize
     requires { at ≤ length text.now }
@@ -88,7 +87,7 @@ pub(crate) fn line_number(text: &str, at: usize) -> usize
     before.iter().filter(|byte| **byte == b'\n').count() + 1
 }
 
-/// Returns the number of characters of a text.
+/// Returns the number of characters in a text.
 pub(crate) fn characters(text: &str) -> usize
     ensures value { result ≡ length (chars text.now) }
     ensures bound { result ≤ length text.now }
@@ -96,7 +95,7 @@ pub(crate) fn characters(text: &str) -> usize
     text.chars().count()
 }
 
-/// Returns the column of a place, in characters counted from 1.
+/// Returns the column of an offset, counted from 1 in characters.
 pub(crate) fn column(text: &str, at: usize) -> usize
     requires { IsCharBoundary text.now at }
     ensures { result ≡ spec.column text.now at }
@@ -104,7 +103,7 @@ pub(crate) fn column(text: &str, at: usize) -> usize
     characters(&text[line_start(text, at)..at]) + 1
 }
 
-/// Returns where a span begins in a text, after a byte order mark at its start.
+/// Returns the character boundary at which a span begins, after a byte order mark at the start of the text.
 #[tactic(auto, unfolding(crate::specs::Places::span_start))]
 pub(crate) fn span_start(text: &str, span: Span) -> usize
     ensures value { result ≡ spec.span_start text.now span }
@@ -113,7 +112,8 @@ pub(crate) fn span_start(text: &str, span: Span) -> usize
     place(text, span.start).max(mark_end(text))
 }
 
-/// Returns where a span ends in a text. A line feed at its end is left out, and a reversed span is empty.
+/// Returns the character boundary at which a span ends, before a line feed at its end. If the span is reversed, this is
+/// its start.
 #[tactic(auto, unfolding(crate::specs::Places::span_start, crate::specs::Places::span_end))]
 pub(crate) fn span_end(text: &str, span: Span) -> usize
     ensures value { result ≡ spec.span_end text.now span }
@@ -130,10 +130,10 @@ pub(crate) fn span_end(text: &str, span: Span) -> usize
     }
 }
 
-/// Returns the line and the column of an offset in a text, both counted from 1, the column in characters, as editors
-/// show it. An offset within a character or beyond the text is moved back to the nearest character boundary.
+/// Returns the line and the column of the offset `at`, both counted from 1, the column in characters, as editors show
+/// them. An offset inside a character, or beyond the text, is moved back to the nearest character boundary.
 ///
-/// `toml_span::line_and_byte` returns the line and the byte in it, and `Error::line_info` these two counted from 0.
+/// `toml_span::line_and_byte` counts columns in bytes, as `Error::line_info` does, which counts from 0.
 pub fn line_column(text: &str, at: usize) -> (usize, usize)
     ensures line { result.0 ≡ spec.line_number text.now (spec.place text.now at) }
     ensures column { result.1 ≡ spec.column text.now (spec.place text.now at) }

@@ -1,4 +1,4 @@
-//! The reports of a typed read.
+//! Makes the reports of a typed read.
 ghost use Rattle.std.specs.Prelude.{IfOk, OnOk, map};
 ghost use Rattle.toml_span_tree.specs.Error.{content_of};
 ghost use Rattle.toml_span_report.specs.Errors.{AddsReports};
@@ -13,7 +13,7 @@ use toml_span_lex::stop::Stop;
 use toml_span_tree::Error;
 use toml_span_typed::DeserError;
 
-/// Appends the reports of warnings.
+/// Appends the report of each warning. Fails if an allocation fails.
 fn push_warnings(
     alloc: Global,
     warnings: &[Error<'_>],
@@ -29,8 +29,8 @@ fn push_warnings(
     Ok(())
 }
 
-/// Returns the reports of the warnings of a read, and of its errors if it failed, each in their order, for
-/// `render_all`. If memory ran out, here or in the read, that error is returned.
+/// Returns the reports of the warnings of a read and, if it failed, of its errors, for `render_all`. `text` is the
+/// source. Fails if the read failed with `Stop::Memory`, or if an allocation fails.
 pub fn reports_of<T>(
     alloc: Global,
     read: &Result<T, Stop<DeserError<'_>>>,

@@ -1,4 +1,4 @@
-//! The text of a report.
+//! Formats one report.
 ghost use Rattle.std.specs.Prelude.{◌≡◌, ◌++◌, IfOk, OnOk, map, None, option_map, string_bytes};
 ghost use Rattle.std.specs.List.{flat_map};
 ghost use Rattle.toml_span_report.specs.Rendering as spec;
@@ -13,9 +13,9 @@ use crate::strips::{Strip, Window, all_strips, is_near, seen_in, window_of};
 use std::alloc::{AllocError, Global};
 use std::fmt::Write;
 
-/// Appends a text after a sign, or nothing if the text is empty.
-fn push_behind(out: &mut String, sign: &str, text: &str) -> Result<(), AllocError>
-    ensures { OnOk result (string_bytes out.new ≡ string_bytes out.old ++ spec.behind sign.now text.now) }
+/// Appends a sign and a text, or nothing if the text is empty. Fails if an allocation fails.
+fn push_after(out: &mut String, sign: &str, text: &str) -> Result<(), AllocError>
+    ensures { OnOk result (string_bytes out.new ≡ string_bytes out.old ++ spec.after sign.now text.now) }
 {
     if text.is_empty() {
         return Ok(());
@@ -24,6 +24,7 @@ fn push_behind(out: &mut String, sign: &str, text: &str) -> Result<(), AllocErro
     out.push_str(text)
 }
 
+/// Appends `...` if the line is cut. Fails if an allocation fails.
 fn push_dots(out: &mut String, is_cut: bool) -> Result<(), AllocError>
     ensures { OnOk result (string_bytes out.new ≡ string_bytes out.old ++ spec.dots is_cut) }
 {
@@ -33,26 +34,26 @@ fn push_dots(out: &mut String, is_cut: bool) -> Result<(), AllocError>
     Ok(())
 }
 
-/// Appends a text as it is shown, cut after 1,000 bytes.
-#[tactic(auto, unfolding(crate::specs::Rendering::told))]
+/// Appends the printed form of a text, cut after 1,000 bytes. Fails if an allocation fails.
+#[tactic(auto, unfolding(crate::specs::Rendering::shortened))]
 fn push_told(out: &mut String, text: &str) -> Result<(), AllocError>
-    ensures { OnOk result (string_bytes out.new ≡ string_bytes out.old ++ spec.told text.now) }
+    ensures { OnOk result (string_bytes out.new ≡ string_bytes out.old ++ spec.shortened text.now) }
 {
     let end = place(text, 1000);
     push_shown(out, &text[..end])?;
     push_dots(out, end < text.len())
 }
 
-/// Returns a text as it is shown, cut after 1,000 bytes.
+/// Returns the printed form of a text, cut after 1,000 bytes. Fails if an allocation fails.
 fn told(alloc: Global, text: &str) -> Result<String, AllocError>
-    ensures { IfOk result (λ out. string_bytes out ≡ spec.told text.now) }
+    ensures { IfOk result (λ out. string_bytes out ≡ spec.shortened text.now) }
 {
     let mut out = String::new(alloc);
     push_told(&mut out, text)?;
     Ok(out)
 }
 
-/// Returns the front of a report's headline.
+/// Returns the word with which a report begins: `error`, `warning` or `note`.
 pub(crate) fn word(severity: Severity) -> &'static str
     ensures { result.now ≡ spec.word severity }
 {
@@ -63,7 +64,7 @@ pub(crate) fn word(severity: Severity) -> &'static str
     }
 }
 
-/// Returns the colour of that, and of the marks of primary labels.
+/// Returns the color of the word for a severity, and of the marks of primary labels.
 fn ink_of(severity: Severity) -> Ink
     ensures { result ≡ spec.ink_of severity }
 {
@@ -74,7 +75,7 @@ fn ink_of(severity: Severity) -> Ink
     }
 }
 
-/// Appends a text in brackets, or nothing if it is empty.
+/// Appends a text in brackets, or nothing if it is empty. Fails if an allocation fails.
 fn push_in_brackets(out: &mut String, text: &str) -> Result<(), AllocError>
     ensures { OnOk result (string_bytes out.new ≡ string_bytes out.old ++ spec.in_brackets text.now) }
 {
@@ -86,7 +87,7 @@ fn push_in_brackets(out: &mut String, text: &str) -> Result<(), AllocError>
     out.push_str("]")
 }
 
-/// Appends the severity, the code and the message.
+/// Appends the first line: the severity, the code and the message. Fails if an allocation fails.
 fn push_headline(
     alloc: Global,
     style: Style,
@@ -102,12 +103,12 @@ fn push_headline(
     push_painted(out, style, ink_of(report.severity), front.as_str())?;
     let message = told(alloc, report.message.as_str())?;
     let mut back = String::new(alloc);
-    push_behind(&mut back, ": ", message.as_str())?;
+    push_after(&mut back, ": ", message.as_str())?;
     push_painted(out, style, Ink::Bold, back.as_str())?;
     out.push_str("\n")
 }
 
-/// Returns the first strip of a primary label, or else the first of all.
+/// Returns the first strip of a primary label or, if there is none, the first strip.
 pub(crate) fn main_strip<'a>(strips: &[Strip<'a>]) -> Option<Strip<'a>>
     ensures { option_map marked_line_of result ≡ spec.main_part (map marked_line_of strips.now) }
 {
@@ -119,7 +120,7 @@ pub(crate) fn main_strip<'a>(strips: &[Strip<'a>]) -> Option<Strip<'a>>
     strips.first().copied()
 }
 
-/// Appends the line and the column of a strip.
+/// Appends the line and the column of a strip, if there is one. Fails if an allocation fails.
 fn push_place(out: &mut String, strip: Option<Strip<'_>>) -> Result<(), AllocError>
     ensures { OnOk result (string_bytes out.new ≡ string_bytes out.old
         ++ spec.place_told (option_map marked_line_of strip.entry)) }
@@ -131,7 +132,7 @@ fn push_place(out: &mut String, strip: Option<Strip<'_>>) -> Result<(), AllocErr
     write!(out, ":{number}:{column}")
 }
 
-/// Returns the number of columns of the highest line number.
+/// Returns the number of digits of the highest line number. Fails if an allocation fails.
 fn width_of(alloc: Global, strips: &[Strip<'_>]) -> Result<usize, AllocError>
     ensures { IfOk result (λ width. width ≡ spec.width_of (map marked_line_of strips.now)) }
 {
@@ -143,7 +144,7 @@ fn width_of(alloc: Global, strips: &[Strip<'_>]) -> Result<usize, AllocError>
     Ok(digits.len())
 }
 
-/// The layout of the source lines.
+/// The layout of a report.
 #[derive(Clone, Copy)]
 struct Frame {
     alloc: Global,
@@ -153,7 +154,7 @@ struct Frame {
     width: usize,
 }
 
-/// Appends the margin to the left of a line, and a bar.
+/// Appends the left margin, with a line number or blanks, and a bar. Fails if an allocation fails.
 fn push_gutter(frame: Frame, out: &mut String, number: &str) -> Result<(), AllocError>
     ensures { OnOk result (string_bytes out.new ≡ string_bytes out.old
         ++ spec.gutter frame.style frame.width number.now) }
@@ -165,7 +166,7 @@ fn push_gutter(frame: Frame, out: &mut String, number: &str) -> Result<(), Alloc
     push_painted(out, frame.style, Ink::Blue, left.as_str())
 }
 
-/// Appends the source line of a strip.
+/// Appends the source line of a strip. Fails if an allocation fails.
 fn push_source_line(frame: Frame, out: &mut String, strip: &Strip<'_>) -> Result<(), AllocError>
     ensures { OnOk result (string_bytes out.new ≡ string_bytes out.old
         ++ spec.source_line frame.style frame.width (marked_line_of strip.now)) }
@@ -176,13 +177,13 @@ fn push_source_line(frame: Frame, out: &mut String, strip: &Strip<'_>) -> Result
     push_dots(&mut source, strip.is_cut_before)?;
     push_shown(&mut source, strip.before)?;
     push_shown(&mut source, strip.marked)?;
-    push_shown(&mut source, strip.behind)?;
-    push_dots(&mut source, strip.is_cut_behind)?;
-    push_behind(out, " ", source.as_str())?;
+    push_shown(&mut source, strip.after)?;
+    push_dots(&mut source, strip.is_cut_after)?;
+    push_after(out, " ", source.as_str())?;
     out.push_str("\n")
 }
 
-/// Appends the marks of a strip.
+/// Appends the marks under a strip, `^` or `-`. Fails if an allocation fails.
 fn push_marks(alloc: Global, out: &mut String, strip: &Strip<'_>) -> Result<(), AllocError>
     ensures { OnOk result (string_bytes out.new ≡ string_bytes out.old ++ spec.marks (marked_line_of strip.now)) }
 {
@@ -195,7 +196,7 @@ fn push_marks(alloc: Global, out: &mut String, strip: &Strip<'_>) -> Result<(), 
     push_times(out, columns(marked.as_str()).max(1), sign)
 }
 
-/// Returns the colour of a label's marks.
+/// Returns the color of the marks of a label.
 fn ink(severity: Severity, is_primary: bool) -> Ink
     ensures { result ≡ spec.ink severity is_primary }
 {
@@ -206,7 +207,7 @@ fn ink(severity: Severity, is_primary: bool) -> Ink
     }
 }
 
-/// Appends the line of marks, and the label's message.
+/// Appends the line under a source line: marks, and the message of the label. Fails if an allocation fails.
 fn push_marks_line(frame: Frame, out: &mut String, strip: &Strip<'_>) -> Result<(), AllocError>
     ensures { OnOk result (string_bytes out.new ≡ string_bytes out.old
         ++ spec.marks_line frame.style frame.severity frame.width (marked_line_of strip.now)) }
@@ -216,7 +217,7 @@ fn push_marks_line(frame: Frame, out: &mut String, strip: &Strip<'_>) -> Result<
     let mut marks = String::new(frame.alloc);
     push_marks(frame.alloc, &mut marks, strip)?;
     let message = told(frame.alloc, strip.message)?;
-    push_behind(&mut marks, " ", message.as_str())?;
+    push_after(&mut marks, " ", message.as_str())?;
     push_painted(
         out,
         frame.style,
@@ -226,7 +227,8 @@ fn push_marks_line(frame: Frame, out: &mut String, strip: &Strip<'_>) -> Result<
     out.push_str("\n")
 }
 
-/// Appends the source line of a strip, unless the window above shows it, after dots or a bar.
+/// Appends the source line of a strip, after `...` or a bar if it does not follow the line above. Appends nothing if
+/// that line shows the strip too. Fails if an allocation fails.
 fn push_opening(
     frame: Frame,
     out: &mut String,
@@ -253,7 +255,7 @@ fn push_opening(
     push_source_line(frame, out, strip)
 }
 
-/// Appends the source lines of all strips, with their marks.
+/// Appends the source line and the marks of each strip. Fails if an allocation fails.
 fn push_strips(frame: Frame, out: &mut String, strips: &[Strip<'_>]) -> Result<(), AllocError>
     ensures { OnOk result (string_bytes out.new ≡ string_bytes out.old
         ++ spec.drawn frame.style frame.severity frame.width None (map marked_line_of strips.now)) }
@@ -269,7 +271,7 @@ fn push_strips(frame: Frame, out: &mut String, strips: &[Strip<'_>]) -> Result<(
     Ok(())
 }
 
-/// Appends the headline and the place.
+/// Returns the first line and the line with the place. Fails if an allocation fails.
 fn front(
     frame: Frame,
     report: &Report,
@@ -292,7 +294,7 @@ fn front(
     Ok(out)
 }
 
-/// Appends a note or a line of help.
+/// Appends a note or a line of help. Fails if an allocation fails.
 fn push_remark(frame: Frame, out: &mut String, title: &str, text: &str) -> Result<(), AllocError>
     ensures { OnOk result (string_bytes out.new ≡ string_bytes out.old
         ++ spec.remark frame.style frame.width title.now text.now) }
@@ -306,7 +308,7 @@ fn push_remark(frame: Frame, out: &mut String, title: &str, text: &str) -> Resul
     out.push_str("\n")
 }
 
-/// Appends several of them, one below the other.
+/// Appends each text as a note or a line of help. Fails if an allocation fails.
 fn push_each(
     frame: Frame,
     out: &mut String,
@@ -322,7 +324,7 @@ fn push_each(
     Ok(())
 }
 
-/// Appends a bar alone.
+/// Appends a line with only a bar in its margin. Fails if an allocation fails.
 fn push_bar(frame: Frame, out: &mut String) -> Result<(), AllocError>
     ensures { OnOk result (string_bytes out.new ≡ string_bytes out.old ++ spec.bar frame.style frame.width) }
 {
@@ -330,7 +332,7 @@ fn push_bar(frame: Frame, out: &mut String) -> Result<(), AllocError>
     out.push_str("\n")
 }
 
-/// Appends a bar if there is help.
+/// Appends a line with only a bar in its margin if there is help. Fails if an allocation fails.
 fn push_bar_above_help(frame: Frame, out: &mut String, help: &[String]) -> Result<(), AllocError>
     ensures { OnOk result (string_bytes out.new ≡ string_bytes out.old
         ++ spec.bar_above frame.style frame.width (map string_bytes help.now)) }
@@ -341,7 +343,7 @@ fn push_bar_above_help(frame: Frame, out: &mut String, help: &[String]) -> Resul
     }
 }
 
-/// Appends a bar if there are notes or help.
+/// Appends a line with only a bar in its margin if there are notes or help. Fails if an allocation fails.
 fn push_bar_above(
     frame: Frame,
     out: &mut String,
@@ -357,7 +359,7 @@ fn push_bar_above(
     }
 }
 
-/// Appends the notes and the help, with a bar above them if there are any.
+/// Appends the notes and the help, with a line with a bar above them if there are any. Fails if an allocation fails.
 fn push_remarks(frame: Frame, out: &mut String, report: &Report) -> Result<(), AllocError>
     ensures { OnOk result (string_bytes out.new ≡ string_bytes out.old
         ++ spec.remarks frame.style frame.width (report_content report.now)) }
@@ -368,7 +370,7 @@ fn push_remarks(frame: Frame, out: &mut String, report: &Report) -> Result<(), A
     push_each(frame, out, "help: ", help)
 }
 
-/// Returns the text of a report for its strips.
+/// Formats a report whose labels have these strips. Fails if an allocation fails.
 pub(crate) fn drawn(
     alloc: Global,
     style: Style,
@@ -392,22 +394,21 @@ pub(crate) fn drawn(
     Ok(out)
 }
 
-/// Returns the text of a report on this text, whose file has this name.
+/// Returns a report as text. `name` is the name of the file, `text` the source.
 ///
-/// It has a headline; the place of the first primary label as `name:line:column`, both counted from 1, the column in
-/// characters; the source lines on which labels begin and end, with marks under them: `^` for a primary label, `-` for
-/// another; and notes and help. Labels are in the order of the text. A span may be any: an offset beyond the text or
-/// within a character is moved back to the nearest character boundary, and a reversed span is empty. An empty one has
-/// one mark.
+/// The text has a first line with the message; the place of the first primary label as `name:line:column`, both counted
+/// from 1, the column in characters; the source lines on which labels begin, with marks under them: `^` for a primary
+/// label, `-` for a secondary one; and the notes and help. Labels are in the order of the source. Their spans may be
+/// any: an offset inside a character, or beyond the source, is moved back to the nearest character boundary, and a
+/// reversed span counts as empty. An empty span has one mark.
 ///
-/// A tab is shown as four spaces, another control character below U+0080 as its picture, and a control character from
-/// U+0080 on, or one that ends a line or changes the direction of the text, as U+FFFD. A byte order mark at the start
-/// of the text is not shown.
+/// A tab is printed as four spaces, any other control character below U+0080 as its picture. Control characters from
+/// U+0080 on, and characters that end a line or change the direction of the text, are printed as U+FFFD. Marks count a
+/// wide character as two columns (`unicode_width`). A byte order mark at the start of the source is not printed.
 ///
-/// If a line is long, 80 bytes before its first label are shown, and 160 from the start of the last label that begins
-/// within 240 bytes of the one before it. For a label further on the line is shown again. A code, a message, a note or
-/// a name is cut after 1,000 bytes. Colours, if the style has them, add nothing else. Fails only if an allocation
-/// fails.
+/// Long lines are cut: 80 bytes before the first label are shown, and 160 from the start of the last label that begins
+/// within 240 bytes of the first one. For labels further on, the line is printed again. Codes, messages, notes and
+/// names are cut after 1,000 bytes. Colors change nothing else. Fails only if an allocation fails.
 pub fn render(
     alloc: Global,
     style: Style,
@@ -422,7 +423,7 @@ pub fn render(
     drawn(alloc, style, report, name, strips.as_slice())
 }
 
-/// Appends a text before a sign, or nothing if the text is empty.
+/// Appends a text and a sign, or nothing if the text is empty. Fails if an allocation fails.
 pub(crate) fn push_before(out: &mut String, sign: &str, text: &str) -> Result<(), AllocError>
     ensures { OnOk result (string_bytes out.new ≡ string_bytes out.old ++ spec.before sign.now text.now) }
 {
@@ -433,7 +434,7 @@ pub(crate) fn push_before(out: &mut String, sign: &str, text: &str) -> Result<()
     out.push_str(sign)
 }
 
-/// Returns the word for the severity in a one-line report, which is empty for an error.
+/// Returns the prefix of a one-line report for this severity, which is empty for an error.
 fn grade(severity: Severity) -> &'static str
     ensures { result.now ≡ spec.grade severity }
 {
@@ -444,7 +445,8 @@ fn grade(severity: Severity) -> &'static str
     }
 }
 
-/// Returns the prefix of a name that begins like a workflow command of GitHub, so that no line of ours is one.
+/// Returns `./` for a name that begins like a workflow command of GitHub, otherwise an empty string, so that no output
+/// line is taken for a command.
 fn unlike_command(name: &str) -> &'static str
     ensures { result.now ≡ spec.unlike_command name.now }
 {
@@ -455,7 +457,7 @@ fn unlike_command(name: &str) -> &'static str
     }
 }
 
-/// Returns the one-line report for its strips.
+/// Formats a one-line report whose labels have these strips. Fails if an allocation fails.
 fn brief(
     alloc: Global,
     report: &Report,
@@ -477,10 +479,10 @@ fn brief(
     Ok(out)
 }
 
-/// Returns the one line `name:line:column: code: message` for a report on this text, in the form that editors read,
-/// with `warning: ` or `note: ` before the code if it is not an error. The place is that of `render`; it is left out if
-/// there is no label, and so is an empty code. A name that begins with `::`, as workflow commands of GitHub do, gets
-/// `./` in front. Fails only if an allocation fails.
+/// Returns a report as one line in the form that editors read, `name:line:column: code: message`, which ends with a
+/// line feed. A warning or note has `warning: ` or `note: ` before the code. The place is that of `render`; it is left
+/// out if there is no label, and so is an empty code. A name that begins with `::`, as workflow commands of GitHub do,
+/// gets the prefix `./`. Fails only if an allocation fails.
 pub fn render_line(
     alloc: Global,
     report: &Report,

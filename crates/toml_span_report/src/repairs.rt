@@ -1,4 +1,4 @@
-//! The parts of a report on a mistake that was found.
+//! The help, labels and replacements of a finding.
 ghost use Rattle.std.specs.Prelude.{◌≡◌, ◌++◌, IfOk, OnOk, map, string_bytes};
 ghost use Rattle.toml_span_tree.specs.Diagnostic.{label_content};
 ghost use Rattle.toml_span_report.specs.Repairs as spec;
@@ -12,7 +12,7 @@ use std::alloc::{AllocError, Global};
 use toml_span_lex::span::Span;
 use toml_span_tree::Label;
 
-/// Returns the text of code.
+/// Returns the pieces of code as one string. Fails if an allocation fails.
 #[tactic(auto, unfolding(crate::specs::Repairs::code_text))]
 fn code_text(alloc: Global, code: Code<'_>) -> Result<String, AllocError>
     ensures { IfOk result (λ text. string_bytes text ≡ spec.code_text (code_content code.entry)) }
@@ -29,7 +29,7 @@ fn code_text(alloc: Global, code: Code<'_>) -> Result<String, AllocError>
     Ok(text)
 }
 
-/// Appends code after a joint, if there are both.
+/// Appends `joint` and the code, if neither is empty. Fails if an allocation fails.
 fn push_code(out: &mut String, joint: &str, code: &str) -> Result<(), AllocError>
     ensures { OnOk result (string_bytes out.new ≡ string_bytes out.old ++ spec.code_shown joint.now code.now) }
 {
@@ -42,7 +42,7 @@ fn push_code(out: &mut String, joint: &str, code: &str) -> Result<(), AllocError
     out.push_str("`")
 }
 
-/// Returns the help for a mistake.
+/// Returns the lines of help of a finding. Fails if an allocation fails.
 pub(crate) fn finding_help(alloc: Global, finding: Finding<'_>) -> Result<Vec<String>, AllocError>
     ensures { IfOk result (λ help. map string_bytes help.items ≡ spec.help (finding_content finding.entry)) }
 {
@@ -62,7 +62,7 @@ pub(crate) fn finding_help(alloc: Global, finding: Finding<'_>) -> Result<Vec<St
     Ok(help)
 }
 
-/// Appends a label.
+/// Appends a label with a copy of the text. Fails if an allocation fails.
 fn push_label(
     alloc: Global,
     labels: &mut Vec<Label<()>>,
@@ -82,7 +82,7 @@ fn push_label(
     Ok(())
 }
 
-/// Returns the labels of a mistake.
+/// Returns the labels of a finding. Fails if an allocation fails.
 pub(crate) fn finding_labels(
     alloc: Global,
     finding: Finding<'_>,
@@ -104,7 +104,7 @@ pub(crate) fn finding_labels(
     Ok(labels)
 }
 
-/// Returns the replacement that repairs a mistake, if there is one.
+/// Returns the replacement of a finding in a list, which is empty if there is none. Fails if an allocation fails.
 pub(crate) fn finding_repairs(
     alloc: Global,
     finding: Finding<'_>,

@@ -1,4 +1,4 @@
-//! What a program reports about a text, and where.
+//! Reports: what a program has to say about a text, and where.
 ghost use Rattle.std.specs.Prelude.{◌≡◌, IfOk, true, false};
 ghost use Rattle.toml_span_report.specs.Report as spec;
 ghost use Rattle.toml_span_report.specs.Report.{report_content};
@@ -8,51 +8,52 @@ use std::alloc::{AllocError, Global};
 use toml_span_lex::span::Span;
 use toml_span_tree::Label;
 
-/// The severity of a report.
+/// How severe a report is.
 #[derive(Clone, Copy, Debug, PartialEq, Eq)]
 pub enum Severity {
-    /// The text can't be used as it is.
+    /// The text can't be used.
     Error,
     /// The text can be used, but should be changed.
     Warning,
-    /// Something worth knowing.
+    /// A remark.
     Note,
 }
 
-/// A replacement: a part of a text, and the new text for it.
+/// A repair: the bytes of the text to replace, and the new text.
 #[derive(Debug, Drop)]
 pub struct Replacement {
-    /// The bytes to replace, from 0, the end exclusive. Empty for an insertion.
+    /// The bytes to replace, as offsets in the text, end exclusive. Empty for an insertion.
     pub span: Span,
-    /// The new text, which is empty for a removal.
+    /// The new text. Empty for a removal.
     pub text: String,
-    /// Whether a program may apply it without asking.
+    /// Whether a program may apply the replacement without asking.
     pub is_safe: bool,
 }
 
-/// What a program reports about a text, and where. A report comes from an error (`from_error`), or is built:
+/// A message about a text, with places in it. A report is made from an error (`from_error`) or built up:
 /// `Report::warning(alloc, "name-twice", "the name appears twice")?.primary(span, "here")?`.
 ///
-/// Methods that add something consume the report. If an allocation fails in one, the report is gone.
+/// Methods that add something consume the report, and drop it if an allocation fails.
 #[derive(Debug, Drop)]
 pub struct Report {
     pub severity: Severity,
-    /// A short name for all reports of this kind, such as `duplicate-key`, or nothing.
+    /// A short name for reports of this kind, such as `duplicate-key`. May be empty.
     pub code: String,
-    /// The message.
+    /// What is wrong, in one line.
     pub message: String,
-    /// The places, in bytes of the text.
+    /// The places, with their messages. Spans are byte offsets in the text, end exclusive.
     pub labels: Vec<Label<()>>,
-    /// Further remarks.
+    /// Further remarks, one per line.
     pub notes: Vec<String>,
-    /// What can be done.
+    /// What to do, one line each.
     pub help: Vec<String>,
-    /// How to repair the text. The spans don't overlap.
+    /// Replacements that repair the text. Their spans don't overlap.
     pub replacements: Vec<Replacement>,
 }
 
 impl Report {
-    /// Makes a report without places, notes and help.
+    /// Returns a report without labels, notes and help. Copies the code, which may be empty, and the message. Fails
+    /// only if an allocation fails.
     pub fn new(
         alloc: Global,
         severity: Severity,
@@ -72,21 +73,22 @@ impl Report {
         })
     }
 
-    /// Makes an error, as `new` does.
+    /// Returns an error, as `new` does.
     pub fn error(alloc: Global, code: &str, message: &str) -> Result<Report, AllocError>
         ensures { IfOk result (λ made. report_content made ≡ spec.bare Error code.now message.now) }
     {
         Report::new(alloc, Severity::Error, code, message)
     }
 
-    /// Makes a warning, as `new` does.
+    /// Returns a warning, as `new` does.
     pub fn warning(alloc: Global, code: &str, message: &str) -> Result<Report, AllocError>
         ensures { IfOk result (λ made. report_content made ≡ spec.bare Warning code.now message.now) }
     {
         Report::new(alloc, Severity::Warning, code, message)
     }
 
-    /// Adds a primary label: the place of the report. `text` is the label's message, which may be empty.
+    /// Adds a primary label, which marks the problem. `text` is the message of the label; it may be empty. Fails only
+    /// if an allocation fails.
     pub fn primary(self, span: Span, text: &str) -> Result<Report, AllocError>
         ensures { IfOk result (λ made. report_content made
             ≡ spec.with_primary (report_content self) span text.now) }
@@ -94,8 +96,8 @@ impl Report {
         self.label(true, span, text)
     }
 
-    /// Adds a secondary label: a place that has to do with the report. `text` is the label's message, which may be
-    /// empty.
+    /// Adds a secondary label, which marks something that explains the problem. `text` is the message of the label; it
+    /// may be empty. Fails only if an allocation fails.
     pub fn secondary(self, span: Span, text: &str) -> Result<Report, AllocError>
         ensures { IfOk result (λ made. report_content made
             ≡ spec.with_secondary (report_content self) span text.now) }
@@ -103,6 +105,7 @@ impl Report {
         self.label(false, span, text)
     }
 
+    /// Adds a label with a copy of the text. Fails if an allocation fails.
     fn label(mut self, primary: bool, span: Span, text: &str) -> Result<Report, AllocError>
         ensures { IfOk result (λ made. report_content made
             ≡ spec.with_label (report_content self) primary span text.now) }
@@ -117,7 +120,7 @@ impl Report {
         Ok(self)
     }
 
-    /// Adds a note.
+    /// Adds a note. Fails only if an allocation fails.
     pub fn note(mut self, text: &str) -> Result<Report, AllocError>
         ensures { IfOk result (λ made. report_content made ≡ spec.with_note (report_content self) text.now) }
     {
@@ -126,7 +129,7 @@ impl Report {
         Ok(self)
     }
 
-    /// Adds a line of help.
+    /// Adds a line of help. Fails only if an allocation fails.
     pub fn help(mut self, text: &str) -> Result<Report, AllocError>
         ensures { IfOk result (λ made. report_content made ≡ spec.with_help (report_content self) text.now) }
     {
@@ -135,8 +138,8 @@ impl Report {
         Ok(self)
     }
 
-    /// Adds a replacement that a program may apply without asking: `text` in place of the bytes of `span`. The help
-    /// should say the same.
+    /// Adds a replacement that a program may apply without asking: `text` instead of the bytes of `span`. Say the same
+    /// with `help`, for those who read the report. Fails only if an allocation fails.
     pub fn replace(self, span: Span, text: &str) -> Result<Report, AllocError>
         ensures { IfOk result (λ made. report_content made
             ≡ spec.with_replacement (report_content self) span text.now true) }
@@ -144,7 +147,7 @@ impl Report {
         self.repair(span, text, true)
     }
 
-    /// Adds a replacement, as `replace` does, that a person should review before it is applied.
+    /// Adds a replacement as `replace` does, but one that a person should review first.
     pub fn suggest(self, span: Span, text: &str) -> Result<Report, AllocError>
         ensures { IfOk result (λ made. report_content made
             ≡ spec.with_replacement (report_content self) span text.now false) }
@@ -152,6 +155,7 @@ impl Report {
         self.repair(span, text, false)
     }
 
+    /// Adds a replacement with a copy of the text. Fails if an allocation fails.
     fn repair(mut self, span: Span, text: &str, is_safe: bool) -> Result<Report, AllocError>
         ensures { IfOk result (λ made. report_content made
             ≡ spec.with_replacement (report_content self) span text.now is_safe) }

@@ -1,4 +1,4 @@
-//! Reports that outlive their text.
+//! Reports that outlive the source.
 ghost use Rattle.std.specs.Prelude.{IfOk, Some, map, string_bytes};
 ghost use Rattle.toml_span_report.specs.Report.{report_content};
 ghost use Rattle.toml_span_report.specs.Reported.{AreTold};
@@ -13,19 +13,19 @@ use std::fmt::{Display, Formatter, Write};
 use toml_span_lex::stop::Stop;
 use toml_span_typed::DeserError;
 
-/// Why a text could not be read. It owns its reports, so it outlives the text, from which a `DeserError` borrows: a
-/// function that reads a file and drops its text can return it.
+/// The reports of a failed read. Unlike a `DeserError`, they do not borrow from the source, so a function that reads a
+/// file and drops its text can return them.
 #[derive(Debug, Drop)]
 pub struct Reported {
     /// The reports of the errors, in order.
     pub reports: Vec<Report>,
-    /// The text of the reports, as `render_all` formats it.
+    /// The text of all reports, as `render_all` formats it.
     pub text: String,
 }
 
 impl Reported {
-    /// Returns the reports of all errors for which `from_str` failed, and the text that `render_stop` returns. If
-    /// memory ran out there is no report, and that error is returned.
+    /// Returns the reports of all errors with which `from_str` failed, and the text that `render_stop` returns. `name`
+    /// is the name of the file, `text` the source. Fails if `stop` is `Stop::Memory`, or if an allocation fails.
     pub fn of(
         alloc: Global,
         style: Style,

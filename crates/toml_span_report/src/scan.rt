@@ -1,34 +1,34 @@
-//! What is open before an offset of a text: brackets, or a string.
+//! Finds out which brackets, or which string, are open at an offset.
 ghost use Rattle.std.specs.Prelude.{◌≡◌};
 ghost use Rattle.toml_span_report.specs.Scan as spec;
 
 use crate::bytes::{ahead, begins, byte_at, first_of_line};
 
-/// What is open before an offset, in a text that is valid TOML up to there.
+/// What is open at an offset of a text that is valid TOML up to there.
 #[derive(Clone, Copy)]
 pub(crate) struct Open {
     /// The number of open brackets and braces.
     pub(crate) depth: usize,
-    /// The offset of the outermost one, if any.
+    /// The offset of the outermost open bracket or brace. Has no meaning if `depth` is 0.
     pub(crate) bracket: usize,
-    /// The quote of the open string, `#` in a comment, or 0.
+    /// The quote of the open string, `#` in a comment, otherwise 0.
     pub(crate) quote: u8,
-    /// The offset of the first quote of the last string.
+    /// The offset of the first quote of the latest string.
     pub(crate) string: usize,
-    /// Whether that string has three quotes on each side.
+    /// Whether the latest string has three quotes on each side.
     pub(crate) is_long: bool,
-    /// The number of bytes that still belong to the token before.
+    /// The number of bytes after this one that belong to the same token.
     pub(crate) skip: usize,
 }
 
-/// Returns whether there are three quotes at an offset.
+/// Returns whether there are three equal quotes at the offset.
 pub(crate) fn is_long(text: &str, at: usize) -> bool
     ensures { result ≡ spec.is_long text.now at }
 {
     begins(text, at, b"\"\"\"") || begins(text, at, b"'''")
 }
 
-/// Returns what is open after a byte outside of strings and comments.
+/// Returns what is open after the byte at `at`, which is not in a string or comment.
 fn outside(text: &str, state: Open, at: usize) -> Open
     ensures { result ≡ spec.outside text.now state at }
 {
@@ -51,7 +51,7 @@ fn outside(text: &str, state: Open, at: usize) -> Open
     next
 }
 
-/// Returns what is open after a byte of a string.
+/// Returns what is open after the byte at `at`, which is in a string or comment.
 fn inside(text: &str, state: Open, at: usize) -> Open
     ensures { result ≡ spec.inside text.now state at }
 {
@@ -70,7 +70,7 @@ fn inside(text: &str, state: Open, at: usize) -> Open
     next
 }
 
-/// Returns what is open after one more byte.
+/// Returns what is open after the byte at `at`, given what is open before it.
 #[tactic(auto, unfolding(crate::specs::Scan::step))]
 fn step(text: &str, state: Open, at: usize) -> Open
     ensures { result ≡ spec.step text.now state at }
@@ -89,7 +89,7 @@ fn step(text: &str, state: Open, at: usize) -> Open
     }
 }
 
-/// Returns what is open before an offset. Takes time linear in the offset.
+/// Returns what is open before the byte at `at`. Takes time linear in `at`.
 #[tactic(auto, unfolding(crate::specs::Scan::scanned))]
 pub(crate) fn open_before(text: &str, at: usize) -> Open
     ensures { result ≡ spec.open_before text.now at }
@@ -108,7 +108,7 @@ pub(crate) fn open_before(text: &str, at: usize) -> Open
     state
 }
 
-/// Returns whether the outermost bracket is that of a table header, which begins its line.
+/// Returns whether the outermost open bracket is that of a table header: it begins a line.
 pub(crate) fn is_in_header(text: &str, state: Open) -> bool
     ensures { result ≡ spec.is_in_header text.now state }
 {

@@ -1,4 +1,4 @@
-//! The parts of lines that labels mark.
+//! Strips: the parts of source lines that labels mark.
 ghost use Rattle.std.specs.Prelude.{◌≡◌, ◌≤◌, ◌<◌, [], IfOk, OnOk, map};
 ghost use Rattle.std.specs.List.{fold};
 ghost use Rattle.std.specs.Str.{IsCharBoundary};
@@ -10,37 +10,37 @@ use crate::places::{column, line_end, line_number, line_start, place, span_end, 
 use std::alloc::{AllocError, Global};
 use toml_span_tree::Label;
 
-/// The part of a long line that is shown.
+/// A part of a long line that is printed once, for one or more strips.
 #[derive(Clone, Copy)]
 pub(crate) struct Window {
-    /// The number of the line.
+    /// The number of the line, counted from 1.
     pub(crate) number: usize,
-    /// Where the first label in it begins.
+    /// The offset at which the first strip in it begins.
     pub(crate) first: usize,
-    /// Where the last label in it begins.
+    /// The offset at which the last strip in it begins.
     pub(crate) last: usize,
 }
 
-/// A marked part of a line, with what the line has before and after it.
+/// A marked part of a line, with the rest of that line before and after it.
 #[derive(Clone, Copy)]
 pub(crate) struct Strip<'a> {
-    /// The offset at which it begins.
+    /// The offset at which the marked part begins.
     pub(crate) at: usize,
     /// The number of the line, counted from 1.
     pub(crate) number: usize,
-    /// The column, in characters counted from 1.
+    /// The column, counted from 1 in characters.
     pub(crate) column: usize,
     pub(crate) is_cut_before: bool,
     pub(crate) before: &'a str,
     pub(crate) marked: &'a str,
-    pub(crate) behind: &'a str,
-    pub(crate) is_cut_behind: bool,
+    pub(crate) after: &'a str,
+    pub(crate) is_cut_after: bool,
     pub(crate) is_primary: bool,
-    /// The message, which may be empty.
+    /// The message of the label, which may be empty.
     pub(crate) message: &'a str,
 }
 
-/// Returns the strip from one place up to another, as far as the line of the first goes.
+/// Returns the strip from one offset to another, or to the end of its line if that comes first.
 fn strip_at<'a>(
     text: &'a str,
     from: usize,
@@ -63,14 +63,14 @@ fn strip_at<'a>(
         is_cut_before: false,
         before: &text[start..from],
         marked: &text[from..to],
-        behind: &text[to..end],
-        is_cut_behind: false,
+        after: &text[to..end],
+        is_cut_after: false,
         is_primary,
         message,
     }
 }
 
-/// Returns the number of strips before the first that begins later than an offset.
+/// Returns how many strips begin at or before the offset. They are sorted by their offsets.
 fn earlier(strips: &[Strip<'_>], at: usize) -> usize
     ensures { result ≡ spec.earlier (map marked_line_of strips.now) at }
 {
@@ -82,7 +82,7 @@ fn earlier(strips: &[Strip<'_>], at: usize) -> usize
     strips.len()
 }
 
-/// Inserts a strip before the first that begins later.
+/// Inserts a strip into a sorted list, after those that begin at the same offset. Fails if an allocation fails.
 fn place_strip<'a>(strips: &mut Vec<Strip<'a>>, strip: Strip<'a>) -> Result<(), AllocError>
     ensures { OnOk result (map marked_line_of strips.new.items
         ≡ spec.placed (map marked_line_of strips.old.items) (marked_line_of strip.entry)) }
@@ -92,7 +92,8 @@ fn place_strip<'a>(strips: &mut Vec<Strip<'a>>, strip: Strip<'a>) -> Result<(), 
     Ok(())
 }
 
-/// Inserts the strips of a label among those of others.
+/// Inserts the strips of a label into a sorted list: one for the line where it begins and, if it ends on another line,
+/// one for that line. Fails if an allocation fails.
 fn place_label<'a, F>(
     strips: &mut Vec<Strip<'a>>,
     text: &'a str,
@@ -120,7 +121,7 @@ fn place_label<'a, F>(
     Ok(())
 }
 
-/// Returns the strips of all labels, in the order of the text.
+/// Returns the strips of all labels, sorted by their offsets. Fails if an allocation fails.
 #[tactic(auto, unfolding(crate::specs::Strips::all_marked_lines))]
 pub(crate) fn all_strips<'a, F>(
     alloc: Global,
@@ -137,14 +138,14 @@ pub(crate) fn all_strips<'a, F>(
     Ok(strips)
 }
 
-/// Returns whether a window shows a strip.
+/// Returns whether a window shows a strip: it begins on the same line, within 240 bytes of the first strip.
 pub(crate) fn is_near(window: Window, strip: &Strip<'_>) -> bool
     ensures { result ≡ spec.is_near window (marked_line_of strip.now) }
 {
     strip.number == window.number && strip.at.saturating_sub(window.first) <= 240
 }
 
-/// Returns a window widened to show the following strips as well, as far as they are near.
+/// Widens a window to show as many of the following strips as it can.
 fn window_from(window: Window, strips: &[Strip<'_>]) -> Window
     ensures { result ≡ spec.window_from window (map marked_line_of strips.now) }
 {
@@ -158,7 +159,8 @@ fn window_from(window: Window, strips: &[Strip<'_>]) -> Window
     wide
 }
 
-/// Returns the window of a strip: the one above it, or a new one for it and those that follow.
+/// Returns the window that shows a strip: the one above, or a new one, which also shows as many of the following strips
+/// as it can.
 pub(crate) fn window_of(above: Option<Window>, strip: &Strip<'_>, strips: &[Strip<'_>]) -> Window
     ensures { result ≡ spec.window_of above (marked_line_of strip.now) (map marked_line_of strips.now) }
 {
@@ -175,7 +177,8 @@ pub(crate) fn window_of(above: Option<Window>, strip: &Strip<'_>, strips: &[Stri
     window_from(own, strips)
 }
 
-/// Fills in what a window shows of a strip's line: 80 bytes before the first label, and 160 from the last one on.
+/// Cuts the line of a strip to what its window shows: 80 bytes before the first strip, and 160 bytes from the last one
+/// on.
 #[tactic(auto, unfolding(crate::specs::Strips::seen_in))]
 pub(crate) fn seen_in<'a>(window: Window, strip: &Strip<'a>) -> Strip<'a>
     ensures { marked_line_of result ≡ spec.seen_in window (marked_line_of strip.now) }
@@ -185,7 +188,7 @@ pub(crate) fn seen_in<'a>(window: Window, strip: &Strip<'a>) -> Strip<'a>
     let room = window.last.saturating_sub(strip.at).min(240) + 160;
     let left = place(strip.before, hidden);
     let marked = place(strip.marked, room);
-    let behind = place(strip.behind, room.saturating_sub(strip.marked.len()));
+    let after = place(strip.after, room.saturating_sub(strip.marked.len()));
     Strip {
         at: strip.at,
         number: strip.number,
@@ -193,8 +196,8 @@ pub(crate) fn seen_in<'a>(window: Window, strip: &Strip<'a>) -> Strip<'a>
         is_cut_before: 0 < left,
         before: &strip.before[left..],
         marked: &strip.marked[..marked],
-        behind: &strip.behind[..behind],
-        is_cut_behind: marked < strip.marked.len() || behind < strip.behind.len(),
+        after: &strip.after[..after],
+        is_cut_after: marked < strip.marked.len() || after < strip.after.len(),
         is_primary: strip.is_primary,
         message: strip.message,
     }

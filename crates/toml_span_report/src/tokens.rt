@@ -1,4 +1,4 @@
-//! The token at an error's place.
+//! What to mark for an error whose span is only a place.
 ghost use Rattle.std.specs.Prelude.{◌≡◌, IfOk};
 ghost use Rattle.std.specs.Str.{IsCharBoundary};
 ghost use Rattle.toml_span_tree.specs.Error.{kind_of};
@@ -12,8 +12,8 @@ use toml_span_lex::strings::string_at;
 use toml_span_lex::tokenizer::token_at;
 use toml_span_tree::ErrorKind;
 
-/// Returns where the token at a place ends, or `None` if there is none.
-fn token_behind(alloc: Global, text: &str, at: usize) -> Result<Option<usize>, AllocError>
+/// Returns the end of the token at an offset, or `None` if there is no token. Fails if an allocation fails.
+fn token_after(alloc: Global, text: &str, at: usize) -> Result<Option<usize>, AllocError>
     requires { IsCharBoundary text.now at }
     ensures { IfOk result (λ found. spec.FindsToken text.now at found) }
 {
@@ -35,19 +35,19 @@ fn token_behind(alloc: Global, text: &str, at: usize) -> Result<Option<usize>, A
     }
 }
 
-/// Returns where the marks of the token at a place end: with the token, at the end of its line at the latest, and at
-/// once if there is none.
+/// Returns the end of the mark for the token at an offset: the end of the token, or of its line if that comes first.
+/// Without a token, it is the offset itself. Fails if an allocation fails.
 fn marks_end(alloc: Global, text: &str, at: usize) -> Result<usize, AllocError>
     requires { IsCharBoundary text.now at }
     ensures { IfOk result (λ end. spec.MarksToken text.now at end) }
 {
-    match token_behind(alloc, text, at)? {
+    match token_after(alloc, text, at)? {
         Some(end) => Ok(end.min(line_end(text, at))),
         None => Ok(at),
     }
 }
 
-/// Returns whether what was found is a token or the end of the text, rather than a kind of value.
+/// Returns whether the `found` of an error is a token or the end of the text, rather than a kind of value.
 fn names_token(found: &str) -> bool
     ensures { result ≡ spec.names_token found.now }
 {
@@ -58,7 +58,7 @@ fn names_token(found: &str) -> bool
         || found.starts_with(b"whitespace")
 }
 
-/// Returns whether the span of an error is only the place of a token.
+/// Returns whether the span of an error says only where the unexpected token begins.
 fn is_at_token(kind: &ErrorKind<'_>, span: Span) -> bool
     ensures { result ≡ spec.is_at_token (kind_of kind.now) span }
 {
@@ -71,8 +71,8 @@ fn is_at_token(kind: &ErrorKind<'_>, span: Span) -> bool
     }
 }
 
-/// Returns what to mark of a table that lacks a field: its header, up to the end of the line, or its braces; for the
-/// root, the place where it begins.
+/// Returns what to mark of a table that lacks a field: its header, up to the end of the line, or its braces. For the
+/// root, the mark is empty, at the start.
 #[tactic(auto, unfolding(crate::specs::Tokens::table_mark))]
 fn table_mark(text: &str, span: Span) -> Span
     ensures { result ≡ spec.table_mark text.now span }
@@ -92,8 +92,8 @@ fn table_mark(text: &str, span: Span) -> Span
     }
 }
 
-/// Returns what to mark of a text for an error: the token at its place, the header or the braces of a table, or its
-/// span.
+/// Returns the span to mark for an error: the token at its place, the header or braces of a table, or the span of the
+/// error. Fails if an allocation fails.
 pub(crate) fn marked_span(
     alloc: Global,
     kind: &ErrorKind<'_>,

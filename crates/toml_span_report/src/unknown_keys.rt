@@ -1,4 +1,4 @@
-//! What is reported for unknown keys.
+//! The messages for unknown keys.
 ghost use Rattle.std.specs.Prelude.{◌≡◌, ◌++◌, codes, IfOk, OnOk, map, option_map, string_bytes};
 ghost use Rattle.std.specs.Option.{option_to_list};
 ghost use Rattle.std.specs.List.{flat_map};
@@ -11,7 +11,7 @@ use std::alloc::{AllocError, Global};
 use toml_span_lex::span::Span;
 use toml_span_tree::Label;
 
-/// Appends a name in back quotes.
+/// Appends a name in backticks. Fails if an allocation fails.
 fn push_named(out: &mut String, name: &str) -> Result<(), AllocError>
     ensures { OnOk result (string_bytes out.new ≡ string_bytes out.old ++ spec.named name.now) }
 {
@@ -20,7 +20,7 @@ fn push_named(out: &mut String, name: &str) -> Result<(), AllocError>
     out.push_str("`")
 }
 
-/// Appends further names, each after a comma.
+/// Appends each name in backticks after a comma. Fails if an allocation fails.
 fn push_more(out: &mut String, names: &[&str]) -> Result<(), AllocError>
     ensures { OnOk result (string_bytes out.new ≡ string_bytes out.old
         ++ flat_map (λ name. codes ", " ++ spec.named name) (map (λ name. name.now) names.now)) }
@@ -32,7 +32,7 @@ fn push_more(out: &mut String, names: &[&str]) -> Result<(), AllocError>
     Ok(())
 }
 
-/// Appends names separated by commas.
+/// Appends names in backticks, separated by commas. Fails if an allocation fails.
 fn push_listed(out: &mut String, names: &[&str]) -> Result<(), AllocError>
     ensures { OnOk result (string_bytes out.new ≡ string_bytes out.old
         ++ spec.listed (map (λ name. name.now) names.now)) }
@@ -46,7 +46,7 @@ fn push_listed(out: &mut String, names: &[&str]) -> Result<(), AllocError>
     }
 }
 
-/// Returns the names of keys.
+/// Returns the names of keys, borrowed. Fails if an allocation fails.
 pub(crate) fn key_names<'a>(
     alloc: Global,
     keys: &'a [(String, Span)],
@@ -60,7 +60,7 @@ pub(crate) fn key_names<'a>(
     Ok(names)
 }
 
-/// Returns borrowed names.
+/// Returns borrowed names. Fails if an allocation fails.
 pub(crate) fn lent_names<'a>(alloc: Global, owned: &'a [String]) -> Result<Vec<&'a str>, AllocError>
     ensures { IfOk result (λ names. map (λ name. name.now) names.items ≡ map string_bytes owned.now) }
 {
@@ -71,7 +71,7 @@ pub(crate) fn lent_names<'a>(alloc: Global, owned: &'a [String]) -> Result<Vec<&
     Ok(names)
 }
 
-/// Returns the message for unknown keys with these names.
+/// Returns the message for unknown keys with these names. Fails if an allocation fails.
 pub(crate) fn unknown_keys(alloc: Global, names: &[&str]) -> Result<String, AllocError>
     ensures { IfOk result (λ out. string_bytes out ≡ spec.unknown_keys (map (λ name. name.now) names.now)) }
 {
@@ -85,7 +85,7 @@ pub(crate) fn unknown_keys(alloc: Global, names: &[&str]) -> Result<String, Allo
     Ok(out)
 }
 
-/// Returns the note that lists the expected keys.
+/// Returns the note that lists the expected keys. Fails if an allocation fails.
 pub(crate) fn what_is_expected(alloc: Global, names: &[&str]) -> Result<String, AllocError>
     ensures { IfOk result (λ out. string_bytes out ≡ spec.what_is_expected (map (λ name. name.now) names.now)) }
 {
@@ -97,7 +97,7 @@ pub(crate) fn what_is_expected(alloc: Global, names: &[&str]) -> Result<String, 
     Ok(out)
 }
 
-/// Returns the note that lists the expected names.
+/// Returns the note that lists the expected names of a value. Fails if an allocation fails.
 pub(crate) fn one_of(alloc: Global, names: &[&str]) -> Result<String, AllocError>
     ensures { IfOk result (λ out. string_bytes out ≡ spec.one_of (map (λ name. name.now) names.now)) }
 {
@@ -111,7 +111,7 @@ pub(crate) fn one_of(alloc: Global, names: &[&str]) -> Result<String, AllocError
     Ok(out)
 }
 
-/// Returns the message that a key has a new name.
+/// Returns the message that the name of a key has been replaced by another one. Fails if an allocation fails.
 pub(crate) fn deprecated(alloc: Global, old: &str, new: &str) -> Result<String, AllocError>
     ensures { IfOk result (λ out. string_bytes out ≡ spec.deprecated old.now new.now) }
 {
@@ -122,7 +122,7 @@ pub(crate) fn deprecated(alloc: Global, old: &str, new: &str) -> Result<String, 
     Ok(out)
 }
 
-/// Makes a label at each key.
+/// Returns a primary label at each key. Fails if an allocation fails.
 pub(crate) fn key_labels(
     alloc: Global,
     keys: &[(String, Span)],
@@ -141,7 +141,7 @@ pub(crate) fn key_labels(
     Ok(labels)
 }
 
-/// Appends for which key a suggestion is meant, unless it is the only one.
+/// Appends the key for which a suggestion is meant, unless there is only one unknown key. Fails if an allocation fails.
 fn push_in_place_of(out: &mut String, count: usize, name: &str) -> Result<(), AllocError>
     ensures { OnOk result (string_bytes out.new ≡ string_bytes out.old ++ spec.in_place_of count name.now) }
 {
@@ -152,7 +152,7 @@ fn push_in_place_of(out: &mut String, count: usize, name: &str) -> Result<(), Al
     push_named(out, name)
 }
 
-/// Returns the suggestion of a key, for one of several.
+/// Returns the suggestion `meant` for the unknown key `name`, one of `count`. Fails if an allocation fails.
 fn suggestion(alloc: Global, count: usize, name: &str, meant: &str) -> Result<String, AllocError>
     ensures { IfOk result (λ out. string_bytes out ≡ spec.suggestion count name.now meant.now) }
 {
@@ -163,7 +163,8 @@ fn suggestion(alloc: Global, count: usize, name: &str, meant: &str) -> Result<St
     Ok(out)
 }
 
-/// Returns the nearest of the expected names, if one is near enough.
+/// Returns the suggestion for an unknown key, if one of the expected names is near enough. Fails if an allocation
+/// fails.
 fn suggestion_for(
     alloc: Global,
     count: usize,
@@ -179,7 +180,7 @@ fn suggestion_for(
     }
 }
 
-/// Appends a text, if there is one.
+/// Appends a text, if there is one. Fails if an allocation fails.
 fn push_text(texts: &mut Vec<String>, text: Option<String>) -> Result<(), AllocError>
     ensures { OnOk result (map string_bytes texts.new.items
         ≡ map string_bytes texts.old.items ++ option_to_list (option_map string_bytes text)) }
@@ -190,7 +191,8 @@ fn push_text(texts: &mut Vec<String>, text: Option<String>) -> Result<(), AllocE
     Ok(())
 }
 
-/// Returns for each name the nearest of the expected names, if one is near enough.
+/// Returns the suggestions for the unknown keys for which an expected name is near enough. Fails if an allocation
+/// fails.
 pub(crate) fn suggestions(
     alloc: Global,
     names: &[&str],

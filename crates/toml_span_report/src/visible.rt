@@ -1,4 +1,4 @@
-//! Texts without the characters that terminals act on, and texts as JSON strings.
+//! Escapes characters that terminals act on, and quotes texts as JSON strings.
 ghost use Rattle.std.specs.Prelude.{◌≡◌, ◌<◌, ◌++◌, IfOk, OnOk, string_bytes, encode_utf8};
 ghost use Rattle.std.specs.Char.{digit_char};
 ghost use Rattle.toml_span_report.specs.Visible as spec;
@@ -6,7 +6,7 @@ ghost use Rattle.toml_span_report.specs.Visible as spec;
 use serde_json::Value as Json;
 use std::alloc::{AllocError, Global};
 
-/// Returns whether this is a control character, one that ends a line, or one that changes the direction of the text.
+/// Returns whether the character is a control character, ends a line, or changes the direction of the text.
 fn is_escaped(c: char) -> bool
     ensures { result ≡ spec.is_escaped c }
 {
@@ -16,7 +16,7 @@ fn is_escaped(c: char) -> bool
     )
 }
 
-/// Appends a hexadecimal digit.
+/// Appends a hexadecimal digit. Fails if an allocation fails.
 fn push_digit(out: &mut String, digit: u32) -> Result<(), AllocError>
     requires { digit < 16 }
     ensures { OnOk result (string_bytes out.new ≡ string_bytes out.old ++ encode_utf8 (digit_char digit)) }
@@ -24,7 +24,7 @@ fn push_digit(out: &mut String, digit: u32) -> Result<(), AllocError>
     out.push(char::from_digit(digit, 16).unwrap_or('0'))
 }
 
-/// Appends a number below 2 ^ 16 as four hexadecimal digits.
+/// Appends a number below 2 ^ 16 as four hexadecimal digits. Fails if an allocation fails.
 fn push_code(out: &mut String, code: u32) -> Result<(), AllocError>
     requires { code < 65536 }
     ensures { OnOk result (string_bytes out.new ≡ string_bytes out.old ++ spec.escape code) }
@@ -36,7 +36,7 @@ fn push_code(out: &mut String, code: u32) -> Result<(), AllocError>
     push_digit(out, code % 16)
 }
 
-/// Appends a character, or its number if terminals act on it, as `push_visible` does.
+/// Appends a character, escaped as in `push_visible`. Fails only if an allocation fails.
 pub fn push_char(out: &mut String, c: char) -> Result<(), AllocError>
     ensures { OnOk result (string_bytes out.new ≡ string_bytes out.old ++ spec.visible_char c) }
 {
@@ -47,9 +47,9 @@ pub fn push_char(out: &mut String, c: char) -> Result<(), AllocError>
     }
 }
 
-/// Appends a text without the characters that terminals act on: a control character, one that ends a line (U+2028,
-/// U+2029) or one that changes the direction of the text is written by its number, as in `\u202e`. Fails only if an
-/// allocation fails.
+/// Appends a text, with escapes for the characters that terminals act on: a control character, a character that ends a
+/// line (U+2028, U+2029), or one that changes the direction of the text. These are written by number, as in `\u202e`.
+/// Fails only if an allocation fails.
 pub fn push_visible(out: &mut String, text: &str) -> Result<(), AllocError>
     ensures { OnOk result (string_bytes out.new ≡ string_bytes out.old ++ spec.visible text.now) }
 {
@@ -59,7 +59,7 @@ pub fn push_visible(out: &mut String, text: &str) -> Result<(), AllocError>
     Ok(())
 }
 
-/// Returns a text as `push_visible` appends it.
+/// Returns a text, escaped as in `push_visible`. Fails only if an allocation fails.
 pub fn visible(alloc: Global, text: &str) -> Result<String, AllocError>
     ensures { IfOk result (λ out. string_bytes out ≡ spec.visible text.now) }
 {
@@ -68,7 +68,7 @@ pub fn visible(alloc: Global, text: &str) -> Result<String, AllocError>
     Ok(out)
 }
 
-/// Appends a character of lines that end with a line feed.
+/// Appends a character, escaped as in `push_visible` unless it is a line feed. Fails if an allocation fails.
 fn push_line_char(out: &mut String, c: char) -> Result<(), AllocError>
     ensures { OnOk result (string_bytes out.new ≡ string_bytes out.old ++ spec.line_char c) }
 {
@@ -79,7 +79,7 @@ fn push_line_char(out: &mut String, c: char) -> Result<(), AllocError>
     }
 }
 
-/// Returns a text with its characters escaped as by `visible`, except for line feeds. Fails if an allocation fails.
+/// Returns a text, escaped as in `push_visible` except for its line feeds. Fails only if an allocation fails.
 pub fn visible_lines(alloc: Global, text: &str) -> Result<String, AllocError>
     ensures { IfOk result (λ out. string_bytes out ≡ spec.visible_lines text.now) }
 {
@@ -90,8 +90,8 @@ pub fn visible_lines(alloc: Global, text: &str) -> Result<String, AllocError>
     Ok(out)
 }
 
-/// Appends a text as a JSON string, in quotes, with the characters that terminals act on written by their numbers (see
-/// `push_visible`). Fails only if an allocation fails.
+/// Appends a text as a JSON string, in quotes. Characters that terminals act on are escaped as in `push_visible`. Fails
+/// only if an allocation fails.
 pub fn push_quoted(alloc: Global, out: &mut String, text: &str) -> Result<(), AllocError>
     ensures { OnOk result (string_bytes out.new ≡ string_bytes out.old ++ spec.quoted text.now) }
 {

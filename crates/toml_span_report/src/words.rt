@@ -1,8 +1,8 @@
-//! The table of messages: a constant for each typical mistake.
+//! The messages for typical mistakes, one constant each.
 ghost use Rattle.std.specs.Prelude.{◌≡◌};
 ghost use Rattle.toml_span_report.specs.Words as spec;
 
-/// A typical mistake, as the table has it: the texts of `Words`, in their order.
+/// A row of the table: the fields of `Words`, in their order.
 pub(crate) type Mistake = (
     &'static str,
     &'static str,
@@ -12,24 +12,24 @@ pub(crate) type Mistake = (
     bool,
 );
 
-/// The messages for a mistake. A text may be empty.
+/// The messages for a typical mistake. Each may be empty.
 #[derive(Clone, Copy)]
 pub(crate) struct Words {
-    /// The headline, which replaces the error's own message.
+    /// The headline, or an empty string to keep the message of the error.
     pub(crate) headline: &'static str,
     /// The primary label.
     pub(crate) label: &'static str,
-    /// The label at the other place.
+    /// The label at the second place (`Finding::also`).
     pub(crate) also: &'static str,
-    /// The help, without the code to write.
+    /// The help, up to the code to write.
     pub(crate) help: &'static str,
-    /// The text between the help and the code to write, empty if the help has no code.
+    /// The text between the help and the code. Empty if the help has no code.
     pub(crate) joint: &'static str,
-    /// Whether the code may be applied without review.
+    /// Whether a program may apply the replacement without asking.
     pub(crate) is_safe: bool,
 }
 
-/// Returns the messages for a mistake.
+/// Converts a row of the table.
 pub(crate) fn words_of(mistake: Mistake) -> Words
     ensures { spec.words_content result ≡ spec.texts mistake.entry }
 {
@@ -43,20 +43,20 @@ pub(crate) fn words_of(mistake: Mistake) -> Words
     }
 }
 
-/// A text that may be left out.
+/// A text, or an empty string if it is left out.
 macro_rules! text {
     () => { "" };
     ($text:literal) => { $text };
 }
 
-/// A boolean that may be left out.
+/// A boolean, or `false` if it is left out.
 macro_rules! flag {
     () => { false };
     ($flag:literal) => { $flag };
 }
 
-/// A mistake: its headline, which is empty where the error's own message is kept, and then the other texts that it has,
-/// in this order. After `code:` comes the text between the help and the code to write.
+/// Defines a row of the table: the headline, which is empty to keep the message of the error, and then the fields that
+/// are not empty, in the order of `Words`. After `code:` comes the text between the help and the code.
 macro_rules! words {
     ($headline:literal $(, label: $label:literal)? $(, also: $also:literal)? $(, help: $help:literal)?
         $(, code: $joint:literal)? $(, is_safe: $safe:literal)?) => {
@@ -78,6 +78,14 @@ pub(crate) const UPPER_BOOLEAN: Mistake =
 
 pub(crate) const OTHER_BOOLEAN: Mistake = words!(
     "this is not a boolean", label: "booleans are `true` and `false`", help: "write", code: " "
+);
+
+pub(crate) const NEAR_TRUE: Mistake = words!(
+    "this is not a boolean", label: "strings need quotes", help: "did you mean `true`?"
+);
+
+pub(crate) const NEAR_FALSE: Mistake = words!(
+    "this is not a boolean", label: "strings need quotes", help: "did you mean `false`?"
 );
 
 pub(crate) const NULL: Mistake = words!("TOML has no null", help: "leave the key out");
@@ -379,7 +387,8 @@ pub(crate) const SIGNED_DECIMAL: Mistake = words!(
 
 pub(crate) const TOO_LARGE: Mistake = words!(
     "this number does not fit into a 64-bit signed integer",
-    label: "its range is -9223372036854775808 to 9223372036854775807"
+    label: "its range is -9223372036854775808 to 9223372036854775807",
+    help: "write larger numbers as floats or strings"
 );
 
 // ---- dates and times

@@ -1,10 +1,10 @@
-//! `cuts`: parses a text cut at each character boundary. Each cut gives a tree, or an error within the cut.
+//! `cuts`: parses a text cut at each character boundary. Each time there must be a tree, or an error within the cut.
 use crate::told::Out;
 use std::alloc::Global;
 use toml_span::{line_and_byte, parse};
 
-/// Tests that a text gives a tree of which nothing is taken, or an error that begins in the text, doesn't end before
-/// it begins, and has the line and the column of its start.
+/// Returns whether a text has a tree from which nothing has been taken, or an error whose span begins in the text and
+/// is not reversed, and which has the line and column of its start.
 fn is_right(alloc: Global, text: &str, out: &mut Out) -> bool {
     match parse(alloc, text) {
         Ok(root) => {
@@ -25,7 +25,7 @@ fn is_right(alloc: Global, text: &str, out: &mut Out) -> bool {
     }
 }
 
-/// Adds how many cuts there are, all of them right, or the first that is not.
+/// Prints the number of cuts, or the first that is wrong.
 pub fn push_cuts(alloc: Global, text: &str, out: &mut Out) {
     let mut count: usize = 0;
     for end in 0..text.len() {

@@ -1,10 +1,10 @@
-//! Reads by derive.
+//! Reads by `derive`.
 //!
-//! - `settings`, `device`, `tagged` and `attributes` read the document as the struct of that name, `limits` its tree as
-//!   numbers by their names: the value, or the code and the place of the error, the path to it, and the reason.
-//! - `shown`: the settings, or the error with its lines.
+//! - `settings`, `device`, `tagged` and `attributes` read the document as the struct of that name. `limits` reads its
+//!   tree as numbers by their names. They print the value, or the code, span, path and reason of the error.
+//! - `shown` prints the settings, or the error with its source lines.
 //!
-//! A read that runs out of memory is made once more.
+//! If memory runs out, the read is repeated once.
 use crate::Row;
 use crate::told::Out;
 use device::{Attributes, Device, Tagged};
@@ -22,7 +22,7 @@ mod settings;
 /// Numbers by their names.
 type Limits = BTreeMap<Spanned<String>, Spanned<i8>>;
 
-/// Adds the answer of a row. Returns whether it can be read.
+/// Prints the answer to a row. Returns whether there is such a call.
 pub fn answer(alloc: Global, row: Row<'_>, out: &mut Out) -> bool {
     let text = row.text;
     match row.call {
@@ -39,7 +39,7 @@ pub fn answer(alloc: Global, row: Row<'_>, out: &mut Out) -> bool {
     true
 }
 
-/// Reads a text as a type, and adds the answer.
+/// Reads a text as a type, and prints the answer.
 fn push_read<'de, T: Deserialize<'de> + Debug + Drop>(
     alloc: Global,
     text: &'de str,
@@ -50,7 +50,7 @@ fn push_read<'de, T: Deserialize<'de> + Debug + Drop>(
     }
 }
 
-/// Returns the document's tree as limits.
+/// Reads the document's tree as limits.
 fn limits_of(alloc: Global, text: &str) -> Result<Limits, Stop<Error<'_>>> {
     let root = match parse(alloc, text) {
         Ok(root) => root,
@@ -62,7 +62,7 @@ fn limits_of(alloc: Global, text: &str) -> Result<Limits, Stop<Error<'_>>> {
     }
 }
 
-/// Adds the value that was read, or the error. Returns whether memory sufficed.
+/// Prints the value that was read, or the error. Returns whether there was enough memory.
 fn push_answer<T: Debug + Drop>(
     alloc: Global,
     read: Result<T, Stop<Error<'_>>>,
@@ -82,7 +82,7 @@ fn push_answer<T: Debug + Drop>(
     true
 }
 
-/// Adds the code and the place of an error, and its text.
+/// Prints the code and span of an error, and its message.
 fn push_error(alloc: Global, error: &Error<'_>, out: &mut Out) {
     if let Some(shown) = out.kept(error.to_diagnostic(alloc, ())) {
         out.push_str(shown.code.as_str());

@@ -1,10 +1,10 @@
 //! The texts of rows, in which a backslash begins an escape.
 //!
-//! `\n` `\r` `\t` `\\`, `\u{HEX}` for a character by its number, and `\{N PART\}` for N copies of PART, in which any of
-//! the others may occur.
+//! Escapes are `\n` `\r` `\t` `\\`, `\u{HEX}` for the character with this number, and `\{N PART\}` for N copies of
+//! PART, which may contain the others.
 use std::alloc::{AllocError, Global};
 
-/// Returns the character of the escape that begins a piece after its backslash, and the rest of the piece.
+/// Reads an escape. `piece` begins after its backslash. Returns its character, and the rest of the piece.
 fn escaped(piece: &str) -> Option<(char, &str)> {
     let mut chars = piece.chars();
     let Some(first) = chars.next() else {
@@ -16,15 +16,15 @@ fn escaped(piece: &str) -> Option<(char, &str)> {
         'r' => Some(('\r', rest)),
         't' => Some(('\t', rest)),
         'u' => {
-            let (digits, behind) = rest.strip_prefix('{')?.split_once('}')?;
+            let (digits, after) = rest.strip_prefix('{')?.split_once('}')?;
             let number = u32::from_str_radix(digits, 16).ok()?;
-            Some((char::from_u32(number)?, behind))
+            Some((char::from_u32(number)?, after))
         }
         _ => None,
     }
 }
 
-/// Repeats the end of a text, of which the text has one copy already.
+/// Repeats the end of a text, which has one copy already.
 fn repeat(alloc: Global, times: usize, start: usize, text: &mut String) -> Result<(), AllocError> {
     let part = String::from_str(alloc, text.as_str().get(start..).unwrap_or(""))?;
     if times == 0 {
@@ -36,17 +36,17 @@ fn repeat(alloc: Global, times: usize, start: usize, text: &mut String) -> Resul
     Ok(())
 }
 
-/// Appends the text that a row writes with escapes. Returns whether every escape is valid.
+/// Appends the text that a row spells with escapes. Returns whether all escapes are valid.
 ///
-/// The row is cut at its backslashes. An empty piece, except the first, is between two of them, which are one
-/// backslash, and the piece after it begins with no escape.
+/// The row is split at its backslashes. An empty piece other than the first is between two of them, which spell one
+/// backslash, so the piece after it does not begin with an escape.
 pub fn push_text(alloc: Global, source: &str, text: &mut String) -> Result<bool, AllocError> {
-    // The number of copies of the open part, and where it starts.
+    // The number of copies of the repeated part, and where it starts.
     let mut part = (1, 0);
-    // Whether an escape begins the next piece. Behind the last one it would.
-    let mut behind = false;
+    // Whether the next piece begins with an escape.
+    let mut after = false;
     for piece in source.split('\\') {
-        if !behind {
+        if !after {
             text.push_str(piece)?;
         } else if let Some(rest) = piece.strip_prefix('{') {
             let (digits, front) = rest.split_once(' ').unwrap_or((rest, ""));
@@ -65,13 +65,13 @@ pub fn push_text(alloc: Global, source: &str, text: &mut String) -> Result<bool,
             text.push(c)?;
             text.push_str(rest)?;
         }
-        behind = !behind || !piece.is_empty();
+        after = !after || !piece.is_empty();
     }
-    Ok(behind)
+    Ok(after)
 }
 
-/// Adds the words of a row, which spaces separate, without escapes. `""` is the empty word. Returns whether each can be
-/// read.
+/// Appends the words of a row, which are separated by spaces, without their escapes. `""` is the empty word. Returns
+/// whether all escapes are valid.
 pub fn push_words(alloc: Global, words: &str, found: &mut Vec<String>) -> Result<bool, AllocError> {
     if words.is_empty() {
         return Ok(true);

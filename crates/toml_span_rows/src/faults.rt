@@ -1,8 +1,8 @@
 //! The texts of errors.
 //!
-//! - `diagnostic KIND`: an error of a kind that typed reads make, at 4..6 in line 2, whose names are those of the text.
-//! - `diagnostics` of a text, and of a typed read: what its error prints, and the diagnostic.
-//! - `copied` of a text, and of a typed read: clones of its error and of the kind, and the diagnostic, each made twice,
+//! - `diagnostic KIND`: an error of a kind that typed reads cause, at 4..6 in line 2, with the names in the text.
+//! - `diagnostics` of a text or of a typed read: the message of its error, and the diagnostic.
+//! - `copied` of a text or of a typed read: clones of its error, of its kind and of its diagnostic, each made twice,
 //!   and then the error.
 use crate::Row;
 use crate::told::Out;
@@ -11,10 +11,10 @@ use std::alloc::Global;
 use std::borrow::CowStr;
 use toml_span::{Error, ErrorKind, Span};
 
-/// The number by which a diagnostic names its file.
+/// The number that stands for the file in a diagnostic.
 const FILE: u8 = 7;
 
-/// Adds an error's code, place and text, and its diagnostic.
+/// Prints an error's code, span and message, and its diagnostic.
 fn push_error(alloc: Global, error: &Error<'_>, out: &mut Out) {
     push_stand(error, out);
     out.push_str(" ");
@@ -23,7 +23,7 @@ fn push_error(alloc: Global, error: &Error<'_>, out: &mut Out) {
     out.told(error.to_diagnostic(alloc, FILE));
 }
 
-/// Adds the code, the place and the texts of an error, and one more line if those of its clone differ.
+/// Prints the code, the span and the texts of an error, and one more line if those of its clone differ.
 pub fn push_twice(alloc: Global, error: &Error<'_>, out: &mut Out) {
     push_error(alloc, error, out);
     let Some(copy) = out.kept(error.clone(alloc)) else {
@@ -37,7 +37,7 @@ pub fn push_twice(alloc: Global, error: &Error<'_>, out: &mut Out) {
     out.is_short = out.is_short || again.is_short;
 }
 
-/// Adds clones of an error and of its kind, and its diagnostic, each made twice, and then the error.
+/// Prints clones of an error, of its kind and of its diagnostic, each made twice, and then the error.
 pub fn push_copies(alloc: Global, error: &Error<'_>, out: &mut Out) {
     for _ in 0..2 {
         out.told_line(error.kind.clone(alloc));
@@ -47,7 +47,7 @@ pub fn push_copies(alloc: Global, error: &Error<'_>, out: &mut Out) {
     out.told(error);
 }
 
-/// Returns the kind of a word, with the names of a text: two have ` | ` between them.
+/// Returns the kind of error that a word names, with the names in the text, which ` | ` separates.
 fn kind_of<'s>(word: &str, text: &'s str) -> Option<ErrorKind<'s>> {
     let (first, second) = text.split_once(" | ").unwrap_or((text, ""));
     Some(match word {
@@ -66,7 +66,7 @@ fn kind_of<'s>(word: &str, text: &'s str) -> Option<ErrorKind<'s>> {
     })
 }
 
-/// Adds the answer of a row. Returns whether it can be read.
+/// Prints the answer to a row. Returns whether there is such a call.
 pub fn answer(alloc: Global, row: Row<'_>, out: &mut Out) -> bool {
     if row.call != "diagnostic" {
         return false;

@@ -1,14 +1,14 @@
-//! Calls of the public interface, as rows of data.
+//! Calls public functions as rows say, and prints the answers.
 //!
-//! Each line of standard input is a row: `CALL WORDS: TEXT`. The program writes each line as it is, and after a row its
-//! answer, each line of it after four spaces. Empty lines and lines that begin with `#` are titles. A row that can't be
-//! read answers `no such row`, and the status is then 1.
+//! Each line of standard input is a row: `CALL WORDS: TEXT`. The program prints each line and, after a row, its answer,
+//! whose lines are indented by four spaces. Empty lines and lines that begin with `#` are titles. If a row can't be
+//! read, the answer is `no such row`, and the status is 1.
 //!
-//! - `cuts`: see `cuts`. `span_at POINTER`, `port_of`, `describe_port`: what these callers of `uses` return.
-//! - `holders`: the document as `Holders` of `typed::structs`. `warned TYPE`: see `typed::warned`.
-//! - `span START END`: whether a span is empty, what it becomes, and where it starts in a text that has it.
+//! - `cuts`: see `cuts`. `span_at POINTER`, `port_of`, `describe_port`: the results of these functions in `uses`.
+//! - `holders`: the document, read as the `Holders` of `typed::structs`. `warned TYPE`: see `typed::warned`.
+//! - `span START END`: whether a span is empty, its conversions, and where it starts in a text.
 //! - `copies START END`: clones of a key with that name and of the text at the span, each made twice.
-//! - `load_file NAME`: the value read from that file of `data`, the row that needs more than an allocator.
+//! - `load_file NAME`: the value read from that file in `data`. This is the only row that needs files.
 #![tactic(auto)]
 
 mod cuts;
@@ -50,7 +50,7 @@ pub(crate) struct Row<'r> {
 }
 
 impl<'r> Row<'r> {
-    /// Returns the word at an index, or an empty one.
+    /// Returns the word at an index, or an empty one if there are not that many.
     pub(crate) fn word(self, index: usize) -> &'r str {
         match self.words.get(index) {
             Some(word) => word.as_str(),
@@ -59,7 +59,7 @@ impl<'r> Row<'r> {
     }
 }
 
-/// Returns the call, the words and the text of a line, with the escapes still in them.
+/// Splits a line into the call, the words and the text, with the escapes still in them.
 fn parts_of(line: &str) -> Option<(&str, &str, &str)> {
     let (front, text) = match line.split_once(": ") {
         Some(parts) => parts,
@@ -69,7 +69,7 @@ fn parts_of(line: &str) -> Option<(&str, &str, &str)> {
     Some((call, words, text))
 }
 
-/// Adds the answer of a caller. Returns whether there is such a caller.
+/// Prints the result of a function in `uses`. Returns whether there is such a function.
 fn push_caller(alloc: Global, row: Row<'_>, out: &mut Out) -> bool {
     let text = row.text;
     match row.call {
@@ -84,7 +84,7 @@ fn push_caller(alloc: Global, row: Row<'_>, out: &mut Out) -> bool {
     true
 }
 
-/// Adds the answer of the module that has the row's call. Returns whether one has it.
+/// Prints the answer of the module that knows the row's call. Returns whether one does.
 fn push_answer(alloc: Global, row: Row<'_>, out: &mut Out) -> bool {
     push_caller(alloc, row, out)
         || tokens::answer(alloc, row, out)
@@ -97,7 +97,7 @@ fn push_answer(alloc: Global, row: Row<'_>, out: &mut Out) -> bool {
         || trees::answer(alloc, row, out)
 }
 
-/// Adds the answer of a row. Returns whether it can be read.
+/// Prints the answer to a row. Returns whether it could be read.
 fn push_answered(
     rt: &HostRuntime,
     alloc: Global,
@@ -121,7 +121,7 @@ fn push_answered(
     Ok(push_answer(alloc, row, out))
 }
 
-/// Adds the lines after a row, each after four spaces. Returns whether the row can be read.
+/// Prints the answer to a row, indented by four spaces. Returns whether it could be read.
 fn push_row(rt: &HostRuntime, alloc: Global, line: &str, out: &mut Out) -> bool {
     let mut answer = Out::new(alloc);
     let answered = push_answered(rt, alloc, line, &mut answer);
@@ -139,7 +139,7 @@ fn push_row(rt: &HostRuntime, alloc: Global, line: &str, out: &mut Out) -> bool 
     known
 }
 
-/// Adds all lines with their answers. Returns whether each row can be read.
+/// Prints all lines with their answers. Returns whether each row could be read.
 fn push_lines(rt: &HostRuntime, alloc: Global, input: &str, out: &mut Out) -> bool {
     let mut readable = true;
     for line in input.lines() {

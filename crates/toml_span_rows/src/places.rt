@@ -1,12 +1,12 @@
 //! Places in a text, for editors.
 //!
-//! - `key_places`: of each key the steps to what it names, its role, and its span without and with its quotes.
-//! - `table_forms STEP ..`: the forms in which the table at these steps is named.
-//! - `insertion_point STEP ..`: where a line can be put into the table at these steps, and the text with `new = 0`
+//! - `key_places`: for each key, the path to what it names, its role, and its span without and with quotes.
+//! - `table_forms STEP ..`: how the text names the table at this path.
+//! - `insertion_point STEP ..`: where to insert a line into the table at this path, and the text with `new = 0` there.
+//! - `node_at OFFSET`: the path to what is at an offset, whether it is the key or the value, its span, and the text
 //!   there.
-//! - `node_at OFFSET`: the steps to what is at a byte, which part it is, its span and the text there.
 //!
-//! A word that is a number is a position, any other a key.
+//! A word that is a number is a position, any other word is a key.
 use crate::Row;
 use crate::told::Out;
 use std::alloc::{AllocError, Global};
@@ -15,7 +15,7 @@ use toml_span::value::{Step, Value};
 use toml_span_places::{insertion_point, key_places, node_at, replaced, table_forms};
 use toml_span_read::Section;
 
-/// Returns the steps of words.
+/// Converts words to the steps of a path.
 fn steps_of<'r>(alloc: Global, words: &'r [String]) -> Result<Vec<Step<'r>>, AllocError> {
     let mut steps = Vec::new(alloc);
     for word in words {
@@ -27,7 +27,7 @@ fn steps_of<'r>(alloc: Global, words: &'r [String]) -> Result<Vec<Step<'r>>, All
     Ok(steps)
 }
 
-/// Adds steps, with a space after each.
+/// Prints a path, with a space after each step.
 fn push_steps(steps: &[Step<'_>], out: &mut Out) {
     for step in steps {
         match step {

@@ -1,9 +1,9 @@
-//! Reports on a text in the file `a.toml`, and texts to write.
+//! Reports on a text in the file `a.toml`, and keys and strings to write.
 //!
-//! - `nearest WORD`: the nearest of the names that the text has, with spaces between them.
-//! - `without_labels MESSAGE`: a warning with three labels, and a note and an error without labels, each with that
-//!   message: all at once, each in its line, and each as JSON.
-//! - `quoted`: the text as a string of JSON. `quote_key`, `quote_string`: the text as a key, and as a string of TOML.
+//! - `nearest WORD`: the nearest of the names in the text, which spaces separate.
+//! - `without_labels MESSAGE`: a warning with three labels, and a note and an error without labels, all with that
+//!   message: all together, one line each, and as JSON.
+//! - `quoted`: the text as a JSON string. `quote_key`, `quote_string`: the text as a key and as a string of TOML.
 use crate::Row;
 use crate::told::Out;
 use std::alloc::{AllocError, Global};
@@ -15,7 +15,7 @@ use toml_span_report::{Report, Severity, Style, nearest, render_all, render_json
 /// The name of the file.
 const FILE: &str = "a.toml";
 
-/// Adds the answer of a row. Returns whether it can be read.
+/// Prints the answer to a row. Returns whether there is such a call.
 pub fn answer(alloc: Global, row: Row<'_>, out: &mut Out) -> bool {
     match row.call {
         "nearest" => {

@@ -1,15 +1,15 @@
-//! The run of `toml_span_show` over a reader and a writer in memory.
+//! Runs `toml_span_show` on a reader and a writer in memory.
 //!
-//! `run LIMIT WORD ..` is `run` for the limit 128, otherwise `run_with_limit`: the status, and the output. If the last
-//! word ends in `each`, a line follows for each call that can fail, and one for a call that is not made: the status,
-//! how many bytes were read in how many calls, and how many of the whole output written in how many.
+//! `run LIMIT WORD ..` calls `run` if the limit is 128, otherwise `run_with_limit`, and prints the status and the
+//! output. If the last word ends in `each`, it runs once for each call that can fail, and once for a call that is never
+//! made. A line for each run has the status, the number of bytes and of calls of reads, and those of writes.
 //!
 //! | Word | Meaning |
 //! |---|---|
-//! | `read=N`, `write=N` | how many bytes a read returns, or a write accepts, at most |
+//! | `read=N`, `write=N` | the maximum number of bytes per read or write |
 //! | `fail_read=K`, `fail_write=K` | which call fails, counted from 1 |
 //! | `take_nothing=K` | which write accepts no bytes |
-//! | `again=each` | at its end, the text begins again; one line follows |
+//! | `again=each` | the text begins again at its end; prints one line |
 ghost use Rattle.std.specs.Prelude.{◌≤◌};
 
 use crate::Row;
@@ -19,9 +19,9 @@ use std::alloc::Global;
 use std::io;
 use std::io::{ErrorKind, Read, Write};
 use toml_span_lines::run::{run, run_with_limit};
-use toml_span_lines::told::Told;
+use toml_span_lines::tracked::Tracked;
 
-/// How the reader and the writer of a run behave. Calls are counted from 1, and 0 stands for none.
+/// How the reader and the writer of a run behave. Calls are counted from 1; 0 means none.
 #[derive(Clone, Copy)]
 struct Ends {
     read: usize,
@@ -33,7 +33,7 @@ struct Ends {
 }
 
 impl Ends {
-    /// Sets the field that a word names, with `each` as its number if the word ends in `each`.
+    /// Sets the field that a word names. If the word ends in `each`, its number is `each`.
     fn set(&mut self, word: &str, each: usize) -> Option<()> {
         let (name, number) = word.split_once('=')?;
         let number = match number {
@@ -53,7 +53,7 @@ impl Ends {
     }
 }
 
-/// Returns the behavior that words describe, with a number for `each`.
+/// Returns the behavior that the words describe. `each` is the number for a word that ends in `each`.
 fn ends_of(words: &[String], each: usize) -> Option<Ends> {
     let mut ends = Ends {
         read: usize::MAX,
@@ -69,14 +69,14 @@ fn ends_of(words: &[String], each: usize) -> Option<Ends> {
     Some(ends)
 }
 
-/// A reader of bytes.
+/// A reader of bytes in memory.
 #[derive(Drop)]
 struct Given<'b> {
     bytes: &'b [u8],
     left: &'b [u8],
     ends: Ends,
     calls: usize,
-    /// How many bytes were read.
+    /// The number of bytes that have been read.
     given: usize,
 }
 
@@ -96,7 +96,7 @@ impl Read for Given<'_> {
     }
 }
 
-/// A writer that keeps the bytes that it accepts.
+/// A writer that keeps what it accepts.
 #[derive(Drop)]
 struct Taken {
     bytes: Vec<u8>,
@@ -130,19 +130,19 @@ struct Ended<'b> {
     writer: Taken,
 }
 
-/// Runs the program on bytes.
+/// Runs the program on these bytes.
 fn run_on(alloc: Global, limit: usize, bytes: &[u8], ends: Ends) -> Ended<'_>
     requires some { 1 ≤ limit }
     requires small { limit ≤ 128 }
 {
-    let mut reader = Told::new(Given {
+    let mut reader = Tracked::new(Given {
         bytes,
         left: bytes,
         ends,
         calls: 0,
         given: 0,
     });
-    let mut writer = Told::new(Taken {
+    let mut writer = Tracked::new(Taken {
         bytes: Vec::new(alloc),
         ends,
         calls: 0,
@@ -159,7 +159,7 @@ fn run_on(alloc: Global, limit: usize, bytes: &[u8], ends: Ends) -> Ended<'_>
     }
 }
 
-/// Adds the status of a run, its calls, and how many bytes it read and, of an output, wrote; or others that it wrote.
+/// Prints the status of a run and its numbers of calls and bytes. If the output is not a prefix of `whole`, prints it.
 fn push_front(ended: &Ended<'_>, whole: &[u8], out: &mut Out) {
     let bytes = ended.writer.bytes.as_slice();
     if !whole.starts_with(bytes) {
@@ -179,7 +179,7 @@ fn push_front(ended: &Ended<'_>, whole: &[u8], out: &mut Out) {
     }
 }
 
-/// Adds a line for each call that can fail, and one for a call that is not made.
+/// Prints a line for each call that can fail, and one for a call that is never made.
 fn push_each(alloc: Global, limit: usize, words: &[String], whole: &Ended<'_>, out: &mut Out)
     requires some { 1 ≤ limit }
     requires small { limit ≤ 128 }
@@ -196,7 +196,7 @@ fn push_each(alloc: Global, limit: usize, words: &[String], whole: &Ended<'_>, o
     }
 }
 
-/// Adds the answer of a row. Returns whether it can be read.
+/// Prints the answer to a row. Returns whether there is such a call.
 pub fn answer(alloc: Global, row: Row<'_>, out: &mut Out) -> bool {
     if row.call != "run" {
         return false;

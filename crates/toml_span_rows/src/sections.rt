@@ -1,7 +1,7 @@
-//! Calls on the sections of a text. A text that can't be read answers with its error.
+//! Calls on the sections of a text. If the text can't be read, they print its error.
 //!
-//! - `read LIMIT`: the sections of a document, a line each. A key, a value, a header and a section have their spans
-//!   after `@`, an assignment its extent.
+//! - `read LIMIT`: the sections, one per line. Keys, values, headers and sections have their spans after `@`,
+//!   assignments their extents.
 //! - `key_places`, `insertion_point` and `table_forms`: see `places`.
 use crate::told::Out;
 use crate::trees::limit_of;
@@ -12,20 +12,20 @@ use toml_span::Span;
 use toml_span::value::Key;
 use toml_span_read::{Assignment, Section, read_sections};
 
-/// Adds a span after `@`.
+/// Prints a span after `@`.
 fn push_place(span: Span, out: &mut Out) {
     out.push_str("@");
     out.span(span);
 }
 
-/// Adds a key, and what comes after it.
+/// Prints a key, and the text `after`.
 fn push_key(key: &Key<'_>, after: &str, out: &mut Out) {
     out.push_str(key.name.as_ref());
     push_place(key.span, out);
     out.push_str(after);
 }
 
-/// Adds an assignment after a space.
+/// Prints an assignment after a space.
 fn push_assignment(assignment: &Assignment<'_>, out: &mut Out) {
     out.push_str(" ");
     for key in &assignment.parts.inner {
@@ -37,7 +37,7 @@ fn push_assignment(assignment: &Assignment<'_>, out: &mut Out) {
     push_place(assignment.extent, out);
 }
 
-/// Appends a line for each section, or `no sections`.
+/// Prints a line for each section, or `no sections`.
 fn push_sections(sections: &[Section<'_>], out: &mut Out) {
     if sections.is_empty() {
         out.push_str("no sections");
@@ -57,7 +57,7 @@ fn push_sections(sections: &[Section<'_>], out: &mut Out) {
     }
 }
 
-/// Adds the answer of a call on the sections of a text.
+/// Prints the answer of a call on sections.
 fn push_call(alloc: Global, row: Row<'_>, sections: &[Section<'_>], out: &mut Out) {
     match row.call {
         "read" => push_sections(sections, out),
@@ -67,7 +67,7 @@ fn push_call(alloc: Global, row: Row<'_>, sections: &[Section<'_>], out: &mut Ou
     }
 }
 
-/// Adds the answer of a row. Returns whether it can be read.
+/// Prints the answer to a row. Returns whether there is such a call.
 pub fn answer(alloc: Global, row: Row<'_>, out: &mut Out) -> bool {
     if !matches!(
         row.call,

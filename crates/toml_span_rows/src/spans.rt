@@ -8,7 +8,7 @@ use toml_span::tokens::Tokenizer;
 use toml_span::value::Key;
 use toml_span::{Span, Spanned};
 
-/// Adds clones of a key and of a text.
+/// Prints clones of a key and of a text.
 fn push_copies(alloc: Global, span: Span, text: &str, out: &mut Out) {
     let Some(name) = out.kept(String::from_str(alloc, text)) else {
         return;
@@ -25,7 +25,7 @@ fn push_copies(alloc: Global, span: Span, text: &str, out: &mut Out) {
     }
 }
 
-/// Adds the answer of a row. Returns whether it can be read.
+/// Prints the answer to a row. Returns whether there is such a call.
 pub fn answer(alloc: Global, row: Row<'_>, out: &mut Out) -> bool {
     let words = (row.word(0).parse::<usize>(), row.word(1).parse::<usize>());
     let (Ok(start), Ok(end)) = words else {

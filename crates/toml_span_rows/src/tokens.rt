@@ -1,11 +1,11 @@
 //! Calls of a `Tokenizer`.
 //!
-//! - `tokens`: the tokens of a text, one per line, up to its end or its first error and the offset after that.
-//! - `tokenizer OPERATIONS`: the answers of these calls, made one after another.
+//! - `tokens`: the tokens of a text, one per line, up to its end or its first error, and the offset after that.
+//! - `tokenizer OPERATIONS`: the results of these calls, made one after the other.
 //!
-//! An operation is the name of a call, for some with `=` and the expected token: `Equals`, or with its content,
-//! `Keylike(a)`; escapes may be used. `describe` gives the words for the next token, `clone` keeps a copy of the
-//! tokenizer, and `swap` goes on with the copy.
+//! An operation is the name of a method. Some are followed by `=` and the expected token, such as `Equals` or, with its
+//! content, `Keylike(a)`, in which escapes may be used. `describe` prints the name of the next token, `clone` keeps a
+//! copy of the tokenizer, and `swap` continues with the copy.
 use crate::Row;
 use crate::told::Out;
 use std::alloc::{AllocError, Global};
@@ -15,7 +15,7 @@ use toml_span::tokens::{Error, Token, Tokenizer};
 use toml_span::value::Key;
 use toml_span::{Span, Stop};
 
-/// Returns the token that a word names. A string is its text with the quotes, `=`, and its value.
+/// Returns the token that a word names. A string is written as its text with the quotes, `=`, and its value.
 fn token_of(named: &str) -> Option<Token<'_>> {
     let (kind, content) = match named.split_once('(') {
         Some((kind, content)) => (kind, content.strip_suffix(')')?),
@@ -43,7 +43,7 @@ fn token_of(named: &str) -> Option<Token<'_>> {
     })
 }
 
-/// Adds why a call has no value.
+/// Prints why a call failed.
 fn push_stop(out: &mut Out, stop: &Stop<Error>) {
     match stop {
         Stop::Fault(error) => {
@@ -54,7 +54,7 @@ fn push_stop(out: &mut Out, stop: &Stop<Error>) {
     }
 }
 
-/// Adds whether a text is a part of the document.
+/// Prints whether a text is borrowed from the document.
 fn push_holder(out: &mut Out, text: &CowStr<'_>) {
     out.push_str(match text {
         CowStr::Borrowed(_) => " borrowed",
@@ -62,7 +62,7 @@ fn push_holder(out: &mut Out, text: &CowStr<'_>) {
     });
 }
 
-/// Adds a token, or the words for it.
+/// Prints a token or, if `in_words`, its name.
 fn push_step(
     out: &mut Out,
     answer: Result<Option<(Span, Token<'_>)>, Stop<Error>>,
@@ -83,7 +83,7 @@ fn push_step(
     }
 }
 
-/// Adds a key.
+/// Prints a key.
 fn push_key(out: &mut Out, answer: Result<Key<'_>, Stop<Error>>) {
     match &answer {
         Ok(key) => {
@@ -96,7 +96,7 @@ fn push_key(out: &mut Out, answer: Result<Key<'_>, Stop<Error>>) {
     }
 }
 
-/// A tokenizer, and a copy of it.
+/// A tokenizer and a copy of it.
 #[derive(Drop)]
 struct Tokenizers<'t> {
     used: Tokenizer<'t>,
@@ -104,7 +104,8 @@ struct Tokenizers<'t> {
 }
 
 impl<'t> Tokenizers<'t> {
-    /// Makes the call of a name that expects a token, and adds its answer. Returns whether there is such a call.
+    /// Calls the method with this name, which expects a token, and prints the result. Returns whether there is such a
+    /// method.
     fn push_expecting(
         &mut self,
         alloc: Global,
@@ -122,7 +123,7 @@ impl<'t> Tokenizers<'t> {
         true
     }
 
-    /// Makes the call with this name and appends its answer. Returns whether there is such a call.
+    /// Calls the method with this name, and prints the result. Returns whether there is such a method.
     fn push_call(&mut self, alloc: Global, name: &str, out: &mut Out) -> bool {
         match name {
             "step" => push_step(out, self.used.step(alloc), false),
@@ -138,7 +139,7 @@ impl<'t> Tokenizers<'t> {
         true
     }
 
-    /// Makes a call that answers nothing. Returns whether there is such a call.
+    /// Calls the method with this name, which returns nothing. Returns whether there is such a method.
     fn push_quiet_call(&mut self, name: &str, out: &mut Out) -> bool {
         match name {
             "eat_whitespace" => self.used.eat_whitespace(),
@@ -156,7 +157,8 @@ impl<'t> Tokenizers<'t> {
     }
 }
 
-/// Makes the calls of words on one tokenizer, and adds a line for each. Returns whether each is a call.
+/// Calls the methods that the words name on one tokenizer, and prints a line for each. Returns whether there are such
+/// methods.
 fn push_calls(alloc: Global, row: Row<'_>, out: &mut Out) -> bool {
     let mut tokenizers = Tokenizers {
         used: Tokenizer::new(row.text),
@@ -178,7 +180,7 @@ fn push_calls(alloc: Global, row: Row<'_>, out: &mut Out) -> bool {
     true
 }
 
-/// Appends the tokens of a text, one per line, up to its end or its first error.
+/// Prints the tokens of a text, one per line, up to its end or its first error.
 fn push_tokens(alloc: Global, text: &str, out: &mut Out) {
     let mut tokenizer = Tokenizer::new(text);
     for _ in 0..=text.len() {
@@ -196,7 +198,7 @@ fn push_tokens(alloc: Global, text: &str, out: &mut Out) {
     }
 }
 
-/// Adds the answer of a row. Returns whether it can be read.
+/// Prints the answer to a row. Returns whether there is such a call.
 pub fn answer(alloc: Global, row: Row<'_>, out: &mut Out) -> bool {
     match row.call {
         "tokens" => {

@@ -1,14 +1,13 @@
-//! The text that the program writes: answers, as they print for programmers.
+//! The output of the program.
 use std::alloc::{AllocError, Global};
 use std::fmt::{Debug, Display};
 use toml_span::Span;
 
-/// A text that nothing reads before its end. It remembers whether there was memory for each part, so that callers
-/// don't have to look.
+/// A text to which parts are appended. It records whether an allocation failed, so that callers need not check.
 #[derive(Drop)]
 pub struct Out {
     pub text: String,
-    /// Memory ran out for a part.
+    /// Whether an allocation for a part failed.
     pub is_short: bool,
 }
 
@@ -21,7 +20,7 @@ impl Out {
         }
     }
 
-    /// Returns what a call made, if there was memory for it.
+    /// Returns the result of a call, or records that an allocation failed and returns `None`.
     pub fn kept<T: Drop>(&mut self, made: Result<T, AllocError>) -> Option<T> {
         match made {
             Ok(value) => Some(value),
@@ -32,41 +31,41 @@ impl Out {
         }
     }
 
-    /// Adds a text.
+    /// Appends a text.
     pub fn push_str(&mut self, text: &str) {
         if self.text.push_str(text).is_err() {
             self.is_short = true;
         }
     }
 
-    /// Adds a text that a call made.
+    /// Appends the text that a call returned.
     pub fn made(&mut self, made: Result<String, AllocError>) {
         if let Some(text) = self.kept(made) {
             self.push_str(text.as_str());
         }
     }
 
-    /// Adds an answer.
+    /// Appends the `Debug` output of a value.
     pub fn told<T: Debug + Drop>(&mut self, told: T) {
         if write!(self.text, "{told:?}").is_err() {
             self.is_short = true;
         }
     }
 
-    /// Adds an answer and a line feed.
+    /// Appends the `Debug` output of a value, and a line feed.
     pub fn told_line<T: Debug + Drop>(&mut self, told: T) {
         self.told(told);
         self.push_str("\n");
     }
 
-    /// Adds the text of an answer.
+    /// Appends the `Display` output of a value.
     pub fn shown<T: Display + Drop>(&mut self, shown: T) {
         if write!(self.text, "{shown}").is_err() {
             self.is_short = true;
         }
     }
 
-    /// Adds a span, as `start..end`.
+    /// Appends a span as `start..end`.
     pub fn span(&mut self, span: Span) {
         self.told(span.start);
         self.push_str("..");

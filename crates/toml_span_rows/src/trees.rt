@@ -1,10 +1,10 @@
-//! Calls on the tree of a document. A text that is not valid TOML answers with its error.
+//! Calls on the tree of a document. If the text is not valid TOML, they print its error.
 //!
 //! - `parse LIMIT`: the lines of the tree. `twice` parses twice: a word for the first parse, then the lines.
 //! - `json`: the JSON value.
-//! - `again`: the values that the text spells as one piece, each parsed again.
+//! - `again`: each value that is written in one piece, parsed again.
 //! - `node_at OFFSET`: see `places`. `write OPERATION ..`: see `writes`. Typed reads: see `typed`.
-//! - `diagnostics`: what the error prints, and its diagnostic. `copied`: copies of it.
+//! - `diagnostics`: the message of the error, and its diagnostic. `copied`: copies of it.
 ghost use Rattle.std.specs.Prelude.{◌≤◌, IfSome};
 
 use crate::faults::{push_copies, push_twice};
@@ -21,7 +21,7 @@ mod pieces;
 pub mod shown;
 mod writes;
 
-/// Returns the limit of a row, which `parse`, `read` and `run` name.
+/// Returns the limit that `parse`, `read` or `run` has in a row.
 pub(crate) fn limit_of(row: Row<'_>) -> Option<usize>
     ensures some { IfSome result (λ limit. 1 ≤ limit) }
     ensures small { IfSome result (λ limit. limit ≤ 128) }
@@ -37,7 +37,7 @@ pub(crate) fn limit_of(row: Row<'_>) -> Option<usize>
     }
 }
 
-/// Appends the JSON value of a tree of which nothing is taken. Asks for it again if memory runs out.
+/// Prints the JSON value of a tree from which nothing has been taken. If an allocation fails, tries once more.
 fn push_json(alloc: Global, root: &Value<'_>, out: &mut Out) {
     if !root.is_whole() {
         return out.push_str("not whole");
@@ -52,7 +52,7 @@ fn push_json(alloc: Global, root: &Value<'_>, out: &mut Out) {
     }
 }
 
-/// Adds the answer of a call on a tree. Returns whether there is such a call.
+/// Prints the answer of a call on a tree. Returns whether there is such a call.
 fn push_call<'t>(alloc: Global, row: Row<'t>, root: &mut Value<'t>, out: &mut Out) -> bool {
     match row.call {
         "parse" | "twice" => push_lines(alloc, root, out),
@@ -65,7 +65,7 @@ fn push_call<'t>(alloc: Global, row: Row<'t>, root: &mut Value<'t>, out: &mut Ou
     true
 }
 
-/// Adds the error of a text.
+/// Prints the error of a text.
 fn push_refused(alloc: Global, call: &str, fault: &Error<'_>, out: &mut Out) {
     match call {
         "diagnostics" => push_twice(alloc, fault, out),
@@ -74,7 +74,7 @@ fn push_refused(alloc: Global, call: &str, fault: &Error<'_>, out: &mut Out) {
     }
 }
 
-/// Adds the answer of a row. Returns whether it can be read.
+/// Prints the answer to a row. Returns whether there is such a call.
 pub fn answer(alloc: Global, row: Row<'_>, out: &mut Out) -> bool {
     let Some(limit) = limit_of(row) else {
         return false;

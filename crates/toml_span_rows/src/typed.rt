@@ -1,11 +1,11 @@
-//! Typed reads. After the answer of a call come the lines of the tree that it leaves.
+//! Typed reads. The result of a call is followed by the lines of the tree that it leaves.
 //!
 //! - `typed TYPE` reads the value at `/a`, `typed_root TYPE` the root: the value, or the errors.
-//! - `errors TYPE` reads the value at `/a`: what each call answers on the errors of the read. `diagnostics TYPE` and
-//!   `copied TYPE`: what `faults` says of the last error.
-//! - `merge TYPE TYPE` reads `/a` and `/b`, and puts the errors of the second after those of the first.
-//! - `parse_string TYPE` parses the string at `/a`. `open` opens a helper over the value there.
-//! - `fields CALL ..` opens a helper over the root, and makes each call in turn.
+//! - `errors TYPE` reads the value at `/a`, and prints the result of each method of the `DeserError`. `diagnostics
+//!   TYPE` and `copied TYPE`: see `faults`, for the last error.
+//! - `merge TYPE TYPE` reads `/a` and `/b`, and appends the errors of the second to those of the first.
+//! - `parse_string TYPE` parses the string at `/a`. `open` makes a helper for the value there.
+//! - `fields CALL ..` makes a helper for the root, and makes each call on it.
 mod fields;
 mod odd;
 pub mod owned;
@@ -24,7 +24,7 @@ use toml_span::DeserError;
 use toml_span::de_helpers::{TableHelper, parse};
 use toml_span::value::Value;
 
-/// Adds the answer of a row to a tree. Returns whether it can be read.
+/// Prints the answer to a row for a tree. Returns whether there is such a call.
 pub fn answer<'de>(alloc: Global, row: Row<'de>, root: &mut Value<'de>, out: &mut Out) -> bool {
     let known = match row.call {
         "typed_root" => push_read(alloc, row.word(0), root, out),
@@ -37,7 +37,7 @@ pub fn answer<'de>(alloc: Global, row: Row<'de>, root: &mut Value<'de>, out: &mu
     known
 }
 
-/// Adds the answer of a call on the value at `/a`. Returns whether there is such a call.
+/// Prints the result of a call on the value at `/a`. Returns whether there is such a call.
 fn push_at<'de>(alloc: Global, row: Row<'de>, root: &mut Value<'de>, out: &mut Out) -> bool {
     match root.pointer_mut("/a") {
         Some(value) if row.call == "typed" => push_read(alloc, row.word(0), value, out),
@@ -46,7 +46,7 @@ fn push_at<'de>(alloc: Global, row: Row<'de>, root: &mut Value<'de>, out: &mut O
     }
 }
 
-/// Adds the answer of a call that takes the value. Returns whether there is such a call.
+/// Prints the result of a call that takes the value. Returns whether there is such a call.
 fn push_call<'de>(alloc: Global, row: Row<'_>, value: &mut Value<'de>, out: &mut Out) -> bool {
     if value.is_taken() {
         return false;
@@ -66,7 +66,7 @@ fn push_call<'de>(alloc: Global, row: Row<'_>, value: &mut Value<'de>, out: &mut
     true
 }
 
-/// Adds the errors of a read. Returns whether there are any.
+/// Prints the errors of a read. Returns whether there are any.
 fn push_errors<'de>(alloc: Global, row: Row<'de>, root: &mut Value<'de>, out: &mut Out) -> bool {
     let Some(mut errors) = errors_at(alloc, row.word(0), root, "/a", out) else {
         return false;
@@ -85,7 +85,8 @@ fn push_errors<'de>(alloc: Global, row: Row<'de>, root: &mut Value<'de>, out: &m
     true
 }
 
-/// Appends errors to others, and adds the answer. If memory runs out, does it again with the errors that came back.
+/// Appends errors to others, and prints the result. If an allocation fails, does it again with the errors that are
+/// returned.
 fn push_merge<'de>(
     alloc: Global,
     errors: &mut DeserError<'de>,
@@ -99,7 +100,7 @@ fn push_merge<'de>(
     }
 }
 
-/// Adds what each call answers on errors: how many there are, each by its position and the one after them, each in
+/// Prints the result of each method of errors: their number, each by its position and the one after them, each in
 /// order, the last one, and the text of all.
 fn push_lists(errors: &DeserError<'_>, out: &mut Out) {
     let len = errors.len();

@@ -1,10 +1,10 @@
-//! Callers of `toml_span` that state what they conclude.
+//! Functions that call `toml_span`, with contracts that say what follows from its contracts.
 ghost use Rattle.std.specs.Prelude.{◌≡◌, ◌↔◌, ◌∷◌, [], pos, codes, Some, IfOk, IfErr};
 ghost use Rattle.toml_span_lex.specs.declared.span.Span.{Span as Bytes};
 ghost use Rattle.toml_span_tree.specs.Node.{integer};
 ghost use Rattle.toml_span_tree.specs.Path.{Place, key, shape_scalar};
 ghost use Rattle.toml_span.specs.Parsing.{IsRefusal};
-ghost use Rattle.toml_span_laws.specs.Document.{IsDocument, StandsAt};
+ghost use Rattle.toml_span_laws.specs.Document.{IsDocument, HasPlaceAt};
 ghost use Rattle.toml_span_rows.specs.uses.Fields.{NoPort};
 ghost use Rattle.toml_span_read.specs.Data.{depth_limit};
 
@@ -14,14 +14,14 @@ use std::alloc::Global;
 use toml_span::de_helpers::TableHelper;
 use toml_span::{Error, Span, Stop, parse};
 
-/// The bytes of the value that the pointer names, if any.
+/// Returns the span of the value that the pointer names, if there is one.
 pub(crate) fn span_at<'de>(
     alloc: Global,
     text: &'de str,
     pointer: &'de str,
 ) -> Result<Option<Span>, Stop<Error<'de>>>
     ensures found { IfOk result (λ o. IsDocument text.now (λ places. (span : Bytes) → (o ≡ Some span)
-        ↔ StandsAt pointer.now places (λ place. place.span ≡ span))) }
+        ↔ HasPlaceAt pointer.now places (λ place. place.span ≡ span))) }
     ensures refused { IfErr result (IsRefusal text.now depth_limit) }
 {
     let root = parse(alloc, text)?;
@@ -31,7 +31,7 @@ pub(crate) fn span_at<'de>(
     }
 }
 
-/// The port that the document has, or why it has none.
+/// Returns the port in the document, or why there is none.
 #[tactic(auto, using(toml_span_typed::proofs::Whole::found_whole))]
 pub(crate) fn port_of<'de>(alloc: Global, text: &'de str) -> Result<u16, Stop<Error<'de>>>
     ensures port { IfOk result (λ port. IsDocument text.now (λ places. (place : Place)

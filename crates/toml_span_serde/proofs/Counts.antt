@@ -4,7 +4,7 @@ use Rattle.std.proofs.lemmas.List.{length-append}
 use Rattle.toml_span_lex.specs.declared.span.Span.{Span}
 use Rattle.toml_span_tree.specs.Node.{Node, node, Inner, taken, scalar, array, table, Items, no_items, item, Members, no_members, member}
 use Rattle.toml_span_serde.specs.Pieces.{Piece, piece, pieces, held_pieces, items_pieces, members_pieces, value, nothing, array_begins, array_ends, table_begins, table_ends, key}
-use Rattle.toml_span_serde.specs.Tasks.{depth_behind, piece_content, piece_of}
+use Rattle.toml_span_serde.specs.Tasks.{depth_after, piece_content, piece_of}
 use Rattle.toml_span_serde.specs.declared.pieces.Piece.{Piece as Made}
 
 abbrev pub unless_zero : {A : Type 0} → ℕ → A → A → A
@@ -14,14 +14,14 @@ unless_zero (suc n) a b = b
 -- the number of pieces up to the first after which the depth is 0
 abbrev pub counted : ℕ → ℕ → List Piece → Option ℕ
 counted k d [] = None
-counted k d (p ∷ ps) = unless_zero (depth_behind p.content d) (Some (k + 1)) (counted (k + 1) (depth_behind p.content d) ps)
+counted k d (p ∷ ps) = unless_zero (depth_after p.content d) (Some (k + 1)) (counted (k + 1) (depth_after p.content d) ps)
 
 -- one more piece
-step : (p : Piece) (ps : List Piece) (k d e : ℕ) → depth_behind p.content d ≡ e → 0 < e → counted k d (p ∷ ps) ≡ counted (k + 1) e ps
+step : (p : Piece) (ps : List Piece) (k d e : ℕ) → depth_after p.content d ≡ e → 0 < e → counted k d (p ∷ ps) ≡ counted (k + 1) e ps
 step p ps k d e is h = grind (arith, nat_tests, common_steps)
 
 -- the last piece
-last : (p : Piece) (ps : List Piece) (k d : ℕ) → depth_behind p.content d ≡ 0 → counted k d (p ∷ ps) ≡ Some (k + 1)
+last : (p : Piece) (ps : List Piece) (k d : ℕ) → depth_after p.content d ≡ 0 → counted k d (p ∷ ps) ≡ Some (k + 1)
 last p ps k d is = ap (λ n. unless_zero n (Some (k + 1)) (counted (k + 1) n ps)) is
 
 -- a row that leaves the depth unchanged: what follows it is counted from as many pieces further on
@@ -31,7 +31,7 @@ Passes d ps = (k : ℕ) (rest : List Piece) → counted k d (ps ++ rest) ≡ cou
 passes-none : (d : ℕ) → Passes d []
 passes-none d = λ k rest. ap (λ n. counted n d rest) (omega arith)
 
-passes-next : (d e : ℕ) (p : Piece) (ps : List Piece) → depth_behind p.content d ≡ e → 0 < e → Passes e ps → (k : ℕ) (rest : List Piece) →
+passes-next : (d e : ℕ) (p : Piece) (ps : List Piece) → depth_after p.content d ≡ e → 0 < e → Passes e ps → (k : ℕ) (rest : List Piece) →
     counted k d ((p ∷ ps) ++ rest) ≡ counted (k + length (p ∷ ps)) e rest
 passes-next d e p ps is h passes k rest = step p (ps ++ rest) k d e is h ∙ passes (k + 1) rest ∙ ap (λ n. counted n e rest) (omega arith)
 
@@ -41,7 +41,7 @@ passes-append d ps qs first second = λ k rest.
     ∙ ap (λ n. counted n d rest) (omega (arith, length-append ps qs))
 
 -- between two ends it is one deeper
-passes-held : (d : ℕ) (ps : List Piece) (first end : Piece) → 0 < d → depth_behind first.content d ≡ d + 1 → depth_behind end.content (d + 1) ≡ d →
+passes-held : (d : ℕ) (ps : List Piece) (first end : Piece) → 0 < d → depth_after first.content d ≡ d + 1 → depth_after end.content (d + 1) ≡ d →
     Passes (d + 1) ps → Passes d (first ∷ (ps ++ (end ∷ [])))
 passes-held d ps first end h up down passes = λ k rest.
     step first ((ps ++ (end ∷ [])) ++ rest) k d (d + 1) up (omega arith) ∙ ap (counted (k + 1) (d + 1)) (append_assoc ps (end ∷ []) rest)
@@ -70,7 +70,7 @@ mutual
       passes-next d d (piece (key name) span) _ refl h (passes-append d (pieces n) (members_pieces ms) (within-node n d h) (within-members ms d h))
 
 -- a value
-whole : (ps rest : List Piece) (first end : Piece) → depth_behind first.content 0 ≡ 1 → depth_behind end.content 1 ≡ 0 → Passes 1 ps →
+whole : (ps rest : List Piece) (first end : Piece) → depth_after first.content 0 ≡ 1 → depth_after end.content 1 ≡ 0 → Passes 1 ps →
     counted 0 0 ((first ∷ (ps ++ (end ∷ []))) ++ rest) ≡ Some (length (first ∷ (ps ++ (end ∷ []))))
 whole ps rest first end up down passes =
     step first ((ps ++ (end ∷ [])) ++ rest) 0 0 1 up (omega arith) ∙ ap (counted 1 1) (append_assoc ps (end ∷ []) rest) ∙ passes 1 (end ∷ rest)
@@ -86,7 +86,7 @@ counted-value (node (table ms) span) rest = whole (members_pieces ms) rest (piec
 
 -- the count ends here
 pub ends-here : (i : ℕ) (ps : List Made) (p : Made) (k d : ℕ) (all : Option ℕ) → i < length ps → get_or ps i p ≡ p →
-    depth_behind (piece_content p.content) d ≡ 0 → counted k d (map piece_of (drop i ps)) ≡ all → Some (k + 1) ≡ all
+    depth_after (piece_content p.content) d ≡ 0 → counted k d (map piece_of (drop i ps)) ≡ all → Some (k + 1) ≡ all
 ends-here i ps p k d all inside here is before = grind (arith, nat_tests, common_steps)
 
 -- this many pieces are consumed

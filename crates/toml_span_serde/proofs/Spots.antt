@@ -6,18 +6,18 @@ use Rattle.toml_span_tree.specs.Path.{Step, key, position, Path}
 use Rattle.toml_span_serde.specs.Pieces.{Piece, pieces, held_pieces, items_pieces, members_pieces}
 use Rattle.toml_span_serde.specs.Stops.{spots, held_spots, items_spots, members_spots}
 use Rattle.toml_span_serde.specs.Tasks.{piece_content, piece_of}
-use Rattle.toml_span_serde.specs.Walk.{Way, behind, walked, way_at}
+use Rattle.toml_span_serde.specs.Walk.{Way, after, walked, way_at}
 use Rattle.toml_span_serde.specs.declared.pieces.Piece.{Piece as Made}
 use Rattle.toml_span_serde.proofs.Ways.{walked-node, walked-items, walked-members}
 
 -- along a walk
 abbrev spots_on : Way → List Piece → List (Path × Span)
 spots_on way [] = []
-spots_on way (p ∷ ps) = (reverse (way_at p.content way), p.span) ∷ spots_on (behind p.content way) ps
+spots_on way (p ∷ ps) = (reverse (way_at p.content way), p.span) ∷ spots_on (after p.content way) ps
 
 spots_on-append : (xs ys : List Piece) (way : Way) → spots_on way (xs ++ ys) ≡ spots_on way xs ++ spots_on (walked xs way) ys
 spots_on-append [] ys way = refl
-spots_on-append (x ∷ xs) ys way = grind (arith, nat_tests, common_steps, spots_on-append xs ys (behind x.content way))
+spots_on-append (x ∷ xs) ys way = grind (arith, nat_tests, common_steps, spots_on-append xs ys (after x.content way))
 
 one-more : (s : Step) (way : Way) → reverse (s ∷ way) ≡ reverse way ++ (s ∷ [])
 one-more s way = reverse-append (s ∷ []) way
@@ -50,7 +50,7 @@ spot-at : (k : ℕ) (ps : List Made) (p : Made) (way : Way) → k < length ps �
     ≡ Some (reverse (way_at (piece_content p.content) (walked (map piece_of (take k ps)) way)), p.span)
 spot-at k [] p way inside is = absurd (omega (arith, inside))
 spot-at zero (q ∷ ps) p way inside is = grind (arith, nat_tests, common_steps)
-spot-at (suc k) (q ∷ ps) p way inside is = spot-at k ps p (behind (piece_content q.content) way) (omega arith) is
+spot-at (suc k) (q ∷ ps) p way inside is = spot-at k ps p (after (piece_content q.content) way) (omega arith) is
 
 -- the place of each piece of a tree's row is where the walk to it leads
 pub spot : (root : Node) (k : ℕ) (ps : List Made) (p : Made) → map piece_of ps ≡ pieces root → k < length ps → get_or ps k p ≡ p →

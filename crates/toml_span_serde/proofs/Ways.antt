@@ -9,7 +9,7 @@ use Rattle.toml_span.proofs.Ordered.{same-name, first-entry, later-entry}
 use Rattle.toml_span_serde.specs.Misfits.{Names}
 use Rattle.toml_span_serde.specs.Pieces.{Piece, pieces, held_pieces, items_pieces, members_pieces}
 use Rattle.toml_span_serde.specs.Tasks.{piece_content, piece_of}
-use Rattle.toml_span_serde.specs.Walk.{Way, ended, behind, walked, way_at}
+use Rattle.toml_span_serde.specs.Walk.{Way, ended, after, walked, way_at}
 use Rattle.toml_span_serde.specs.declared.pieces.Piece.{Piece as Made}
 
 abbrev pub Found : Type 0
@@ -19,13 +19,13 @@ Found = Option Span × Node
 abbrev pub AllNamed : Node → Way → List Piece → Type 0
 AllNamed root way [] = Unit {0}
 AllNamed root way (p ∷ ps) =
-    Names (reverse (way_at p.content way)) p.span root × AllNamed root (behind p.content way) ps
+    Names (reverse (way_at p.content way)) p.span root × AllNamed root (after p.content way) ps
 
 -- ---- a walk
 
 walked-append : (xs ys : List Piece) (way : Way) → walked (xs ++ ys) way ≡ walked ys (walked xs way)
 walked-append [] ys way = refl
-walked-append (x ∷ xs) ys way = walked-append xs ys (behind x.content way)
+walked-append (x ∷ xs) ys way = walked-append xs ys (after x.content way)
 
 abbrev counted : ℕ → Items → ℕ
 counted i no_items = i
@@ -83,7 +83,7 @@ module _ (root : Node) where
 
   append-named : (way : Way) (xs ys : List Piece) → AllNamed root way xs → AllNamed root (walked xs way) ys → AllNamed root way (xs ++ ys)
   append-named way [] ys a b = b
-  append-named way (x ∷ xs) ys a b = (a.0, append-named (behind x.content way) xs ys a.1 b)
+  append-named way (x ∷ xs) ys a b = (a.0, append-named (after x.content way) xs ys a.1 b)
 
   here : (way : Way) (k : Option Span) (i : Inner) (span : Span) → Leads way (k, node i span) → Names (reverse way) span root
   here way k i span there = (place_of (k, node i span), ap (option_map place_of) there, inl refl)
@@ -129,7 +129,7 @@ pub named-at : (root : Node) (k : ℕ) (ps : List Made) (p : Made) (way : Way) �
     → Names (reverse (way_at (piece_content p.content) (walked (map piece_of (take k ps)) way))) p.span root
 named-at root k [] p way inside is named = absurd (omega (arith, inside))
 named-at root zero (q ∷ ps) p way inside is named = grind (arith, nat_tests, common_steps)
-named-at root (suc k) (q ∷ ps) p way inside is named = named-at root k ps p (behind (piece_content q.content) way) (omega arith) is named.1
+named-at root (suc k) (q ∷ ps) p way inside is named = named-at root k ps p (after (piece_content q.content) way) (omega arith) is named.1
 
 -- so does each piece of a tree's row
 pub named : (root : Node) (k : ℕ) (ps : List Made) (p : Made) → map piece_of ps ≡ pieces root → HasOneEach root → k < length ps → get_or ps k p ≡ p

@@ -1,4 +1,4 @@
--- The pieces of a row, and those that a reader has not read yet.
+-- The pieces of a row, and those that a reader has not read.
 use Rattle.std.specs.Prelude.{List, map, drop}
 use Rattle.toml_span_serde.specs.Pieces.{Piece}
 use Rattle.toml_span_serde.specs.Tasks.{piece_of}
@@ -8,7 +8,7 @@ use Rattle.toml_span_serde.specs.declared.row.Row.{Row}
 abbrev pub pieces_in : Row → List Piece
 pieces_in row = map piece_of row.pieces.items
 
--- all pieces of the row that a reader goes through
+-- all pieces of the row
 abbrev pub laid : Reader → List Piece
 laid r = map piece_of r.pieces.now
 

@@ -1,4 +1,4 @@
--- How `Spanned` asks a format for the span of a value: by a variant whose name is reserved for this.
+-- How `Spanned` asks a format for the span of a value: by reading a variant with a reserved name.
 use Rattle.std.specs.Prelude.{◌≡◌, ℕ, List, [], ◌∷◌, Bool, false, codes}
 use Rattle.serde.specs.Steps.{Picks}
 use Rattle.serde.specs.declared.deserializer.Deserializer.{Deserializer}
@@ -13,7 +13,7 @@ AsksStart names = (n : Name) × (names ≡ n ∷ []) × (n.name.now ≡ codes "$
 abbrev pub AsksEnd : List Name → Type 0
 AsksEnd names = (n : Name) × (names ≡ n ∷ []) × (n.name.now ≡ codes "$toml_span::end")
 
--- what the format answers when asked for the start and for the end of the next value
+-- the results for the start and for the end of the next value
 abbrev pub HasSpan : {F E M : Type 0} → (F → List ℕ → Bool → List Name → ℕ → F → Type 0)
     → Deserializer F E M → Span → Type 0
 HasSpan {F} {E} {M} picks from span =

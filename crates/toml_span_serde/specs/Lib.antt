@@ -1,4 +1,5 @@
 pub mod Pieces
+pub mod TextOrder
 pub mod Tasks
 pub mod Asks
 pub mod Reads

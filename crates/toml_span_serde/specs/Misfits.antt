@@ -1,4 +1,4 @@
--- The errors for values that cannot be read as a type, and their spans.
+-- Why values could not be read as a type, and where.
 use Rattle.std.specs.Prelude.{◌≡◌, ◌≤◌, ◌⊎◌, ⊤, ℕ, List, [], ◌∷◌, ◌++◌, map, length, Option, None, Some, codes}
 use Rattle.std.specs.Prelude.{decimal, string_bytes}
 use Rattle.toml_span_lex.specs.declared.span.Span.{Span}
@@ -53,19 +53,19 @@ name_of found.Table = codes "table"
 name_of found.Key = codes "key"
 name_of found.Nothing = codes "nothing"
 
--- the names that are expected, or, without names, another text
+-- the expected names or, if there are none, another text
 abbrev pub expected_text : List ℕ → List (List ℕ) → List ℕ
 expected_text none [] = none
 expected_text none (a ∷ []) = codes "expected " ++ named a
 expected_text none (a ∷ b ∷ names) = codes "expected one of " ++ listed (a ∷ b ∷ names)
 
--- the kinds after the first, with "or" before the last of them
+-- the kinds after the first, with "or" before the last one
 abbrev pub more_kinds_text : List Expected → List ℕ
 more_kinds_text [] = []
 more_kinds_text (e ∷ []) = codes " or " ++ words_of e
 more_kinds_text (e ∷ d ∷ kinds) = codes ", " ++ words_of e ++ more_kinds_text (d ∷ kinds)
 
--- kinds, as in `an integer, a string or a table`
+-- the kinds, as in `an integer, a string or a table`
 abbrev pub kinds_text : List Expected → List ℕ
 kinds_text [] = []
 kinds_text (e ∷ kinds) = words_of e ++ more_kinds_text kinds
@@ -88,7 +88,7 @@ reason_text is.Negative = codes "number is out of range, expected 0 or more"
 reason_text is.Invalid = codes "invalid value"
 reason_text (is.Custom message) = string_bytes message
 
--- the kind of error for a field that occurs twice, or its text if the earlier place is not known
+-- the kind of error for a field with two keys, or its text if the span of the earlier key is not known
 abbrev pub kind_of_twice : List ℕ → List ℕ → Option Span → Kind
 kind_of_twice text name None = custom text
 kind_of_twice text name (Some first) = duplicate_key name first
@@ -106,7 +106,7 @@ kind_of_reason (is.UnknownVariant name expected) =
     marked (codes "unexpected-value") (reason_text (is.UnknownVariant name expected)) []
 kind_of_reason reason = custom (reason_text reason)
 
--- the expected name that may be meant by an unknown one
+-- the expected name that an unknown one probably means
 abbrev pub meant_by : Reason → Option (List ℕ)
 meant_by (is.UnknownField name expected) = nearest (string_bytes name) (map string_bytes expected.items)
 meant_by (is.UnknownVariant name expected) = nearest (string_bytes name) (map string_bytes expected.items)
@@ -133,12 +133,12 @@ abbrev pub Names : tree.Path → Span → Node → Type 0
 Names path span root = (place : Place) × (place_at path root ≡ Some place)
     × ((span ≡ place.span) ⊎ (place.key_span ≡ Some span))
 
--- The misfit is at a place of the tree.
+-- The misfit is at a place in the tree.
 abbrev pub IsAt : Node → Stop Misfit → Type 0
 IsAt root (stop.Memory e) = ⊤
 IsAt root (stop.Fault m) = Names (path_of m.path.items) m.span root
 
--- The misfit has the line and the column of its start, if that is an offset in the text.
+-- The misfit has the line and the column of its span, if that starts in the text.
 abbrev pub HasLine : List ℕ → Misfit → Type 0
 HasLine text m = m.span.start ≤ length text → (line column : ℕ) × (m.line_info ≡ Some (line, column))
     × IsLineInfo text m.span.start line column
@@ -147,7 +147,7 @@ HasLine text m = m.span.start ≤ length text → (line column : ℕ) × (m.line
 abbrev pub HasTree : List ℕ → (Node → Type 0) → Type 0
 HasTree text P = (root : Value) × IsTree text depth_limit root × P (view root)
 
--- The text is refused, or it has a tree, and the misfit is at a place of it.
+-- The text has no tree, or has one, and the misfit is at a place in it.
 abbrev pub IsRefused : List ℕ → Stop Error → Type 0
 IsRefused text (stop.Memory e) = ⊤
 IsRefused text (stop.Fault (error.Refused e)) = IsRefusal text depth_limit (stop.Fault e)

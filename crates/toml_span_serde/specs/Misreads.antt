@@ -1,4 +1,4 @@
--- What a reader reports when a step reads nothing: why, and at which piece of its row.
+-- Why a step of a reader fails, and at which piece.
 use Rattle.std.specs.Prelude.{◌≡◌, ◌≢◌, ◌≤◌, ◌⊎◌, ⊤, ℕ, ℤ, pos, negsuc, Bool, false, nat_lt, not, if◌then◌else◌, List}
 use Rattle.std.specs.Prelude.{[], ◌∷◌, ◌==◌, String, Vec, string_bytes, Option, None, Some, length, map, reverse, take}
 use Rattle.std.specs.Prelude.{encode_utf8, slice_range}
@@ -31,7 +31,7 @@ use Rattle.toml_span_serde.specs.declared.misfit.Reason.TheVariants as is
 use Rattle.toml_span_serde.specs.declared.reader.Misread.{Misread}
 use Rattle.toml_span_serde.specs.declared.reader.Reader.{Reader}
 
--- the kind of what was found
+-- the kind of a piece
 abbrev pub found_of : Content → Found
 found_of (value (tree.text s)) = found.String
 found_of (value (tree.integer z)) = found.Integer
@@ -64,7 +64,7 @@ kind_ahead table_begins = kind.Map
 kind_ahead table_ends = kind.Map
 kind_ahead (key s) = kind.Str
 
--- the text of a string or of a key, and otherwise nothing
+-- the text of a string or key, and nothing for any other piece
 abbrev pub told_text : Content → List ℕ
 told_text (value (tree.text s)) = s
 told_text (key s) = s
@@ -78,17 +78,17 @@ told_text_in (Some p) = told_text p.content
 abbrev pub IsOpening : Content → Type 0
 IsOpening c = (c ≡ array_begins) ⊎ (c ≡ table_begins)
 
--- an allocation failed, or this reason applies to that piece
+-- An allocation failed, or this reason applies to that piece.
 abbrev pub IsMisread : (Reason → Type 0) → ℕ → Stop Misread → Type 0
 IsMisread Why at (stop.Memory e) = ⊤
 IsMisread Why at (stop.Fault m) = Why m.reason × (m.at ≡ at)
 
--- an allocation failed, or P holds
+-- An allocation failed, or P holds.
 abbrev pub UnlessMemory : Stop Misread → Type 0 → Type 0
 UnlessMemory (stop.Memory e) P = ⊤
 UnlessMemory (stop.Fault m) P = P
 
--- the row has ended
+-- There is no next piece.
 abbrev pub RunsOut : Reader → Stop Misread → Type 0
 RunsOut r stopped = (ahead r ≡ []) × IsMisread (λ why. why ≡ is.Invalid) r.next stopped
 
@@ -106,12 +106,12 @@ Lists reason text names why =
 abbrev pub Says : (String Global → Reason) → List ℕ → Reason → Type 0
 Says reason text why = (s : String Global) × (why ≡ reason s) × (string_bytes s ≡ text)
 
--- the row has ended, or the next piece is not the expected one
+-- There is no next piece, or it is not the expected one.
 abbrev pub Misses : (Content → Type 0) → Expected → List Piece → Reason → Type 0
 Misses Fits expected [] why = why ≡ is.Invalid
 Misses Fits expected (p ∷ ps) why = ¬ Fits p.content × (why ≡ is.Wanted expected (found_of p.content))
 
--- the same, or the next piece has the defect for which this is the reason
+-- The same, or the next piece has the defect that is this reason.
 abbrev pub MissesOr : (Content → Type 0) → Expected → (Piece → Type 0) → Reason → List Piece → Reason → Type 0
 MissesOr Fits expected HasDefect reason ps why = Misses Fits expected ps why
     ⊎ ((why ≡ reason) × ((p : Piece) × (rest : List Piece) × (ps ≡ p ∷ rest) × HasDefect p))
@@ -140,12 +140,12 @@ IsAnyNumber c = ((d : tree.FloatValue) × (c ≡ value (tree.float d))) ⊎ IsAn
 abbrev pub IsNegative : Piece → Type 0
 IsNegative p = (n : ℕ) × (p.content ≡ value (tree.integer (negsuc n)))
 
--- a float whose text is not read as a number of this format
+-- a float whose text can't be read as a number of this format
 abbrev pub IsUnreadable : Format → Piece → Type 0
 IsUnreadable format p = (d : tree.FloatValue) × (p.content ≡ value (tree.float d))
     × (parse_float format (float_text d) ≡ None)
 
--- a text that is not exactly one character
+-- a text that does not have exactly one character
 abbrev pub IsNotOneCharacter : Piece → Type 0
 IsNotOneCharacter p = (s : List ℕ) × IsText s p.content × ((c : ℕ) → IsScalar c → s ≢ encode_utf8 c)
 
@@ -163,7 +163,7 @@ abbrev pub refusal_in : Option Piece → Reason
 refusal_in None = is.Invalid
 refusal_in (Some p) = refusal p.content
 
--- what is reported of this kind, if it is not one of the expected ones, or if these are not known
+-- what is reported for this kind, if it is not one of the expected ones, or if these are not known
 abbrev pub IsOther : List Expected → Found → Reason → Type 0
 IsOther [] f why = why ≡ is.Unexpected f
 IsOther (e ∷ []) f why = why ≡ is.Wanted e f
@@ -173,17 +173,17 @@ abbrev pub IsOtherIn : List Expected → Option Piece → Reason → Type 0
 IsOtherIn kinds None why = why ≡ is.Invalid
 IsOtherIn kinds (Some p) why = IsOther kinds (found_of p.content) why
 
--- after a return to this piece: what was read since then took the piece, if anything was read
+-- after a return to this piece: if anything was read since then, an attempt has read the piece
 abbrev pub tries_back_at : ℕ → Reader → Tries
 tries_back_at mark r = if r.next == mark then tries r.tried else taken mark
 
--- why an array does not have as many elements as the type: it has ended, or it continues
+-- why an array has not as many elements as the type expects: it ended too early, or it continues
 abbrev pub length_reason : Reader → Reason
 length_reason r =
     if nat_lt r.at r.next then is.Length (elements_in (take r.at (laid r)))
     else is.TooLong (elements_in (take r.at (laid r)))
 
--- whether a key that was read is not one of the names
+-- whether a key has none of the names
 abbrev pub is_unknown : Option ℕ → ℕ → Bool
 is_unknown None count = false
 is_unknown (Some at) count = not (nat_lt at count)
@@ -201,7 +201,7 @@ fields r = map string_bytes r.fields.items
 abbrev pub variants : Reader → List (List ℕ)
 variants r = map string_bytes r.variants.items
 
--- those with which an unknown variant was compared
+-- the names with which an unknown variant was compared
 abbrev pub variant_names : Reader → List (List ℕ)
 variant_names r = if r.is_unknown then fields r else variants r
 
@@ -209,12 +209,12 @@ variant_names r = if r.is_unknown then fields r else variants r
 abbrev pub held : List Name → ℕ → List (List ℕ) → List (List ℕ)
 held names at before = if nat_lt at (length names) then before else all_forms names
 
--- the same after a step that may have found the end of a table
+-- the same for a step that may have read the end of a table
 abbrev pub held_by : List Name → Option ℕ → List (List ℕ) → List (List ℕ)
 held_by names None before = before
 held_by names (Some at) before = held names at before
 
--- ---- two keys that name the same field
+-- ---- two keys of the same field
 
 -- the last key whose name has aliases, and all forms of that name
 abbrev pub Twin : Type 0
@@ -223,26 +223,26 @@ Twin = (ℕ × Span) × List (List ℕ)
 abbrev pub twin : Reader → Twin
 twin r = (key_place r.key, map string_bytes r.forms.items)
 
--- after a key at this place, which is a form of this name, if it is one of any
-abbrev pub twin_behind : Option Name → ℕ × Span → Twin → Twin
-twin_behind None place before = before
-twin_behind (Some n) place before = if length n.aliases.now == 0 then before else (place, forms_of n)
+-- the twin after a key at this place, if it is a form of this name
+abbrev pub twin_after : Option Name → ℕ × Span → Twin → Twin
+twin_after None place before = before
+twin_after (Some n) place before = if length n.aliases.now == 0 then before else (place, forms_of n)
 
--- the later one of two keys in the text, and the span of the earlier one
+-- of two keys, the one that is later in the text, and the span of the other
 abbrev pub later_of : ℕ × Span → ℕ × Span → ℕ × Option Span
 later_of own other = if nat_lt own.1.start other.1.start then (other.0, Some own.1) else (own.0, Some other.1)
 
--- the same if there may be another key for the name
+-- the same if there may be no other key
 abbrev pub twice_of : ℕ → ℕ × Span → Option (ℕ × Span) → ℕ × Option Span
 twice_of at own None = (at, None)
 twice_of at own (Some other) = later_of own other
 
--- The piece of a field that occurs twice, and the span of the other key that names it. If no key before the last one
--- whose name has aliases is of that name, the piece that was looked at last, and no span.
+-- The later of two keys of the same field, and the span of the other one. If the last key with aliases is the only one
+-- of its field, the piece that was looked at last, and no span.
 abbrev pub twice : Reader → ℕ × Option Span
 twice r = twice_of r.at (key_place r.key)
     (earlier (map string_bytes r.forms.items) 0 (reverse (take r.key.at (laid r))))
 
--- what a step that only looks ahead keeps
+-- what a step keeps that only looks at the next piece
 abbrev pub kept : Reader → List (List ℕ) × (List (List ℕ) × Twin)
 kept r = (fields r, (variants r, twin r))

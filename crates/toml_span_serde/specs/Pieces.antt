@@ -1,5 +1,5 @@
--- A tree as a row of pieces: one for each scalar and each key, and two for each array and each table, where it begins
--- and where it ends.
+-- A tree as a row of pieces: one for each scalar and each key, and two for each array and each table, at its beginning
+-- and at its end.
 use Rattle.std.specs.Prelude.{ℕ, List, [], ◌∷◌, ◌++◌}
 use Rattle.toml_span_lex.specs.declared.span.Span.{Span}
 use Rattle.toml_span_tree.specs.Node.{Scalar, Node, node, Inner, taken, scalar, array, table, Items, no_items, item}
@@ -14,7 +14,7 @@ pub data Content : Type 0 where
   table_ends : Content
   key : List ℕ → Content
 
--- its content, and the span of the value or of the key
+-- a piece: its content, and the span of the value or key
 pub record Piece : Type 0 where
   pub content : Content
   pub span : Span

@@ -1,4 +1,4 @@
--- What each step of a reader consumes of the remaining pieces.
+-- Which pieces each step of a reader reads.
 use Rattle.std.specs.Prelude.{◌≡◌, ℕ, ℤ, pos, List, ◌∷◌, ◌⊎◌, Bool, true, false, encode_utf8, Some}
 use Rattle.std.specs.Float.{Float, Format, binary32, binary64}
 use lib.Ieee as Ieee
@@ -12,7 +12,7 @@ use Rattle.toml_span_tree.specs.Node as tree
 use Rattle.toml_span_tree.specs.Float.{float_text}
 use Rattle.toml_span_serde.specs.Pieces.{Content, Piece, value, array_begins, array_ends, table_begins, table_ends, key}
 
--- one piece is consumed, for which P holds
+-- One piece is read, for which P holds.
 abbrev pub TakesPiece : (Content → Type 0) → List Piece → List Piece → Type 0
 TakesPiece P old new = (p : Piece) × (old ≡ p ∷ new) × P p.content
 
@@ -24,7 +24,7 @@ IsText s c = (c ≡ value (tree.text s)) ⊎ (c ≡ key s)
 abbrev pub IsWritten : List ℕ → Content → Type 0
 IsWritten s c = IsText s c ⊎ (c ≡ value (tree.datetime s))
 
--- a float whose text is read as this number, or an integer to which it is nearest
+-- a float whose text is read as this number, or an integer to which this number is nearest
 abbrev pub HoldsNumber : Format → Float → Content → Type 0
 HoldsNumber format x c =
     ((d : tree.FloatValue) × (c ≡ value (tree.float d)) × (parse_float format (float_text d) ≡ Some x))
@@ -52,11 +52,11 @@ Reads old event.key_begins new =
 Reads old event.key_ends new = ⊥
 Reads old event.flattens new = ⊥
 
--- P holds for the first piece, which is not consumed
+-- P holds for the next piece, which is not read.
 abbrev pub Sees : (Piece → Type 0) → List Piece → List Piece → Type 0
 Sees P old new = (new ≡ old) × ((p : Piece) × (rest : List Piece) × (old ≡ p ∷ rest) × P p)
 
--- a key of a table, or a string, and the index of its name; or the start or end of the first piece
+-- a key or string with the index of its name; or the start or end of the next piece
 abbrev pub Picks : List Piece → Bool → List Name → ℕ → List Piece → Type 0
 Picks old true names at new = (s : List ℕ) × TakesPiece (λ c. c ≡ key s) old new × Finds names s at
 Picks old false names at new =
@@ -64,6 +64,6 @@ Picks old false names at new =
     × (AsksEnd names → Sees (λ p. at ≡ p.span.end) old new)
     × (¬ AsksStart names → ¬ AsksEnd names → (s : List ℕ) × TakesPiece (IsText s) old new × Finds names s at)
 
--- the first piece has this span
+-- The next piece has this span.
 abbrev pub BeginsAt : Span → List Piece → Type 0
 BeginsAt span ps = (p : Piece) × (rest : List Piece) × (ps ≡ p ∷ rest) × (p.span ≡ span)

@@ -1,4 +1,4 @@
--- The report of an error for people.
+-- Reports of errors.
 use Rattle.std.specs.Prelude.{◌≡◌, ℕ, List, ◌++◌, Option, None, Some, codes}
 use Rattle.toml_span_lex.specs.declared.stop.Stop.{Stop}
 use Rattle.toml_span_lex.specs.declared.stop.Stop.TheVariants as stop
@@ -13,18 +13,18 @@ use Rattle.toml_span_serde.specs.declared.misfit.Error.{Error}
 use Rattle.toml_span_serde.specs.declared.misfit.Error.TheVariants as error
 use Rattle.toml_span_serde.specs.declared.misfit.Misfit.{Misfit}
 
--- with help that names what may be meant
+-- the report with a line of help that names what was probably meant
 abbrev pub with_meant : Option (List ℕ) → ReportContent → ReportContent
 with_meant None report = report
 with_meant (Some name) report = with_help report (codes "did you mean `" ++ name ++ codes "`?")
 
--- the text of a misfit: the report of its error, with that help
+-- the text of the report of a misfit
 abbrev pub IsMisfitText : Style → Misfit → List ℕ → List ℕ → List ℕ → Type 0
 IsMisfitText style m name text out =
     (report : ReportContent) × TellsError severities.Error text (content_of_misfit m) report
     × (out ≡ report_text style (with_meant (meant_by m.reason) report) name text)
 
--- There is a text only if memory suffices.
+-- A failed allocation has no text.
 abbrev pub IsErrorText : Style → Stop Error → List ℕ → List ℕ → List ℕ → Type 0
 IsErrorText style (stop.Memory e) name text out = ⊥
 IsErrorText style (stop.Fault (error.Refused e)) name text out = IsReport style name text (content_of e) out

@@ -1,4 +1,4 @@
--- Where reading stopped, and what is reported.
+-- Where a read stopped, and what is reported.
 use Rattle.std.specs.Prelude.{◌≡◌, ⊤, ℕ, ◌+◌, List, [], ◌∷◌, ◌++◌, length, nat_lt, if◌then◌else◌, Some, slice_get}
 use Rattle.toml_span_lex.specs.declared.span.Span.{Span}
 use Rattle.toml_span_lex.specs.declared.stop.Stop.{Stop}
@@ -31,16 +31,16 @@ abbrev mutual
   members_spots path (member name span n ms) =
       (path ++ (key name ∷ []), span) ∷ (spots (path ++ (key name ∷ [])) n ++ members_spots path ms)
 
--- if reading continues past the tree, its first piece is reported, which is the root
+-- the piece that is reported: if there was no next one, the first, which is the root
 abbrev pub told_piece : Node → ℕ → ℕ
 told_piece root at = if nat_lt at (length (pieces root)) then at else 0
 
--- The misfit has the reason of the misread, and the path and the span of its piece.
+-- The misfit has the reason of the reader's error, and the path and span of its piece.
 abbrev pub IsOf : Node → Misread → Misfit → Type 0
 IsOf root m misfit = (misfit.reason ≡ m.reason)
     × (slice_get (spots [] root) (told_piece root m.at) ≡ Some (path_of misfit.path.items, misfit.span))
 
--- A failed allocation is passed on, or replaces a misfit.
+-- A failed allocation is passed on. It may also occur here.
 abbrev pub IsTold : Node → Stop Misread → Stop Misfit → Type 0
 IsTold root (stop.Memory e) told = told ≡ stop.Memory e
 IsTold root (stop.Fault m) (stop.Memory e) = ⊤

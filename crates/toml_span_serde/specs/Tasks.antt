@@ -1,9 +1,14 @@
--- Definitions for private clauses: the pieces of the code as those of a tree, their depth, and what is left to do while
--- a tree is converted to a row of pieces.
-use Rattle.std.specs.Prelude.{ℕ, ◌+◌, ◌-◌, List, [], ◌∷◌, ◌++◌, map, reverse}
+-- Definitions for private clauses: the pieces of the code as those of a tree, their depth, the entries of a table in
+-- the order of the text, and what is left to do while a tree is converted to a row of pieces.
+use Rattle.std.specs.Prelude.{ℕ, ◌+◌, ◌-◌, List, [], ◌∷◌, ◌++◌, map, reverse, nat_lt, ⊤}
+use Rattle.std.specs.Prelude.{if◌then◌else◌}
+use Rattle.toml_span.specs.Ordered.{IsOrdered}
+use Rattle.toml_span_lex.specs.declared.key.Key.{Key}
 use Rattle.toml_span_tree.specs.Node.{text, integer, float, boolean, datetime}
 use Rattle.toml_span_tree.specs.Value.{view, float_value}
+use Rattle.toml_span_tree.specs.declared.value.Value.{Value}
 use Rattle.toml_span_serde.specs.Pieces as spec
+use Rattle.toml_span_serde.specs.TextOrder.{in_text_order}
 use Rattle.toml_span_serde.specs.declared.pieces.Content.{Content}
 use Rattle.toml_span_serde.specs.declared.pieces.Content.TheVariants as is
 use Rattle.toml_span_serde.specs.declared.pieces.Piece.{Piece}
@@ -27,23 +32,46 @@ abbrev pub piece_of : Piece → spec.Piece
 piece_of p = spec.piece (piece_content p.content) p.span
 
 abbrev pub task_pieces : Task → List spec.Piece
-task_pieces (task.Value v) = spec.pieces (view v.now)
+task_pieces (task.Value v) = spec.pieces (in_text_order (view v.now))
 task_pieces (task.Piece p) = piece_of p ∷ []
 
 abbrev pub all_pieces : List Task → List spec.Piece
 all_pieces [] = []
 all_pieces (t ∷ ts) = task_pieces t ++ all_pieces ts
 
+-- In each table of these values, every name is before all later ones.
+abbrev pub IsTaskOrdered : Task → Type 0
+IsTaskOrdered (task.Value v) = IsOrdered (view v.now)
+IsTaskOrdered (task.Piece p) = ⊤
+
+abbrev pub AreTasksOrdered : List Task → Type 0
+AreTasksOrdered [] = ⊤
+AreTasksOrdered (t ∷ ts) = IsTaskOrdered t × AreTasksOrdered ts
+
 -- the pieces, which were stored from the last to the first
 abbrev pub turned : List Piece → List spec.Piece
 turned ps = map piece_of (reverse ps)
 
 -- the number of arrays and tables that are open after a piece
-abbrev pub depth_behind : spec.Content → ℕ → ℕ
-depth_behind (spec.value s) d = d
-depth_behind spec.nothing d = d
-depth_behind spec.array_begins d = d + 1
-depth_behind spec.array_ends d = d - 1
-depth_behind spec.table_begins d = d + 1
-depth_behind spec.table_ends d = d - 1
-depth_behind (spec.key s) d = d
+abbrev pub depth_after : spec.Content → ℕ → ℕ
+depth_after (spec.value s) d = d
+depth_after spec.nothing d = d
+depth_after spec.array_begins d = d + 1
+depth_after spec.array_ends d = d - 1
+depth_after spec.table_begins d = d + 1
+depth_after spec.table_ends d = d - 1
+depth_after (spec.key s) d = d
+
+-- x before the first element whose number is not less than that of x
+abbrev pub put_by : {X : Type 0} → (X → ℕ) → X → List X → List X
+put_by number x [] = x ∷ []
+put_by number x (y ∷ ys) = if nat_lt (number y) (number x) then y ∷ put_by number x ys else x ∷ y ∷ ys
+
+-- the list in the order of its numbers; elements with the same number keep their order
+abbrev pub sorted_by : {X : Type 0} → (X → ℕ) → List X → List X
+sorted_by number [] = []
+sorted_by number (x ∷ xs) = put_by number x (sorted_by number xs)
+
+-- entries in the order of their keys' starts
+abbrev pub by_start : List (Key × Value) → List (Key × Value)
+by_start entries = sorted_by (λ e. e.0.span.start) entries

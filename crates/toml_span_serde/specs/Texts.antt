@@ -14,12 +14,12 @@ abbrev pub step_text : Step → List ℕ
 step_text (step.Key name) = string_bytes name
 step_text (step.Position i) = codes "[" ++ decimal i ++ codes "]"
 
--- after another step, a name has a dot before it
+-- a step after others: a name has a dot before it
 abbrev pub further_text : Step → List ℕ
 further_text (step.Key name) = codes "." ++ string_bytes name
 further_text (step.Position i) = step_text (step.Position i)
 
--- a path and a colon, as in `servers[1].port: `; nothing for the root
+-- a path and a colon, as in `servers[1].port: `, and nothing for the root
 abbrev pub place_text : List Step → List ℕ
 place_text [] = []
 place_text (s ∷ steps) = step_text s ++ flat_map further_text steps ++ codes ": "

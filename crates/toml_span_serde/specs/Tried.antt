@@ -1,4 +1,4 @@
--- What failed attempts to read a piece expected.
+-- The kinds that failed attempts to read a piece have expected.
 use Rattle.std.specs.Prelude.{ℕ, Bool, true, false, not, ◌&&◌, ◌==◌, List, [], ◌∷◌, ◌++◌, if◌then◌else◌}
 use Rattle.std.specs.List.{list_any}
 use Rattle.std.specs.Str.{bytes_eq}
@@ -6,7 +6,7 @@ use Rattle.toml_span_serde.specs.Misfits.{words_of}
 use Rattle.toml_span_serde.specs.declared.misfit.Expected.{Expected}
 use Rattle.toml_span_serde.specs.declared.tried.Tried.{Tried}
 
--- which piece was read, whether one of the attempts consumed it, and which kinds the others expected
+-- the position of the piece, whether one of the attempts has read it, and which kinds the others expected
 pub record Tries : Type 0 where
   pub at : ℕ
   pub is_taken : Bool
@@ -15,7 +15,7 @@ pub record Tries : Type 0 where
 abbrev pub tries : Tried → Tries
 tries t = record { at = t.at; is_taken = t.is_taken; kinds = t.kinds.items }
 
--- Whether the kind is one of these.
+-- whether the kind is among these
 abbrev pub is_among : Expected → List Expected → Bool
 is_among e kinds = list_any (λ kind. bytes_eq (words_of kind) (words_of e)) kinds
 
@@ -23,16 +23,17 @@ is_among e kinds = list_any (λ kind. bytes_eq (words_of kind) (words_of e)) kin
 abbrev pub with_kind : Expected → List Expected → List Expected
 with_kind e kinds = if is_among e kinds then kinds else kinds ++ (e ∷ [])
 
--- after an attempt that expected this kind at this piece
+-- the record after an attempt that expected this kind at this piece
 abbrev pub missed : ℕ → Expected → Tries → Tries
 missed at e t =
     if t.at == at then record t { kinds = with_kind e t.kinds }
     else record { at = at; is_taken = false; kinds = e ∷ [] }
 
--- after an attempt that consumed this piece, and failed later
+-- the record after an attempt that has read this piece, and failed later
 abbrev pub taken : ℕ → Tries
 taken at = record { at = at; is_taken = true; kinds = [] }
 
--- The kinds expected at a piece. If an attempt consumed it, its own kind was expected too, and no kind is reported.
+-- The kinds that were expected at a piece. If an attempt has read it, its own kind was expected too, so none are
+-- reported.
 abbrev pub kinds_at : ℕ → Tries → List Expected
 kinds_at at t = if (t.at == at) && not t.is_taken then t.kinds else []

@@ -1,4 +1,4 @@
--- Two keys of a table that name the same field.
+-- Two keys of a table that are of the same field.
 use Rattle.std.specs.Prelude.{ℕ, ◌+◌, ◌-◌, ◌==◌, ◌&&◌, List, [], ◌∷◌, length, Option, None, Some, if◌then◌else◌}
 use Rattle.std.specs.List.{list_any}
 use Rattle.std.specs.Str.{bytes_eq}
@@ -11,8 +11,8 @@ use Rattle.toml_span_serde.specs.declared.twice.KeyPlace.{KeyPlace}
 abbrev pub key_place : KeyPlace → ℕ × Span
 key_place k = (k.at, k.span)
 
--- One piece back, inside `depth` open arrays and tables: `place` is that of the piece, and `further` the result for the
--- pieces before it.
+-- The result one piece further back, with `depth` arrays and tables open: `place` is that of the piece, and `further`
+-- the result for the pieces before it.
 abbrev pub earlier_from : List (List ℕ) → ℕ → ℕ × Span → Content → (ℕ → Option (ℕ × Span)) → Option (ℕ × Span)
 earlier_from forms depth place (value s) further = further depth
 earlier_from forms depth place nothing further = further depth
@@ -23,8 +23,7 @@ earlier_from forms depth place table_begins further = if depth == 0 then None el
 earlier_from forms depth place (key s) further =
     if (depth == 0) && list_any (λ form. bytes_eq form s) forms then Some place else further depth
 
--- Going back through the pieces of a row, the first key that has one of the forms, in the table that is open at the
--- start.
+-- The last key that equals one of the forms, in the innermost table that is open after these pieces.
 abbrev pub earlier : List (List ℕ) → ℕ → List Piece → Option (ℕ × Span)
 earlier forms depth [] = None
 earlier forms depth (p ∷ ps) = earlier_from forms depth (length ps, p.span) p.content (λ d. earlier forms d ps)

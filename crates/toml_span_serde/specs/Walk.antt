@@ -1,5 +1,5 @@
--- The way to each piece of a row, and the number of elements of an array before it. A way is a path from its last step
--- to its first.
+-- The path to each piece of a row, and the number of elements of an array before it. A way is a path in reverse, from
+-- its last step to its first.
 use Rattle.std.specs.Prelude.{ℕ, ◌+◌, List, [], ◌∷◌, map, reverse}
 use Rattle.toml_span_tree.specs.Path.{Step, key, position}
 use Rattle.toml_span_serde.specs.Pieces as row
@@ -14,37 +14,37 @@ abbrev pub outer : Way → Way
 outer [] = []
 outer (s ∷ way) = way
 
--- after a value: to the next element, or out of the entry
+-- the way after a value: to the next element, or out of the entry
 abbrev pub ended : Way → Way
 ended [] = []
 ended (key name ∷ way) = way
 ended (position i ∷ way) = position (i + 1) ∷ way
 
--- after a piece
-abbrev pub behind : row.Content → Way → Way
-behind (row.value s) way = ended way
-behind row.nothing way = ended way
-behind row.array_begins way = position 0 ∷ way
-behind row.array_ends way = ended (outer way)
-behind row.table_begins way = way
-behind row.table_ends way = ended way
-behind (row.key name) way = key name ∷ way
+-- the way after a piece
+abbrev pub after : row.Content → Way → Way
+after (row.value s) way = ended way
+after row.nothing way = ended way
+after row.array_begins way = position 0 ∷ way
+after row.array_ends way = ended (outer way)
+after row.table_begins way = way
+after row.table_ends way = ended way
+after (row.key name) way = key name ∷ way
 
--- after all of them
+-- the way after all of these pieces
 abbrev pub walked : List row.Piece → Way → Way
 walked [] way = way
-walked (p ∷ ps) way = walked ps (behind p.content way)
+walked (p ∷ ps) way = walked ps (after p.content way)
 
 -- the position of the next element of an array
 abbrev pub next_position : Way → ℕ
 next_position (position i ∷ way) = i
 next_position way = 0
 
--- how many of these pieces are elements of the array that is open after them
+-- how many of these pieces are elements of the innermost open array
 abbrev pub elements_in : List row.Piece → ℕ
 elements_in before = next_position (walked before [])
 
--- the way to the value of a piece, or to the value of its key
+-- the way to the value of a piece or, for a key, to the value that it names
 abbrev pub way_at : row.Content → Way → Way
 way_at (row.value s) way = way
 way_at row.nothing way = way

@@ -1,4 +1,4 @@
-//! Reads any type that derives serde's `Deserialize` from a document, or from a tree.
+//! Reads types that derive serde's `Deserialize` from a document or a tree.
 #![tactic(auto)]
 
 pub mod laws;

@@ -1,4 +1,4 @@
-//! Why a value cannot be read as a type.
+//! Why a value could not be read as a type.
 ghost use Rattle.std.specs.Fmt.{WritesOnOk};
 ghost use Rattle.std.specs.List.{flat_map};
 ghost use Rattle.std.specs.Prelude.{◌≡◌, ◌++◌, [], IfOk, Some, codes, map, option_map, string_bytes};
@@ -28,7 +28,7 @@ pub enum Expected {
     Float,
     Character,
     String,
-    /// A string that can be borrowed: it must equal the text at its span.
+    /// A string that can be borrowed, that is, one that equals the text at its span.
     PlainString,
     Array,
     Table,
@@ -47,12 +47,12 @@ pub enum Found {
     Array,
     Table,
     Key,
-    /// A value whose content was taken.
+    /// A value whose content has been taken.
     Nothing,
 }
 
 impl Expected {
-    /// Names it, as in `an integer`.
+    /// Returns the name of the kind with its article: `an integer`.
     pub(crate) fn words(self) -> &'static str
         ensures { result.now ≡ words_of self }
     {
@@ -72,7 +72,7 @@ impl Expected {
 }
 
 impl Found {
-    /// Names the kind, as in `integer`.
+    /// Returns the name of the kind: `integer`.
     pub(crate) fn name(self) -> &'static str
         ensures { result.now ≡ name_of self }
     {
@@ -98,35 +98,36 @@ pub enum Reason {
         expected: Expected,
         found: Found,
     },
-    /// One of several other kinds was expected: no variant of an `untagged` enum accepts this one.
+    /// Another kind was expected, one of several: no variant of an `untagged` enum accepts this value.
     WantedOneOf {
         expected: Vec<Expected>,
         found: Found,
     },
-    /// The type does not accept this kind, or a variant of an `untagged` enum accepted it and failed later.
+    /// The type does not accept this kind, or a variant of an `untagged` enum accepted it but failed later.
     Unexpected(Found),
-    /// The table has no key for this field.
+    /// The table lacks the key of this field.
     MissingField(String),
-    /// Two keys of a table name this field. The misfit is at the later one, and `first` is the span of the earlier one.
+    /// Two keys of a table are of this field. The misfit is at the later one, and `first` is the span of the earlier
+    /// one, if that is known.
     DuplicateField {
         name: String,
         first: Option<Span>,
     },
-    /// The table has this key, which names no field. `expected` has the keys that do.
+    /// The table has this key, which is not of any field. `expected` are the keys of the fields.
     UnknownField {
         name: String,
         expected: Vec<String>,
     },
-    /// This text names no variant. `expected` has the texts that do.
+    /// This text is not the name of a variant. `expected` are the names of the variants.
     UnknownVariant {
         name: String,
         expected: Vec<String>,
     },
-    /// The array has this many elements, and the type expects another number.
+    /// The array has this number of elements, which is not the number that the type expects.
     Length(usize),
-    /// The array has more than this many elements, which is the number that the type expects.
+    /// The array has more elements than the type expects, which is this number.
     TooLong(usize),
-    /// The type cannot hold this number.
+    /// The type can't represent the number.
     OutOfRange,
     /// The number is negative, and the type is unsigned.
     Negative,
@@ -136,7 +137,7 @@ pub enum Reason {
     Custom(String),
 }
 
-/// Writes further names, each after a comma.
+/// Writes each name after a comma.
 fn write_more<W: Write>(f: &mut Formatter<W>, names: &[String]) -> fmt::Result
     ensures { WritesOnOk W.write_str_gives f.old result
         (flat_map (λ name. codes ", " ++ named name) (map string_bytes names.now)) f.new }
@@ -147,7 +148,7 @@ fn write_more<W: Write>(f: &mut Formatter<W>, names: &[String]) -> fmt::Result
     Ok(())
 }
 
-/// Writes the expected names, or another text if the list is empty.
+/// Writes the expected names, or the text `none` if there are none.
 fn write_expected<W: Write>(f: &mut Formatter<W>, none: &str, names: &[String]) -> fmt::Result
     ensures { WritesOnOk W.write_str_gives f.old result (expected_text none.now (map string_bytes names.now)) f.new }
 {
@@ -161,7 +162,7 @@ fn write_expected<W: Write>(f: &mut Formatter<W>, none: &str, names: &[String]) 
     }
 }
 
-/// Writes kinds, each after a comma.
+/// Writes each kind after a comma.
 fn write_parted<W: Write>(f: &mut Formatter<W>, kinds: &[Expected]) -> fmt::Result
     ensures { WritesOnOk W.write_str_gives f.old result
         (flat_map (λ kind. codes ", " ++ words_of kind) kinds.now) f.new }
@@ -173,7 +174,7 @@ fn write_parted<W: Write>(f: &mut Formatter<W>, kinds: &[Expected]) -> fmt::Resu
     Ok(())
 }
 
-/// Writes further kinds, with "or" before the last one.
+/// Writes the kinds after the first, with "or" before the last one.
 fn write_more_kinds<W: Write>(f: &mut Formatter<W>, kinds: &[Expected]) -> fmt::Result
     ensures { WritesOnOk W.write_str_gives f.old result (more_kinds_text kinds.now) f.new }
 {
@@ -187,7 +188,7 @@ fn write_more_kinds<W: Write>(f: &mut Formatter<W>, kinds: &[Expected]) -> fmt::
     }
 }
 
-/// Writes kinds, with "or" before the last of several.
+/// Writes the kinds, with "or" before the last one if there are several.
 fn write_kinds<W: Write>(f: &mut Formatter<W>, kinds: &[Expected]) -> fmt::Result
     ensures { WritesOnOk W.write_str_gives f.old result (kinds_text kinds.now) f.new }
 {
@@ -240,7 +241,7 @@ impl Display for Reason {
 }
 
 impl Reason {
-    /// Returns the kind of error for this reason.
+    /// Returns the kind of error that this reason becomes. Fails if an allocation fails.
     fn kind(&self, alloc: Global) -> Result<ErrorKind<'_>, AllocError>
         ensures { IfOk result (λ kind. kind_of kind ≡ kind_of_reason self.now) }
     {
@@ -258,14 +259,15 @@ impl Reason {
         })
     }
 
-    /// Returns a `Custom` error with the text of this reason.
+    /// Returns a `Custom` kind of error with the text of this reason. Fails if an allocation fails.
     fn custom<'c>(&self, alloc: Global) -> Result<ErrorKind<'c>, AllocError>
         ensures { IfOk result (λ kind. kind_of kind ≡ custom (reason_text self.now)) }
     {
         Ok(ErrorKind::Custom(CowStr::Owned(self.to_string(alloc)?)))
     }
 
-    /// Returns the kind of error for a field that occurs twice. If the earlier place is not known, it is `Custom`.
+    /// Returns the kind of error for a field with two keys: `Custom` if the span of the earlier key is not known. Fails
+    /// if an allocation fails.
     fn twice<'c>(
         &self,
         alloc: Global,
@@ -283,7 +285,7 @@ impl Reason {
         }
     }
 
-    /// Returns a kind of error with this code and the text of this reason.
+    /// Returns a `Marked` kind of error with this code and the text of this reason. Fails if an allocation fails.
     fn marked<'c>(&self, alloc: Global, code: &'c str) -> Result<ErrorKind<'c>, AllocError>
         ensures { IfOk result (λ kind. kind_of kind ≡ marked code.now (reason_text self.now) []) }
     {
@@ -294,7 +296,8 @@ impl Reason {
         })
     }
 
-    /// Returns the expected name that is nearest to an unknown one, if it is near enough (`toml_span_report::nearest`).
+    /// Returns the expected name that is nearest to an unknown key or variant, if one is near enough
+    /// (`toml_span_report::nearest`). Fails only if an allocation fails.
     pub fn meant(&self, alloc: Global) -> Result<Option<&str>, AllocError>
         ensures { IfOk result (λ found. option_map (λ name. name.now) found ≡ meant_by self.now) }
     {
@@ -312,20 +315,20 @@ impl Reason {
     }
 }
 
-/// Why a value cannot be read as a type, and where it is.
+/// Why a value could not be read as a type, and where it is.
 #[derive(Debug, Drop)]
 pub struct Misfit {
     pub reason: Reason,
-    /// The span of the value at which reading stopped, or of its key.
+    /// The span, in bytes, of the value at which the read stopped, or of its key.
     pub span: Span,
-    /// The line and the column at which the span starts, both counted from 0, if they are known.
+    /// The line and the column of `span.start`, both counted from 0, the column in bytes, if they are known.
     pub line_info: Option<(usize, usize)>,
-    /// The steps from the root to the value.
+    /// The path from the root to the value.
     pub path: Vec<Step>,
 }
 
 impl Misfit {
-    /// Converts the misfit to an error with the same span, line and column. Needs memory for the text.
+    /// Converts the misfit to an error with the same span, line and column. Fails only if an allocation fails.
     pub fn to_error(&self, alloc: Global) -> Result<toml_span_tree::Error<'_>, AllocError>
         ensures { IfOk result (λ error. content_of error ≡ content_of_misfit self.now) }
     {
@@ -337,7 +340,7 @@ impl Misfit {
     }
 }
 
-/// Why a text cannot be read as a type.
+/// Why a document could not be read as a type.
 #[derive(Debug, Drop)]
 pub enum Error<'s> {
     /// The text is not valid TOML.
@@ -346,7 +349,7 @@ pub enum Error<'s> {
     Misfit(Misfit),
 }
 
-/// Writes the steps after the first, each name after a dot.
+/// Writes the steps after the first: `.` and a name, or a position in brackets.
 fn write_further<W: Write>(f: &mut Formatter<W>, steps: &[Step]) -> fmt::Result
     ensures { WritesOnOk W.write_str_gives f.old result (flat_map further_text steps.now) f.new }
 {
@@ -359,7 +362,7 @@ fn write_further<W: Write>(f: &mut Formatter<W>, steps: &[Step]) -> fmt::Result
     Ok(())
 }
 
-/// Writes a path and a colon, as in `servers[1].port: `; for the root, writes nothing.
+/// Writes a path and a colon, as in `servers[1].port: `. Writes nothing for the root.
 fn write_place<W: Write>(f: &mut Formatter<W>, path: &[Step]) -> fmt::Result
     ensures { WritesOnOk W.write_str_gives f.old result (place_text path.now) f.new }
 {
@@ -376,7 +379,7 @@ fn write_place<W: Write>(f: &mut Formatter<W>, path: &[Step]) -> fmt::Result
 impl Display for Misfit {
     ghost output = { λ misfit. Some (misfit_text misfit) };
 
-    /// Writes the path, as in `servers[1].port`, and the reason.
+    /// Writes the path and the reason, as in `servers[1].port: ..`.
     fn fmt<W: Write>(&self, f: &mut Formatter<W>) -> fmt::Result {
         write_place(f, self.path.as_slice())?;
         let reason = &self.reason;
@@ -405,14 +408,15 @@ impl Error<'_> {
         self.place().0
     }
 
-    /// Returns the line and the column at which the span starts, both counted from 0, if they are known.
+    /// Returns the line and the column of the span's start, both counted from 0, the column in bytes, if they are
+    /// known.
     pub fn line_info(&self) -> Option<(usize, usize)>
         ensures { result ≡ (content_of_error self.now).line_info }
     {
         self.place().1
     }
 
-    /// Returns the span of the error, and the line and the column at which it starts.
+    /// Returns the span, and the line and the column of its start.
     fn place(&self) -> (Span, Option<(usize, usize)>)
         ensures { (result.0 ≡ (content_of_error self.now).span) × (result.1 ≡ (content_of_error self.now).line_info) }
     {
@@ -422,8 +426,8 @@ impl Error<'_> {
         }
     }
 
-    /// Converts the error to a diagnostic with all its labels, for an editor or a terminal. `fid` names the file. Needs
-    /// memory.
+    /// Converts the error to a diagnostic that an editor or a terminal can show. `fid` identifies the file in the
+    /// labels. Fails only if an allocation fails.
     pub fn to_diagnostic<F: Copy + PartialEq>(
         &self,
         alloc: Global,

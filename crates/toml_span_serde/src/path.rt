@@ -3,14 +3,14 @@ ghost use Rattle.std.specs.Prelude.{◌≡◌, [], IfOk, OnOk, Some, map, revers
 ghost use Rattle.toml_span_serde.specs.Misfits.{path_of, step_of};
 ghost use Rattle.toml_span_serde.specs.Tasks.{piece_content, piece_of};
 ghost use Rattle.toml_span_serde.specs.Texts.{step_text};
-ghost use Rattle.toml_span_serde.specs.Walk.{behind, down_of, elements_in, ended, outer, walked, way_at, way_of};
+ghost use Rattle.toml_span_serde.specs.Walk.{after, down_of, elements_in, ended, outer, walked, way_at, way_of};
 
 use crate::pieces::{Content, Piece};
 use std::alloc::{AllocError, Global};
 use std::fmt;
 use std::fmt::{Display, Formatter, Write};
 
-/// A step of a path: to the entry with a name, or to the element at a position, counted from 0.
+/// A step of a path: to the entry with this name, or to the element at this position, counted from 0.
 #[derive(Debug, Drop)]
 pub enum Step {
     Key(String),
@@ -28,14 +28,15 @@ impl Display for Step {
     }
 }
 
-/// A step of a path, borrowed from a tree.
+/// A step of a path, whose name is borrowed from the tree.
 #[derive(Clone, Copy, Drop)]
 enum Down<'v> {
     Key(&'v str),
     Position(usize),
 }
 
-/// Returns the path to the value of a piece, or to the value of its key. `before` are all pieces before it.
+/// Returns the path to the value of a piece or, for a key, to the value that it names. `before` are all pieces before
+/// it. Fails if an allocation fails.
 pub(crate) fn path_to<'v>(
     alloc: Global,
     before: &[Piece<'v>],
@@ -44,24 +45,24 @@ pub(crate) fn path_to<'v>(
     ensures { IfOk result (λ path. path_of path.items
         ≡ reverse (way_at (piece_content content.entry) (walked (map piece_of before.now) []))) }
 {
-    let mut downs = way_behind(alloc, before)?;
+    let mut downs = way_after(alloc, before)?;
     turn_to(&mut downs, content)?;
     steps_of(alloc, downs.as_slice())
 }
 
-/// Counts the elements, among these pieces, of the array that is still open after them.
+/// Returns how many elements of the innermost open array are among these pieces. Fails if an allocation fails.
 pub(crate) fn elements_in(alloc: Global, before: &[Piece<'_>]) -> Result<usize, AllocError>
     ensures { IfOk result (λ count. count ≡ elements_in (map piece_of before.now)) }
 {
-    let mut downs = way_behind(alloc, before)?;
+    let mut downs = way_after(alloc, before)?;
     match downs.pop() {
         Some(Down::Position(count)) => Ok(count),
         _ => Ok(0),
     }
 }
 
-/// Returns the way to what comes after all these pieces.
-fn way_behind<'v>(alloc: Global, before: &[Piece<'v>]) -> Result<Vec<Down<'v>>, AllocError>
+/// Returns the path to what follows all these pieces. Fails if an allocation fails.
+fn way_after<'v>(alloc: Global, before: &[Piece<'v>]) -> Result<Vec<Down<'v>>, AllocError>
     ensures { IfOk result (λ downs. way_of downs.items ≡ walked (map piece_of before.now) []) }
 {
     let mut downs = Vec::new(alloc);
@@ -71,9 +72,9 @@ fn way_behind<'v>(alloc: Global, before: &[Piece<'v>]) -> Result<Vec<Down<'v>>, 
     Ok(downs)
 }
 
-/// Changes the way to a piece to the way to what comes after it.
+/// Changes a path to a piece into the path to what follows the piece. Fails if an allocation fails.
 fn pass<'v>(downs: &mut Vec<Down<'v>>, content: Content<'v>) -> Result<(), AllocError>
-    ensures { OnOk result (way_of downs.new.items ≡ behind (piece_content content.entry) (way_of downs.old.items)) }
+    ensures { OnOk result (way_of downs.new.items ≡ after (piece_content content.entry) (way_of downs.old.items)) }
 {
     match content {
         Content::Key(name) => downs.push(Down::Key(name))?,
@@ -88,7 +89,8 @@ fn pass<'v>(downs: &mut Vec<Down<'v>>, content: Content<'v>) -> Result<(), Alloc
     Ok(())
 }
 
-/// Changes the way to a piece to the way to its value, or to the value of its key.
+/// Changes a path to a piece into the path to its value or, for a key, to the value that it names. Fails if an
+/// allocation fails.
 fn turn_to<'v>(downs: &mut Vec<Down<'v>>, content: Content<'v>) -> Result<(), AllocError>
     ensures { OnOk result (way_of downs.new.items ≡ way_at (piece_content content.entry) (way_of downs.old.items)) }
 {
@@ -100,15 +102,15 @@ fn turn_to<'v>(downs: &mut Vec<Down<'v>>, content: Content<'v>) -> Result<(), Al
     Ok(())
 }
 
-/// Removes the last step of the way.
+/// Removes the last step of a path.
 fn leave(downs: &mut Vec<Down<'_>>)
     ensures { way_of downs.new.items ≡ outer (way_of downs.old.items) }
 {
     downs.pop();
 }
 
-/// Changes the way to a value to the way to what comes after it. A position is less than the number of pieces, so there
-/// is a next one.
+/// Changes a path to a value into the path to what follows the value. Positions are below the number of pieces, so the
+/// next one exists. Fails if an allocation fails.
 fn end_value(downs: &mut Vec<Down<'_>>) -> Result<(), AllocError>
     ensures { OnOk result (way_of downs.new.items ≡ ended (way_of downs.old.items)) }
 {
@@ -121,7 +123,7 @@ fn end_value(downs: &mut Vec<Down<'_>>) -> Result<(), AllocError>
     Ok(())
 }
 
-/// Returns the steps with owned names.
+/// Returns the path with owned names. Fails if an allocation fails.
 fn steps_of(alloc: Global, downs: &[Down<'_>]) -> Result<Vec<Step>, AllocError>
     ensures { IfOk result (λ path. path_of path.items ≡ map down_of downs.now) }
 {

@@ -1,15 +1,21 @@
-//! A tree as a row of pieces, in the order in which a reader goes through it.
+//! A tree as a row of pieces, in the order in which a reader goes through it: that of the text.
 ghost use Rattle.std.specs.Prelude.{◌≡◌, ◌<◌, ◌≤◌, ◌-◌, ◌^◌, ◌++◌, ◌∷◌, IfOk, IfSome, List, OnOk, Some, length, map};
+ghost use Rattle.toml_span.specs.Ordered.{AreOrdered, IsOrdered, MembersOrdered};
+ghost use Rattle.toml_span.specs.code.Placing.{NamesAscend};
 ghost use Rattle.toml_span_tree.specs.Node.{Node};
+ghost use Rattle.toml_span_tree.specs.Order.{entry_of};
 ghost use Rattle.toml_span_tree.specs.Value.{items_view, members_view, view};
 ghost use Rattle.toml_span_serde.specs.Misreads.{IsOpening, found_of, kind_ahead, refusal, told_text};
 ghost use Rattle.toml_span_serde.specs.Pieces.{Piece as Laid, array_begins, items_pieces, members_pieces, piece};
 ghost use Rattle.toml_span_serde.specs.Pieces.{pieces, table_begins};
-ghost use Rattle.toml_span_serde.specs.Tasks.{all_pieces, depth_behind, piece_content, piece_of, task_pieces, turned};
+ghost use Rattle.toml_span_serde.specs.Tasks.{all_pieces, by_start, depth_after, piece_content, piece_of, task_pieces};
+ghost use Rattle.toml_span_serde.specs.Tasks.{AreTasksOrdered, IsTaskOrdered, turned};
+ghost use Rattle.toml_span_serde.specs.TextOrder.{in_text_order, items_in_order, members_in_order};
 
 use crate::misfit::{Found, Reason};
 use serde::Kind;
 use std::alloc::{AllocError, Global};
+use toml_span_lex::key::Key;
 use toml_span_lex::span::Span;
 use toml_span_tree::{Array, FloatText, Table, Value, ValueInner};
 
@@ -54,7 +60,7 @@ impl<'v> Content<'v> {
         }
     }
 
-    /// Returns how serde classifies it before it is read.
+    /// Returns how serde classifies the value or key before it is read.
     pub(crate) fn serde_kind(&self) -> Kind
         ensures { result ≡ kind_ahead (piece_content self.now) }
     {
@@ -71,9 +77,9 @@ impl<'v> Content<'v> {
     }
 
     /// Returns how many arrays and tables are open after this piece, if `depth` are open before it.
-    fn depth_behind(&self, depth: usize) -> usize
+    fn depth_after(&self, depth: usize) -> usize
         requires { depth < 2 ^ 64 - 1 }
-        ensures { result ≡ depth_behind (piece_content self.now) depth }
+        ensures { result ≡ depth_after (piece_content self.now) depth }
     {
         match self {
             Content::ArrayBegins | Content::TableBegins => depth + 1,
@@ -103,7 +109,7 @@ impl<'v> Content<'v> {
     }
 }
 
-/// Counts the pieces of the value that begins here; a key is 1. Returns None if the value has no end.
+/// Counts the pieces of the value that begins here; a key is one piece. Returns `None` if the value has no end.
 pub(crate) fn count_value(ahead: &[Piece<'_>]) -> Option<usize>
     ensures value { (n : Node) (rest : List Laid) → map piece_of ahead.now ≡ pieces n ++ rest
         → result ≡ Some (length (pieces n)) }
@@ -114,7 +120,7 @@ pub(crate) fn count_value(ahead: &[Piece<'_>]) -> Option<usize>
     let (mut count, mut depth) = (0usize, 0usize);
     for piece in ahead {
         count += 1;
-        depth = piece.content.depth_behind(depth);
+        depth = piece.content.depth_after(depth);
         if depth == 0 {
             return Some(count);
         }
@@ -134,7 +140,8 @@ pub(crate) fn pieces_of<'v>(
     alloc: Global,
     root: &'v Value<'_>,
 ) -> Result<Vec<Piece<'v>>, AllocError>
-    ensures { IfOk result (λ made. map piece_of made.items ≡ pieces (view root.now)) }
+    ensures pieces { IfOk result (λ made. map piece_of made.items ≡ pieces (in_text_order (view root.now))) }
+    ensures ordered { OnOk result (IsOrdered (view root.now)) }
 {
     let mut tasks = Vec::new(alloc);
     let mut turned = Vec::new(alloc);
@@ -144,22 +151,25 @@ pub(crate) fn pieces_of<'v>(
             turned.reverse();
             return Ok(turned);
         };
-        carry_out(task, &mut tasks, &mut turned)?;
+        carry_out(alloc, task, &mut tasks, &mut turned)?;
     }
     Err(AllocError)
 }
 
-/// Converts one part: adds its last piece to `made`, and its other parts to `tasks`.
+/// Converts one part: adds its last piece to `made`, and its other parts to `tasks`. Fails if an allocation fails.
 fn carry_out<'v, 'de>(
+    alloc: Global,
     task: Task<'v, 'de>,
     tasks: &mut Vec<Task<'v, 'de>>,
     made: &mut Vec<Piece<'v>>,
 ) -> Result<(), AllocError>
-    ensures { OnOk result (all_pieces tasks.new.items ++ turned made.new.items ≡ all_pieces tasks.old.items
+    ensures pieces { OnOk result (all_pieces tasks.new.items ++ turned made.new.items ≡ all_pieces tasks.old.items
         ++ (task_pieces task.entry ++ turned made.old.items)) }
+    ensures ordered { OnOk result (AreTasksOrdered tasks.new.items
+        → AreTasksOrdered tasks.old.items × IsTaskOrdered task.entry) }
 {
     match task {
-        Task::Value(value) => take_apart(value, tasks, made),
+        Task::Value(value) => take_apart(alloc, value, tasks, made),
         Task::Piece(piece) => {
             made.push(piece)?;
             Ok(())
@@ -167,14 +177,17 @@ fn carry_out<'v, 'de>(
     }
 }
 
-/// Adds the last piece of a value to `made`, and its other parts to `tasks`.
+/// Adds the last piece of a value to `made`, and its other parts to `tasks`. Fails if an allocation fails.
 fn take_apart<'v, 'de>(
+    alloc: Global,
     value: &'v Value<'de>,
     tasks: &mut Vec<Task<'v, 'de>>,
     made: &mut Vec<Piece<'v>>,
 ) -> Result<(), AllocError>
-    ensures { OnOk result (all_pieces tasks.new.items ++ turned made.new.items ≡ all_pieces tasks.old.items
-        ++ (pieces (view value.now) ++ turned made.old.items)) }
+    ensures pieces { OnOk result (all_pieces tasks.new.items ++ turned made.new.items ≡ all_pieces tasks.old.items
+        ++ (pieces (in_text_order (view value.now)) ++ turned made.old.items)) }
+    ensures ordered { OnOk result (AreTasksOrdered tasks.new.items
+        → AreTasksOrdered tasks.old.items × IsOrdered (view value.now)) }
 {
     let span = value.span;
     if value.is_taken() {
@@ -195,7 +208,7 @@ fn take_apart<'v, 'de>(
             Content::ArrayEnds
         }
         ValueInner::Table(table) => {
-            push_entries(table, span, tasks)?;
+            push_entries(alloc, table, span, tasks)?;
             Content::TableEnds
         }
     };
@@ -203,14 +216,16 @@ fn take_apart<'v, 'de>(
     Ok(())
 }
 
-/// Adds the beginning of an array and its elements to `tasks`.
+/// Adds the beginning of an array and its elements to `tasks`. Fails if an allocation fails.
 fn push_elements<'v, 'de>(
     array: &'v Array<'de>,
     span: Span,
     tasks: &mut Vec<Task<'v, 'de>>,
 ) -> Result<(), AllocError>
-    ensures { OnOk result (all_pieces tasks.new.items ≡ all_pieces tasks.old.items
-        ++ (piece array_begins span ∷ items_pieces (items_view array.now.items))) }
+    ensures pieces { OnOk result (all_pieces tasks.new.items ≡ all_pieces tasks.old.items
+        ++ (piece array_begins span ∷ items_pieces (items_in_order (items_view array.now.items)))) }
+    ensures ordered { OnOk result (AreTasksOrdered tasks.new.items
+        → AreTasksOrdered tasks.old.items × AreOrdered (items_view array.now.items)) }
 {
     tasks.push(Task::Piece(Piece {
         content: Content::ArrayBegins,
@@ -222,25 +237,58 @@ fn push_elements<'v, 'de>(
     Ok(())
 }
 
-/// Adds the beginning of a table and its entries to `tasks`.
+/// Adds the beginning of a table and its entries, in the order of the text, to `tasks`. Fails if an allocation fails.
 fn push_entries<'v, 'de>(
+    alloc: Global,
     table: &'v Table<'de>,
     span: Span,
     tasks: &mut Vec<Task<'v, 'de>>,
 ) -> Result<(), AllocError>
-    ensures { OnOk result (all_pieces tasks.new.items ≡ all_pieces tasks.old.items
-        ++ (piece table_begins span ∷ members_pieces (members_view table.now.entries))) }
+    ensures pieces { OnOk result (all_pieces tasks.new.items ≡ all_pieces tasks.old.items
+        ++ (piece table_begins span ∷ members_pieces (members_in_order (members_view table.now.entries)))) }
+    ensures ordered { OnOk result (AreTasksOrdered tasks.new.items
+        → AreTasksOrdered tasks.old.items × MembersOrdered (members_view table.now.entries)) }
 {
     tasks.push(Task::Piece(Piece {
         content: Content::TableBegins,
         span,
     }))?;
-    for (key, element) in table.iter() {
+    let entries = sorted_entries(alloc, table)?;
+    for entry in &entries {
         tasks.push(Task::Piece(Piece {
-            content: Content::Key(key.name.as_ref()),
-            span: key.span,
+            content: Content::Key(entry.0.name.as_ref()),
+            span: entry.0.span,
         }))?;
-        tasks.push(Task::Value(element))?;
+        tasks.push(Task::Value(entry.1))?;
     }
     Ok(())
+}
+
+/// Lists the entries of a table in the order in which their keys start in the text. Entries whose keys start at the
+/// same offset keep the map's order. Fails if an allocation fails.
+fn sorted_entries<'v, 'de>(
+    alloc: Global,
+    table: &'v Table<'de>,
+) -> Result<Vec<(&'v Key<'de>, &'v Value<'de>)>, AllocError>
+    ensures entries { IfOk result (λ entries. map entry_of entries.items ≡ by_start table.now.entries) }
+    ensures ordered { OnOk result (NamesAscend table.now) }
+{
+    let mut entries = listed(alloc, table)?;
+    entries.sort_by_key(|entry| entry.0.span.start)?;
+    Ok(entries)
+}
+
+/// Lists the entries of a table in the map's order. Fails if an allocation fails.
+fn listed<'v, 'de>(
+    alloc: Global,
+    table: &'v Table<'de>,
+) -> Result<Vec<(&'v Key<'de>, &'v Value<'de>)>, AllocError>
+    ensures entries { IfOk result (λ entries. map entry_of entries.items ≡ table.now.entries) }
+    ensures ordered { OnOk result (NamesAscend table.now) }
+{
+    let mut entries = Vec::with_capacity(alloc, table.len())?;
+    for (key, value) in table.iter() {
+        entries.push((key, value))?;
+    }
+    Ok(entries)
 }

@@ -1,6 +1,5 @@
-//! Reads of texts and of values.
+//! Reads documents and values as types.
 ghost use Rattle.std.specs.Prelude.{◌≡◌, ⊤, IfErr, OnOk};
-ghost use Rattle.toml_span.specs.Ordered.{HasOneEach};
 ghost use Rattle.toml_span_tree.specs.Value.{view};
 ghost use Rattle.toml_span_serde.specs.Misfits.{HasLine, HasTree, IsAt, IsRefused};
 
@@ -16,8 +15,9 @@ use toml_span_tree::Value;
 
 /// Reads a document as a type that derives `Deserialize`.
 ///
-/// A type such as `&str` borrows from the text: for it, a string that does not equal the text at its span is an error.
-/// Returns `Memory` if an allocation fails.
+/// A type such as `&str` borrows from the text. For such a type, a string that does not equal the text at its span is
+/// an error. Fails with `Error::Refused` if the text is not valid TOML, with `Error::Misfit` if a value does not fit
+/// the type, and with `Stop::Memory` if an allocation fails.
 pub fn from_str<'de, T: Deserialize<'de>>(
     alloc: Global,
     text: &'de str,
@@ -39,9 +39,11 @@ pub fn from_str<'de, T: Deserialize<'de>>(
     }
 }
 
-/// Reads a value as a type that derives `Deserialize` and borrows nothing. A misfit has no line.
+/// Reads a value as a type that derives `Deserialize` and borrows nothing. Fails with a misfit, which has no line and
+/// column, or with `Stop::Memory` if an allocation fails.
+#[tactic(auto, using(crate::proofs::Places::stopped_in_order))]
 pub fn from_value<T: DeserializeOwned>(alloc: Global, value: &Value<'_>) -> Result<T, Stop<Misfit>>
-    ensures { HasOneEach (view value.now) → IfErr result (IsAt (view value.now)) }
+    ensures { IfErr result (IsAt (view value.now)) }
 {
     let row = match Row::new(alloc, value) {
         Ok(row) => row,
@@ -54,12 +56,13 @@ pub fn from_value<T: DeserializeOwned>(alloc: Global, value: &Value<'_>) -> Resu
 }
 
 /// Reads the tree of the text as a type that may borrow from the text.
+#[tactic(auto, using(crate::proofs::Places::stopped_in_order))]
 fn read_lent<'de, T: Deserialize<'de>>(
     alloc: Global,
     text: &'de str,
     root: &Value<'_>,
 ) -> Result<T, Stop<Misfit>>
-    ensures { HasOneEach (view root.now) → IfErr result (IsAt (view root.now)) }
+    ensures { IfErr result (IsAt (view root.now)) }
 {
     let row = match Row::new(alloc, root) {
         Ok(row) => row,
@@ -71,8 +74,8 @@ fn read_lent<'de, T: Deserialize<'de>>(
     }
 }
 
-/// Reads what comes next as a type that may borrow from the input. serde's trait promises nothing about the result of
-/// `deserialize`, so no contract says which value or misread is returned: rows test each reason.
+/// Reads the next value as a type that may borrow from the input. serde's trait promises nothing about the result of
+/// `deserialize`, so no contract says which value or error is returned. Rows test each reason.
 fn read_by<'de, T: Deserialize<'de>>(
     alloc: Global,
     input: &'de [u8],
@@ -81,7 +84,7 @@ fn read_by<'de, T: Deserialize<'de>>(
     T::deserialize(alloc, &mut Deserializer::new(input, reader))
 }
 
-/// Reads what comes next as a type that borrows nothing. serde's trait promises nothing about `deserialize_owned`
+/// Reads the next value as a type that borrows nothing. serde's trait promises nothing about `deserialize_owned`
 /// either.
 fn read_owned<T: DeserializeOwned>(
     alloc: Global,
@@ -90,7 +93,7 @@ fn read_owned<T: DeserializeOwned>(
     T::deserialize_owned(alloc, &mut Deserializer::new(&[], reader))
 }
 
-/// Adds the line and the column to the misfit.
+/// Adds the line and the column of its span to a misfit.
 fn lined(text: &str, mut misfit: Misfit) -> Misfit
     ensures place { (result.span ≡ misfit.span) × (result.path ≡ misfit.path) }
     ensures line { HasLine text.now result }

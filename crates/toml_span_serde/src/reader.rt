@@ -1,4 +1,4 @@
-//! A `Format` of serde that reads a tree.
+//! A `Format` of serde that reads from a tree.
 ghost use Rattle.std.specs.Float.{binary32, binary64};
 ghost use Rattle.std.specs.Option.{option_and_then};
 ghost use Rattle.std.specs.Prelude.{◌≡◌, ◌+◌, ◌-◌, ◌<◌, ◌≤◌, ◌^◌, ◌∷◌, ◌++◌, ◌↔◌, ◌||◌, [], false, true, not, IfErr};
@@ -14,7 +14,7 @@ ghost use Rattle.toml_span_serde.specs.Misreads.{IsKeyOrEnd, IsMemory, IsMisread
 ghost use Rattle.toml_span_serde.specs.Misreads.{IsNotOneCharacter, IsOpening, IsOther, IsOtherIn, IsUnreadable};
 ghost use Rattle.toml_span_serde.specs.Misreads.{Lists, Misses, MissesOr, RunsOut, Says, UnlessMemory, fields};
 ghost use Rattle.toml_span_serde.specs.Misreads.{found_of, held, held_by, is_unknown, kept, kind_ahead, length_reason};
-ghost use Rattle.toml_span_serde.specs.Misreads.{refusal_in, told_text_in, tries_back_at, twice, twin, twin_behind};
+ghost use Rattle.toml_span_serde.specs.Misreads.{refusal_in, told_text_in, tries_back_at, twice, twin, twin_after};
 ghost use Rattle.toml_span_serde.specs.Misreads.{variant_names, variant_place, variants};
 ghost use Rattle.toml_span_serde.specs.Pieces.{Piece as Laid, array_begins, pieces, table_begins, value};
 ghost use Rattle.toml_span_serde.specs.Reads.{IsText, Picks, Reads, Sees, TakesPiece};
@@ -37,40 +37,40 @@ use std::num::{nearest_i64_to_f32, nearest_i64_to_f64};
 use toml_span_lex::span::Span;
 use toml_span_lex::stop::Stop;
 
-/// Why a step failed, and at which piece.
+/// Why a read failed, and the position of the piece at which it did.
 #[derive(Debug, Drop)]
 pub struct Misread {
     pub(crate) reason: Reason,
     pub(crate) at: usize,
 }
 
-/// Reads a tree step by step.
+/// Reads a tree piece by piece.
 #[derive(Drop)]
 pub struct Reader<'p, 'v> {
     alloc: Global,
     pieces: &'p [Piece<'v>],
-    /// The piece that is read next.
+    /// The position of the next piece.
     next: usize,
-    /// The piece that was looked at last.
+    /// The position of the piece that was looked at last.
     at: usize,
-    /// The piece that was last read as the name of a variant.
+    /// The position of the piece that was last read as the name of a variant.
     variant: usize,
-    /// Whether the last step read a key that matches none of the names.
+    /// Whether the last key that was read has none of the names it was compared with.
     is_unknown: bool,
-    /// All forms of the names that the last unknown key was compared with.
+    /// All forms of the names with which the last unknown key was compared.
     fields: Vec<String>,
-    /// All forms of the names that the last unknown variant was compared with.
+    /// All forms of the names with which the last unknown variant was compared.
     variants: Vec<String>,
-    /// The last key that matched a name with aliases.
+    /// The last key whose name has aliases.
     key: KeyPlace,
-    /// All forms of that name.
+    /// All forms of the name of that key.
     forms: Vec<String>,
-    /// The kinds that failed attempts to read a piece expected.
+    /// The kinds that failed attempts to read a piece have expected.
     tried: Tried,
 }
 
 impl<'p, 'v> Reader<'p, 'v> {
-    /// Creates a reader that has read none of these pieces.
+    /// Returns a reader at the first of these pieces.
     pub(crate) fn new(alloc: Global, pieces: &'p [Piece<'v>]) -> Reader<'p, 'v>
         ensures { ahead result ≡ map piece_of pieces.now }
     {
@@ -92,7 +92,7 @@ impl<'p, 'v> Reader<'p, 'v> {
         }
     }
 
-    /// Returns the next piece without consuming it.
+    /// Returns the next piece without reading it. Fails if there is none.
     fn look(&mut self) -> Result<Piece<'v>, Stop<Misread>>
         ensures next { IfOk result (λ p. ahead self.old
             ≡ piece_of p ∷ map piece_of (drop (self.old.next + 1) self.old.pieces.now)) }
@@ -113,7 +113,7 @@ impl<'p, 'v> Reader<'p, 'v> {
         }
     }
 
-    /// Consumes the next piece and returns it.
+    /// Reads the next piece, and returns it. Fails if there is none.
     fn take(&mut self) -> Result<Piece<'v>, Stop<Misread>>
         ensures next { IfOk result (λ p. ahead self.old ≡ piece_of p ∷ ahead self.new) }
         ensures none { IfErr result (RunsOut self.old) }
@@ -127,7 +127,7 @@ impl<'p, 'v> Reader<'p, 'v> {
         Ok(piece)
     }
 
-    /// Creates a misread at the piece that was looked at last.
+    /// Returns the error for this reason at the piece that was looked at last.
     fn misread(&self, reason: Reason) -> Stop<Misread>
         ensures { result ≡ stop.Fault (record { reason = reason; at = self.now.at }) }
     {
@@ -137,7 +137,7 @@ impl<'p, 'v> Reader<'p, 'v> {
         })
     }
 
-    /// Copies the text of this piece, and the names.
+    /// Returns copies of the text of a piece, and of the names. Fails if an allocation fails.
     fn named(&self, at: usize, names: &[String]) -> Result<(String, Vec<String>), AllocError>
         ensures { IfOk result (λ told. (string_bytes told.0 ≡ told_text_in (slice_get (laid self.now) at))
             × (map string_bytes told.1.items ≡ map string_bytes names.now)) }
@@ -146,7 +146,7 @@ impl<'p, 'v> Reader<'p, 'v> {
         Ok((name, copied(self.alloc, names)?))
     }
 
-    /// Returns the index of the piece that names an unknown variant.
+    /// Returns the position of the piece that names an unknown variant.
     fn variant_place(&self) -> usize
         ensures { result ≡ variant_place self.now }
     {
@@ -168,16 +168,16 @@ impl<'p, 'v> Reader<'p, 'v> {
         }
     }
 
-    /// Returns the pieces before this one.
+    /// Returns the pieces before a position.
     fn before(&self, at: usize) -> &[Piece<'v>]
         ensures { map piece_of result.now ≡ take at (laid self.now) }
     {
         self.pieces.get(..at).unwrap_or(self.pieces)
     }
 
-    /// Finds the two keys of a field that occurs twice: returns the index of the key that is later in the text, and the
-    /// span of the other. If the last key whose name has aliases is the only one for its name, returns the piece that
-    /// was looked at last, and None.
+    /// Returns the position of the later of two keys of the same field, and the span of the earlier one. If the last
+    /// key with aliases is the only one of its field, returns the position of the piece that was looked at last, and
+    /// `None`.
     fn twice(&self) -> (usize, Option<Span>)
         ensures { result ≡ twice self.now }
     {
@@ -189,8 +189,8 @@ impl<'p, 'v> Reader<'p, 'v> {
         }
     }
 
-    /// Records the names if the key matches none of them, and the key's place if its name has aliases. `found` is the
-    /// index of the name, or the number of names or more if there is none.
+    /// Records the names if the key has none of them, and the key if its name has aliases. `found` is the position of
+    /// its name among the names, or at least their number if it has none of them. Fails if an allocation fails.
     fn note_key(
         &mut self,
         span: Span,
@@ -202,7 +202,7 @@ impl<'p, 'v> Reader<'p, 'v> {
             × (self.new.is_unknown ≡ (self.old.is_unknown || not (nat_lt found (length names.now))))) }
         ensures fields { OnOk result (fields self.new ≡ held names.now found (fields self.old)) }
         ensures twin { OnOk result (twin self.new
-            ≡ twin_behind (slice_get names.now found) (self.old.at, span) (twin self.old)) }
+            ≡ twin_after (slice_get names.now found) (self.old.at, span) (twin self.old)) }
         ensures variants { variants self.new ≡ variants self.old }
         ensures memory { IfErr result IsMemory }
     {
@@ -220,7 +220,7 @@ impl<'p, 'v> Reader<'p, 'v> {
         Ok(())
     }
 
-    /// Before a return to the piece `mark`: records that an attempt consumed this piece, if it did.
+    /// Records, before the reader returns to the position `mark`, whether an attempt has read the piece there.
     fn note_back(&mut self, mark: usize)
         ensures stays { self.new ≡ record self.old { tried = self.new.tried } }
         ensures tried { tries self.new.tried ≡ tries_back_at mark self.old }
@@ -231,8 +231,7 @@ impl<'p, 'v> Reader<'p, 'v> {
         self.tried.take(mark);
     }
 
-    /// Creates a misread at the piece that was looked at last, and records the expected kind. The piece becomes the next
-    /// one again.
+    /// Returns to the piece that was looked at last, and records that this kind was expected. Returns the error for it.
     fn wanted(&mut self, expected: Expected, found: Content<'_>) -> Stop<Misread>
         ensures told { IsMisread (λ why. why ≡ is.Wanted expected (found_of (piece_content found.entry)))
             self.old.at result }
@@ -253,7 +252,7 @@ impl<'p, 'v> Reader<'p, 'v> {
         }
     }
 
-    /// Creates a misread at a piece that has none of the kinds that failed attempts to read it expected.
+    /// Returns the error for a piece of this kind, which failed attempts to read it expected to be of other kinds.
     fn other(&self, found: Found) -> Stop<Misread>
         ensures { IsMisread (IsOther (kinds_at self.now.at (tries self.now.tried)) found) self.now.at result }
     {
@@ -270,7 +269,7 @@ impl<'p, 'v> Reader<'p, 'v> {
         }
     }
 
-    /// Returns the text of a piece if it is a string or a key, otherwise an empty text.
+    /// Returns the text of the string or key at a position, or an empty text if there is another piece.
     fn text_at(&self, at: usize) -> &'v str
         ensures { result.now ≡ told_text_in (slice_get (laid self.now) at) }
     {
@@ -280,7 +279,7 @@ impl<'p, 'v> Reader<'p, 'v> {
         }
     }
 
-    /// Consumes a string or a key, and returns its text.
+    /// Reads a string or key, and returns its text. Fails if the next piece is of another kind.
     fn text(&mut self, expected: Expected) -> Result<&'v str, Stop<Misread>>
         ensures text { IfOk result (λ text. TakesPiece (IsText text.now) (ahead self.old) (ahead self.new)) }
         ensures misses { IfErr result (IsMisread (Misses IsAnyText expected (ahead self.old)) self.old.next) }
@@ -294,7 +293,7 @@ impl<'p, 'v> Reader<'p, 'v> {
         }
     }
 
-    /// Consumes an integer.
+    /// Reads an integer. Fails if the next piece is of another kind.
     fn integer(&mut self) -> Result<i64, Stop<Misread>>
         ensures integer { IfOk result (λ z. TakesPiece (λ c. c ≡ value (integer z)) (ahead self.old) (ahead self.new)) }
         ensures misses { IfErr result (IsMisread (Misses IsAnyInteger expected.Integer (ahead self.old))
@@ -411,7 +410,7 @@ impl Format for Reader<'_, '_> {
         }
     }
 
-    /// Fails for a string that does not equal the text at its span, since it cannot be borrowed.
+    /// Reads a string to borrow it. Fails if it does not equal the text at its span.
     fn plain_str(&mut self, input: &[u8]) -> Result<(usize, usize), Stop<Misread>>
         ensures gives { IfOk result (λ r. Reads (ahead self.old) (event.text (slice_range input.now r.0 r.1))
             (ahead self.new)) }
@@ -467,7 +466,7 @@ impl Format for Reader<'_, '_> {
         Ok(self.look()?.content.serde_kind())
     }
 
-    /// Returns false, since TOML has no unit value.
+    /// Returns false, since TOML has no unit.
     fn take_unit(&mut self, _input: &[u8]) -> Result<bool, Stop<Misread>>
         ensures gives { IfOk result (λ b. MatchBool b (Reads (ahead self.old) event.nothing (ahead self.new))
             (ahead self.new ≡ ahead self.old)) }
@@ -531,7 +530,7 @@ impl Format for Reader<'_, '_> {
             × (self.new.is_unknown ≡ is_unknown o (length names.now))) }
         ensures fields { IfOk result (λ o. fields self.new ≡ held_by names.now o (fields self.old)) }
         ensures twin { IfOk result (λ o. (p : Laid) (rest : List Laid) → ahead self.old ≡ p ∷ rest → twin self.new
-            ≡ twin_behind (option_and_then (slice_get names.now) o) (self.old.next, p.span) (twin self.old)) }
+            ≡ twin_after (option_and_then (slice_get names.now) o) (self.old.next, p.span) (twin self.old)) }
         ensures variants { variants self.new ≡ variants self.old }
         ensures misses { IfErr result (IsMisread (Misses IsKeyOrEnd expected.Key (ahead self.old)) self.old.next) }
     {
@@ -586,7 +585,7 @@ impl Format for Reader<'_, '_> {
         Ok(found)
     }
 
-    /// Consumes a whole value, or a key.
+    /// Skips a whole value, or a key.
     fn skip(&mut self, _input: &[u8]) -> Result<(), Stop<Misread>>
         ensures value { (n : Node) (rest : List Laid) → ahead self.old ≡ pieces n ++ rest
             → IsOk result × (ahead self.new ≡ rest) }
@@ -644,7 +643,7 @@ impl Format for Reader<'_, '_> {
         }
     }
 
-    /// Two keys of a table can name the same field only if at least one of them is an alias.
+    /// Two keys of a table can be of the same field only if at least one of them is an alias.
     fn duplicate(&self, name: &str) -> Stop<Misread>
         ensures { IsMisread (Says (λ s. is.DuplicateField s (twice self.now).1) name.now) (twice self.now).0 result }
     {
@@ -671,8 +670,8 @@ impl Format for Reader<'_, '_> {
         }
     }
 
-    /// The tag of an enum is compared with the variants' names before its table is read again from the start. So the
-    /// reader has kept the tag's place and these names.
+    /// The tag of an enum is compared with the names of its variants before its table is read again from the start. So
+    /// the reader keeps the position of the tag and these names.
     fn unknown_variant(&self) -> Stop<Misread>
         ensures { IsMisread (Lists is.UnknownVariant
             (told_text_in (slice_get (laid self.now) (variant_place self.now))) (variant_names self.now))
@@ -688,7 +687,8 @@ impl Format for Reader<'_, '_> {
         }
     }
 
-    /// If the array has ended, all its elements were read. Otherwise it has more elements than the type.
+    /// If the end of the array was read, all its elements were. Otherwise the array has more elements than the type
+    /// expects.
     fn wrong_len(&self) -> Stop<Misread>
         ensures { IsMisread (λ why. why ≡ length_reason self.now) self.now.at result }
     {
@@ -699,8 +699,8 @@ impl Format for Reader<'_, '_> {
         }
     }
 
-    /// An integer that was read is out of the type's range. A piece that was only looked at has a kind that the type
-    /// does not accept: the misread lists the kinds that failed attempts to read it expected.
+    /// If an integer was read, it is out of the type's range. If the piece was only looked at, the type does not accept
+    /// its kind, and the error lists the kinds that failed attempts to read it have expected.
     fn invalid(&self) -> Stop<Misread>
         ensures read { self.now.at < self.now.next → IsMisread (λ why. why
             ≡ refusal_in (slice_get (laid self.now) self.now.at)) self.now.at result }
@@ -733,7 +733,7 @@ impl Format for Reader<'_, '_> {
     }
 }
 
-/// Converts a failed allocation to the reader's error.
+/// Converts a failed allocation to an error of the reader.
 fn owned(names: Result<Vec<String>, AllocError>) -> Result<Vec<String>, Stop<Misread>>
     ensures ok { IfOk result (λ all. names ≡ Ok all) }
     ensures memory { IfErr result IsMemory }

@@ -1,11 +1,12 @@
-//! A tree, prepared for reading.
-ghost use Rattle.std.specs.Prelude.{◌≡◌, ◌<◌, [], IfOk, Some, length, slice_get};
-ghost use Rattle.toml_span.specs.Ordered.{HasOneEach};
+//! A tree as a row of pieces, ready to be read.
+ghost use Rattle.std.specs.Prelude.{◌≡◌, ◌<◌, [], IfOk, OnOk, Some, length, slice_get};
+ghost use Rattle.toml_span.specs.Ordered.{HasOneEach, IsOrdered};
 ghost use Rattle.toml_span_tree.specs.Node.{Node};
 ghost use Rattle.toml_span_tree.specs.Value.{view};
 ghost use Rattle.toml_span_serde.specs.Ahead.{ahead, pieces_in};
 ghost use Rattle.toml_span_serde.specs.Misfits.{IsAt, Names, path_of};
 ghost use Rattle.toml_span_serde.specs.Pieces.{pieces};
+ghost use Rattle.toml_span_serde.specs.TextOrder.{in_text_order};
 ghost use Rattle.toml_span_serde.specs.Stops.{IsOf, IsTold, spots};
 
 use crate::misfit::{Misfit, Reason};
@@ -16,32 +17,33 @@ use std::alloc::{AllocError, Global};
 use toml_span_lex::stop::Stop;
 use toml_span_tree::Value;
 
-/// The pieces of a tree, which a `Reader` reads.
+/// The pieces of a tree, from which a `Reader` reads.
 #[derive(Drop)]
 pub struct Row<'v> {
     pieces: Vec<Piece<'v>>,
 }
 
 impl<'v> Row<'v> {
-    /// Lists the pieces of a tree, each array and table before its parts. Fails if an allocation fails.
+    /// Lists the pieces of a tree, each array and table before its parts, and the entries of a table in the order of
+    /// the text. Fails if an allocation fails.
     pub fn new(alloc: Global, root: &'v Value<'_>) -> Result<Row<'v>, AllocError>
-        ensures { IfOk result (λ row. pieces_in row ≡ pieces (view root.now)) }
+        ensures pieces { IfOk result (λ row. pieces_in row ≡ pieces (in_text_order (view root.now))) }
+        ensures ordered { OnOk result (IsOrdered (view root.now)) }
     {
         Ok(Row {
             pieces: pieces_of(alloc, root)?,
         })
     }
 
-    /// Creates a reader that has read no piece yet.
+    /// Returns a reader at the first piece.
     pub fn reader(&self, alloc: Global) -> Reader<'_, 'v>
         ensures { ahead result ≡ pieces_in self.now }
     {
         Reader::new(alloc, self.pieces.as_slice())
     }
 
-    /// Converts an error of a reader to a misfit, with the span of the piece at which reading stopped, and the path to
-    /// its value. If reading continued after the last piece, the misfit is at the root. A failed allocation is passed
-    /// on.
+    /// Converts an error of a reader to a misfit, with the span of the piece at which the read stopped and the path to
+    /// its value. If there was no next piece, the misfit is at the root. Passes a failed allocation on.
     pub fn stopped(&self, alloc: Global, stop: Stop<Misread>) -> Stop<Misfit>
         ensures place { (n : Node) → pieces_in self.now ≡ pieces n → HasOneEach n → IsAt n result }
         ensures told { (n : Node) → pieces_in self.now ≡ pieces n → IsTold n stop result }
@@ -55,7 +57,8 @@ impl<'v> Row<'v> {
         }
     }
 
-    /// Adds the place of its piece to a misread, or the place of the first piece. A row has at least one.
+    /// Returns the misfit for an error of the reader, at its piece or, if there is none, at the root. Fails if an
+    /// allocation fails.
     fn placed(&self, alloc: Global, misread: Misread) -> Result<Misfit, AllocError>
         ensures place { IfOk result (λ m. (n : Node) → pieces_in self.now ≡ pieces n → HasOneEach n
             → Names (path_of m.path.items) m.span n) }
@@ -70,7 +73,7 @@ impl<'v> Row<'v> {
         self.misfit_at(alloc, misread.reason, 0)
     }
 
-    /// Creates a misfit at this piece.
+    /// Returns a misfit at the piece with this position. Fails if an allocation fails.
     fn misfit_at(&self, alloc: Global, reason: Reason, at: usize) -> Result<Misfit, AllocError>
         requires { at < length self.now.pieces.items }
         ensures place { IfOk result (λ m. (n : Node) → pieces_in self.now ≡ pieces n → HasOneEach n

@@ -1,4 +1,4 @@
-//! Reports of errors.
+//! Makes reports of errors.
 ghost use Rattle.std.specs.Prelude.{◌≡◌, IfOk, option_map, string_bytes};
 ghost use Rattle.toml_span_report.specs.Report.{report_content};
 ghost use Rattle.toml_span_serde.specs.Shown.{IsErrorText, IsMisfitText, with_meant};
@@ -8,8 +8,9 @@ use std::alloc::{AllocError, Global};
 use toml_span_lex::stop::Stop;
 use toml_span_report::{Report, Style, render, render_error};
 
-/// Renders an error of `from_str` as a report: a message, the line of the error with marks under it, and for an unknown
-/// name the name that may be meant. `name` is the name of the file. A failed allocation is passed on.
+/// Returns an error of `from_str` as the text of a report: a message, the source line with marks, and for an unknown
+/// name the one that was probably meant. `name` is the name of the file, `text` the source. Fails if `stop` is
+/// `Stop::Memory`, or if an allocation fails.
 pub fn render_stop(
     alloc: Global,
     style: Style,
@@ -26,7 +27,7 @@ pub fn render_stop(
     }
 }
 
-/// Renders the report of a misfit.
+/// Returns the text of the report of a misfit. Fails if an allocation fails.
 fn render_misfit(
     alloc: Global,
     style: Style,
@@ -42,7 +43,7 @@ fn render_misfit(
     render(alloc, style, &report, name, text)
 }
 
-/// Adds help that suggests this name, if there is one.
+/// Adds a line of help that suggests this name, if there is one. Fails if an allocation fails.
 fn helped(alloc: Global, meant: Option<&str>, report: Report) -> Result<Report, AllocError>
     ensures { IfOk result (λ made. report_content made
         ≡ with_meant (option_map (λ name. name.now) meant.entry) (report_content report)) }

@@ -1,4 +1,4 @@
-//! Values that are read by derive together with their spans.
+//! Values with their spans, for types that derive `Deserialize`.
 ghost use Rattle.std.specs.Prelude.{◌≡◌, IfOk};
 ghost use Rattle.toml_span_serde.specs.Asks.{HasSpan};
 
@@ -7,15 +7,15 @@ use std::alloc::Global;
 use toml_span_lex::span::Span;
 use toml_span_lex::spanned;
 
-/// The name of a variant that asks a reader where the next value starts.
+/// The name of a variant by which a type asks a reader for the start of the next value.
 pub(crate) const START: &str = "$toml_span::start";
 
-/// The name of a variant that asks a reader where the next value ends.
+/// The name of a variant by which a type asks a reader for the end of the next value.
 pub(crate) const END: &str = "$toml_span::end";
 
-/// A value, or the key of a map, with its span. Comparison ignores the span.
+/// A value, or the key of a map, with its span in bytes. Comparisons ignore the span.
 ///
-/// Only a `Reader` knows the span of a value: other formats fail.
+/// Only a `Reader` of this crate knows spans: reading a `Spanned` from any other format fails.
 #[derive(Debug, Drop)]
 #[derive_where(PartialEq, Eq, PartialOrd, Ord; T)]
 pub struct Spanned<T> {
@@ -59,7 +59,7 @@ impl<T: DeserializeOwned> DeserializeOwned for Spanned<T> {
     }
 }
 
-/// Returns the span of what comes next, without consuming it.
+/// Returns the span of the next value or key, without reading it.
 fn span_ahead<F: Format>(from: &mut Deserializer<'_, '_, F>) -> Result<Span, F::Error>
     ensures { IfOk result (λ span. HasSpan F.picks from.old span) }
 {

@@ -1,4 +1,4 @@
-//! The kinds that failed attempts to read a piece expected.
+//! The kinds that failed attempts to read a piece have expected.
 ghost use Rattle.std.specs.List.{list_any};
 ghost use Rattle.std.specs.Prelude.{◌≡◌, [], false, OnErr, OnOk};
 ghost use Rattle.std.specs.Str.{bytes_eq};
@@ -11,16 +11,16 @@ use std::alloc::{AllocError, Global};
 /// The failed attempts to read one piece.
 #[derive(Drop)]
 pub(crate) struct Tried {
-    /// The piece.
+    /// The position of the piece.
     at: usize,
-    /// Whether one of them consumed the piece, and failed later.
+    /// Whether one of the attempts has read the piece, and failed later.
     is_taken: bool,
-    /// The kinds that the others expected, each once.
+    /// The kinds that the other attempts expected, each once.
     kinds: Vec<Expected>,
 }
 
 impl Tried {
-    /// Creates a record without failed attempts.
+    /// Returns a record of no attempts.
     pub(crate) fn new(alloc: Global) -> Tried
         ensures { tries result ≡ record { at = 0; is_taken = false; kinds = [] } }
     {
@@ -31,7 +31,7 @@ impl Tried {
         }
     }
 
-    /// Records an attempt that expected this kind at this piece.
+    /// Records an attempt that expected this kind at the piece with this position. Fails if an allocation fails.
     pub(crate) fn miss(&mut self, at: usize, expected: Expected) -> Result<(), AllocError>
         ensures { OnOk result (tries self.new ≡ missed at expected (tries self.old)) }
     {
@@ -45,7 +45,7 @@ impl Tried {
         Ok(())
     }
 
-    /// Adds a kind, unless it is listed already.
+    /// Adds a kind, unless it is there already. Fails if an allocation fails.
     fn add(&mut self, expected: Expected) -> Result<(), AllocError>
         ensures kinds { OnOk result (self.new.kinds.items ≡ with_kind expected self.old.kinds.items) }
         ensures stays { (self.new.at ≡ self.old.at) × (self.new.is_taken ≡ self.old.is_taken) }
@@ -57,7 +57,7 @@ impl Tried {
         Ok(())
     }
 
-    /// Records an attempt that consumed this piece, and failed later.
+    /// Records an attempt that has read the piece with this position, and failed later.
     pub(crate) fn take(&mut self, at: usize)
         ensures { tries self.new ≡ taken at }
     {
@@ -66,7 +66,7 @@ impl Tried {
         self.kinds.clear();
     }
 
-    /// Returns the kinds that were expected at a piece, or none if an attempt consumed it.
+    /// Returns the kinds that were expected at the piece with this position, or none if an attempt has read it.
     pub(crate) fn kinds_at(&self, at: usize) -> &[Expected]
         ensures { result.now ≡ kinds_at at (tries self.now) }
     {
@@ -78,7 +78,7 @@ impl Tried {
     }
 }
 
-/// Returns whether the kind is one of these.
+/// Returns whether the kind is among these.
 fn is_among(kinds: &[Expected], expected: Expected) -> bool
     ensures { result ≡ is_among expected kinds.now }
 {

@@ -1,4 +1,4 @@
-//! Two keys of a table that name the same field.
+//! Finds two keys of a table that are of the same field.
 ghost use Rattle.std.specs.List.{list_any};
 ghost use Rattle.std.specs.Prelude.{◌≡◌, map, option_map, reverse, string_bytes};
 ghost use Rattle.std.specs.Str.{bytes_eq};
@@ -9,14 +9,14 @@ ghost use Rattle.toml_span_serde.specs.Twice.{key_place};
 use crate::pieces::{Content, Piece};
 use toml_span_lex::span::Span;
 
-/// A key in a row of pieces: its index and its span.
+/// A key: its position among the pieces, and its span.
 #[derive(Clone, Copy, Drop)]
 pub(crate) struct KeyPlace {
     pub at: usize,
     pub span: Span,
 }
 
-/// Returns whether the text is one of these.
+/// Returns whether the text is among these.
 fn is_among(texts: &[String], text: &str) -> bool
     ensures { result ≡ list_any (λ one. bytes_eq one text.now) (map string_bytes texts.now) }
 {
@@ -28,7 +28,7 @@ fn is_among(texts: &[String], text: &str) -> bool
     false
 }
 
-/// Finds the last of these keys that has one of the forms, in the table that is still open after these pieces.
+/// Returns the last key that equals one of the forms, in the innermost table that is open after these pieces.
 pub(crate) fn earlier(before: &[Piece<'_>], forms: &[String]) -> Option<KeyPlace>
     ensures { option_map key_place result
         ≡ spec.earlier (map string_bytes forms.now) 0 (reverse (map piece_of before.now)) }

@@ -1,12 +1,12 @@
-//! Shows the tree of a TOML document: one line for each node, with its span.
+//! Prints the tree of a TOML document, which it reads from standard input: one line for each value, with its span.
 #![tactic(auto)]
 
 use std::process::ExitCode;
 use toml_span_lines::run::run;
-use toml_span_lines::told::Told;
+use toml_span_lines::tracked::Tracked;
 
 fn main(rt: HostRuntime) -> ExitCode {
-    let mut reader = Told::new(rt.stdin());
-    let mut writer = Told::new(rt.stdout());
+    let mut reader = Tracked::new(rt.stdin());
+    let mut writer = Tracked::new(rt.stdout());
     ExitCode::from(run(rt.alloc(), &mut reader, &mut writer))
 }

@@ -9,7 +9,7 @@ use Rattle.toml_span_tree.specs.code.Lending.{IsTable, IsArray}
 use Rattle.toml_span_tree.specs.Node.{Node, node, Scalar, taken, scalar, array, table, get_member, get_item}
 use Rattle.toml_span_tree.specs.Value.{view, inner_view, items_view, members_view, inner_of, span_of, inner_or_taken, float_value, date_bytes}
 use Rattle.toml_span_tree.specs.Pointer.{pointer_segments, pointed, put_pointed, segments, position_of}
-use Rattle.toml_span_tree.specs.code.Pointer.{SplitAtSlash, segments_behind, value_named, put_named, entry, untaken_entry, set_named, set_where_named}
+use Rattle.toml_span_tree.specs.code.Pointer.{SplitAtSlash, segments_after, value_named, put_named, entry, untaken_entry, set_named, set_where_named}
 use Rattle.toml_span_tree.specs.Path.{position, set_entry}
 use Rattle.toml_span_tree.proofs.Values.{Entry, view_is, inner_view-Array, inner_view-Table, at_name}
 use Rattle.toml_span_tree.proofs.Pointers.{pointer-slash, found-more, entry-array, get_item-past, get_item-within}
@@ -115,7 +115,7 @@ segments-some [] = omega arith
 segments-some (x ∷ xs) = grind (arith, nat_tests, common_steps)
 
 pub more-some : (path segment : List ℕ) (o : Option (List ℕ)) (rest : List ℕ) → SplitAtSlash path segment o → o ≡ Some rest → 0 < length (drop 1 (segments path))
-more-some path segment o rest c e = subst (λ names. 0 < length (drop 1 names)) (sym (c.parts ∙ ap (λ o. segment ∷ segments_behind o) e)) (segments-some rest)
+more-some path segment o rest c e = subst (λ names. 0 < length (drop 1 names)) (sym (c.parts ∙ ap (λ o. segment ∷ segments_after o) e)) (segments-some rest)
 
 pub slash-of : (p : List ℕ) (n : Node) → 0 < length p → IsSome (pointed p n) → (path : List ℕ) × (p ≡ 47 ∷ path)
 unfolding pointer_segments

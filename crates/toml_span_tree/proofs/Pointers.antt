@@ -8,7 +8,7 @@ use Rattle.toml_span_tree.specs.Node.{Node, Items, get_item}
 use Rattle.toml_span_tree.specs.Value.{view, items_view}
 use Rattle.toml_span_tree.specs.Path.{Step, Path, child, reached, node_at}
 use Rattle.toml_span_tree.specs.Pointer.{push_front, segments, pointer_segments, pointed, is_decimal_form, position_of}
-use Rattle.toml_span_tree.specs.code.Pointer.{segments_behind, SplitAtSlash, entry, untaken_entry, value_named, PositionIs}
+use Rattle.toml_span_tree.specs.code.Pointer.{segments_after, SplitAtSlash, entry, untaken_entry, value_named, PositionIs}
 
 abbrev pub Lacks : ℕ → List ℕ → Type 0
 Lacks c xs = (i : ℕ) → i < length xs → get_or xs i 0 ≢ c
@@ -50,8 +50,8 @@ pub found-more : (segment : List ℕ) (names : List (List ℕ)) (n : Node) → v
 found-more segment names n = grind (arith, nat_tests, common_steps, node_at-more)
 
 -- a text that is split at its first slash
-pub found-cut : (path segment : List ℕ) (rest : Option (List ℕ)) (n : Node) → SplitAtSlash path segment rest → value_named (segments path) n ≡ option_and_then (value_named (segments_behind rest)) (untaken_entry segment n)
-found-cut path segment rest n c = ap (λ names. value_named names n) c.parts ∙ found-more segment (segments_behind rest) n
+pub found-cut : (path segment : List ℕ) (rest : Option (List ℕ)) (n : Node) → SplitAtSlash path segment rest → value_named (segments path) n ≡ option_and_then (value_named (segments_after rest)) (untaken_entry segment n)
+found-cut path segment rest n c = ap (λ names. value_named names n) c.parts ∙ found-more segment (segments_after rest) n
 
 -- a pointer names what its segments name
 pub pointed-found : (p : List ℕ) (n : Node) → pointed p n ≡ option_and_then (λ names. value_named names n) (pointer_segments p)

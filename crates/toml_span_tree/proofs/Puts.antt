@@ -8,7 +8,7 @@ use Rattle.toml_span_tree.specs.Node.{Node, node, Inner, table, Items, no_items,
 use Rattle.toml_span_tree.specs.Value.{view, inner_view, items_view, members_view, inner_of, span_of, is_taken}
 use Rattle.toml_span_tree.specs.Path.{set_entry, set_element}
 use Rattle.toml_span_tree.specs.Pointer.{if_not_taken, segments, pointer_segments, pointed, put_pointed}
-use Rattle.toml_span_tree.specs.code.Pointer.{entry, untaken_entry, value_named, put_named, set_named, segments_behind, SplitAtSlash, Exchanged}
+use Rattle.toml_span_tree.specs.code.Pointer.{entry, untaken_entry, value_named, put_named, set_named, segments_after, SplitAtSlash, Exchanged}
 use Rattle.toml_span_tree.proofs.Values.{Entry, view_is, at_name, view-lookup}
 use Rattle.toml_span_tree.proofs.Pointers.{found-cut, pointer-empty, view-of_mut}
 
@@ -66,10 +66,10 @@ put_found-more segment names n m w old leads there = grind (arith, nat_tests, co
 
 -- a replacement in the content of n is one in n
 pub exchanged-cut : (r : Result Value Value) (new : Value) (path segment : List ℕ) (rest : Option (List ℕ)) (i j : Inner) (span : Span) → SplitAtSlash path segment rest
-    → Exchanged r new (segments_behind rest) (option_and_then if_not_taken (entry segment i)) (λ w. j ≡ set_named segment w i) (j ≡ i)
+    → Exchanged r new (segments_after rest) (option_and_then if_not_taken (entry segment i)) (λ w. j ≡ set_named segment w i) (j ≡ i)
     → Exchanged r new (segments path) (Some (node i span)) (λ w. node j span ≡ w) (node j span ≡ node i span)
 exchanged-cut r new path segment rest i j span cut h =
-    grind (arith, nat_tests, common_steps, found-cut path segment rest (node i span) cut, put_found-more segment (segments_behind rest) (node i span), cut.parts)
+    grind (arith, nat_tests, common_steps, found-cut path segment rest (node i span) cut, put_found-more segment (segments_after rest) (node i span), cut.parts)
 
 -- a replacement at the place that a pointer names
 pub put_pointed-found : (p : List ℕ) (names : List (List ℕ)) (w n : Node) → pointer_segments p ≡ Some names → put_pointed p w n ≡ put_named names w n

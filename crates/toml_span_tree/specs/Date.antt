@@ -1,5 +1,6 @@
--- Date texts: dates and times with their offsets (TOML 1.1, "Offset Date-Time" to "Local Time", after RFC 3339). A test
--- "at i" or "at the front" is of one place, and any other is of a whole text. Bytes past the end of a text are 0.
+-- Date texts: dates and times, with or without offsets (TOML 1.1, "Offset Date-Time" to "Local Time", after RFC 3339).
+-- A test "at i" or "at the front" is about that place in a text, any other about a whole text. Bytes after the end of a
+-- text are 0.
 use Rattle.std.specs.Prelude.{◌≡◌, ◌⊎◌, [], ◌∷◌, ◌++◌, ℕ, ◌+◌, ◌-◌, ◌*◌, ◌%◌, Bool, true, not, ◌&&◌, ◌||◌, ◌==◌, nat_lt}
 use Rattle.std.specs.Prelude.{nat_le, List, length, take, drop, slice_index, if◌then◌else◌}
 use Rattle.std.specs.List.{list_all}
@@ -9,7 +10,7 @@ use Rattle.toml_span_lex.specs.Bytes.{small_z}
 
 -- Toolchain: as `abbrev` the tests of a date take too long ("computing it took more than 200000 steps"), so they are
 -- Bool-valued and `unfoldable`.
--- the number that the two digits at i denote
+-- the number that the two digits at i spell
 abbrev pub two_digits : List ℕ → ℕ → ℕ
 two_digits text i = 10 * (slice_index text i - digit_zero) + (slice_index text (i + 1) - digit_zero)
 
@@ -51,7 +52,7 @@ abbrev pub is_time_secfrac : List ℕ → Bool
 is_time_secfrac text =
     slice_index text 0 == period && nat_lt 1 (length text) && list_all is_ascii_digit (drop 1 text)
 
--- `[ ":" time-second [ time-secfrac ] ]`; the second may be 60 in any minute, since leap seconds are not looked up
+-- `[ ":" time-second [ time-secfrac ] ]`; the second may be 60 in any minute, since there is no table of leap seconds
 abbrev pub is_seconds : List ℕ → Bool
 is_seconds text =
     length text == 0
@@ -101,7 +102,7 @@ is_date_text text = is_full_date text || is_partial_time text || is_date_time te
 abbrev pub IsDateText : List ℕ → Type 0
 IsDateText text = is_date_text text ≡ true
 
--- A date text and the parts that it consists of. The offset may be missing.
+-- The parts of a date text. It may have no offset.
 pub record IsDateTime (text : List ℕ) : Type 0 where
   pub date : List ℕ
   pub delimiter : ℕ

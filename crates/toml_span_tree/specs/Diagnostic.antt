@@ -1,4 +1,4 @@
--- What an editor or a terminal shows of an error: a code, a message and labels.
+-- An error as a diagnostic: a code, a message and labels.
 use Rattle.std.specs.Prelude.{ℕ, List, [], ◌∷◌, ◌++◌, Bool, true, false, codes, length, map, string_bytes}
 use Rattle.std.specs.Fmt.{decimal}
 use Rattle.toml_span_lex.specs.declared.span.Span.{Span}
@@ -27,7 +27,7 @@ abbrev pub unexpected_keys_message : ℕ → List (List ℕ) → List ℕ
 unexpected_keys_message count expected =
     codes "found " ++ decimal count ++ codes " unexpected keys, expected: " ++ listed quoted expected
 
--- the message of a kind of error, which is empty if the label says everything
+-- the message for a kind of error, which is empty if the label says everything
 abbrev pub message_of : Kind → List ℕ
 message_of unexpected_eof = codes "unexpected end of file"
 message_of exceeded_depth_limit = codes "input exceeds the maximum allowed nesting depth"

@@ -10,7 +10,7 @@ use Rattle.toml_span_tree.specs.declared.error.Error.{Error}
 use Rattle.toml_span_tree.specs.declared.error.ErrorKind.{ErrorKind}
 use Rattle.toml_span_tree.specs.declared.error.ErrorKind.TheVariants as kinds
 
--- What is wrong. A character is its code point, and a string the list of its bytes.
+-- What is wrong. A character is its number, and a string the list of its bytes.
 pub data Kind : Type 0 where
   unexpected_eof : Kind
   exceeded_depth_limit : Kind
@@ -22,7 +22,7 @@ pub data Kind : Type 0 where
   unterminated_string : Kind
   invalid_number : Kind
   invalid_datetime : Kind
-  -- the type that cannot hold the number
+  -- the name of the type that can't represent the number
   out_of_range : List ℕ → Kind
   -- what was expected, and what was found
   wanted : List ℕ → List ℕ → Kind
@@ -33,9 +33,9 @@ pub data Kind : Type 0 where
   redefine_as_array : Kind
   multiline_string_key : Kind
   custom : List ℕ → Kind
-  -- the span of the earlier value's key
+  -- the span of the key of the earlier value
   dotted_key_invalid_type : Span → Kind
-  -- the keys with their spans, and the names that were expected
+  -- the keys with their spans, and the names of the expected ones
   unexpected_keys : List (List ℕ × Span) → List (List ℕ) → Kind
   unquoted_string : Kind
   missing_field : List ℕ → Kind
@@ -89,6 +89,6 @@ kind_of (kinds.Marked code message places) = marked code.now (cow_str_bytes mess
 abbrev pub content_of : Error → ErrorContent
 content_of error = record { kind = kind_of error.kind; span = error.span; line_info = error.line_info }
 
--- the fault that `gives` makes from the error
+-- The stop is a fault that `gives` makes from the error.
 abbrev pub IsFaultOf : {E : Type 0} → (Error → E → Type 0) → Error → Stop E → Type 0
 IsFaultOf gives error why = (fault : _) × gives error fault × (why ≡ stop.Fault fault)

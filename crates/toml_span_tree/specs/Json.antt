@@ -12,7 +12,7 @@ scalar_json (float x) = json.string (float_text x)
 scalar_json (boolean b) = json.boolean b
 scalar_json (datetime d) = json.string d
 
--- a value that has been taken is `null`
+-- A value that has been taken becomes `null`.
 abbrev mutual
   pub json_of : Node → json.Data
   json_of (node i span) = json_in i

@@ -8,12 +8,12 @@ use Rattle.toml_span_tree.specs.declared.value.Value.{Value}
 use Rattle.toml_span_tree.specs.Value.{view}
 use Rattle.toml_span_tree.specs.Pointer.{put_pointed}
 
--- the types of a tree whose strings live as long as the second lifetime of the signature
+-- the types of a tree, whose strings live as long as the second lifetime of the signature
 abbrev pub value_row : RattleType
 value_row = value.the_row (record { mir = named 1; lft = [] })
 
--- When the borrows end, the tree at s has the final value of r at the place that the pointer names, or is unchanged if
--- r is None.
+-- When the borrows end, the tree of s has the final value of r at the place that the pointer names. If r is None, the
+-- tree is unchanged.
 abbrev pub lends_pointed : MutBor Value → List ℕ → Option (MutBor Value) → Fml
 lends_pointed s p r =
     LendsSo value_row value_row s r (λ n w. OnSome r (view n ≡ put_pointed p (view w) (view s.now))) (λ n. n ≡ s.now)

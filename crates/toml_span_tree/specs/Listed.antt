@@ -7,8 +7,8 @@ use Rattle.std.specs.Str.{chars}
 use Rattle.toml_span_lex.specs.declared.span.Span.{Span}
 use Rattle.toml_span_lex.specs.Bytes.{tab, line_feed, carriage_return, space, quotation_mark, backslash}
 
--- A white space or control character as an escape: `\t`, `\n`, `\r`, a space as itself, and any other by its
--- hexadecimal code point.
+-- White space or a control character as an escape: `\t`, `\n`, `\r`, a space as itself, and any other by its number in
+-- hexadecimal.
 abbrev pub escaped_char : ℕ → List ℕ
 escaped_char c =
     if c == tab then codes "\\t"

@@ -1,4 +1,4 @@
--- What is printed of an error: the code of its kind, and its text.
+-- What is printed for an error: the code of its kind, and its message.
 use Rattle.std.specs.Prelude.{ℕ, List, ◌++◌, if◌then◌else◌, codes, encode_utf8}
 use Rattle.std.specs.Char.{is_whitespace}
 use Rattle.std.specs.Fmt.{decimal}
@@ -54,7 +54,7 @@ unexpected_keys_text keys expected =
 abbrev pub unexpected_value_text : List (List ℕ) → List ℕ
 unexpected_value_text expected = codes "expected '" ++ listed quoted expected ++ codes "'"
 
--- the text of an error of this kind
+-- the message of an error of this kind
 abbrev pub display_text : Kind → List ℕ
 display_text unexpected_eof = codes "unexpected eof encountered"
 display_text exceeded_depth_limit = codes "input exceeds the maximum allowed nesting depth"

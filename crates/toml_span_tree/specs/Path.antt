@@ -15,7 +15,7 @@ pub data Step : Type 0 where
 abbrev pub Path : Type 0
 Path = List Step
 
--- the shape of a place: that it has been taken, or its kind, and the value if it is a scalar
+-- what is at a place: that it has been taken, or its kind and, for a scalar, its value
 pub data Shape : Type 0 where
   shape_taken : Shape
   shape_scalar : Scalar → Shape
@@ -34,7 +34,7 @@ shape_of (scalar s) = shape_scalar s
 shape_of (array ns) = shape_array
 shape_of (table ms) = shape_table
 
--- where a step leads: to this value, with the span of its key, if it has one
+-- the value to which a step leads, with the span of its key, if it has one
 abbrev pub at_step : Step → Inner → Option (Option Span × Node)
 at_step s taken = None
 at_step s (scalar x) = None
@@ -88,8 +88,8 @@ abbrev pub put_where : Option Node → Step → (Node → Node) → Node → Nod
 put_where None s change n = n
 put_where (Some m) s change n = node (set_at_step s (change m) (inner_of n)) (span_of n)
 
--- n with w at the path: w itself at the empty path, otherwise the same table or array with the change where the first
--- step leads
+-- n with w at the path: w itself if the path is empty, otherwise the same table or array with the change inside the
+-- value to which the first step leads
 abbrev pub put : Path → Node → Node → Node
 put [] w n = w
 put (s ∷ path) w n = put_where (child s n) s (put path w) n

@@ -8,16 +8,16 @@ use Rattle.toml_span_tree.specs.Node.{Node, Inner, taken, scalar, array, table}
 use Rattle.toml_span_tree.specs.Value.{inner_of, is_taken}
 use Rattle.toml_span_tree.specs.Path.{Step, key, position, Path, child, node_at, put}
 
--- decimal digits, at least one, without a sign or a leading zero, except for `0` itself
+-- decimal digits, at least one, without a sign, and without a leading zero unless it is `0`
 abbrev pub is_decimal_form : List ℕ → Bool
 is_decimal_form text =
     nat_lt 0 (length text) && all_ascii_digits text && (length text == 1 || not (slice_index text 0 == digit_zero))
 
--- the position that the segment denotes
+-- the position that the segment spells
 unfoldable pub position_of : List ℕ → Option ℕ
 position_of text = if is_decimal_form text then Some (digits_value 10 text) else None
 
--- the step that a segment names: a key in a table, a position in an array
+-- the step that a segment selects: a key in a table, a position in an array
 abbrev pub step_named : List ℕ → Inner → Option Step
 step_named segment taken = None
 step_named segment (scalar s) = None
@@ -27,11 +27,12 @@ step_named segment (table ms) = Some (key segment)
 abbrev pub if_not_taken : Node → Option Node
 if_not_taken n = cond (is_taken n) None (Some n)
 
--- the value to which a step leads, unless it has been taken
+-- the value to which a step leads, unless its content has been taken
 abbrev pub untaken_child : Node → Step → Option Node
 untaken_child n s = option_and_then if_not_taken (child s n)
 
--- the path that the segments name, one by one; None if it leads nowhere, or through or to a value that has been taken
+-- The path that the segments select, step by step. None if it leads nowhere, or through or to a value whose content has
+-- been taken.
 abbrev pub path_named : List (List ℕ) → Node → Option Path
 path_named [] n = Some []
 path_named (segment ∷ more) n =
@@ -47,7 +48,7 @@ unfoldable pub segments : List ℕ → List (List ℕ)
 segments [] = [] ∷ []
 segments (x ∷ xs) = if x == slash then [] ∷ segments xs else push_front x (segments xs)
 
--- The segments of a pointer: none if it is empty, otherwise those after the slash with which it begins.
+-- The segments of a pointer: none if it is empty, otherwise those after its first slash. None if it is not a pointer.
 unfoldable pub pointer_segments : List ℕ → Option (List (List ℕ))
 pointer_segments [] = Some []
 pointer_segments (x ∷ xs) = if x == slash then Some (segments xs) else None
@@ -68,18 +69,18 @@ put_where_named (Some path) w n = put path w n
 abbrev pub put_pointed : List ℕ → Node → Node → Node
 put_pointed pointer w n = put_where_named (pointed_path pointer n) w n
 
--- The positions differ, if there are two.
+-- the positions differ, if there are two
 abbrev pub positions_apart : Option ℕ → Option ℕ → Bool
 positions_apart None o = true
 positions_apart (Some i) None = true
 positions_apart (Some i) (Some j) = not (i == j)
 
--- The segments name different places in any table or array: their bytes differ, and so do the positions that they
--- denote.
+-- The segments select different values in any table or array: their bytes differ, and so do the positions that they
+-- spell, if they spell any.
 abbrev pub segments_apart : List ℕ → List ℕ → Bool
 segments_apart segment other = not (bytes_eq segment other) && positions_apart (position_of segment) (position_of other)
 
--- The segments differ at some place. Those after it may be anything.
+-- The segments differ at some position. Those after it may be anything.
 abbrev pub paths_part : List (List ℕ) → List (List ℕ) → Bool
 paths_part [] others = false
 paths_part (segment ∷ more) [] = false
@@ -91,7 +92,7 @@ part_where None o = false
 part_where (Some names) None = false
 part_where (Some names) (Some others) = paths_part names others
 
--- The two pointers diverge, so neither names the other's place or one below it.
+-- The two pointers diverge: neither names the value of the other, nor one inside it.
 abbrev pub pointers_part : List ℕ → List ℕ → Bool
 pointers_part pointer other = part_where (pointer_segments pointer) (pointer_segments other)
 
@@ -103,8 +104,7 @@ NamesPath (segment ∷ names) [] = ⊥
 NamesPath (segment ∷ names) (key name ∷ path) = (segment ≡ name) × NamesPath names path
 NamesPath (segment ∷ names) (position i ∷ path) = (position_of segment ≡ Some i) × NamesPath names path
 
--- The pointer names m in n: its segments name a path, m is at that path, and m has not been taken, unless it is n
--- itself.
+-- The pointer names m in n: its segments name a path at which m is, and m has not been taken, unless it is n itself.
 abbrev pub IsPointed : List ℕ → Node → Node → Type 0
 IsPointed pointer n m =
     (names : List (List ℕ)) × (path : Path) × (pointer_segments pointer ≡ Some names) × NamesPath names path

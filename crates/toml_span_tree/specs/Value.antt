@@ -1,5 +1,5 @@
--- Values as plain data, and what the methods of `Value` and `ValueInner` return. Whether a string is borrowed is left
--- out.
+-- Values as plain data, and what the methods of `Value` and `ValueInner` return. Plain data does not say whether a
+-- string is borrowed.
 use Rattle.std.specs.Prelude.{ℕ, ℤ, List, [], ◌∷◌, map, Bool, true, false, Option, Some, None, option_and_then, ◌&&◌}
 use Rattle.std.specs.Prelude.{codes, string_bytes}
 use Rattle.std.specs.Cow.{cow_str_bytes}
@@ -80,7 +80,7 @@ holds_nothing _ = false
 abbrev pub is_taken : Node → Bool
 is_taken n = holds_nothing (inner_of n)
 
--- Whether neither the value nor any inside it has been taken.
+-- whether neither the value nor any value inside it has been taken
 abbrev mutual
   pub is_whole : Node → Bool
   is_whole (node i span) = holds_whole i
@@ -99,7 +99,7 @@ abbrev mutual
   all_members_whole no_members = true
   all_members_whole (member name key n ms) = is_whole n && all_members_whole ms
 
--- the scalar, the elements or the entries; None if the value is of another kind, or has been taken
+-- The scalar, the elements or the entries. None if the value is of another kind, or its content has been taken.
 abbrev pub scalar_in : Inner → Option Scalar
 scalar_in (scalar s) = Some s
 scalar_in _ = None
@@ -162,16 +162,16 @@ kind_name (scalar s) = scalar_kind s
 kind_name (array ns) = codes "array"
 kind_name (table ms) = codes "table"
 
--- Whether there is an entry.
+-- whether there is an entry
 abbrev pub is_filled : Members → Bool
 is_filled no_members = false
 is_filled (member name key n ms) = true
 
--- Whether the value is a table that has an entry.
+-- whether the value is a table with an entry
 abbrev pub has_members : Inner → Bool
 has_members (table ms) = is_filled ms
 has_members _ = false
 
--- the error that names what was expected, and the kind of value that was found
+-- the error that names what was expected and the kind of the value that was found
 abbrev pub wrong_kind : List ℕ → Node → ErrorContent
 wrong_kind expected n = record { kind = wanted expected (kind_name (inner_of n)); span = span_of n; line_info = None }

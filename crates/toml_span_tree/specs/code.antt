@@ -1,3 +1,3 @@
--- How the functions share the work. Nothing outside this folder cites it.
+-- How the functions share the work. Nothing else in `specs/` cites it.
 pub mod Pointer
 pub mod Lending

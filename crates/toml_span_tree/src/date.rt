@@ -5,9 +5,9 @@ ghost use Rattle.std.specs.List.{list_all};
 ghost use Rattle.toml_span_tree.specs.Date as spec;
 ghost use Rattle.toml_span_tree.specs.Date.{IsDateText};
 
-/// A date, a time, or both, as written in the document.
+/// A date, a time, or a date and a time, as the document spells it.
 ///
-/// Its grammar is that of TOML 1.1, "Offset Date-Time" to "Local Time".
+/// The grammar is that of TOML 1.1, from "Offset Date-Time" to "Local Time".
 #[derive(Clone, Copy, PartialEq, Eq, Debug)]
 pub struct DateText<'de> {
     text: &'de str,
@@ -17,7 +17,7 @@ pub struct DateText<'de> {
 impl<'de> DateText<'de> {
     ghost use Rattle.toml_span_tree.specs.Value.{date_bytes};
 
-    /// Returns the date text, which borrows `text`, or `None` if it is not a valid date or time.
+    /// Checks the text, and wraps it without copying. Returns `None` if it is not a valid date, time, or date and time.
     pub fn new(text: &'de str) -> Option<Self>
         ensures found { IsSome result ↔ IsDateText text.now }
         ensures text { IfSome result (λ date. date_bytes date ≡ text.now) }
@@ -38,14 +38,14 @@ impl<'de> DateText<'de> {
     }
 }
 
-/// Returns the byte at `at`, or 0 past the end.
+/// Returns the byte at the offset `at`, or 0 if the text ends before it.
 fn byte_at(text: &[u8], at: usize) -> u8
     ensures { result ≡ slice_index text.now at }
 {
     text.get(at).copied().unwrap_or(0)
 }
 
-/// Returns the number that the two digits at `at` denote.
+/// Returns the number that the two digits at the offset `at` spell.
 fn two_digits(text: &[u8], at: usize) -> u32
     requires { at < 100 }
     ensures value { result ≡ spec.two_digits text.now at }
@@ -56,7 +56,7 @@ fn two_digits(text: &[u8], at: usize) -> u32
     10 * u32::from(tens) + u32::from(ones)
 }
 
-/// Returns whether there are two digits at `at`, whose value is from `low` to `high`.
+/// Returns whether there are two digits at the offset `at`, and whether they spell a number from `low` to `high`.
 fn is_two_digits(text: &[u8], at: usize, low: u32, high: u32) -> bool
     requires { at < 100 }
     ensures { result ≡ spec.is_two_digits low high text.now at }
@@ -68,13 +68,14 @@ fn is_two_digits(text: &[u8], at: usize, low: u32, high: u32) -> bool
         && number <= high
 }
 
+/// Returns whether a year of the Gregorian calendar has a 29th of February.
 fn is_leap_year(year: u32) -> bool
     ensures { result ≡ spec.is_leap_year year }
 {
     (year % 4 == 0 && year % 100 != 0) || year % 400 == 0
 }
 
-/// Returns the last day of a month, which is from 1 to 12.
+/// Returns the last day of a month, which is from 1 to 12, of this year.
 fn last_day(year: u32, month: u32) -> u32
     ensures { result ≡ spec.last_day year month }
 {
@@ -85,13 +86,14 @@ fn last_day(year: u32, month: u32) -> u32
     }
 }
 
-/// Returns the year at the front.
+/// Returns the number that the first four digits of the text spell.
 fn year_of(text: &[u8]) -> u32
     ensures { result ≡ spec.year_of text.now }
 {
     100 * two_digits(text, 0) + two_digits(text, 2)
 }
 
+/// Returns whether the text begins with four digits.
 fn has_year(text: &[u8]) -> bool
     ensures { result ≡ spec.has_year text.now }
 {
@@ -118,6 +120,7 @@ fn has_hour_minute(text: &[u8]) -> bool
     is_two_digits(text, 0, 0, 23) && byte_at(text, 2) == b':' && is_two_digits(text, 3, 0, 59)
 }
 
+/// Returns whether all bytes of the text are ASCII digits.
 fn are_digits(text: &[u8]) -> bool
     ensures { result ≡ list_all is_ascii_digit text.now }
 {
@@ -162,7 +165,7 @@ fn is_time_offset(text: &[u8]) -> bool
     }
 }
 
-/// Returns whether the text is a time followed by an offset of `len` bytes.
+/// Returns whether the text is a time followed by an offset, and the offset is the last `len` bytes.
 fn is_time_with(len: usize, text: &[u8]) -> bool
     ensures { result ≡ spec.is_time_with len text.now }
 {
@@ -170,7 +173,7 @@ fn is_time_with(len: usize, text: &[u8]) -> bool
     is_time_offset(offset) && is_partial_time(time)
 }
 
-/// Returns whether the text is `partial-time [ time-offset ]`, where an offset has one or six bytes.
+/// Returns whether the text is `partial-time [ time-offset ]`. An offset has one byte (`Z`) or six (`+01:00`).
 #[tactic(auto, unfolding(crate::specs::Date::is_time))]
 fn is_time(text: &[u8]) -> bool
     ensures { result ≡ spec.is_time text.now }
@@ -178,7 +181,7 @@ fn is_time(text: &[u8]) -> bool
     is_partial_time(text) || is_time_with(1, text) || is_time_with(6, text)
 }
 
-/// Returns whether the byte separates a date from a time: `time-delim = "T" / %x20`.
+/// Returns whether the byte may separate a date from a time: `T`, `t` or a space.
 fn is_time_delim(byte: u8) -> bool
     ensures { result ≡ spec.is_time_delim byte }
 {
@@ -193,6 +196,7 @@ fn is_date_time(text: &[u8]) -> bool
 }
 
 #[tactic(auto, unfolding(crate::specs::Date::is_date_text))]
+/// Returns whether the text is a valid date, time, or date and time.
 fn is_date_text(text: &[u8]) -> bool
     ensures { result ≡ spec.is_date_text text.now }
 {

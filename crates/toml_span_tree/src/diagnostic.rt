@@ -1,4 +1,4 @@
-//! What an editor or a terminal shows of an error.
+//! Errors as diagnostics: a message and labeled spans, for an editor or a terminal.
 ghost use Rattle.std.specs.Prelude.{◌≡◌, [], ◌∷◌, ◌++◌, IfOk, map, string_bytes};
 ghost use Rattle.toml_span_tree.specs.Error.{kind_of, marked_keys};
 ghost use Rattle.toml_span_tree.specs.Message.{code_of, told_char};
@@ -11,32 +11,34 @@ use crate::message::Shown;
 use std::alloc::{AllocError, Global};
 use toml_span_lex::span::Span;
 
-/// An error with the places that it concerns.
+/// An error in the form that editors and terminals show: a message, and places with labels.
 #[derive(Debug, Drop)]
 pub struct Diagnostic<F> {
     /// The code of the error's kind, such as `duplicate-key`.
     pub code: String,
-    /// What is wrong, or empty if the labels say it.
+    /// What is wrong, or an empty string if the labels say it.
     pub message: String,
-    /// The places.
+    /// The places, the error's own span first.
     pub labels: Vec<Label<F>>,
 }
 
-/// A place in a file, and what to say about it.
+/// A span in a file, and a text to show there.
 #[derive(Debug, Drop)]
 pub struct Label<F> {
-    /// Whether this is the place of the error. Other labels are places related to it.
+    /// Whether this is the place of the error. The other labels mark places related to it, such as the first of two
+    /// equal keys.
     pub primary: bool,
-    /// The file.
+    /// The file, as the caller of `to_diagnostic` identified it.
     pub file: F,
-    /// The byte span.
+    /// The span, in bytes, end exclusive.
     pub span: Span,
-    /// What to say about it, or empty.
+    /// The text to show at the span, or an empty string.
     pub message: String,
 }
 
 impl ErrorKind<'_> {
-    /// Returns the message of a diagnostic, which is empty if the label says everything. Fails if an allocation fails.
+    /// Returns the message of the diagnostic, or an empty string if the label says everything. Fails if an allocation
+    /// fails.
     fn message(&self, alloc: Global) -> Result<String, AllocError>
         ensures { IfOk result (λ text. string_bytes text ≡ message_of (kind_of self.now)) }
     {
@@ -67,7 +69,7 @@ impl ErrorKind<'_> {
         }
     }
 
-    /// Returns the text of the label at the error's own span. Fails if an allocation fails.
+    /// Returns the text of the label at the error's own span, or an empty string. Fails if an allocation fails.
     fn label_text(&self, alloc: Global) -> Result<String, AllocError>
         ensures { IfOk result (λ text. string_bytes text ≡ label_text_of (kind_of self.now)) }
     {
@@ -105,7 +107,7 @@ impl ErrorKind<'_> {
     }
 }
 
-/// Returns a text with a character between two others. Fails if an allocation fails.
+/// Returns `before`, the character and `after` as one string. Fails if an allocation fails.
 fn around(alloc: Global, before: &str, c: char, after: &str) -> Result<String, AllocError>
     ensures { IfOk result (λ text. string_bytes text ≡ before.now ++ told_char c ++ after.now) }
 {
@@ -113,7 +115,7 @@ fn around(alloc: Global, before: &str, c: char, after: &str) -> Result<String, A
     format!(in alloc; "{before}{c}{after}")
 }
 
-/// Returns the message that `count` keys are unexpected, with the expected ones. Fails if an allocation fails.
+/// Returns the message for `count` unexpected keys, which lists the expected ones. Fails if an allocation fails.
 fn unexpected_keys(alloc: Global, count: usize, expected: &[String]) -> Result<String, AllocError>
     ensures { IfOk result (λ text. string_bytes text
         ≡ unexpected_keys_message count (map string_bytes expected.now)) }
@@ -122,7 +124,7 @@ fn unexpected_keys(alloc: Global, count: usize, expected: &[String]) -> Result<S
     format!(in alloc; "found {count} unexpected keys, expected: {expected}")
 }
 
-/// Returns a secondary label at each of these keys. Fails if an allocation fails.
+/// Returns a secondary label for each of the keys: its name and span. Fails if an allocation fails.
 fn key_labels<F: Copy>(
     alloc: Global,
     file: F,
@@ -143,7 +145,8 @@ fn key_labels<F: Copy>(
     Ok(labels)
 }
 
-/// Returns the error's own label, followed by a secondary label for each of these places. Fails if an allocation fails.
+/// Returns the label of the error's own span, followed by a secondary label for each of the places. Fails if an
+/// allocation fails.
 fn marked_labels<F: Copy>(
     alloc: Global,
     file: F,
@@ -167,9 +170,10 @@ fn marked_labels<F: Copy>(
 }
 
 impl Error<'_> {
-    /// Converts the error into a diagnostic that an editor or a terminal can show. `fid` identifies the file.
+    /// Converts the error into a diagnostic that an editor or a terminal can show. `fid` identifies the file in the
+    /// labels.
     ///
-    /// Fails if an allocation fails; the error is unchanged.
+    /// Fails only if an allocation fails.
     pub fn to_diagnostic<F: Copy + PartialEq>(
         &self,
         alloc: Global,
@@ -189,7 +193,7 @@ impl Error<'_> {
         })
     }
 
-    /// Returns the labels in order. Fails if an allocation fails.
+    /// Returns the labels of the error, its own span first. Fails if an allocation fails.
     fn labels<F: Copy>(&self, alloc: Global, file: F) -> Result<Vec<Label<F>>, AllocError>
         ensures { IfOk result (λ labels. map label_content labels.items
             ≡ labels_of file self.now.span (kind_of self.now.kind)) }
@@ -224,7 +228,7 @@ impl Error<'_> {
     }
 }
 
-/// Returns a secondary label. Fails if an allocation fails.
+/// Returns a secondary label with a copy of the message. Fails if an allocation fails.
 fn secondary<F: Copy>(
     alloc: Global,
     file: F,
@@ -241,7 +245,7 @@ fn secondary<F: Copy>(
     })
 }
 
-/// Returns a list of one label. Fails if an allocation fails.
+/// Returns a list of this label. Fails if an allocation fails.
 fn one<F: Copy>(alloc: Global, label: Label<F>) -> Result<Vec<Label<F>>, AllocError>
     ensures { IfOk result (λ labels. labels.items ≡ label ∷ []) }
 {
@@ -250,7 +254,7 @@ fn one<F: Copy>(alloc: Global, label: Label<F>) -> Result<Vec<Label<F>>, AllocEr
     Ok(labels)
 }
 
-/// Returns a list of two labels. Fails if an allocation fails.
+/// Returns a list of the two labels. Fails if an allocation fails.
 fn two<F: Copy>(
     alloc: Global,
     first: Label<F>,
@@ -258,7 +262,8 @@ fn two<F: Copy>(
 ) -> Result<Vec<Label<F>>, AllocError>
     ensures { IfOk result (λ labels. labels.items ≡ first ∷ second ∷ []) }
 {
-    // Toolchain: `vec![in alloc; first, second]` at a type parameter leaves the goal `vec-requires` open.
+    // Toolchain: `vec![in alloc; first, second]` leaves the goal `vec-requires` open if the type of the items is a
+    // parameter.
     let mut labels = Vec::with_capacity(alloc, 2)?;
     labels.push(first)?;
     labels.push(second)?;

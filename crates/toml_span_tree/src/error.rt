@@ -7,25 +7,26 @@ use std::borrow::CowStr;
 use toml_span_lex::span::Span;
 use toml_span_lex::stop::Stop;
 
-// Toolchain: a generic function with `T: Deserialize<'de>` is refused if errors have `'static` strings ("a call goes by
-// a bound that names a lifetime of the function, whose signature names `'static`"), so they have the text's lifetime.
-/// What is wrong. Kinds marked "typed reads" come from reading types from a tree, all others from `parse`; `Wanted` and
-/// `DuplicateKey` come from both. Spans are byte offsets, their end exclusive.
+// Toolchain: `'static` strings in errors would make the check refuse a generic function with `T: Deserialize<'de>` ("a
+// call goes by a bound that names a lifetime of the function, whose signature names `'static`"). So they have the
+// lifetime of the text.
+/// What is wrong. Kinds marked "typed reads" come from reading a tree as a type, all others from `parse`. `Wanted` and
+/// `DuplicateKey` come from both. Spans are byte offsets, end exclusive.
 #[derive(Debug, Drop)]
 pub enum ErrorKind<'s> {
     /// The input ends where a value is expected.
     UnexpectedEof,
-    /// A value, header or dotted key exceeds the limit on depth.
+    /// A value is nested too deep, or a header or dotted key has too many parts.
     ExceededDepthLimit,
-    /// A character that strings must not contain.
+    /// A character that may not occur in a string.
     InvalidCharInString(char),
-    /// A character after a backslash that begins no escape.
+    /// A character that may not follow a backslash.
     InvalidEscape(char),
     /// A character where a hexadecimal digit is expected.
     InvalidHexEscape(char),
-    /// The digits of an escape are not a Unicode scalar value.
+    /// The number that an escape spells, which is not a Unicode scalar value.
     InvalidEscapeValue(u32),
-    /// A character that begins no token.
+    /// A character that no token begins with.
     Unexpected(char),
     /// The input ends inside a string.
     UnterminatedString,
@@ -33,54 +34,55 @@ pub enum ErrorKind<'s> {
     InvalidNumber,
     /// A malformed date or time.
     InvalidDatetime,
-    /// A number that does not fit in the type of this name (typed reads).
+    /// A number that the type with this name can't represent (typed reads).
     OutOfRange(&'s str),
-    /// Another token than the expected one; in typed reads, another kind of value.
+    /// A token other than the expected one or, in typed reads, a value of another kind than the expected one.
     Wanted {
         expected: &'s str,
         found: &'s str,
     },
-    /// A table that a second header opens; `first` is the earlier header's line.
+    /// A table with two headers. `first` is the line of the earlier header.
     DuplicateTable {
         name: String,
         first: Span,
     },
-    /// A key that is defined a second time; `first` is the earlier key.
+    /// A key that is defined twice. `first` is the earlier key.
     DuplicateKey {
         key: String,
         first: Span,
     },
-    /// An array of tables that is already a table.
+    /// A header in double brackets for something that is a table already.
     RedefineAsArray,
     /// A multi-line string as a key.
     MultilineStringKey,
-    /// An error with its own text (typed reads).
+    /// An error with a message of its own (typed reads).
     Custom(CowStr<'s>),
-    /// A key that goes through an earlier value; `first` is the key of that value.
+    /// A dotted key that goes through an earlier value which is not a table. `first` is the key of that value.
     DottedKeyInvalidType {
         first: Span,
     },
-    /// Keys of a table that are not fields of the type, with their spans, and the names of the fields (typed reads).
+    /// Keys of a table that are not fields of the type, with their spans, and the names of the fields of the type
+    /// (typed reads).
     UnexpectedKeys {
         keys: Vec<(String, Span)>,
         expected: Vec<String>,
     },
-    /// A bare word where a value is expected.
+    /// A bare word where a value is expected, such as `yes`.
     UnquotedString,
-    /// A field of this name that the table lacks (typed reads).
+    /// The name of a field that the table lacks (typed reads).
     MissingField(&'s str),
-    /// A field under its old name (typed reads with warnings).
+    /// A field that is given under its old name (typed reads that warn).
     Deprecated {
         old: &'s str,
         new: &'s str,
     },
-    /// A value other than the expected ones (typed reads).
+    /// A value that is not one of the expected ones (typed reads).
     UnexpectedValue {
         expected: &'s [&'s str],
         value: Option<String>,
     },
-    /// An error with its own code and message, and other places with their labels (typed reads): from
-    /// `TableHelper::keep_repeated` (`duplicate-name`), from `toml_span_serde`, and from callers.
+    /// An error with a code and message of its own, and more places with their labels (typed reads).
+    /// `TableHelper::keep_repeated` makes it with the code `duplicate-name`; `toml_span_serde` and callers make others.
     Marked {
         code: &'s str,
         message: CowStr<'s>,
@@ -92,9 +94,10 @@ pub enum ErrorKind<'s> {
 #[derive(Debug, Drop)]
 pub struct Error<'s> {
     pub kind: ErrorKind<'s>,
-    /// The bytes that the error is about.
+    /// The bytes of the document that the error is about.
     pub span: Span,
-    /// The line and column at which the span starts, both counted from 0, if they are known.
+    /// The line and the column of `span.start`, both from 0, the column in bytes; `None` if they are not known, as in
+    /// typed reads.
     pub line_info: Option<(usize, usize)>,
 }
 
@@ -114,7 +117,7 @@ impl<'s> From<(ErrorKind<'s>, Span)> for Error<'s> {
     }
 }
 
-/// Lets `?` convert an error in functions that return a `Stop` of something made from errors.
+/// Lets `?` convert an error in a function that fails with a `Stop` of a type made from errors.
 impl<'s, E: From<Error<'s>>> From<Error<'s>> for Stop<E> {
     ghost use Rattle.toml_span_tree.specs.Error.{IsFaultOf};
 
@@ -125,7 +128,7 @@ impl<'s, E: From<Error<'s>>> From<Error<'s>> for Stop<E> {
     }
 }
 
-/// Copies a list of keys. Fails if an allocation fails.
+/// Returns a copy of a list of keys with their spans. Fails if an allocation fails.
 #[tactic(auto, using(crate::proofs::Clones::keys_cloned))]
 fn clone_keys(keys: &Vec<(String, Span)>) -> Result<Vec<(String, Span)>, AllocError>
     ensures { IfOk result (λ copy. marked_keys copy.items ≡ marked_keys keys.now.items) }
@@ -133,7 +136,7 @@ fn clone_keys(keys: &Vec<(String, Span)>) -> Result<Vec<(String, Span)>, AllocEr
     keys.clone()
 }
 
-/// Copies a list of names. Fails if an allocation fails.
+/// Returns a copy of a list of names. Fails if an allocation fails.
 #[tactic(auto, using(crate::proofs::Clones::names_cloned))]
 fn clone_names(names: &Vec<String>) -> Result<Vec<String>, AllocError>
     ensures { IfOk result (λ copy. map string_bytes copy.items ≡ map string_bytes names.now.items) }
@@ -142,7 +145,7 @@ fn clone_names(names: &Vec<String>) -> Result<Vec<String>, AllocError>
 }
 
 impl<'s> ErrorKind<'s> {
-    /// Returns a copy with the same contents. Fails if an allocation fails; `self` is unchanged.
+    /// Returns a copy. Fails only if an allocation fails.
     pub fn clone(&self, alloc: Global) -> Result<Self, AllocError>
         ensures { IfOk result (λ copy. kind_of copy ≡ kind_of self.now) }
     {
@@ -207,7 +210,7 @@ impl<'s> ErrorKind<'s> {
 }
 
 impl<'s> Error<'s> {
-    /// Returns a copy with the same contents. Fails if an allocation fails; `self` is unchanged.
+    /// Returns a copy. Fails only if an allocation fails.
     pub fn clone(&self, alloc: Global) -> Result<Self, AllocError>
         ensures { IfOk result (λ copy. content_of copy ≡ content_of self.now) }
     {

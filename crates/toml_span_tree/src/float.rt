@@ -1,13 +1,13 @@
-//! Floats as texts.
+//! Floats, kept as text.
 
-/// A float as text. Two floats are equal exactly if their texts are: `1.0` and `1.00` differ.
+/// A float, kept as text. Two floats are equal if and only if their texts are: `1.0` and `1.00` differ.
 #[derive(PartialEq, Eq, Debug, Drop)]
 pub enum FloatText {
-    /// The literal without plus signs and underscores, and with `E` before the exponent.
+    /// The literal, without `+` and underscores, and with `E` before the exponent.
     Finite(String),
-    /// `inf`, or `-inf` if it is negative.
+    /// `inf`, or `-inf` if `negative`.
     Infinite { negative: bool },
-    /// `nan`, or `-nan` if it is negative.
+    /// `nan`, or `-nan` if `negative`.
     NotANumber { negative: bool },
 }
 
@@ -16,7 +16,7 @@ impl FloatText {
     ghost use Rattle.toml_span_tree.specs.Float.{float_text};
     ghost use Rattle.toml_span_tree.specs.Value.{float_value};
 
-    /// Returns the text: the stored literal, `inf`, `-inf`, `nan` or `-nan`.
+    /// Returns the text: the literal of a finite float, otherwise `inf`, `-inf`, `nan` or `-nan`.
     pub fn text(&self) -> &str
         ensures { result.now ≡ float_text (float_value self.now) }
     {

@@ -1,4 +1,4 @@
-//! Conversion of trees to JSON.
+//! Converts trees to JSON.
 ghost use Rattle.std.specs.Prelude.{◌≡◌, ◌++◌, ◌∷◌, [], true, IfOk, OnOk, map, string_bytes};
 ghost use Rattle.std.specs.Cow.{cow_str_bytes};
 ghost use Rattle.serde_json.specs.Data.{put, string};
@@ -15,7 +15,7 @@ use toml_span_lex::key::Key;
 impl Value<'_> {
     /// Converts the value to a JSON value of the same shape, without spans. Floats and dates become strings.
     ///
-    /// The value must be whole (`is_whole`). Fails only if an allocation fails.
+    /// Callers must prove that nothing has been taken from the value (`is_whole`). Fails only if an allocation fails.
     pub fn to_json(&self, alloc: Global) -> Result<Json, AllocError>
         requires { is_whole (view self.now) ≡ true }
         ensures { IfOk result (λ json. json_view json ≡ json_of (view self.now)) }
@@ -64,7 +64,7 @@ fn json_of_elements(alloc: Global, array: &Array<'_>) -> Result<Vec<Json>, Alloc
     Ok(made)
 }
 
-/// Appends the JSON values of these elements. Fails if an allocation fails.
+/// Converts the elements, and appends them to `made`. Fails if an allocation fails.
 #[cycle(json)]
 fn push_elements(
     alloc: Global,
@@ -99,7 +99,7 @@ fn json_of_entries(alloc: Global, table: &Table<'_>) -> Result<Map<String, Json>
     Ok(made)
 }
 
-/// Inserts the JSON value of an entry under its name. Fails if an allocation fails.
+/// Converts the value of an entry, and inserts it under the name of the key. Fails if an allocation fails.
 #[cycle(json)]
 fn put_entry(
     alloc: Global,

@@ -1,4 +1,4 @@
-//! Laws about the definitions.
+//! Laws: facts about the definitions, stated as functions that do nothing.
 ghost use Rattle.std.specs.Prelude.{◌≡◌, ◌↔◌, ◌<◌, ◌^◌, ℕ, List, [], Some, IsTrue, true, false, decimal};
 ghost use Rattle.toml_span_tree.specs.Node.{Node};
 ghost use Rattle.toml_span_tree.specs.Path.{Path, Place, shape_of, place_at, node_at, put, BeginsWith};
@@ -11,64 +11,64 @@ ghost use Rattle.toml_span_tree.specs.Value.{inner_of, span_of, is_taken, date_b
 use crate::date::DateText;
 use crate::float::FloatText;
 
-/// A date text is a date, a time, or a date, a delimiter, a time and possibly an offset.
+/// Every date text is a date, a time, or a date, a separator, a time and perhaps an offset.
 pub fn date_texts()
     ensures { (text : List ℕ) → IsDateText text ↔ IsDateOrTime text }
 {}
 
-/// Two date texts are equal exactly if their bytes are.
+/// Two date texts are equal if and only if their bytes are.
 pub fn equal_dates()
     ensures { (x y : DateText)
         → IsTrue (⟦<DateText<'static> as PartialEq>⟧.eq x y) ↔ (date_bytes x ≡ date_bytes y) }
 {}
 
-/// Two floats are equal exactly if their kinds and their texts or signs are.
+/// Two floats are equal if and only if they are of the same kind, and their texts or signs are equal.
 pub fn equal_floats()
     ensures { (x y : FloatText)
         → IsTrue (⟦<FloatText as PartialEq>⟧.eq x y) ↔ (float_value x ≡ float_value y) }
 {}
 
-/// The value put at a path is at that path.
+/// A value that was put at a path is at that path.
 pub fn put_stands()
     ensures { (path : Path) (n m w : Node) → node_at path n ≡ Some m → node_at path (put path w n) ≡ Some w }
 {}
 
-/// It has the span of the key that was there before.
+/// A value that was put at a path keeps the key that was there before, with its span.
 pub fn put_keeps_the_key()
     ensures { (path : Path) (n w : Node) (p : Place) → place_at path n ≡ Some p
         → place_at path (put path w n)
         ≡ Some (record { shape = shape_of (inner_of w); key_span = p.key_span; span = span_of w }) }
 {}
 
-/// Any other path has the same place as before, unless it leads through the path of the change.
+/// A path that does not lead through the path of the change has the same place as before.
 pub fn put_keeps_the_rest()
     ensures { (path other : Path) (n w : Node) → (BeginsWith path other → ⊥)
         → place_at other (put path w n) ≡ place_at other n }
 {}
 
-/// A pointer names the value at the path whose steps its segments name, unless that value has been taken and is below
-/// the start.
+/// If a pointer finds a value, that value is at the path whose steps the segments of the pointer name. Conversely it
+/// finds the value at such a path, unless something has been taken on the way below the start.
 pub fn pointer_names_a_path()
     ensures { (pointer : List ℕ) (n m : Node) → (pointed pointer n ≡ Some m) ↔ IsPointed pointer n m }
 {}
 
-/// A segment denotes a position exactly if it is the position's decimal form.
+/// A segment denotes a position if and only if it is the decimal form of that position.
 pub fn positions_are_decimal()
     ensures { (i : ℕ) (segment : List ℕ) → i < 2 ^ 64 → (position_of segment ≡ Some i) ↔ (segment ≡ decimal i) }
 {}
 
-/// The empty pointer names the value itself, even if it has been taken.
+/// The empty pointer finds the value itself, even if its content has been taken.
 pub fn empty_pointer()
     ensures { (n : Node) → pointed [] n ≡ Some n }
 {}
 
-/// A pointer names the value that was put at its place.
+/// A pointer at which a value was put finds that value.
 pub fn pointer_names_what_was_put()
     ensures { (pointer : List ℕ) (n m w : Node) → is_taken w ≡ false → pointed pointer n ≡ Some m
         → pointed pointer (put_pointed pointer w n) ≡ Some w }
 {}
 
-/// A pointer that diverges from the pointer of the change names the same value as before.
+/// A pointer that diverges from the one at which a value was put finds the same value as before.
 pub fn other_pointers_keep()
     ensures { (pointer other : List ℕ) (n m w : Node) → pointed pointer n ≡ Some m → pointers_part pointer other ≡ true
         → pointed other (put_pointed pointer w n) ≡ pointed other n }

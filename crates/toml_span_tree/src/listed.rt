@@ -1,4 +1,4 @@
-//! How names and keys are printed in lists.
+//! Prints names and keys as lists.
 ghost use Rattle.std.specs.Prelude.{◌++◌, codes, List, map, ℕ, Some, string_bytes};
 ghost use Rattle.std.specs.Fmt.{WritesOnOk};
 ghost use Rattle.std.specs.List.{flat_map, join_by};
@@ -10,7 +10,7 @@ use std::fmt;
 use std::fmt::{Display, Formatter, Write};
 use toml_span_lex::span::Span;
 
-/// Writes a white space or control character as an escape.
+/// Writes white space or a control character as an escape.
 pub(crate) fn write_escaped<W: Write>(f: &mut Formatter<W>, c: char) -> fmt::Result
     ensures { WritesOnOk W.write_str_gives f.old result (escaped_char c) f.new }
 {
@@ -50,9 +50,9 @@ fn write_quoted_chars<W: Write>(f: &mut Formatter<W>, name: &str) -> fmt::Result
     Ok(())
 }
 
-/// What a list can contain.
-// Toolchain: the `Debug` output of std is unspecified for text past ASCII (`debug_output` is `None`), so lists are
-// printed by this code.
+/// An item of a list that can be printed.
+// Toolchain: the contract of std's `Debug` leaves text beyond ASCII open (`debug_output` is `None`), so this code
+// prints lists.
 pub(crate) trait Item {
     ghost shown: { Self → List ℕ };
 
@@ -78,7 +78,7 @@ impl Item for String {
     }
 }
 
-/// Writes a span with its fields.
+/// Writes a span as `Debug` does, with the names of its fields.
 fn write_span<W: Write>(f: &mut Formatter<W>, span: Span) -> fmt::Result
     ensures { WritesOnOk W.write_str_gives f.old result (span_text span) f.new }
 {
@@ -99,7 +99,7 @@ impl Item for (String, Span) {
     }
 }
 
-/// Writes more items, each after a comma and a space.
+/// Writes each item after a comma and a space.
 fn write_more<T: Item, W: Write>(f: &mut Formatter<W>, items: &[T]) -> fmt::Result
     ensures { WritesOnOk W.write_str_gives f.old result
         (flat_map (λ item. codes ", " ++ T.shown item) items.now) f.new }

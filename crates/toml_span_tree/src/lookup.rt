@@ -1,4 +1,4 @@
-//! Look-ups by strings that need not live as long as the tree.
+//! Look-ups by strings that need not live as long as the document.
 ghost use Rattle.std.specs.Prelude.{◌≡◌, option_map};
 ghost use Rattle.toml_span_tree.specs.Node.{get_member};
 ghost use Rattle.toml_span_tree.specs.code.Pointer.{entry, value_named, untaken_entry};
@@ -11,7 +11,7 @@ use crate::pointer::{array_entry, cut};
 use crate::value::{Table, Value, ValueInner};
 pub use compiled::Pointer;
 
-/// Returns the value under a name, comparing it with each entry.
+/// Returns the value of the entry with this name, if the table has one. Compares the name with each entry in turn.
 fn entry_named<'v, 'de>(table: &'v Table<'de>, name: &str) -> Option<&'v Value<'de>>
     ensures { option_map (λ v. view v.now) result ≡ get_member name.now (members_view table.now.entries) }
 {
@@ -24,7 +24,7 @@ fn entry_named<'v, 'de>(table: &'v Table<'de>, name: &str) -> Option<&'v Value<'
 }
 
 impl<'de> ValueInner<'de> {
-    /// Returns the value that a segment names here.
+    /// Returns the value that a segment selects: an entry of a table, or an element of an array.
     fn entry_of(&self, segment: &str) -> Option<&Value<'de>>
         ensures { option_map (λ v. view v.now) result ≡ entry segment.now (inner_view self.now) }
     {
@@ -37,7 +37,7 @@ impl<'de> ValueInner<'de> {
 }
 
 impl<'de> Value<'de> {
-    /// Returns the value that a segment names here, unless it has been taken.
+    /// Returns the value that a segment selects in this value, unless its content has been taken.
     fn entry_of(&self, segment: &str) -> Option<&Self>
         ensures { option_map (λ v. view v.now) result ≡ untaken_entry segment.now (view self.now) }
     {
@@ -47,7 +47,7 @@ impl<'de> Value<'de> {
         }
     }
 
-    /// Returns the value that the segments name, beginning here.
+    /// Returns the value that the segments of `path` lead to, beginning at this value.
     fn found_by(&self, path: &str) -> Option<&Self>
         ensures { option_map (λ v. view v.now) result ≡ value_named (segments path.now) (view self.now) }
     {
@@ -59,12 +59,12 @@ impl<'de> Value<'de> {
         }
     }
 
-    /// Returns the value that the pointer names, like `pointer`. The string need not live as long as the tree: it may
-    /// be built at run time.
+    /// Returns the value that the pointer names, as `pointer` does. The string need not live as long as the document,
+    /// so it can be built at run time.
     ///
-    /// In each table on the way it compares the name with the entries one by one, while `pointer` searches the map, so
-    /// the time is linear in the total number of those entries. For a pointer that is looked up many times, or in large
-    /// tables, create a `Pointer` and use `at`.
+    /// In each table on the way, the name is compared with one entry after the other, whereas `pointer` searches the
+    /// map. So the time is linear in the number of entries of these tables. For large tables, or for a pointer that is
+    /// looked up many times, use a `Pointer` and `at`.
     pub fn look_up(&self, pointer: &str) -> Option<&Self>
         ensures { option_map (λ v. view v.now) result ≡ pointed pointer.now (view self.now) }
     {

@@ -1,4 +1,4 @@
-//! The texts of errors.
+//! The messages of errors.
 ghost use Rattle.std.specs.Prelude.{◌≡◌, ◌++◌, codes, map, Some, string_bytes};
 ghost use Rattle.std.specs.Fmt.{WritesOnOk};
 ghost use Rattle.toml_span_tree.specs.Error.{kind_of, marked_keys};
@@ -12,7 +12,7 @@ use std::fmt::{Display, Formatter, Write};
 use toml_span_lex::span::Span;
 
 impl<'s> ErrorKind<'s> {
-    /// Returns the code of the kind, such as `duplicate-key`.
+    /// Returns the code of this kind of error, such as `duplicate-key`.
     pub(crate) fn code(&self) -> &'s str
         ensures { result.now ≡ code_of (kind_of self.now) }
     {
@@ -53,7 +53,7 @@ impl Display for ErrorKind<'_> {
     }
 }
 
-/// A character in a message: white space as an escape, any other character as itself.
+/// A character as it appears in a message: white space as an escape, any other character as itself.
 #[derive(Clone, Copy)]
 pub(crate) struct Shown(pub(crate) char);
 
@@ -69,7 +69,7 @@ impl Display for Shown {
     }
 }
 
-/// Writes a text that ends with a backtick, a character, and another backtick.
+/// Writes a text that ends with a backtick, the character, and a backtick.
 fn with_char<W: Write>(f: &mut Formatter<W>, text: &str, c: char) -> fmt::Result
     ensures { WritesOnOk W.write_str_gives f.old result (text.now ++ told_char c ++ codes "`") f.new }
 {
@@ -77,7 +77,7 @@ fn with_char<W: Write>(f: &mut Formatter<W>, text: &str, c: char) -> fmt::Result
     write!(f, "{text}{c}`")
 }
 
-/// Writes that a field has a new name.
+/// Writes the message that the field `old` is now called `new`.
 fn deprecated<W: Write>(f: &mut Formatter<W>, old: &str, new: &str) -> fmt::Result
     ensures { WritesOnOk W.write_str_gives f.old result (deprecated_text old.now new.now) f.new }
 {
@@ -85,7 +85,7 @@ fn deprecated<W: Write>(f: &mut Formatter<W>, old: &str, new: &str) -> fmt::Resu
     write!(f, "' is deprecated, '{new}' has replaced it")
 }
 
-/// Writes which keys were found, and which were expected.
+/// Writes the message that keys are unexpected, with the names of the expected ones.
 fn unexpected_keys<W: Write>(
     f: &mut Formatter<W>,
     keys: &[(String, Span)],
@@ -100,7 +100,7 @@ fn unexpected_keys<W: Write>(
     write!(f, "`\nexpected: {expected}")
 }
 
-/// Writes which values were expected.
+/// Writes the message that a value is unexpected, with the expected ones.
 fn unexpected_value<W: Write>(f: &mut Formatter<W>, expected: &[&str]) -> fmt::Result
     ensures { WritesOnOk W.write_str_gives f.old result
         (unexpected_value_text (map (λ name. name.now) expected.now)) f.new }

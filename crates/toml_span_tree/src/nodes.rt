@@ -1,4 +1,4 @@
-//! All values of a tree with their paths.
+//! Lists all values of a tree with their paths.
 ghost use Rattle.std.specs.Prelude.{◌≡◌, ◌++◌, ◌∷◌, [], IfOk, None, OnOk, map, option_map};
 ghost use Rattle.toml_span_tree.specs.Value.{items_view, members_view, view};
 ghost use Rattle.toml_span_tree.specs.Nodes.{items_nodes, key_of, members_nodes, nodes_from, seen, step_of};
@@ -7,14 +7,14 @@ use crate::value::{Table, Value, ValueInner};
 use std::alloc::{AllocError, Global};
 use toml_span_lex::key::Key;
 
-/// A step: to the entry of a table with this name, or to the element of an array at this position, counted from 0.
+/// A step of a path: to the entry of a table with this name, or to the element of an array at this position, from 0.
 #[derive(Clone, Copy, Debug, PartialEq, Eq)]
 pub enum Step<'t> {
     Key(&'t str),
     Position(usize),
 }
 
-/// A value of a tree with its path, and its key if it is an entry of a table.
+/// A value of a tree, with the path from the root and, for an entry of a table, its key.
 #[derive(Drop)]
 pub struct Visited<'t, 'de> {
     pub path: Vec<Step<'t>>,
@@ -22,11 +22,11 @@ pub struct Visited<'t, 'de> {
     pub value: &'t Value<'de>,
 }
 
-/// Lists all values of a tree, each before those inside it: the elements of an array in order, the entries of a table
-/// in the order of their names. The first is the value itself, with an empty path. A value that has been taken is
-/// listed without those inside it.
+/// Lists `value` and all values inside it, each before those inside it. Elements are in order, entries in the order of
+/// their names. Paths begin at `value`, whose own path is empty. If the content of a value has been taken, the value is
+/// listed, but nothing inside it.
 ///
-/// Allocates the list and the path of each value. Fails if an allocation fails.
+/// Allocates the list and one path per value. Fails if an allocation fails.
 pub fn nodes<'t, 'de>(
     alloc: Global,
     value: &'t Value<'de>,
@@ -38,7 +38,7 @@ pub fn nodes<'t, 'de>(
     Ok(list)
 }
 
-/// Returns a path followed by a step. Fails if an allocation fails.
+/// Returns a copy of the path with the step at its end. Fails if an allocation fails.
 fn with_step<'t>(
     alloc: Global,
     path: &[Step<'t>],
@@ -51,7 +51,7 @@ fn with_step<'t>(
     Ok(steps)
 }
 
-/// Appends a value with its path. Fails if an allocation fails.
+/// Appends a value with a copy of its path. Fails if an allocation fails.
 fn push_visited<'t, 'de>(
     alloc: Global,
     value: &'t Value<'de>,
@@ -71,7 +71,7 @@ fn push_visited<'t, 'de>(
     Ok(())
 }
 
-/// Appends a value and those inside it. Fails if an allocation fails.
+/// Appends a value at this path, and all values inside it. Fails if an allocation fails.
 #[cycle(push_node)]
 fn push_node<'t, 'de>(
     alloc: Global,
@@ -94,7 +94,7 @@ fn push_node<'t, 'de>(
     }
 }
 
-/// Appends the values in an array. Fails if an allocation fails.
+/// Appends the elements of the array at this path, and all values inside them. Fails if an allocation fails.
 #[cycle(push_node)]
 fn push_elements<'t, 'de>(
     alloc: Global,
@@ -112,7 +112,7 @@ fn push_elements<'t, 'de>(
     Ok(())
 }
 
-/// Appends the values in a table. Fails if an allocation fails.
+/// Appends the entries of the table at this path, and all values inside them. Fails if an allocation fails.
 #[cycle(push_node)]
 fn push_entries<'t, 'de>(
     alloc: Global,

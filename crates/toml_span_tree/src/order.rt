@@ -1,4 +1,4 @@
-//! A table's entries in the order of the text.
+//! The entries of a table in the order of the text.
 ghost use Rattle.std.specs.Prelude.{◌≡◌, IfOk, map};
 ghost use Rattle.std.specs.List.Sorted.{IsNonDecreasingBy, IsPermutation};
 ghost use Rattle.toml_span_tree.specs.Order.{entry_of, start_of};
@@ -7,8 +7,8 @@ use crate::value::{Table, Value};
 use std::alloc::{AllocError, Global};
 use toml_span_lex::key::Key;
 
-/// Lists the entries of a table in the order in which their keys occur in the text, that is, by the starts of the keys'
-/// spans. Fails if an allocation fails.
+/// Lists the entries of a table by the starts of their keys' spans, that is, in the order in which the text has the
+/// keys. Fails if an allocation fails.
 pub fn in_text_order<'t, 'de>(
     alloc: Global,
     table: &'t Table<'de>,

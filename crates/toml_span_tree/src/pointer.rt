@@ -1,7 +1,7 @@
-//! Pointers: strings that name a place in a tree.
+//! Pointers: strings that name a value in a tree, such as `/servers/0/port`.
 //!
-//! The empty pointer names the value itself. Any other begins with `/` and names a place by the segments after it,
-//! which are separated by `/`: a segment is a key's name in a table, and a decimal position in an array.
+//! The empty pointer names the value at which the look-up starts. Any other pointer begins with `/`, which also
+//! separates its segments. A segment is the name of a key in a table, and a decimal position in an array.
 ghost use Rattle.std.specs.Prelude.{◌≡◌, ◌<◌, ◌∷◌, [], ◌^◌, option_map, option_and_then, IfOk, IfErr, IsSome, Some};
 ghost use Rattle.std.specs.Prelude.{None, List, ℕ, drop, false, length, slice_index_or, true, vec_len};
 ghost use Rattle.std.specs.Borrow.{sem};
@@ -9,7 +9,7 @@ ghost use Rattle.std.specs.Cow.{cow_str_bytes};
 ghost use Rattle.toml_span_lex.specs.Bytes.{slash};
 ghost use Rattle.toml_span_tree.specs.Value.{view, inner_view, items_view, members_view};
 ghost use Rattle.toml_span_tree.specs.Node.{get_member, get_item};
-ghost use Rattle.toml_span_tree.specs.code.Pointer.{PositionIs, entry, untaken_entry, segments_behind, set_named};
+ghost use Rattle.toml_span_tree.specs.code.Pointer.{PositionIs, entry, untaken_entry, segments_after, set_named};
 ghost use Rattle.toml_span_tree.specs.code.Pointer.{set_item, Exchanged, SplitAtSlash, value_named};
 ghost use Rattle.toml_span_tree.specs.Pointer.{position_of, segments, if_not_taken, pointed, put_pointed};
 ghost use Rattle.toml_span_tree.specs.Path.{set_entry};
@@ -21,7 +21,7 @@ use crate::value::{Array, Table, Value, ValueInner};
 use std::mem;
 use toml_span_lex::key::Key;
 
-/// Returns the position that the segment denotes, or `None` if it denotes none below 2^64.
+/// Returns the position that the segment spells in decimal, or `None` if it does not spell a number below 2^64.
 fn position(segment: &str) -> Option<usize>
     ensures { PositionIs result (position_of segment.now) }
 {
@@ -35,7 +35,7 @@ fn position(segment: &str) -> Option<usize>
     segment.parse::<usize>().ok()
 }
 
-/// Returns the first segment, and what follows its slash, if there is one.
+/// Returns the first segment of `path`, and what follows the `/` after it, if there is one.
 pub(crate) fn cut<'p>(path: &'p str) -> (&'p str, Option<&'p str>)
     ensures { SplitAtSlash path.now result.0.now (option_map (λ rest. rest.now) result.1) }
 {
@@ -59,7 +59,7 @@ pub(crate) fn array_entry<'v, 'de>(array: &'v Array<'de>, segment: &str) -> Opti
 }
 
 impl<'de> ValueInner<'de> {
-    /// Returns the value that a segment names here.
+    /// Returns the value that a segment selects: an entry of a table, or an element of an array.
     fn entry(&self, segment: &'de str) -> Option<&Value<'de>>
         ensures { option_map (λ v. view v.now) result ≡ entry segment.now (inner_view self.now) }
     {
@@ -72,7 +72,7 @@ impl<'de> ValueInner<'de> {
 }
 
 impl<'de> Value<'de> {
-    /// Returns the value that a segment names here, unless it has been taken.
+    /// Returns the value that a segment selects in this value, unless its content has been taken.
     fn entry(&self, segment: &'de str) -> Option<&Self>
         ensures { option_map (λ v. view v.now) result ≡ untaken_entry segment.now (view self.now) }
     {
@@ -82,14 +82,14 @@ impl<'de> Value<'de> {
         }
     }
 
-    /// Returns this value, unless it has been taken.
+    /// Returns this value, unless its content has been taken.
     pub(crate) fn if_untaken(&self) -> Option<&Self>
         ensures { option_map (λ v. view v.now) result ≡ if_not_taken (view self.now) }
     {
         if self.is_taken() { None } else { Some(self) }
     }
 
-    /// Returns the value that the segments name, beginning here.
+    /// Returns the value that the segments of `path` lead to, beginning at this value.
     fn found(&self, path: &'de str) -> Option<&Self>
         ensures { option_map (λ v. view v.now) result ≡ value_named (segments path.now) (view self.now) }
     {
@@ -101,12 +101,12 @@ impl<'de> Value<'de> {
         }
     }
 
-    /// Returns the value that the pointer names, if there is one.
+    /// Returns the value that the pointer names, or `None` if there is no such value.
     ///
-    /// The empty pointer names the value itself, even if it has been taken. Any other must begin with `/`, and its
-    /// segments are separated by `/`. In a table a segment is a key's name. In an array it is a position in range:
-    /// decimal digits, without a sign or a leading zero, except for `0` itself. Values that have been taken below the
-    /// start, and those inside them, are not found.
+    /// The empty pointer names `self`, even if its content has been taken. Any other pointer begins with `/`, and `/`
+    /// separates its segments. A segment is the name of a key in a table. In an array it is a position, from 0 and in
+    /// range: decimal digits without a sign, and without a leading zero unless it is `0`. A value below `self` is not
+    /// found if its content, or that of a value around it, has been taken.
     pub fn pointer(&self, pointer: &'de str) -> Option<&Self>
         ensures { option_map (λ v. view v.now) result ≡ pointed pointer.now (view self.now) }
     {
@@ -118,8 +118,8 @@ impl<'de> Value<'de> {
 }
 
 impl<'de> ValueInner<'de> {
-    /// Replaces the value that the segments name, beginning here. Returns the old value, or `new` as the error if they
-    /// name none.
+    /// Replaces the value that `segment` and the segments of `rest` lead to. Returns the old value, or `Err(new)` if
+    /// there is no such value.
     #[cycle(replace)]
     fn replace_found(
         &mut self,
@@ -127,7 +127,7 @@ impl<'de> ValueInner<'de> {
         rest: Option<&'de str>,
         new: Value<'de>,
     ) -> Result<Value<'de>, Value<'de>>
-        ensures { Exchanged result new.entry (segments_behind (option_map (λ r. r.now) rest.entry))
+        ensures { Exchanged result new.entry (segments_after (option_map (λ r. r.now) rest.entry))
             (option_and_then if_not_taken (entry segment.now (inner_view self.old)))
             (λ w. inner_view self.new ≡ set_named segment.now w (inner_view self.old))
             (inner_view self.new ≡ inner_view self.old) }
@@ -147,7 +147,7 @@ fn replace_entry<'de>(
     rest: Option<&'de str>,
     new: Value<'de>,
 ) -> Result<Value<'de>, Value<'de>>
-    ensures { Exchanged result new.entry (segments_behind (option_map (λ r. r.now) rest.entry))
+    ensures { Exchanged result new.entry (segments_after (option_map (λ r. r.now) rest.entry))
         (option_and_then if_not_taken (get_member name.now (members_view table.old.entries)))
         (λ w. members_view table.new.entries ≡ set_entry name.now w (members_view table.old.entries))
         (members_view table.new.entries ≡ members_view table.old.entries) }
@@ -165,7 +165,7 @@ fn replace_element<'de>(
     rest: Option<&'de str>,
     new: Value<'de>,
 ) -> Result<Value<'de>, Value<'de>>
-    ensures { Exchanged result new.entry (segments_behind (option_map (λ r. r.now) rest.entry))
+    ensures { Exchanged result new.entry (segments_after (option_map (λ r. r.now) rest.entry))
         (option_and_then if_not_taken
         (option_and_then (λ i. get_item i (items_view array.old.items)) (position_of segment.now)))
         (λ w. items_view array.new.items ≡ set_item (position_of segment.now) w (items_view array.old.items))
@@ -181,10 +181,9 @@ fn replace_element<'de>(
 }
 
 impl<'de> Value<'de> {
-    /// Returns a mutable reference to the value that the pointer names. It names the same value as for `pointer`.
+    /// Returns a mutable reference to the value that the pointer names, or `None` where `pointer` returns `None`.
     ///
-    /// Once the borrow ends, the tree is unchanged except for what was written through the reference. If the pointer
-    /// names no value, nothing changes.
+    /// Nothing changes except what is written through the reference.
     pub fn pointer_mut(&mut self, pointer: &'de str) -> Option<&mut Self>
         ensures* writes_back { sem 𝓛 (lends_pointed self.entry pointer.now result) }
         ensures value { option_map (λ v. view v.now) result ≡ pointed pointer.now (view self.old) }
@@ -196,10 +195,11 @@ impl<'de> Value<'de> {
         None
     }
 
-    /// Replaces this value or one below it, unless this one has been taken.
+    /// Replaces this value or, with `rest`, the one that its segments lead to. Returns the old value, or `Err(new)` if
+    /// there is no such value or this one's content has been taken.
     #[cycle(replace)]
     fn replace_here(&mut self, rest: Option<&'de str>, new: Self) -> Result<Self, Self>
-        ensures { Exchanged result new.entry (segments_behind (option_map (λ r. r.now) rest.entry))
+        ensures { Exchanged result new.entry (segments_after (option_map (λ r. r.now) rest.entry))
             (if_not_taken (view self.old)) (λ w. view self.new ≡ w) (view self.new ≡ view self.old) }
     {
         if self.is_taken() {
@@ -211,8 +211,8 @@ impl<'de> Value<'de> {
         }
     }
 
-    /// Replaces the value that the segments name, beginning here. Returns the old value, or `new` as the error if they
-    /// name none.
+    /// Replaces the value that the segments of `path` lead to, beginning at this value. Returns the old value, or
+    /// `Err(new)` if there is no such value.
     #[cycle(replace)]
     fn replace_found(&mut self, path: &'de str, new: Self) -> Result<Self, Self>
         ensures { Exchanged result new.entry (segments path.now) (Some (view self.old)) (λ w. view self.new ≡ w)
@@ -225,18 +225,18 @@ impl<'de> Value<'de> {
         }
     }
 
-    /// Replaces the value that the pointer names with `new`, whose span it keeps. Returns the old value. Keys, their
-    /// spans and all other places are unchanged.
+    /// Replaces the value that the pointer names by `new`, which gets the span of the old one. Returns the old value.
+    /// Keys, their spans and all other values are unchanged.
     ///
-    /// If the pointer names no place, returns `new` as the error, and nothing changes.
+    /// If the pointer names no value, returns `Err(new)`, and nothing changes.
     pub fn replace(&mut self, pointer: &'de str, new: Self) -> Result<Self, Self>
         ensures done { IfOk result (λ old. (pointed pointer.now (view self.old) ≡ Some (view old))
             × (view self.new ≡ put_pointed pointer.now (view new.entry) (view self.old))) }
         ensures refused { IfErr result (λ back. (back ≡ new.entry) × (pointed pointer.now (view self.old) ≡ None)
             × (view self.new ≡ view self.old)) }
     {
-        // Toolchain: a caller learns nothing from a reference `&mut Value<'de>` that `pointer_mut` lends, so what is
-        // proved after a write uses this function.
+        // Toolchain: callers learn nothing about a `&mut Value<'de>` that `pointer_mut` returns. Proofs about writes
+        // use this function instead.
         if pointer.is_empty() {
             return Ok(mem::replace(self, new));
         }
@@ -278,7 +278,7 @@ fn item_of<'v, 'de>(array: &'v mut Array<'de>, position: usize) -> &'v mut Value
     &mut array[position]
 }
 
-/// Returns a mutable reference to the value that a key names here.
+/// Returns a mutable reference to the value that a key selects, which must exist.
 fn entry_of<'v, 'de, 'k>(inner: &'v mut ValueInner<'de>, key: &'k Key<'de>) -> &'v mut Value<'de>
     requires { IsSome (entry (cow_str_bytes key.now.name) (inner_view inner.old)) }
     ensures* writes_back { sem 𝓛 (lends_entry inner.entry (cow_str_bytes key.now.name) result) }
@@ -307,7 +307,7 @@ fn position_named<'k, 'de>(key: &'k Key<'de>) -> usize
     }
 }
 
-/// Returns a mutable reference to the value that a key names here.
+/// Returns a mutable reference to the value that a key selects in this value, which must exist.
 fn child_of<'v, 'de, 'k>(value: &'v mut Value<'de>, key: &'k Key<'de>) -> &'v mut Value<'de>
     requires { IsSome (untaken_entry (cow_str_bytes key.now.name) (view value.old)) }
     ensures* writes_back { sem 𝓛 (lends_child value.entry (cow_str_bytes key.now.name) result) }
@@ -319,7 +319,7 @@ fn child_of<'v, 'de, 'k>(value: &'v mut Value<'de>, key: &'k Key<'de>) -> &'v mu
 
 fn release(key: Key<'_>) {}
 
-/// Returns a mutable reference to the value that a segment names here.
+/// Returns a mutable reference to the value that a segment selects in this value, which must exist.
 fn step_to<'v, 'de>(value: &'v mut Value<'de>, segment: &'de str) -> &'v mut Value<'de>
     requires { IsSome (untaken_entry segment.now (view value.old)) }
     ensures* writes_back { sem 𝓛 (lends_child value.entry segment.now result) }
@@ -331,14 +331,14 @@ fn step_to<'v, 'de>(value: &'v mut Value<'de>, segment: &'de str) -> &'v mut Val
     child
 }
 
-/// Returns the first segment.
+/// Returns the first segment of a path.
 fn first<'p>(path: &'p str) -> &'p str
     ensures { segments path.now ≡ result.now ∷ drop 1 (segments path.now) }
 {
     cut(path).0
 }
 
-/// Returns whether the first segment is the only one.
+/// Returns whether a path has only one segment.
 fn is_last<'p>(path: &'p str) -> bool
     ensures only { result ≡ true → drop 1 (segments path.now) ≡ [] }
     ensures more { result ≡ false → 0 < length (drop 1 (segments path.now)) }
@@ -349,8 +349,8 @@ fn is_last<'p>(path: &'p str) -> bool
     }
 }
 
-/// Returns what follows the first segment and its slash.
-fn behind<'p>(path: &'p str) -> &'p str
+/// Returns what follows the first segment of a path and the `/` after it.
+fn after<'p>(path: &'p str) -> &'p str
     ensures { 0 < length (drop 1 (segments path.now))
         → (segments result.now ≡ drop 1 (segments path.now)) × (length result.now < length path.now) }
 {
@@ -360,7 +360,7 @@ fn behind<'p>(path: &'p str) -> &'p str
     }
 }
 
-/// Returns a mutable reference to the value that the segments name, beginning here.
+/// Returns a mutable reference to the value that the segments of `path` lead to, which must exist.
 fn at_path<'v, 'de>(value: &'v mut Value<'de>, path: &'de str) -> &'v mut Value<'de>
     requires { IsSome (value_named (segments path.now) (view value.old)) }
     ensures* writes_back { sem 𝓛 (lends_named value.entry path.now result) }
@@ -371,7 +371,7 @@ fn at_path<'v, 'de>(value: &'v mut Value<'de>, path: &'de str) -> &'v mut Value<
     if is_last(path) {
         return child;
     }
-    let rest = behind(path);
+    let rest = after(path);
     at_path(child, rest)
 }
 
@@ -383,8 +383,8 @@ fn is_end<'p>(pointer: &'p str) -> bool
     pointer.is_empty()
 }
 
-/// Returns what follows the slash with which the pointer begins.
-fn behind_slash<'p>(pointer: &'p str) -> &'p str
+/// Returns what follows the `/` at the beginning of the pointer.
+fn after_slash<'p>(pointer: &'p str) -> &'p str
     ensures { (path : List ℕ) → pointer.now ≡ slash ∷ path → result.now ≡ path }
 {
     match pointer.strip_prefix('/') {
@@ -393,7 +393,7 @@ fn behind_slash<'p>(pointer: &'p str) -> &'p str
     }
 }
 
-/// Returns a mutable reference to the value that the pointer names.
+/// Returns a mutable reference to the value that the pointer names, which must exist.
 fn at_pointer<'v, 'de>(value: &'v mut Value<'de>, pointer: &'de str) -> &'v mut Value<'de>
     requires { IsSome (pointed pointer.now (view value.old)) }
     ensures* writes_back { sem 𝓛 (lends_at value.entry pointer.now result) }
@@ -402,12 +402,11 @@ fn at_pointer<'v, 'de>(value: &'v mut Value<'de>, pointer: &'de str) -> &'v mut 
     if is_end(pointer) {
         return value;
     }
-    let path = behind_slash(pointer);
+    let path = after_slash(pointer);
     at_path(value, path)
 }
 
-/// Returns whether the pointer names a value. It takes the mutable reference that `pointer_mut` has, and leaves the
-/// value unchanged.
+/// Returns whether the pointer names a value. It takes a mutable reference, like `pointer_mut`, but changes nothing.
 fn is_pointed<'x, 'de>(value: &'x mut Value<'de>, pointer: &'de str) -> bool
     ensures some { result ≡ true → IsSome (pointed pointer.now (view value.old)) }
     ensures none { result ≡ false → pointed pointer.now (view value.old) ≡ None }

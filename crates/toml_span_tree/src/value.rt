@@ -14,13 +14,13 @@ use std::fmt::{Debug, Formatter, Write};
 use toml_span_lex::key::Key;
 use toml_span_lex::span::Span;
 
-/// The elements of an array.
+/// An array: its elements in order.
 pub type Array<'de> = Vec<Value<'de>>;
 
-/// The entries of a table, in the order of their names.
+/// A table: its entries in the order of their names, by bytes.
 pub type Table<'de> = BTreeMap<Key<'de>, Value<'de>>;
 
-/// The content of a value.
+/// The content of a value: its kind and what it holds.
 #[cycle(tree)]
 #[derive(Debug, Drop)]
 pub enum ValueInner<'de> {
@@ -33,12 +33,12 @@ pub enum ValueInner<'de> {
     Table(Table<'de>),
 }
 
-/// A value with its span. Its content may have been taken.
+/// A value with its span. A typed read may have taken its content.
 #[cycle(tree)]
 #[derive(Drop)]
 pub struct Value<'de> {
     pub(crate) value: Option<ValueInner<'de>>,
-    /// The byte span of the value in the text.
+    /// The bytes of the document that spell the value, end exclusive.
     pub span: Span,
 }
 
@@ -60,14 +60,14 @@ impl<'de> Value<'de> {
     ghost use Rattle.toml_span_tree.specs.Value.{text_in, integer_in, float_in, boolean_in, datetime_in, items_in};
     ghost use Rattle.toml_span_tree.specs.Value.{members_in, kind_name, wrong_kind, has_members};
 
-    /// Creates a value with the span 0..0.
+    /// Wraps the content. The span is 0..0.
     pub fn new(value: ValueInner<'de>) -> Self
         ensures { view result ≡ node (inner_view value.entry) (record { start = 0; end = 0 }) }
     {
         Self::with_span(value, Span::default())
     }
 
-    /// Creates a value with this span.
+    /// Wraps the content with this span.
     pub fn with_span(value: ValueInner<'de>, span: Span) -> Self
         ensures view { view result ≡ node (inner_view value.entry) span }
         ensures kept { (result.value ≡ Some value.entry) × (result.span ≡ span) }
@@ -78,21 +78,21 @@ impl<'de> Value<'de> {
         }
     }
 
-    /// Replaces the content, whether or not it has been taken. The span is unchanged.
+    /// Replaces the content, taken or not. The span stays the same.
     pub fn set(&mut self, value: ValueInner<'de>)
         ensures { view self.new ≡ node (inner_view value.entry) self.old.span }
     {
         drop(self.value.replace(value));
     }
 
-    /// Returns whether the content has been taken.
+    /// Returns whether the content has been taken. The values inside are not looked at.
     pub fn is_taken(&self) -> bool
         ensures { result ≡ is_taken_node (view self.now) }
     {
         self.value.is_none()
     }
 
-    /// Returns whether nothing has been taken, here or in the values inside.
+    /// Returns whether neither this value nor any value inside it has been taken.
     #[cycle(whole)]
     pub fn is_whole(&self) -> bool
         ensures { result ≡ is_whole_node (view self.now) }
@@ -103,7 +103,8 @@ impl<'de> Value<'de> {
         }
     }
 
-    /// Takes the content, which must not have been taken before (`is_taken`). The span is unchanged.
+    /// Takes the content out, and leaves the value taken. The span stays the same. Callers must prove that the content
+    /// has not been taken already (`is_taken`).
     pub fn take(&mut self) -> ValueInner<'de>
         requires { is_taken_node (view self.old) ≡ false }
         ensures given { view self.old ≡ node (inner_view result) self.old.span }
@@ -116,7 +117,7 @@ impl<'de> Value<'de> {
         }
     }
 
-    /// Returns the content, which must not have been taken (`is_taken`).
+    /// Returns the content. Callers must prove that it has not been taken (`is_taken`).
     pub fn as_ref(&self) -> &ValueInner<'de>
         requires { is_taken_node (view self.now) ≡ false }
         ensures { view self.now ≡ node (inner_view result.now) self.now.span }
@@ -127,11 +128,10 @@ impl<'de> Value<'de> {
         }
     }
 
-    /// Takes the content, which must not have been taken before, and returns it if it is a string. It is taken even if
-    /// it is not a string.
+    /// Takes the content out, and returns it if it is a string. Callers must prove that it has not been taken already.
     ///
-    /// Otherwise fails with `Wanted` at the value's span: expected is `msg`, or "a string" without a message, and found
-    /// is the name of the kind.
+    /// Otherwise fails with `Wanted` at the value's span. There `expected` is `msg`, or "a string" if that is `None`,
+    /// and `found` is the name of the kind. The content is taken then too.
     pub fn take_string<'s>(&mut self, msg: Option<&'s str>) -> Result<CowStr<'de>, Error<'s>>
         requires { is_taken_node (view self.old) ≡ false }
         ensures text { IfOk result (λ text. text_in (inner_of (view self.old)) ≡ Some (cow_str_bytes text)) }
@@ -154,7 +154,7 @@ impl<'de> Value<'de> {
         }
     }
 
-    /// Returns whether this is a table that has an entry.
+    /// Returns whether this is a table with at least one entry.
     pub fn has_keys(&self) -> bool
         ensures { result ≡ has_members (inner_of (view self.now)) }
     {
@@ -164,19 +164,20 @@ impl<'de> Value<'de> {
         }
     }
 
-    /// Returns whether this is a table that has an entry with this name.
+    /// Returns whether this is a table with an entry of this name.
     pub fn has_key(&self, key: &'de str) -> bool
         ensures { result ≡ is_some (option_and_then (get_member key.now) (members_in (inner_of (view self.now)))) }
     {
-        // Toolchain: a key can be looked up in a map only if its lifetime is that of the map's keys ("a type argument
-        // names two lifetimes that the function keeps apart"), so names live as long as the document.
+        // Toolchain: a map is searched only for keys of the lifetime of its own keys ("a type argument names two
+        // lifetimes that the function keeps apart"), so `key` lives as long as the document.
         match self.as_table() {
             Some(table) => table.contains_key(&Key::named(key)),
             None => false,
         }
     }
 
-    /// Returns the name of the kind, as `ValueInner` does, or an empty string if the content has been taken.
+    /// Returns the name of the kind, such as `integer` (see `ValueInner::type_str`), or an empty string if the content
+    /// has been taken.
     pub fn type_str(&self) -> &'static str
         ensures { result.now ≡ kind_name (inner_of (view self.now)) }
     {
@@ -186,7 +187,7 @@ impl<'de> Value<'de> {
         }
     }
 
-    /// Returns the string, if this is one.
+    /// Returns the content if it is a string, `None` if it is of another kind or has been taken.
     pub fn as_str(&self) -> Option<&str>
         ensures { option_map (λ s. s.now) result ≡ text_in (inner_of (view self.now)) }
     {
@@ -196,7 +197,7 @@ impl<'de> Value<'de> {
         }
     }
 
-    /// Returns the entries, if this is a table.
+    /// Returns the content if it is a table, `None` if it is of another kind or has been taken.
     pub fn as_table(&self) -> Option<&Table<'de>>
         ensures { option_map (λ table. members_view table.now.entries) result ≡ members_in (inner_of (view self.now)) }
     {
@@ -206,7 +207,7 @@ impl<'de> Value<'de> {
         }
     }
 
-    /// Returns the elements, if this is an array.
+    /// Returns the content if it is an array, `None` if it is of another kind or has been taken.
     pub fn as_array(&self) -> Option<&Array<'de>>
         ensures { option_map (λ array. items_view array.now.items) result ≡ items_in (inner_of (view self.now)) }
     {
@@ -216,7 +217,7 @@ impl<'de> Value<'de> {
         }
     }
 
-    /// Returns the number, if this is an integer.
+    /// Returns the content if it is an integer, `None` if it is of another kind or has been taken.
     pub fn as_integer(&self) -> Option<i64>
         ensures { result ≡ integer_in (inner_of (view self.now)) }
     {
@@ -226,7 +227,7 @@ impl<'de> Value<'de> {
         }
     }
 
-    /// Returns the float, if this is one.
+    /// Returns the content if it is a float, `None` if it is of another kind or has been taken.
     pub fn as_float(&self) -> Option<&FloatText>
         ensures { option_map (λ x. float_value x.now) result ≡ float_in (inner_of (view self.now)) }
     {
@@ -236,7 +237,7 @@ impl<'de> Value<'de> {
         }
     }
 
-    /// Returns the boolean, if this is one.
+    /// Returns the content if it is a boolean, `None` if it is of another kind or has been taken.
     pub fn as_bool(&self) -> Option<bool>
         ensures { result ≡ boolean_in (inner_of (view self.now)) }
     {
@@ -246,7 +247,7 @@ impl<'de> Value<'de> {
         }
     }
 
-    /// Returns the date or time, if this is one.
+    /// Returns the content if it is a date or time, `None` if it is of another kind or has been taken.
     pub fn as_datetime(&self) -> Option<&DateText<'de>>
         ensures { option_map (λ date. date_bytes date.now) result ≡ datetime_in (inner_of (view self.now)) }
     {
@@ -278,6 +279,7 @@ impl<'de> ValueInner<'de> {
     }
 
     #[cycle(whole)]
+    /// Returns whether no value inside has been taken.
     fn is_whole(&self) -> bool
         ensures { result ≡ holds_whole (inner_view self.now) }
     {
@@ -360,6 +362,7 @@ impl<'de> ValueInner<'de> {
 }
 
 #[cycle(whole)]
+/// Returns whether all of the values are whole.
 fn all_whole(values: &[Value<'_>]) -> bool
     ensures { result ≡ all_whole_items (items_view values.now) }
 {
@@ -372,6 +375,7 @@ fn all_whole(values: &[Value<'_>]) -> bool
 }
 
 #[cycle(whole)]
+/// Returns whether the values of all entries are whole.
 fn all_entries_whole(table: &Table<'_>) -> bool
     ensures { result ≡ all_members_whole (members_view table.now.entries) }
 {

@@ -1,4 +1,4 @@
--- What a helper returns for a field that has an old name too.
+-- What `TableHelper` returns for a field that has an old name too.
 use Rattle.std.specs.Prelude.{◌≡◌, ◌⊎◌, ℕ, List, [], ◌∷◌, ◌++◌, Option, Some, None, option_map, MatchOption, nat_lt}
 use Rattle.std.specs.Prelude.{if◌then◌else◌, Result, Ok, Err}
 use Rattle.std.specs.declared.alloc.AllocError.{AllocError}
@@ -10,15 +10,15 @@ use Rattle.toml_span_tree.specs.Value.{view}
 use Rattle.toml_span_typed.specs.Errors.{Errors, all}
 use Rattle.toml_span_typed.specs.TableHelper.{Starved, State, keeping, missing, noted, without}
 
--- the error for a key that occurs a second time
+-- the error for the second of two keys with this name
 abbrev pub again : List ℕ → Span → Span → ErrorContent
 again name span first = record { kind = duplicate_key name first; span = span; line_info = None }
 
--- the error of a field under two names, at the later one
+-- the error for a field under both names, at the later key
 abbrev pub twice : List ℕ → Span → List ℕ → Span → ErrorContent
 twice name span old other = if nat_lt span.start other.start then again old other span else again name span other
 
--- an entry: its key's span, and its value
+-- an entry: the span of its key, and its value
 abbrev pub Entry : Type 0
 Entry = Option Span × Node
 
@@ -29,19 +29,19 @@ abbrev pub twice_at : List ℕ → Option Span → List ℕ → Option Span → 
 twice_at name (Some span) old (Some other) s = keeping (twice name span old other ∷ []) s
 twice_at name _ old _ s = s
 
--- the error is kept where both names have an entry
+-- The state in which the error is kept if both names have an entry.
 abbrev pub keeping_twice : List ℕ → Option Entry → List ℕ → Option Entry → State → State
 keeping_twice name (Some entry) old (Some other) s = twice_at name entry.0 old other.0 s
 keeping_twice name _ old _ s = s
 
--- what the name has, and what the old name has
+-- the entry of a name in the state
 abbrev pub newer : List ℕ → State → Option Entry
 newer name s = entry_at name s.members
 
 abbrev pub older : List ℕ → List ℕ → State → Option Entry
 older name old s = entry_at old (without name s.members)
 
--- the value of the name, or else of the old one
+-- the value of the first entry or, if there is none, of the second
 abbrev pub first_value : Option Entry → Option Entry → Option Node
 first_value (Some entry) other = Some entry.1
 first_value None other = option_map (λ e. e.1) other
@@ -49,12 +49,12 @@ first_value None other = option_map (λ e. e.1) other
 abbrev pub either : List ℕ → List ℕ → State → Option Node
 either name old s = first_value (newer name s) (older name old s)
 
--- the entry of the name is gone, and the name is not recorded
+-- The state without the entry of the name, which is not recorded.
 abbrev pub passed : List ℕ → State → State
 passed name s =
     record { members = without name s.members; asked = s.asked; errors = s.errors; span = s.span }
 
--- both names are recorded and their entries gone; a field under both is an error
+-- The state after both names were recorded and their entries removed. A field under both is an error.
 abbrev pub asked_both : List ℕ → List ℕ → State → State
 asked_both name old s = keeping_twice name (newer name s) old (older name old s) (noted old (noted name s))
 
@@ -67,16 +67,16 @@ abbrev pub outdated_at : List ℕ → List ℕ → Option (Option Span) → List
 outdated_at name old (Some (Some span)) = record { kind = deprecated old name; span = span; line_info = None } ∷ []
 outdated_at name old _ = []
 
--- the warning, where the old name has an entry
+-- the warning, if the old name has an entry
 abbrev pub outdated : List ℕ → List ℕ → State → List ErrorContent
 outdated name old s = outdated_at name old (option_map (λ entry. entry.0) (older name old s))
 
--- the error that the name is not there is kept
+-- the state in which the error is kept that the name is missing
 abbrev pub lacks : List ℕ → State → State
 lacks name s = keeping (missing name s ∷ []) s
 
--- the element of a value that was moved out; or None: with all errors of the read kept, and without a value as `none`
--- says
+-- A value that was moved out is read: the element, or None after all its errors were kept. If there is no value, the
+-- result is None, and the state is as `none` says.
 abbrev pub ReadsMoved : {T : Type 0} → (Node → Result T Errors → Node → Type 0) → (State → State) → Option Node
     → State → Option T → State → Type 0
 ReadsMoved reads none moved before (Some x) after =
@@ -85,8 +85,8 @@ ReadsMoved reads none moved before None after = MatchOption moved
     (after ≡ none before)
     (λ value. (faults : Errors) × (left : Node) × reads value (Err faults) left × (after ≡ keeping (all faults) before))
 
--- out of memory: nothing has changed, or the names are recorded and their entries gone, and the only new error is that
--- of a field under both names
+-- An allocation failed: nothing has changed, or the names have been recorded and their entries removed, and the only
+-- new error is that of a field under both names.
 abbrev pub StarvedEither : List ℕ → List ℕ → State → State → Type 0
 StarvedEither name old before after =
     Starved name before after ⊎ (after ≡ noted old (noted name before)) ⊎ (after ≡ asked_both name old before)
@@ -95,14 +95,14 @@ abbrev pub StarvedDeprecated : List ℕ → List ℕ → State → State → Typ
 StarvedDeprecated name old before after =
     (after ≡ before) ⊎ (after ≡ passed old (noted name before)) ⊎ (after ≡ asked_deprecated name old before)
 
--- `read_either`: the element, or the error that neither name is there
+-- `read_either`: the element, or the error that both names are missing
 abbrev pub AsksEither : {T : Type 0} → (Node → Result T Errors → Node → Type 0) → List ℕ → List ℕ → State
     → Result (Option T) AllocError → State → Type 0
 AsksEither reads name old before (Ok field) after =
     ReadsMoved reads (lacks name) (either name old before) (asked_both name old before) field after
 AsksEither reads name old before (Err error) after = StarvedEither name old before after
 
--- `read_optional_either`: the element, if one of the names is there
+-- `read_optional_either`: the element, if one of the names is present
 abbrev pub TriesEither : {T : Type 0} → (Node → Result T Errors → Node → Type 0) → List ℕ → List ℕ → State
     → Result (Option T) AllocError → State → Type 0
 TriesEither reads name old before (Ok field) after =
@@ -122,7 +122,7 @@ TriesDeprecated reads name old before (Ok field) after =
     ReadsMoved reads (λ s. s) (either name old before) (asked_deprecated name old before) field after
 TriesDeprecated reads name old before (Err error) after = StarvedDeprecated name old before after
 
--- the warning of the old name is put after the earlier ones; out of memory, it may be absent
+-- The warning about the old name is appended to the earlier ones. If an allocation failed, it may be missing.
 abbrev pub Warns : {T : Type 0} → List ErrorContent → List ErrorContent → Result T AllocError → List ErrorContent
     → Type 0
 Warns warnings warning (Ok x) more = more ≡ warnings ++ warning

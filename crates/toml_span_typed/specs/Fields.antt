@@ -1,4 +1,4 @@
--- What a helper returns for a field if it keeps the errors itself.
+-- What `TableHelper` returns for a field if it keeps the errors itself.
 use Rattle.std.specs.Prelude.{◌≡◌, ◌⊎◌, ℕ, List, [], ◌∷◌, length, Option, Some, None, MatchOption, true, Result, Ok, Err}
 use Rattle.std.specs.declared.alloc.AllocError.{AllocError}
 use Rattle.toml_span_lex.specs.declared.stop.Stop.{Stop}
@@ -13,12 +13,12 @@ use Rattle.toml_span_typed.specs.TableHelper.{Requires, Starved, State, found, k
 use Rattle.toml_span_typed.specs.declared.de_helpers.table_helper.Unfinished.{Unfinished}
 use Rattle.toml_span_typed.specs.declared.de_helpers.table_helper.Unfinished.TheVariants as unfinished
 
--- all errors, or out of memory
+-- all errors, or the failed allocation
 abbrev pub stop_of : Unfinished → Stop Errors
 stop_of (unfinished.Faults faults) = stop.Fault faults
 stop_of (unfinished.Memory helper) = stop.Memory (record {})
 
--- `read`: the element; or None, and the error for the missing name, or all errors of the read, are kept
+-- `read`: the element; or None, after keeping the error of the missing name, or all errors of the read
 abbrev pub Asks : {T : Type 0} → (Node → Result T Errors → Node → Type 0) → List ℕ → State
     → Result (Option T) AllocError → State → Type 0
 Asks reads name before (Ok (Some x)) after =
@@ -30,13 +30,13 @@ Asks reads name before (Ok None) after = MatchOption (found name before)
     × (after ≡ keeping (all faults) (noted name before)))
 Asks reads name before (Err error) after = Starved name before after
 
--- `kept`: what was read; or None, and the errors are kept
+-- `kept`: what was read; or None, after keeping the errors
 abbrev pub Keeps : {T : Type 0} → Result T (Stop Errors) → State → Option T → State → Type 0
 Keeps (Ok x) before answer after = (answer ≡ Some x) × (after ≡ before)
 Keeps (Err (stop.Fault faults)) before answer after = (answer ≡ None) × (after ≡ keeping (all faults) before)
 Keeps (Err (stop.Memory error)) before answer after = ⊥
 
--- `require`: as `Requires`, with the error in a list
+-- `require`: as in `Requires`, with the error in a list
 abbrev pub RequiresAll : {T : Type 0} → (Node → Result T Errors → Node → Type 0) → List ℕ → State
     → Result T (Stop Errors) → State → Type 0
 RequiresAll reads name before (Ok x) after = Requires reads name before (Ok x) after
@@ -44,7 +44,7 @@ RequiresAll reads name before (Err (stop.Fault faults)) after =
     (error : Error) × Requires reads name before (Err (stop.Fault error)) after × (faults ≡ one (content_of error))
 RequiresAll reads name before (Err (stop.Memory e)) after = Requires reads name before (Err (stop.Memory e)) after
 
--- how many errors are kept
+-- how many errors have been kept
 abbrev pub kept : State → ℕ
 kept s = length s.errors
 
@@ -53,7 +53,7 @@ abbrev pub lacking : {T : Type 0} → Option T → ℕ
 lacking None = 1
 lacking (Some x) = 0
 
--- `finish`: the kept errors and the one for the keys that remain; memory can run out only if keys remain
+-- `finish`: the kept errors, and the one for the remaining keys; an allocation can fail only if keys remain
 abbrev pub Finishes : State → Result (Unit {0}) (Stop Errors) → Type 0
 Finishes s (Ok done) = with_unasked s ≡ []
 Finishes s (Err (stop.Fault faults)) = with_unasked s ≡ all faults
@@ -65,7 +65,7 @@ FinishesInto s (Ok done) = s.errors ≡ []
 FinishesInto s (Err (stop.Fault faults)) = s.errors ≡ all faults
 FinishesInto s (Err (stop.Memory error)) = ⊥
 
--- `parsed`: as `Parses`, with the error in a list
+-- `parsed`: as in `Parses`, with the error in a list
 abbrev pub ParsesAll : {T E : Type 0} → (List ℕ → Result T E → Type 0) → (E → Option (List ℕ)) → Node
     → Result T (Stop Errors) → Type 0
 ParsesAll gives output value (Ok x) = Parses gives output value (Ok x)
@@ -73,12 +73,12 @@ ParsesAll gives output value (Err (stop.Fault faults)) =
     (error : Error) × Parses gives output value (Err (stop.Fault error)) × (faults ≡ one (content_of error))
 ParsesAll gives output value (Err (stop.Memory e)) = Parses gives output value (Err (stop.Memory e))
 
--- the same answer, whose error is a fault
+-- the same result, with its error as a fault
 abbrev pub with_fault : {T E : Type 0} → Result T E → Result T (Stop E)
 with_fault (Ok x) = Ok x
 with_fault (Err refusal) = Err (stop.Fault refusal)
 
--- `parse_with`: what `makes` returns for the string; its error is reported as by `parsed`, and it may run out of memory
+-- `parse_with`: what `makes` returns for the string; its error is reported as by `parsed`, and an allocation may fail
 abbrev pub ParsesWith : {T E : Type 0} → (List ℕ → Result T (Stop E) → Type 0) → (E → Option (List ℕ)) → Node
     → Result T (Stop Errors) → Type 0
 ParsesWith makes output value (Ok x) = ParsesAll (λ text r. makes text (with_fault r)) output value (Ok x)
@@ -88,17 +88,17 @@ ParsesWith makes output value (Err (stop.Memory e)) =
     ParsesAll (λ text r. makes text (with_fault r)) output value (Err (stop.Memory e))
     ⊎ ((text : List ℕ) × (text_in (inner_of value) ≡ Some text) × makes text (Err (stop.Memory e)))
 
--- the answer of `parsed`, if memory did not run out
+-- the result of `parsed`, if no allocation failed
 abbrev pub AsParsed : {T E : Type 0} → (List ℕ → Result T E → Type 0) → (E → Option (List ℕ)) → Node
     → Result T Errors → Type 0
 AsParsed gives output value (Ok x) = ParsesAll gives output value (Ok x)
 AsParsed gives output value (Err faults) = ParsesAll gives output value (Err (stop.Fault faults))
 
--- an element was read, and dropped
+-- An element was read, and dropped.
 abbrev pub AsRead : {T : Type 0} → (Node → Result T Errors → Node → Type 0) → Node → Node → Type 0
 AsRead reads before after = (x : _) × reads before (Ok x) after
 
--- the read's answer, with an element in a Some
+-- the result of the read, with its element in a Some
 abbrev pub AsSome : {T : Type 0} → (Node → Result T Errors → Node → Type 0) → Node → Result (Option T) Errors → Node
     → Type 0
 AsSome reads before (Ok (Some x)) after = reads before (Ok x) after

@@ -1,4 +1,4 @@
--- What a float is read as in binary.
+-- Floats, read as binary numbers.
 use Rattle.std.specs.Prelude.{ℕ, List, Option, Some, None, Result, Ok, Err, codes, if◌then◌else◌}
 use Rattle.std.specs.Float.{Float, Format, float_is_finite}
 use Rattle.fast_float.specs.Parse.{parse_float}
@@ -14,16 +14,16 @@ abbrev pub if_finite : Option Float → Option Float
 if_finite (Some x) = if float_is_finite x then Some x else None
 if_finite None = None
 
--- the number of the format that is nearest to the text, where that is finite
+-- the number of the format that is nearest to the text, if it is finite
 abbrev pub finite_float : Format → List ℕ → Option Float
 finite_float format s = if_finite (parse_float format s)
 
--- the number, or the error that the type of that name has none
+-- the number, or the error that the type with this name can't represent it
 abbrev pub or_beyond : {T : Type 0} → List ℕ → Span → Option T → Result T (Stop Errors)
 or_beyond name span (Some x) = Ok x
 or_beyond name span None = Err (stop.Fault (one (beyond_range name span)))
 
--- the number nearest to the float, where the type of that name has one that is finite
+-- the number nearest to the float, if it is finite in the type with this name
 abbrev pub read_number : List ℕ → Format → Node → Result Float Errors
 read_number name format (node (scalar (float x)) span) = or_out_of name span (finite_float format (float_text x))
 read_number name format value = refused (codes "a float") value

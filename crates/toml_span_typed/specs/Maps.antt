@@ -1,4 +1,4 @@
--- What a table is read as whose keys are not known beforehand.
+-- Tables with any keys, read as maps.
 use Rattle.std.specs.Prelude.{◌≡◌, ℕ, List, [], ◌∷◌, Result, Ok, Err, String, map, string_bytes, codes}
 use Rattle.std.specs.BTreeMap.{insert_entry}
 use Rattle.std.specs.HashMap.{HashMap, IsFromIterResult}
@@ -17,11 +17,11 @@ use Rattle.toml_span_typed.specs.Reads.{EachReads, Taken, errors, refused}
 abbrev pub shown_pair : {T : Type 0} → String Global × T → List ℕ × T
 shown_pair entry = (string_bytes entry.0, entry.1)
 
--- the entries of a map that has an element under a name besides, names in order by their bytes
+-- the entries of a map after an element was added under a name; names are in order by their bytes
 abbrev pub holding : {T : Type 0} → List (List ℕ × T) → List ℕ → T → List (List ℕ × T)
 holding entries name element = insert_entry (slice_cmp nat_cmp) entries name element
 
--- the entries of a map that has besides what was read of these values
+-- the entries of a map after these elements were added under these names; errors are left out
 abbrev pub holding_read : {T : Type 0} → List (List ℕ × T) → List (List ℕ) → List (Result T Errors) → List (List ℕ × T)
 holding_read entries (name ∷ names) (Ok x ∷ answers) = holding_read (holding entries name x) names answers
 holding_read entries (name ∷ names) (Err faults ∷ answers) = holding_read entries names answers
@@ -36,32 +36,32 @@ abbrev pub values_of : Members → List Node
 values_of no_members = []
 values_of (member name span value rest) = value ∷ values_of rest
 
--- the values were read: each element is in the map under its name, and these are the errors
+-- The values were read: each element is in the map under its name, and these are the errors.
 abbrev pub EntriesRead : {T : Type 0} → (Node → Result T Errors → Node → Type 0) → List (List ℕ) → List Node
     → List (List ℕ × T) → List ErrorContent → Type 0
 EntriesRead reads names values entries faults =
     (answers : List (Result _ Errors)) × EachReads reads values answers
     × (entries ≡ holding_read [] names answers) × (errors answers ≡ faults)
 
--- a map of the elements where no answer is an error, and else all the errors, in the order of the names
+-- A map of the elements if no result is an error, otherwise all errors, in the order of the names.
 abbrev pub ReadsEntries : {T : Type 0} → (Node → Result T Errors → Node → Type 0) → Members
     → Result (List (List ℕ × T)) Errors → Type 0
 ReadsEntries reads ms (Ok entries) = EntriesRead reads (names_of ms) (values_of ms) entries []
 ReadsEntries {T} reads ms (Err faults) = (entries : List (List ℕ × T))
     × EntriesRead reads (names_of ms) (values_of ms) entries (all faults)
 
--- T's readings of a table's values, joined; the table is taken
+-- The results of reading a table's values as T, joined. The table is taken.
 abbrev pub table_reads : {T : Type 0} → (Node → Result T Errors → Node → Type 0) → Node
     → Result (List (List ℕ × T)) Errors → Node → Type 0
 table_reads reads (node (table ms) span) answer after = ReadsEntries reads ms answer
     × Taken (node (table ms) span) after
 table_reads reads value answer after = (answer ≡ refused (codes "a table") value) × Taken value after
 
--- a map that finds a name by its hash; antt has no name for an alias
+-- a map that finds a name by its hash (antt has no name for a type alias)
 abbrev pub Hashed : Type 0 → Type 0
 Hashed T = HashMap (String Global) T (BuildHasherDefault FoldHasher)
 
--- the same entries, each found by its name
+-- the same entries
 abbrev pub hashed_reads : {T : Type 0} → (Node → Result T Errors → Node → Type 0) → Node → Result (Hashed T) Errors
     → Node → Type 0
 hashed_reads reads value (Ok m) after = (entries : List (String Global × _))

@@ -1,4 +1,4 @@
--- Names that occur once in a list.
+-- Names that must not be repeated in a list.
 use Rattle.std.specs.Prelude.{ℕ, List, [], ◌∷◌, ◌++◌, codes, Option, None, option_map, String, string_bytes}
 use Rattle.std.specs.Global.{Global}
 use Rattle.std.specs.Map.{lookup}
@@ -8,14 +8,14 @@ use Rattle.toml_span_lex.specs.declared.span.Span.{Span}
 use Rattle.toml_span_lex.specs.declared.spanned.Spanned.{Spanned}
 use Rattle.toml_span_tree.specs.Error.{ErrorContent, marked}
 
--- a name and its place
+-- a name and its span
 abbrev pub Name : Type 0
 Name = List ℕ × Span
 
 abbrev pub named : Spanned (String Global) → Name
 named s = (string_bytes s.value, s.span)
 
--- the error for a name that occurs earlier, with the earlier place
+-- the error for a name that occurs earlier, which also marks the earlier one
 abbrev pub again : Name → Span → ErrorContent
 again n before = record {
   kind = marked (codes "duplicate-name") (codes "duplicate name: `" ++ n.0 ++ codes "`")
@@ -24,14 +24,15 @@ again n before = record {
   line_info = None;
 }
 
-abbrev pub told : Name → Option Span → List ErrorContent
-told n before = option_to_list (option_map (again n) before)
+abbrev pub duplicate_errors : Name → Option Span → List ErrorContent
+duplicate_errors n before = option_to_list (option_map (again n) before)
 
--- after other names, of which the latest is the first of the list
-abbrev pub repeated_behind : List Name → List Name → List ErrorContent
-repeated_behind before [] = []
-repeated_behind before (n ∷ ns) = told n (lookup (λ name. bytes_eq name n.0) before) ++ repeated_behind (n ∷ before) ns
+-- the errors of the names in the second list, where the first list has those before them, the latest first
+abbrev pub repeated_after : List Name → List Name → List ErrorContent
+repeated_after before [] = []
+repeated_after before (n ∷ ns) =
+    duplicate_errors n (lookup (λ name. bytes_eq name n.0) before) ++ repeated_after (n ∷ before) ns
 
--- the errors for the names that occur earlier, in order
+-- the errors of the names that occur earlier in the list, in order
 abbrev pub repeated : List Name → List ErrorContent
-repeated names = repeated_behind [] names
+repeated names = repeated_after [] names

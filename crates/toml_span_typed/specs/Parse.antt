@@ -1,4 +1,4 @@
--- What reading a value's string by `FromStr` answers.
+-- Strings, read by `FromStr`.
 use Rattle.std.specs.Prelude.{◌≡◌, ℕ, List, ◌++◌, Option, None, Some, MatchOption, IfSome, Result, Ok, Err, codes}
 use Rattle.toml_span_lex.specs.declared.span.Span.{Span}
 use Rattle.toml_span_lex.specs.declared.stop.Stop.{Stop}
@@ -8,7 +8,7 @@ use Rattle.toml_span_tree.specs.Error.{ErrorContent, custom, content_of}
 use Rattle.toml_span_tree.specs.Node.{Node}
 use Rattle.toml_span_tree.specs.Value.{inner_of, wrong_kind, span_of, text_in}
 
--- an error at the span whose message begins so and ends in a text: the refusal's, if that is stated
+-- The error at the span has a message that ends in the text of the error of `FromStr`, if its type says what that is.
 abbrev pub TellsRefusal : Option (List ℕ) → Span → ErrorContent → Type 0
 TellsRefusal shown span fault =
     (text : List ℕ) × (fault ≡ record {
@@ -18,7 +18,7 @@ TellsRefusal shown span fault =
     })
     × IfSome shown (λ stated. text ≡ stated)
 
--- the string is read as `from_str_gives` says; memory is wanted only where it refuses the string
+-- The string is read as `from_str_gives` says. An allocation can fail only if that is an error.
 abbrev pub Parses : {T E : Type 0} → (List ℕ → Result T E → Type 0) → (E → Option (List ℕ)) → Node
     → Result T (Stop Error) → Type 0
 Parses gives output value (Ok parsed) =

@@ -1,4 +1,4 @@
--- What is read of an integer that must be in a range.
+-- Integers that must be in a range.
 use Rattle.std.specs.Prelude.{◌≡◌, ℤ, List, [], ℕ, ◌++◌, Option, Some, None, MatchOption, option_and_then, Result, Err}
 use Rattle.std.specs.Prelude.{codes, int_lt, ◌||◌, if◌then◌else◌}
 use Rattle.std.specs.Fmt.{signed_decimal}
@@ -20,7 +20,7 @@ out_of_range low high span found = record {
   line_info = None;
 }
 
--- the error, if the integer is less than the first number or greater than the second
+-- the error, if the integer is below the first number or above the second
 abbrev pub fault_at : ℤ → ℤ → Span → ℤ → Option ErrorContent
 fault_at low high span found =
     if int_lt found low || int_lt high found then Some (out_of_range low high span found) else None
@@ -28,7 +28,7 @@ fault_at low high span found =
 abbrev pub range_fault : ℤ → ℤ → Node → Option ErrorContent
 range_fault low high value = option_and_then (fault_at low high (span_of value)) (integer_in (inner_of value))
 
--- T's reading, except that an integer outside the range is the one error, and the value stays as it is
+-- What reads of T return, except that an integer outside the range is the one error, and the value stays as it is.
 abbrev pub in_range : {T : Type 0} → ℤ → ℤ → (Node → Result T Errors → Node → Type 0) → Node → Result T Errors → Node
     → Type 0
 in_range low high reads value answer left = MatchOption (range_fault low high value)

@@ -1,4 +1,4 @@
--- What a typed read may return, and what it may leave in the value.
+-- What a typed read may return, and what it may leave of the value.
 use Rattle.std.specs.Prelude.{◌≡◌, ⊤, ℕ, ℤ, pos, negsuc, nat_lt, Bool, List, [], ◌∷◌, ◌++◌, Option, Some, None, Result}
 use Rattle.std.specs.Prelude.{Ok, Err, IfOk, codes, if◌then◌else◌}
 use Rattle.toml_span_lex.specs.declared.span.Span.{Span}
@@ -14,15 +14,15 @@ abbrev pub result_map : {T U E : Type 0} → (T → U) → Result T E → Result
 result_map f (Ok x) = Ok (f x)
 result_map f (Err e) = Err e
 
--- The type's reading allows this answer for the value before the call, and the value left after it. If memory runs out,
--- what is left is as the type states for that case.
+-- The result is one that the type's `reads` allows for the value before the call and the value after it. If an
+-- allocation failed, the value after it is one that `starved` allows.
 abbrev pub Answers : {T : Type 0} → (Node → Result T Errors → Node → Type 0) → (Node → Node → Type 0) → Node
     → Result T (Stop Errors) → Node → Type 0
 Answers reads starved before (Ok x) after = reads before (Ok x) after
 Answers reads starved before (Err (stop.Fault faults)) after = reads before (Err faults) after
 Answers reads starved before (Err (stop.Memory error)) after = starved before after
 
--- the value is taken, and keeps its span
+-- The content of the value has been taken, and its span is the same.
 abbrev pub Taken : Node → Node → Type 0
 Taken before after = after ≡ node taken (span_of before)
 
@@ -30,19 +30,19 @@ Taken before after = after ≡ node taken (span_of before)
 abbrev pub Unchanged : Node → Node → Type 0
 Unchanged before after = after ≡ before
 
--- this does not happen: the call needs no memory
+-- This does not happen, because the call does not allocate.
 abbrev pub Never : Node → Node → Type 0
 Never before after = ⊥
 
--- the answer is a function of the value, and the value is taken
+-- The result is this function of the value, and the value's content has been taken.
 abbrev pub Gives : {T : Type 0} → (Node → Result T Errors) → Node → Result T Errors → Node → Type 0
 Gives read before answer after = (answer ≡ read before) × Taken before after
 
--- the one error that another kind of value was expected
+-- the only error, that a value of another kind was expected
 abbrev pub refused : {T : Type 0} → List ℕ → Node → Result T Errors
 refused expected value = Err (one (wrong_kind expected value))
 
--- the error for an integer that the type of this name cannot hold
+-- the error for an integer that the type with this name can't represent
 abbrev pub beyond_range : List ℕ → Span → ErrorContent
 beyond_range name span = record { kind = out_of_range name; span = span; line_info = None }
 
@@ -64,12 +64,12 @@ abbrev pub read_datetime : Node → Result (List ℕ) Errors
 read_datetime (node (scalar (datetime d)) span) = Ok d
 read_datetime value = refused (codes "a datetime") value
 
--- the unsigned number below a limit
+-- the unsigned number, if it is below the limit
 abbrev pub unsigned : ℕ → ℤ → Option ℕ
 unsigned limit (pos n) = if nat_lt n limit then Some n else None
 unsigned limit (negsuc n) = None
 
--- the signed number z with -limit ≤ z < limit
+-- the signed number z, if -limit ≤ z < limit
 abbrev pub signed : ℕ → ℤ → Option ℤ
 signed limit (pos n) = if nat_lt n limit then Some (pos n) else None
 signed limit (negsuc n) = if nat_lt n limit then Some (negsuc n) else None
@@ -78,12 +78,12 @@ abbrev pub or_out_of : {T : Type 0} → List ℕ → Span → Option T → Resul
 or_out_of name span (Some n) = Ok n
 or_out_of name span None = Err (one (beyond_range name span))
 
--- the integer, if the type of that name can hold it
+-- the integer, if the type with this name can represent it
 abbrev pub read_integer : {T : Type 0} → List ℕ → (ℤ → Option T) → Node → Result T Errors
 read_integer name held (node (scalar (integer z)) span) = or_out_of name span (held z)
 read_integer name held value = refused name value
 
--- T's reading, where the element also has the span of the value
+-- what reads of T return, where the element also has the span of the value
 abbrev pub spanned : {T S : Type 0} → (Node → Result T Errors → Node → Type 0) → (S → T) → (S → Span) → Node
     → Result S Errors → Node → Type 0
 spanned reads value_in span_in before answer after =
@@ -94,7 +94,7 @@ abbrev pub nodes_of : Items → List Node
 nodes_of no_items = []
 nodes_of (item value values) = value ∷ nodes_of values
 
--- an answer for each value, as the reading allows
+-- a result for each value that the read allows
 abbrev pub EachReads : {T : Type 0} → (Node → Result T Errors → Node → Type 0) → List Node → List (Result T Errors)
     → Type 0
 EachReads reads [] [] = ⊤
@@ -102,30 +102,30 @@ EachReads reads (value ∷ values) (answer ∷ answers) =
     ((after : Node) × reads value answer after) × EachReads reads values answers
 EachReads reads _ _ = ⊥
 
--- the elements among the answers, in order
+-- the elements among the results, in order
 abbrev pub elements : {T : Type 0} → List (Result T Errors) → List T
 elements [] = []
 elements (Ok x ∷ answers) = x ∷ elements answers
 elements (Err faults ∷ answers) = elements answers
 
--- the errors of all the answers, in order
+-- the errors of all results, in order
 abbrev pub errors : {T : Type 0} → List (Result T Errors) → List ErrorContent
 errors [] = []
 errors (Ok x ∷ answers) = errors answers
 errors (Err faults ∷ answers) = all faults ++ errors answers
 
--- all the elements if no answer is an error, otherwise all the errors
+-- All elements if no result is an error, otherwise all errors.
 abbrev pub Joins : {T : Type 0} → List (Result T Errors) → Result (List T) Errors → Type 0
 Joins answers (Ok xs) = (errors answers ≡ []) × (elements answers ≡ xs)
 Joins answers (Err faults) = errors answers ≡ all faults
 
--- each value is read, and the answer joins what they gave
+-- Each value is read, and the results are joined.
 abbrev pub ReadsAll : {T : Type 0} → (Node → Result T Errors → Node → Type 0) → List Node → Result (List T) Errors
     → Type 0
 ReadsAll reads values answer =
     (answers : List (Result _ Errors)) × EachReads reads values answers × Joins answers answer
 
--- T's readings of an array's elements, joined; the array is taken
+-- The results of reading an array's elements as T, joined. The array is taken.
 abbrev pub array_reads : {T : Type 0} → (Node → Result T Errors → Node → Type 0) → Node → Result (List T) Errors → Node
     → Type 0
 array_reads reads (node (array values) span) answer after =

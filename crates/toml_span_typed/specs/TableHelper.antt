@@ -1,4 +1,4 @@
--- What a helper over a table holds, and what its calls do to it.
+-- What `TableHelper` contains, and what its methods do.
 use Rattle.std.specs.Prelude.{◌≡◌, ◌⊎◌, ℕ, List, [], ◌∷◌, ◌++◌, map, IsTrue, cond, Option, Some, None, option_map}
 use Rattle.std.specs.Prelude.{Result, Ok, Err, MatchOption, codes, true}
 use Rattle.std.specs.Borrow.{MutBor}
@@ -22,8 +22,7 @@ use Rattle.toml_span_typed.specs.declared.de_helpers.table_helper.TableHelper.{T
 use Rattle.toml_span_typed.specs.declared.de_helpers.table_helper.Unfinished.{Unfinished}
 use Rattle.toml_span_typed.specs.declared.de_helpers.table_helper.Unfinished.TheVariants as unfinished
 
--- the entries of the table, the names that were asked for, the errors that were kept, and the span
--- of the table
+-- the entries that remain, the recorded names, the kept errors, and the span of the table
 pub record State : Type 0 where
   pub members : Members
   pub asked : List (List ℕ)
@@ -38,59 +37,59 @@ state_of helper = record {
   span = helper.span;
 }
 
--- each value among the entries is whole
+-- Nothing has been taken from the values of the entries.
 abbrev pub AllWhole : State → Type 0
 AllWhole s = IsTrue (all_members_whole s.members)
 
--- the value under a name
+-- the value of a name
 abbrev pub found : List ℕ → State → Option Node
 found name s = option_map (λ entry. entry.1) (entry_at name s.members)
 
--- the entries without the one of that name
+-- the entries without that of a name
 abbrev pub without : List ℕ → Members → Members
 without name no_members = no_members
 without name (member other span value rest) =
     cond (bytes_eq name other) rest (member other span value (without name rest))
 
--- the name is recorded, and its entry is gone
+-- the state after the name was recorded and its entry removed
 abbrev pub noted : List ℕ → State → State
 noted name s =
     record { members = without name s.members; asked = s.asked ++ name ∷ []; errors = s.errors; span = s.span }
 
--- errors are kept, after those that were kept before
+-- the state after these errors were kept
 abbrev pub keeping : List ErrorContent → State → State
 keeping faults s = record { members = s.members; asked = s.asked; errors = s.errors ++ faults; span = s.span }
 
--- the error of a name that is not there
+-- the error that the name is missing
 abbrev pub missing : List ℕ → State → ErrorContent
 missing name s = record { kind = missing_field name; span = s.span; line_info = None }
 
--- a helper over these entries that was asked nothing
+-- a helper for these entries, without recorded names and errors
 abbrev pub fresh : Members → Span → State
 fresh members span = record { members = members; asked = []; errors = []; span = span }
 
--- `new`: a helper over the entries of a table
+-- `new`: a helper for the entries of a table
 abbrev pub OpensTable : Node → Result State Errors → Type 0
 OpensTable (node (table members) span) answer = answer ≡ Ok (fresh members span)
 OpensTable value answer = answer ≡ refused (codes "a table") value
 
--- the entry is the one under the name, with its key's span
+-- This is the entry of the name, with the span of its key.
 abbrev pub IsEntry : List ℕ → State → Key × Value → Type 0
 IsEntry name s entry =
     (cow_str_bytes entry.0.name ≡ name) × (entry_at name s.members ≡ Some (Some entry.0.span, view entry.1))
 
--- `take`: records the name and gives its entry; without memory for the name nothing has changed
+-- `take`: records the name, and returns its entry; if an allocation fails, nothing changes
 abbrev pub Takes : List ℕ → State → Result (Option (Key × Value)) AllocError → State → Type 0
 Takes name before (Ok None) after = (found name before ≡ None) × (after ≡ noted name before)
 Takes name before (Ok (Some entry)) after = IsEntry name before entry × (after ≡ noted name before)
 Takes name before (Err error) after = after ≡ before
 
--- a read that runs out of memory: the name could not be recorded and nothing has changed, or it is recorded, its entry
--- is gone, and the errors are as before
+-- An allocation failed in a read: nothing has changed, or the name has been recorded and its entry removed, and no
+-- error was kept.
 abbrev pub Starved : List ℕ → State → State → Type 0
 Starved name before after = (after ≡ before) ⊎ (after ≡ noted name before)
 
--- `required`: the element, or the last of the errors that are kept
+-- `required`: the element, or the last of the errors that were kept
 abbrev pub Requires : {T : Type 0} → (Node → Result T Errors → Node → Type 0) → List ℕ → State → Result T (Stop Error)
     → State → Type 0
 Requires reads name before (Ok x) after =
@@ -102,7 +101,7 @@ Requires reads name before (Err (stop.Fault error)) after = MatchOption (found n
     × (content_of error ≡ faults.last) × (after ≡ keeping (all faults) (noted name before)))
 Requires reads name before (Err (stop.Memory error)) after = Starved name before after
 
--- `optional`: the element; None if the name is absent, or if the read failed, whose errors are kept
+-- `optional`: the element; or None if the name is missing, or after keeping the errors of the read
 abbrev pub Tries : {T : Type 0} → (Node → Result T Errors → Node → Type 0) → List ℕ → State
     → Result (Option T) AllocError → State → Type 0
 Tries reads name before (Ok (Some x)) after =
@@ -114,12 +113,12 @@ Tries reads name before (Ok None) after = MatchOption (found name before)
     × (after ≡ keeping (all faults) (noted name before)))
 Tries reads name before (Err error) after = Starved name before after
 
--- the keys that remain, with their spans, in the order of their names
+-- the remaining keys with their spans, in the order of their names
 abbrev pub remaining_keys : Members → List (List ℕ × Span)
 remaining_keys no_members = []
 remaining_keys (member name span value rest) = (name, span) ∷ remaining_keys rest
 
--- the error of the keys that remain
+-- the error for the remaining keys
 abbrev pub unexpected_entries : State → ErrorContent
 unexpected_entries s =
     record { kind = unexpected_keys (remaining_keys s.members) s.asked; span = s.span; line_info = None }
@@ -128,22 +127,22 @@ abbrev pub where_filled : Members → List ErrorContent → List ErrorContent
 where_filled no_members faults = []
 where_filled (member name span value rest) faults = faults
 
--- the error of the keys that remain, if any do
+-- the error for the remaining keys, if there are any
 abbrev pub unasked : State → List ErrorContent
 unasked s = where_filled s.members (unexpected_entries s ∷ [])
 
--- the errors in the end, where no value takes the rest
+-- all errors at the end, if the remaining keys are an error
 abbrev pub with_unasked : State → List ErrorContent
 with_unasked s = s.errors ++ unasked s
 
--- Ok exactly without errors; needs no memory
+-- Ok if there are no errors, otherwise all of them. Nothing is allocated.
 abbrev pub EndsWithErrors : List ErrorContent → Result (Unit {0}) Unfinished → Type 0
 EndsWithErrors errors (Ok done) = errors ≡ []
 EndsWithErrors errors (Err (unfinished.Faults faults)) = errors ≡ all faults
 EndsWithErrors errors (Err (unfinished.Memory helper)) = ⊥
 
--- without a value for the rest: the keys that remain are an error; memory can run out only if keys remain, and then the
--- helper comes back unchanged
+-- `finalize(None)`: remaining keys are an error; an allocation can fail only if there are any, and then the helper is
+-- returned unchanged
 abbrev pub Refuses : State → Result (Unit {0}) Unfinished → Type 0
 Refuses s (Err (unfinished.Memory helper)) = (is_filled s.members ≡ true) × (state_of helper ≡ s)
 Refuses s (Err (unfinished.Faults faults)) = with_unasked s ≡ all faults
@@ -154,11 +153,11 @@ abbrev pub Finalizes : {V : Type 0} → State → Option V → Result (Unit {0})
 Finalizes s (Some value) answer = EndsWithErrors s.errors answer
 Finalizes s None answer = Refuses s answer
 
--- the value holds a table of these entries, and keeps its span
+-- The value contains a table of these entries, and its span is the same.
 abbrev pub HoldsRest : BTreeMap Key Value → Value → Value → Type 0
 HoldsRest rest before after = view after ≡ node (table (members_view rest.entries)) (span_of (view before))
 
--- P holds for the value before and after the call, if there is a reference to one
+-- If there is a reference, P holds for its value before and after the call.
 abbrev pub Leaves : {V : Type 0} → (V → V → Type 0) → Option (MutBor V) → Unit {0} ⊎ ((MutBor V × Unit {0}) ⊎ ⊥)
     → Type 0
 Leaves P None exit = Unit {0}

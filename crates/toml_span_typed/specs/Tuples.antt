@@ -1,4 +1,4 @@
--- What an array of two elements is read as, each element as a type of its own.
+-- Arrays of two elements with different types.
 use Rattle.std.specs.Prelude.{◌≡◌, ◌≢◌, ⊤, ℕ, [], ◌∷◌, ◌++◌, length, Result, Ok, Err, None, codes}
 use Rattle.std.specs.Fmt.{decimal}
 use Rattle.toml_span_lex.specs.declared.span.Span.{Span}
@@ -22,33 +22,33 @@ other_length wanted found span = record {
   line_info = None;
 }
 
--- the errors for what is not an array of n elements
+-- the errors for a value that is not an array of n elements
 abbrev pub Miscounts : ℕ → Node → Errors → Type 0
 Miscounts n (node (array values) span) faults =
     (length (nodes_of values) ≢ n) × (faults ≡ one (other_length n (length (nodes_of values)) span))
 Miscounts n value faults = faults ≡ one (wrong_kind (codes "an array") value)
 
--- those, or out of memory
+-- these, or a failed allocation
 abbrev pub RefusesLength : ℕ → Node → Stop Errors → Type 0
 RefusesLength n value (stop.Fault faults) = Miscounts n value faults
 RefusesLength n value (stop.Memory error) = ⊤
 
--- the one error, or out of memory
+-- this error as the only one, or a failed allocation
 abbrev pub TellsOne : ErrorContent → Stop Errors → Type 0
 TellsOne fault (stop.Fault faults) = faults ≡ one fault
 TellsOne fault (stop.Memory error) = ⊤
 
--- the reading allows the answer of the value
+-- The read of the type allows this result for the value.
 abbrev pub IsReadAs : {T : Type 0} → (Node → Result T Errors → Node → Type 0) → Node → Result T Errors → Type 0
 IsReadAs reads value answer = (after : Node) × reads value answer after
 
--- both elements, or the errors of both
+-- both elements, or the errors of both reads
 abbrev pub JoinsTwo : {A B : Type 0} → Result A Errors → Result B Errors → Result (A × B) Errors → Type 0
 JoinsTwo (Ok a) (Ok b) answer = answer ≡ Ok (a, b)
 JoinsTwo first second (Err faults) = errors (first ∷ []) ++ errors (second ∷ []) ≡ all faults
 JoinsTwo first second (Ok pair) = ⊥
 
--- the readings of both elements of an array of two, joined; the array is taken
+-- The results of reading the elements of an array of two, joined. The array is taken.
 abbrev pub pair_reads : {A B : Type 0} → (Node → Result A Errors → Node → Type 0)
     → (Node → Result B Errors → Node → Type 0)
     → Node → Result (A × B) Errors → Node → Type 0

@@ -1,4 +1,4 @@
--- What a read that warns returns, and which warnings it leaves. The lists of warnings are those before and after.
+-- What a read that warns may return, and which warnings it appends.
 use Rattle.std.specs.Prelude.{◌≡◌, ⊤, ℕ, List, [], ◌∷◌, ◌++◌, Option, Some, None, MatchOption, Result, Ok, Err, codes}
 use Rattle.std.specs.Prelude.{drop, length}
 use Rattle.std.specs.declared.alloc.AllocError.{AllocError}
@@ -11,11 +11,11 @@ use Rattle.toml_span_typed.specs.Errors.{Errors, all}
 use Rattle.toml_span_typed.specs.Reads.{Joins, nodes_of, refused}
 use Rattle.toml_span_typed.specs.TableHelper.{Starved, State, found, keeping, noted}
 
--- the list begins with the earlier warnings
+-- The list begins with the earlier warnings.
 abbrev pub Extends : List ErrorContent → List ErrorContent → Type 0
 Extends warnings more = more ≡ warnings ++ drop (length warnings) more
 
--- the type's reading allows the answer and the warnings; nothing is said if memory runs out
+-- The result and the warnings are ones that the type's `reads` allows. If an allocation failed, nothing is said.
 abbrev pub AnswersWithWarnings : {T : Type 0}
     → (Node → Result T Errors → List ErrorContent → List ErrorContent → Type 0) → Node → Result T (Stop Errors)
     → List ErrorContent → List ErrorContent → Type 0
@@ -23,8 +23,8 @@ AnswersWithWarnings reads value (Ok x) warnings more = reads value (Ok x) warnin
 AnswersWithWarnings reads value (Err (stop.Fault faults)) warnings more = reads value (Err faults) warnings more
 AnswersWithWarnings reads value (Err (stop.Memory error)) warnings more = ⊤
 
--- the element of a value that was moved out; or None: with all errors of the read kept, and without a value as `none`
--- says
+-- A value that was moved out is read: the element, or None after all its errors were kept. If there is no value, the
+-- result is None, and the state is as `none` says.
 abbrev pub ReadsMoved : {T : Type 0}
     → (Node → Result T Errors → List ErrorContent → List ErrorContent → Type 0) → (State → State) → Option Node
     → State → Option T → State → List ErrorContent → List ErrorContent → Type 0
@@ -34,7 +34,7 @@ ReadsMoved reads none moved before None after warnings more = MatchOption moved
     ((after ≡ none before) × (more ≡ warnings))
     (λ value. (faults : Errors) × reads value (Err faults) warnings more × (after ≡ keeping (all faults) before))
 
--- `read_with_warnings`: the element, or the error that the name is not there
+-- `read_with_warnings`: the element, or the error that the name is missing
 abbrev pub AsksWithWarnings : {T : Type 0}
     → (Node → Result T Errors → List ErrorContent → List ErrorContent → Type 0) → List ℕ → State
     → Result (Option T) AllocError → State → List ErrorContent → List ErrorContent → Type 0
@@ -42,7 +42,7 @@ AsksWithWarnings reads name before (Ok field) after warnings more =
     ReadsMoved reads (lacks name) (found name before) (noted name before) field after warnings more
 AsksWithWarnings reads name before (Err error) after warnings more = Starved name before after
 
--- `read_optional_with_warnings`: the element, if the name is there
+-- `read_optional_with_warnings`: the element, if the name is present
 abbrev pub TriesWithWarnings : {T : Type 0}
     → (Node → Result T Errors → List ErrorContent → List ErrorContent → Type 0) → List ℕ → State
     → Result (Option T) AllocError → State → List ErrorContent → List ErrorContent → Type 0
@@ -50,7 +50,7 @@ TriesWithWarnings reads name before (Ok field) after warnings more =
     ReadsMoved reads (λ s. s) (found name before) (noted name before) field after warnings more
 TriesWithWarnings reads name before (Err error) after warnings more = Starved name before after
 
--- an answer for each value that the reading allows, the warnings of each after those of the ones before it
+-- a result for each value that the read allows; the warnings are appended value by value
 abbrev pub EachWithWarnings : {T : Type 0}
     → (Node → Result T Errors → List ErrorContent → List ErrorContent → Type 0) → List Node → List (Result T Errors)
     → List ErrorContent → List ErrorContent → Type 0
@@ -59,14 +59,14 @@ EachWithWarnings reads (value ∷ values) (answer ∷ answers) warnings more = (
     × reads value answer warnings next × EachWithWarnings reads values answers next more
 EachWithWarnings reads _ _ warnings more = ⊥
 
--- each value is read, and the answer joins what they gave
+-- Each value is read, and the results are joined.
 abbrev pub ReadsAllWithWarnings : {T : Type 0}
     → (Node → Result T Errors → List ErrorContent → List ErrorContent → Type 0) → List Node → Result (List T) Errors
     → List ErrorContent → List ErrorContent → Type 0
 ReadsAllWithWarnings reads values answer warnings more =
     (answers : List (Result _ Errors)) × EachWithWarnings reads values answers warnings more × Joins answers answer
 
--- T's readings of an array's elements, joined
+-- the results of reading an array's elements as T, joined
 abbrev pub array_with_warnings : {T : Type 0}
     → (Node → Result T Errors → List ErrorContent → List ErrorContent → Type 0) → Node → Result (List T) Errors
     → List ErrorContent → List ErrorContent → Type 0

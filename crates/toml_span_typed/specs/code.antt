@@ -1,4 +1,4 @@
--- Contracts of private functions. Nothing outside this folder cites them.
+-- How the functions share the work. Nothing else in `specs/` cites it.
 pub mod Errors
 pub mod Arrays
 pub mod Integers

@@ -1,4 +1,4 @@
-//! Helpers for reads.
+//! Helpers for implementations of `Deserialize`.
 ghost use Rattle.std.specs.Prelude.{◌≡◌, IfOk, false};
 ghost use Rattle.toml_span_lex.specs.declared.stop.Stop.TheVariants.{Fault};
 ghost use Rattle.toml_span_tree.specs.Error.{content_of};
@@ -22,7 +22,8 @@ use toml_span_lex::span::Span;
 use toml_span_lex::stop::Stop;
 use toml_span_tree::{Error, ErrorKind, Value, ValueInner};
 
-/// Returns the error `Wanted`: something else was expected in place of this value. Takes no memory.
+/// Returns the error `Wanted` at `span`: `expected` names what was expected, and the kind of `found` what is there
+/// instead. Does not allocate.
 pub fn expected<'s>(expected: &'s str, found: ValueInner, span: Span) -> Error<'s>
     ensures { content_of result ≡ wrong_kind expected.now (node (inner_view found.entry) span) }
 {
@@ -35,18 +36,19 @@ pub fn expected<'s>(expected: &'s str, found: ValueInner, span: Span) -> Error<'
     ))
 }
 
-/// Returns why a read ends at a value of another kind: the error of `expected`, as the only one.
+/// Returns the failure of a read that found a value of another kind: only the error of `expected`.
 pub(crate) fn refused<'s>(wanted: &'s str, found: ValueInner, span: Span) -> Stop<DeserError<'s>>
     ensures { result ≡ Fault (one (wrong_kind wanted.now (node (inner_view found.entry) span))) }
 {
     Stop::Fault(expected(wanted, found, span).into())
 }
 
-/// Returns what `FromStr` makes of a value's string. The value must not be taken before (`is_taken`), and is taken in
-/// every case.
+/// Reads a value's string with `FromStr`. Takes the value in every case. Callers must prove that it has not been taken
+/// already (`is_taken`).
 ///
-/// For a value of another kind the error is `Wanted` "a string". If `FromStr` refuses the string, it is `Custom`:
-/// `failed to parse string: ` and the text of its error. Both are at the value's span. Only that text needs memory.
+/// Fails with `Wanted`, which expects "a string", if the value is of another kind. If `FromStr` fails, the error is
+/// `Custom`: `failed to parse string: ` and the text of that error. Both are at the value's span. Only the text is
+/// allocated, so `Stop::Memory` is possible only then.
 pub fn parse<'de, T: FromStr<Err = E>, E: Display + Drop>(
     alloc: Global,
     value: &mut Value<'de>,
@@ -70,7 +72,8 @@ pub fn parse<'de, T: FromStr<Err = E>, E: Display + Drop>(
     }
 }
 
-/// Returns the error of a string that could not be read.
+/// Returns the error `Custom` at `span` for a string that `FromStr` refused with this error. Fails if an allocation
+/// fails.
 fn unparsed<'s, E: Display + Drop>(
     alloc: Global,
     refusal: E,

@@ -12,7 +12,7 @@ use std::{fmt, mem};
 use toml_span_lex::stop::Stop;
 use toml_span_tree::Error;
 
-/// The errors of a read, in the order in which they were found. There is at least one.
+/// All errors of a typed read, in the order in which they were found. There is at least one.
 #[derive(Debug, Drop)]
 pub struct DeserError<'s> {
     earlier: Option<Vec<Error<'s>>>,
@@ -69,7 +69,7 @@ impl Display for DeserError<'_> {
 
 impl std::error::Error for DeserError<'_> {}
 
-/// A merge for which memory ran out, with the other errors.
+/// What a failed `merge` returns: the errors that could not be appended, because an allocation failed.
 #[derive(Debug, Drop)]
 pub struct Unmerged<'s> {
     pub other: DeserError<'s>,
@@ -77,7 +77,7 @@ pub struct Unmerged<'s> {
 }
 
 impl<'s> DeserError<'s> {
-    /// Returns how many errors there are, at least one.
+    /// Returns the number of errors, which is at least 1.
     pub fn len(&self) -> usize
         ensures { result ≡ length (all self.now) }
     {
@@ -87,7 +87,7 @@ impl<'s> DeserError<'s> {
         }
     }
 
-    /// Returns the error at this position, from 0, if there is one.
+    /// Returns the error at this position, counted from 0, or `None` if there are not that many.
     pub fn get(&self, index: usize) -> Option<&Error<'s>>
         ensures { option_map (λ e. content_of e.now) result ≡ slice_get (all self.now) index }
     {
@@ -108,7 +108,7 @@ impl<'s> DeserError<'s> {
         &self.last
     }
 
-    /// Returns the errors in order.
+    /// Returns an iterator over the errors, in order.
     pub fn iter(&self) -> ErrorIter<'_, 's>
         ensures { result ≡ all self.now }
     {
@@ -118,7 +118,7 @@ impl<'s> DeserError<'s> {
         }
     }
 
-    /// Returns the errors before the last one.
+    /// Returns all errors except the last.
     fn earlier(&self) -> &[Error<'s>]
         ensures { map content_of result.now ≡ self.now.earlier }
     {
@@ -128,7 +128,8 @@ impl<'s> DeserError<'s> {
         }
     }
 
-    /// Appends the errors of the other. If memory runs out these are as before, and the other ones are returned.
+    /// Appends the errors of `other`. If an allocation fails, nothing has changed, and `other` is returned in the
+    /// error.
     pub fn merge(&mut self, alloc: Global, other: DeserError<'s>) -> Result<(), Unmerged<'s>>
         ensures ok { OnOk result (all self.new ≡ all self.old ++ all other.entry) }
         ensures err { IfErr result (λ u. (self.new ≡ self.old) × (u.other ≡ other.entry)) }
@@ -148,7 +149,7 @@ impl<'s> DeserError<'s> {
         Ok(())
     }
 
-    /// Returns the errors in order, as a list.
+    /// Converts the errors into a list, in order. Fails if an allocation fails.
     pub fn into_errors(self, alloc: Global) -> Result<Vec<Error<'s>>, AllocError>
         ensures { IfOk result (λ list. map content_of list.items ≡ all self.entry) }
     {
@@ -157,7 +158,8 @@ impl<'s> DeserError<'s> {
         Ok(list)
     }
 
-    /// Appends the errors to a list. If memory runs out the list is as before, and these are dropped.
+    /// Appends the errors to a list, in order. If an allocation fails, the list is unchanged, and the errors are
+    /// dropped.
     pub fn append_to(self, list: &mut Vec<Error<'s>>) -> Result<(), AllocError>
         ensures ok { OnOk result (map content_of list.new.items ≡ map content_of list.old.items ++ all self.entry) }
         ensures err { OnErr result (list.new.items ≡ list.old.items) }
@@ -174,7 +176,7 @@ impl<'s> DeserError<'s> {
         Ok(())
     }
 
-    /// Returns the errors of a list in their order, or None for an empty one. Takes no memory.
+    /// Converts a list of errors. Returns `None` if it is empty. Does not allocate.
     pub fn from_list(mut list: Vec<Error<'s>>) -> Option<DeserError<'s>>
         ensures { all_of_option result ≡ map content_of list.entry.items }
     {
@@ -186,7 +188,7 @@ impl<'s> DeserError<'s> {
     }
 }
 
-/// Goes through the errors of a read.
+/// An iterator over the errors of a read, in order.
 #[derive(Drop)]
 pub struct ErrorIter<'a, 's> {
     earlier: &'a [Error<'s>],

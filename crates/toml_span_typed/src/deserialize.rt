@@ -1,4 +1,4 @@
-//! Reads of values as types of Rust.
+//! Reads of values as Rust types.
 ghost use Rattle.std.specs.Prelude.{◌≡◌, ◌+◌, ◌≤◌, IfOk, IsTrue, OnErr, Result, length, map};
 ghost use Rattle.toml_span_tree.specs.Error.{content_of};
 ghost use Rattle.toml_span_tree.specs.Node.{Node};
@@ -27,23 +27,24 @@ use toml_span_tree::{Error, Value};
 
 /// A type that can be read from a value.
 ///
-/// An implementation states what its read may return and leave: `reads` relates the value before, the result, which is
-/// an element or the errors, and the value left, and `starved` says what is left if memory runs out. Without them the
-/// contract says nothing about either.
+/// An implementation can state facts about its reads, for proofs about callers. `reads` relates the value before, the
+/// result (the read value or all errors) and the value after. `starved` says what is left of the value if an allocation
+/// fails. By default both leave everything open.
 pub trait Deserialize<'de>: Sized + Drop {
     ghost reads: { Node → Result Self Errors → Node → Type 0 } = { λ _ _ _. Unit {0} };
 
     ghost starved: { Node → Node → Type 0 } = { λ _ _. Unit {0} };
 
-    /// Reads the value, of which nothing may be taken, here or below (`is_whole`). The fault has all errors, in the order
-    /// in which they were found. The implementation says what is left of the value: `reads`, or `starved` if memory ran
-    /// out.
+    /// Reads the value. Callers must prove that nothing has been taken from it (`is_whole`). Fails with all errors, in
+    /// the order in which they were found, or with `Stop::Memory` if an allocation fails. What is left of `value`
+    /// depends on the type: see `reads` and `starved`.
     fn deserialize(alloc: Global, value: &mut Value<'de>) -> Result<Self, Stop<DeserError<'de>>>
         requires { IsTrue (is_whole (view value.old)) }
         ensures { Answers reads starved (view value.old) result (view value.new) };
 }
 
-/// Reads a value. If that fails, appends its errors to a list and returns None. If memory runs out the list is as before.
+/// Reads a value. If that fails, appends its errors to a list, and returns `None`. If an allocation fails, the list is
+/// unchanged.
 pub(crate) fn read_or_keep<'de, T: Deserialize<'de>>(
     alloc: Global,
     mut value: Value<'de>,

@@ -1,4 +1,4 @@
-//! Typed reads of TOML values, and a helper that reads a table field by field.
+//! Reads TOML values as Rust types, and tables field by field.
 #![tactic(auto)]
 
 pub mod de_helpers;
@@ -9,8 +9,8 @@ mod read_table;
 mod read_tagged;
 mod with_warnings;
 
-/// The words of `read_table!`, which looks an unknown one up here. So the compiler reports it where it is written, and
-/// with this list.
+/// `read_table!` looks an unknown word up in this module. So the compiler reports the word where it is written, and
+/// lists the known ones in the name of this module.
 #[doc(hidden)]
 pub mod words_are_alias_deprecated_flatten_optional_or_parsed_range_unique_with_warnings {}
 

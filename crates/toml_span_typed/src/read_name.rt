@@ -1,20 +1,20 @@
-//! Reads of an enum whose variants have no data.
+//! Reads of enums whose variants have no data.
 
-/// The body of a `deserialize` that reads an enum by its variants' names, in a function that returns
-/// `Result<_, Stop<DeserError>>`:
+/// Reads an enum by the names of its variants. Use it as the body of a function that returns `Result<_,
+/// Stop<DeserError>>`, such as `deserialize`:
 ///
 /// ```text
 /// read_name!(alloc, value, { "low" => Level::Low, "high" => Level::High })
 /// ```
 ///
-/// For a string that is not one of the names, the error is `UnexpectedValue`. It has all names, so a report lists them
-/// and suggests the nearest. For another kind of value it is `Wanted`. No two names may be equal.
+/// Fails with `UnexpectedValue` if the string is not one of the names; a report lists them, and suggests the nearest
+/// one. Fails with `Wanted` if the value is not a string. No two names may be equal.
 #[macro_export]
 macro_rules! read_name {
     ($alloc:expr, $value:expr, { $first:literal => $variant:expr $(, $name:literal => $other:expr)* $(,)? }) => {
         match $crate::de_helpers::name_of($alloc, $value, &[$first $(, $name)*])? {
             $($name => Ok($other),)*
-            // the first name, since it is one of them
+            // the first name: `name_of` returns one of them, and the others have their own arms
             _ => Ok($variant),
         }
     };

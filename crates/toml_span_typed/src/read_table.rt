@@ -1,32 +1,34 @@
-//! Reads of a struct from a table.
+//! Reads of structs from tables.
 
-/// The body of a `deserialize` that reads a struct from a table, in a function that returns
-/// `Result<_, Stop<DeserError>>`: `read_table!(alloc, value, Server { host: String; port: u16; })`.
+/// Reads a struct from a table. Use it as the body of a function that returns `Result<_, Stop<DeserError>>`, such as
+/// `deserialize`: `read_table!(alloc, value, Server { host: String; port: u16; })`.
 ///
-/// Each field is read as its type, from the key of its name, and ends with a semicolon. Before it may be
+/// Each field is read as its type, from the key of the same name, and ends with a semicolon. Options may follow the
+/// type:
 ///
-/// - `port: u16 = "listen-port";`: another key;
-/// - `tags: Option<Vec<String>>;`: None if the key is absent; `tags: Vec<String>, optional;` is the same, for a field
-///   whose type is an alias of an `Option`;
-/// - `port: u16, or(80);`: the value in parentheses if the key is absent, which is evaluated only then;
-/// - `port: u16, range(1..=65535);`: another integer is an error that names the range (`InRange`), also in an `Option`,
-///   a `Spanned` or an `Option` of a `Spanned`; `or(..)` may follow;
-/// - `level: Level, parsed;`: a string that `FromStr` converts, with the same types and `or(..)`;
-/// - `max_body: u64 = "max-body", alias("max_body");`: an old name too (`TableHelper::read_either`). Other words may
-///   follow;
+/// - `port: u16 = "listen-port";`: read from another key;
+/// - `tags: Option<Vec<String>>;`: `None` if the key is absent. If the type is an alias of an `Option`, write
+///   `tags: Vec<String>, optional;`
+/// - `port: u16, or(80);`: this value if the key is absent. It is evaluated only then;
+/// - `port: u16, range(1..=65535);`: an error for an integer outside this range (`InRange`). The type may also be an
+///   `Option`, a `Spanned` or an `Option` of a `Spanned`, and `or(..)` may follow;
+/// - `level: Level, parsed;`: a string that `FromStr` reads, with the same types and `or(..)`;
+/// - `max_body: u64 = "max-body", alias("max_body");`: read from the key or from an old name
+///   (`TableHelper::read_either`). Other options may follow;
 /// - `servers: Vec<Server>, unique(name);`: an error for each server whose field `name`, a `Spanned<String>`, repeats
 ///   that of an earlier one (`TableHelper::keep_repeated`);
-/// - `limits: Limits, flatten;`, the last field: a type that reads the remaining keys (`TableHelper::read_rest`).
+/// - `limits: Limits, flatten;`, as the last field: a type that reads the remaining keys (`TableHelper::read_rest`).
 ///
-/// Other keys are an error; with `..` after the last field they are put back into the value. All errors are reported, in
-/// the order of the fields.
+/// Other keys are an error. With `..` after the last field they are allowed, and are put back into the value. All
+/// errors are returned, in the order of the fields.
 ///
 /// With a list of warnings, `read_table!(alloc, value, warnings, Server { .. })`, it is the body of a
-/// `deserialize_with_warnings`. Unless memory runs out the warnings are appended to the list, and a field may be
+/// `deserialize_with_warnings`. It appends the warnings to the list, unless an allocation fails. Two more options are
+/// allowed:
 ///
-/// - `max_body: u64 = "max-body", deprecated("max_body");`: as `alias`, and the old name warns and is not listed as
-///   expected (`TableHelper::read_deprecated`);
-/// - `origin: Server, with_warnings;`: of a type that warns itself, or an `Option` of one.
+/// - `max_body: u64 = "max-body", deprecated("max_body");`: like `alias`, but the old name causes a warning, and is not
+///   listed as expected (`TableHelper::read_deprecated`);
+/// - `origin: Server, with_warnings;`: a type that warns itself, or an `Option` of one.
 #[macro_export]
 macro_rules! read_table {
     ($alloc:expr, $value:expr, $table:ident { $($fields:tt)* }) => {{
@@ -39,7 +41,7 @@ macro_rules! read_table {
         $crate::read_table!(@fields [helper, $value, [told $warnings], [$table]] [] $($fields)*)
     }};
 
-    // each field: its name, the form of its type, what is in the form, its key, and its words
+    // each field: its name, the form of its type, whether it occurs in the form, its key, and its options
     (@fields $read:tt [$($done:tt)*]
         $field:ident: Option<Spanned<$ty:ty>> $(= $key:literal)? $(, $how:ident $(($($word:tt)*))?)*; $($rest:tt)*
     ) => {
@@ -100,7 +102,7 @@ macro_rules! read_table {
     (@append []) => { () };
     (@append [$told:ident $warnings:ident]) => { $warnings.append(&mut $told)? };
 
-    // a field that must be there, and one that may be absent
+    // a required field, and an optional one
     (@one [$helper:ident, $warnings:tt, $field:ident], $ty:ty, [$key:expr]) => { $helper.read::<$ty>($key)? };
     (@one [$helper:ident, $warnings:tt, $field:ident], $ty:ty, [$key:expr, $old:expr]) => {
         $helper.read_either::<$ty>($key, $old)?
@@ -126,7 +128,7 @@ macro_rules! read_table {
             "`, so the call needs a list of warnings: `read_table!(alloc, value, warnings, ..)`"))
     };
 
-    // words for any form
+    // options of any form
     (@words $read:tt $form:tt [$ty:ty] [$($keys:tt)*] alias($old:literal), $($words:tt)*) => {
         $crate::read_table!(@words $read $form [$ty] [$($keys)*, $old] $($words)*)
     };
@@ -179,7 +181,7 @@ macro_rules! read_table {
     }};
     (@words [$helper:ident, $warnings:tt, $field:ident] [] [$ty:ty] $keys:tt flatten,) => { $helper.read_rest::<$ty>()? };
 
-    // a type that holds the value of the field
+    // a type that contains the value of the field
     (@held $read:tt [] $ty:ty, $keys:tt) => { $crate::read_table!(@one $read, $ty, $keys) };
     (@held $read:tt [] $ty:ty, $keys:tt optional,) => { $crate::read_table!(@held $read [option] $ty, $keys) };
     (@held $read:tt [] $ty:ty, $keys:tt or($default:expr),) => {
@@ -215,7 +217,7 @@ macro_rules! read_table {
             "`or(value)`, and neither after a `Spanned` nor an `Option`"))
     };
 
-    // words that are not written so
+    // options that are not allowed here
     (@words [$helper:ident, [], $field:ident] $form:tt [$ty:ty] $keys:tt with_warnings, $($words:tt)*) => {
         $crate::read_table!(@silent $field with_warnings)
     };
@@ -249,12 +251,12 @@ macro_rules! read_table {
     (@badly [$helper:ident, $warnings:tt, $field:ident] $form:literal) => {
         compile_error!(concat!("`read_table!`: `", stringify!($field), "`: write `", $form, "`"))
     };
-    // the compiler reports an unknown word where it is written, with the name of this module
+    // the compiler reports an unknown option where it is written, with the name of this module
     (@words $read:tt $form:tt [$ty:ty] $keys:tt $how:ident $($words:tt)*) => {
         $crate::words_are_alias_deprecated_flatten_optional_or_parsed_range_unique_with_warnings::$how
     };
 
-    // the field of the struct, once all errors are known
+    // the field of the struct, after all errors have been returned
     (@field $form:tt $field:ident alias $old:tt, $($words:tt)*) => {
         $crate::read_table!(@field $form $field $($words)*)
     };

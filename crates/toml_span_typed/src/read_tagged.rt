@@ -1,6 +1,6 @@
-//! Reads of an enum whose variants have data.
+//! Reads of enums whose variants have data.
 
-/// The body of a `deserialize` that reads an enum from a table, one of whose keys selects the variant:
+/// Reads an enum from a table in which one key, the tag, selects the variant. Use it as the body of a `deserialize`:
 ///
 /// ```text
 /// read_tagged!(alloc, value, "kind", {
@@ -10,10 +10,12 @@
 /// })
 /// ```
 ///
-/// The fields of a variant are written as those of `read_table!`, and their errors are the same. A variant that holds one
-/// value of another type, such as `Target::Server(Server)`, reads it from the other keys; one that holds nothing allows
-/// no other keys. A tag that no variant has is the error `UnexpectedValue` at the tag, with the tags that are expected,
-/// and an absent one is `MissingField`; then no other error of the table is reported. With a list of warnings,
+/// The fields of a variant are written as in `read_table!`, and cause the same errors. A variant with one value of
+/// another type, such as `Target::Server(Server)`, reads that type from the other keys. A variant without data allows
+/// no other keys.
+///
+/// Fails with `UnexpectedValue` at the tag, which lists the expected tags, if no variant has this tag, and with
+/// `MissingField` if the tag is absent; then no other error of the table is reported. With a list of warnings,
 /// `read_tagged!(alloc, value, warnings, "kind", { .. })`, it is the body of a `deserialize_with_warnings`.
 #[macro_export]
 macro_rules! read_tagged {

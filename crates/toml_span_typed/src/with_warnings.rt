@@ -1,4 +1,4 @@
-//! Reads that also warn, such as those of fields under deprecated names.
+//! Reads that can warn, for example about deprecated names.
 ghost use Rattle.std.specs.Prelude.{◌≡◌, ◌+◌, ◌≤◌, IfOk, IsTrue, List, OnErr, Result, length, map};
 ghost use Rattle.toml_span_tree.specs.Error.{ErrorContent, content_of};
 ghost use Rattle.toml_span_tree.specs.Node.{Node};
@@ -15,16 +15,18 @@ use std::alloc::{AllocError, Global};
 use toml_span_lex::stop::Stop;
 use toml_span_tree::{Error, Value};
 
-/// A type whose read also warns. It does not implement `Deserialize`, which has no list for the warnings, so that no read
+/// A type whose read can warn. It does not implement `Deserialize`, which has no list for the warnings, so that no read
 /// can lose them.
 ///
-/// An implementation may state what its read returns: `reads` relates the value before, the result, which is an
-/// element or the errors, the warnings before and those after. Without it the contract says nothing about them.
+/// An implementation can state facts about its reads, for proofs about callers: `reads` relates the value before, the
+/// result (the read value or all errors), the warnings before and the warnings after. By default it leaves everything
+/// open.
 pub trait DeserializeWithWarnings<'de>: Sized + Drop {
     ghost reads: { Node → Result Self Errors → List ErrorContent → List ErrorContent → Type 0 } = { λ _ _ _ _. Unit {0} };
 
-    /// Reads the value, of which nothing may be taken, here or below (`is_whole`). Appends the warnings to the list, even
-    /// if the read fails. The earlier ones stay, also if memory runs out.
+    /// Reads the value, and appends the warnings to the list, even if the read fails. Earlier warnings stay, even if an
+    /// allocation fails. Callers must prove that nothing has been taken from the value (`is_whole`). Fails like
+    /// `Deserialize::deserialize`.
     fn deserialize_with_warnings(
         alloc: Global,
         value: &mut Value<'de>,
@@ -36,8 +38,8 @@ pub trait DeserializeWithWarnings<'de>: Sized + Drop {
         ensures kept { Extends (map content_of warnings.old.items) (map content_of warnings.new.items) };
 }
 
-/// Reads a value. If that fails, appends its errors to a list and returns None. If memory runs out the errors are as
-/// before.
+/// Reads a value. If that fails, appends its errors to `faults`, and returns `None`. If an allocation fails, `faults`
+/// is unchanged.
 pub(crate) fn read_or_keep<'de, T: DeserializeWithWarnings<'de>>(
     alloc: Global,
     mut value: Value<'de>,

@@ -1,13 +1,13 @@
-"""Parses TOML 1.1 and keeps where each value and each key is.
+"""Parses TOML 1.1, and says where each value and each key is.
 
-``loads`` and ``load`` are those of ``tomllib``. ``parse`` returns the values with their places:
+``loads`` and ``load`` replace those of ``tomllib``. ``parse`` returns the values with their places:
 
     >>> root = toml_span.parse('[server]\\nport = 8080\\n')
     >>> port = root["server"]["port"]
     >>> port.value, port.span, port.key_span, port.line
     (8080, (16, 20), (9, 13), 2)
 
-``edit`` changes a text and keeps its other bytes, and ``format`` lays it out:
+``edit`` changes a text and keeps all its other bytes, and ``format`` formats it:
 
     >>> toml_span.edit('port = 80 # open\\n').set("port", 8080).finish()
     'port = 8080 # open\\n'

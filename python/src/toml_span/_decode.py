@@ -1,4 +1,4 @@
-"""From a text to a dict, as ``tomllib`` does it."""
+"""Parses a text into a dict, like ``tomllib``."""
 
 from __future__ import annotations
 
@@ -21,9 +21,9 @@ Moment = Union[datetime, date, time]
 class TOMLDecodeError(ValueError):
     """The text is not valid TOML.
 
-    msg: what is wrong. doc: the text. pos: the index in it at which that is. lineno and colno: its line and its column
-    in characters, both counted from 1. For an error of the library also code: its name, such as ``duplicate-key``.
-    span: the bytes, as (start, end). report: the lines with marks under them, to print.
+    msg: the message. doc: the text. pos: the index of the error in the text. lineno and colno: its line and column,
+    both counted from 1, the column in characters. For an error of the library there are also code, such as
+    ``duplicate-key``; span, the bytes as (start, end); and report, the source lines with marks, to print.
     """
 
     def __init__(
@@ -44,7 +44,7 @@ class TOMLDecodeError(ValueError):
 
     @property
     def char_span(self) -> Optional[Span]:
-        """The span in characters, so that ``doc[start:end]`` is what is wrong."""
+        """The span in characters: ``doc[start:end]`` is what is wrong."""
         if self.span is None:
             return None
         data = self.doc.encode("utf-8", "surrogatepass")[self.span[0] : self.span[1]]
@@ -55,7 +55,7 @@ class TOMLDecodeError(ValueError):
 
 
 def _is_too_large(data: bytes, start: int, end: int) -> bool:
-    """Whether an integer is there that has more than 64 bits. A prefix is not in the span of its digits."""
+    """Returns whether there is an integer of more than 64 bits. The span of its digits does not include a prefix."""
     prefix = data[max(start - 2, 0) : start]
     try:
         number = int((prefix if prefix in (b"0x", b"0o", b"0b") else b"") + data[start:end], 0)
@@ -93,7 +93,7 @@ def _address(array: bytearray) -> int:
 
 
 def encoded(text: str) -> bytes:
-    """The text in UTF-8."""
+    """Encodes a text as UTF-8. Raises TOMLDecodeError for a surrogate."""
     try:
         return text.encode()
     except UnicodeEncodeError as error:
@@ -101,7 +101,7 @@ def encoded(text: str) -> bytes:
 
 
 class Document:
-    """The records of a text, in the order of the text, and the bytes that they name."""
+    """The records of a text, in the order of the text, and the bytes that they refer to."""
 
     __slots__ = ("text", "data", "count", "records", "strings", "address", "sources")
 
@@ -134,12 +134,12 @@ class Document:
         native.lib.toml_span_sort(at + nodes, count, self.address)
 
     def record(self, number: int) -> Tuple[Any, ...]:
-        """All fields of a record."""
+        """Returns all fields of a record."""
         fields: Tuple[Any, ...] = native.NODE.unpack_from(self.records, number * native.NODE.size)
         return fields
 
     def moment(self, start: int, end: int) -> Moment:
-        """The date, the time or both at these bytes."""
+        """Returns the date, time or datetime at these bytes. Raises TOMLDecodeError if Python has none such."""
         try:
             return _moment(self.data[start:end].decode())
         except (ValueError, OverflowError) as error:
@@ -148,7 +148,7 @@ class Document:
             raise TOMLDecodeError(msg, self.text, pos, None, (start, end)) from None
 
     def value(self, number: int, parse_float: Callable[[str], Any] = float) -> Any:
-        """The value of a record with all that it holds."""
+        """Returns the value of a record, with all values inside it."""
         arguments = self.address, number, self.sources, parse_float is not float
         room, needed = len(self.data) + 16 * self.count + 64, ctypes.c_size_t()
         if number > 0:
@@ -179,7 +179,7 @@ class Document:
 
 
 class _Builder(pickle.Unpickler):
-    """Builds what the library writes. Its pickles have no classes, so nothing is imported or called."""
+    """Unpickles what the library writes. Its pickles have no classes, so nothing is imported or called."""
 
     document: Document
     parse_float: Callable[[str], Any]
@@ -211,7 +211,7 @@ def _zone(offset: str) -> timezone:
 
 
 def _moment(text: str) -> Moment:
-    """The date, the time or both; a ValueError where Python has none such, as with the second 60."""
+    """Converts a date, time or datetime. Raises ValueError if Python has none such, as for the second 60."""
     if text[2] == ":" and _HAS_ISO:
         return time.fromisoformat(text)
     if len(text) == 10 and text[4] == "-":
@@ -228,7 +228,7 @@ def _moment(text: str) -> Moment:
 
 
 def loads(s: str, /, *, parse_float: Callable[[str], Any] = float) -> Dict[str, Any]:
-    """Parses a text into a dict, as ``tomllib.loads``. Raises TOMLDecodeError.
+    """Parses a text into a dict, like ``tomllib.loads``. Raises TOMLDecodeError.
 
     ``parse_float`` is called with the text of each float.
     """
@@ -239,7 +239,7 @@ def loads(s: str, /, *, parse_float: Callable[[str], Any] = float) -> Dict[str, 
 
 
 def load(fp: BinaryIO, /, *, parse_float: Callable[[str], Any] = float) -> Dict[str, Any]:
-    """Parses a file that is open in binary mode, as ``tomllib.load``."""
+    """Parses a file that is open in binary mode, like ``tomllib.load``. Raises TOMLDecodeError."""
     data = fp.read()
     try:
         text = data.decode()

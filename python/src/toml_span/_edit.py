@@ -1,4 +1,4 @@
-"""From a text to another one: edits and the formatter."""
+"""Edits and formats texts."""
 
 from __future__ import annotations
 
@@ -13,7 +13,7 @@ Path = Union[str, Iterable[Union[str, int]]]
 
 
 class EditError(ValueError):
-    """An edit is refused. msg: why. index: its number, counted from 0. path: its path."""
+    """An edit was refused. msg: the reason. index: the index of the edit, from 0. path: its path."""
 
     def __init__(self, msg: str, index: int, path: str) -> None:
         super().__init__(f"{msg} (edit {index}, at {path!r})")
@@ -30,7 +30,7 @@ def _checked(text: AnyStr) -> AnyStr:
 
 
 def _made(text: AnyStr, room: int, call: Callable[..., int], refused: Callable[[str], Exception]) -> AnyStr:
-    """The new text that a call of the library makes of a text."""
+    """Returns the new text that a call of the library makes from a text."""
     data = text.encode("utf-8", "surrogatepass") if isinstance(text, str) else text
     needed = ctypes.c_size_t()
     fault = ctypes.create_string_buffer(native.FAULT.size)
@@ -53,11 +53,11 @@ def _made(text: AnyStr, room: int, call: Callable[..., int], refused: Callable[[
 
 
 class Edits(Generic[AnyStr]):
-    """Edits of a text, which ``finish`` makes one after the other.
+    """A list of edits of a text, which ``finish`` makes one after the other.
 
-    A path is a dotted key with positions, such as ``server.ports[0]``, a JSON Pointer, such as ``/server/ports/0``, or
-    names and positions, such as the ``path`` of a Node: ``("server", "ports", 0)``. A value is written as ``dumps``
-    does. Each method returns the edits, so that calls can be chained.
+    A path is a dotted key with positions, such as ``server.ports[0]``; a JSON Pointer, such as ``/server/ports/0``; or
+    names and positions, such as the ``path`` of a Node: ``("server", "ports", 0)``. Values are written as ``dumps``
+    writes them. Each method returns the list, so that calls can be chained.
     """
 
     def __init__(self, text: AnyStr) -> None:
@@ -74,19 +74,19 @@ class Edits(Generic[AnyStr]):
         return self
 
     def set(self, path: Path, value: Any) -> Edits[AnyStr]:
-        """Writes a value over one, but not over a table or an array that headers or dotted keys define."""
+        """Replaces a value, unless it is a table or array that headers or dotted keys define."""
         return self._add(1, path, value_text(value))
 
     def replace(self, path: Path, value: Any) -> Edits[AnyStr]:
-        """Writes a value over one, also over such a table or array."""
+        """Replaces a value, even a table or array that headers or dotted keys define."""
         return self._add(2, path, value_text(value))
 
     def set_or_add(self, path: Path, value: Any) -> Edits[AnyStr]:
-        """Sets a value, or adds it with the tables that are missing on the way."""
+        """Replaces a value, or adds it, with the missing tables on the way."""
         return self._add(3, path, value_text(value))
 
     def rename(self, path: Path, name: str) -> Edits[AnyStr]:
-        """Gives a key another name."""
+        """Renames a key at every place where it is written."""
         return self._add(4, path, name)
 
     def remove(self, path: Path) -> Edits[AnyStr]:
@@ -94,29 +94,29 @@ class Edits(Generic[AnyStr]):
         return self._add(5, path, None)
 
     def add(self, path: Path, value: Any) -> Edits[AnyStr]:
-        """Adds a value under a new key, the last of the path, to a table that is there."""
+        """Adds a value to an existing table, under a new key, the last of the path."""
         return self._add(6, path, value_text(value))
 
     def add_table(self, path: Path) -> Edits[AnyStr]:
-        """Adds an empty table."""
+        """Adds an empty table, with the missing tables on the way."""
         return self._add(7, path, None)
 
     def append(self, path: Path, value: Any) -> Edits[AnyStr]:
-        """Adds a value to an array as its last element, or a new array with it."""
+        """Adds a value at the end of an array, or adds an array with it."""
         return self._add(8, path, value_text(value))
 
     def insert(self, path: Path, value: Any) -> Edits[AnyStr]:
-        """Adds a value before the element at the path, or after the last one."""
+        """Adds a value before the element at the path, or at the end of the array."""
         return self._add(9, path, value_text(value))
 
     def move(self, path: Path, target: Path) -> Edits[AnyStr]:
-        """Moves a value to another path, at which there is none."""
+        """Moves a value to another path, where there is none."""
         return self._add(10, path, target if isinstance(target, str) else path_text(target))
 
     def finish(self) -> AnyStr:
         """Makes the edits, and returns the new text.
 
-        Raises TOMLDecodeError if the text is not valid TOML, and EditError for the first edit that is refused.
+        Raises TOMLDecodeError if the text is not valid TOML, and EditError for the first edit that was refused.
         """
         count, index = len(self._changes), ctypes.c_size_t()
         changes = (native.Change * count)(*self._changes)
@@ -134,7 +134,7 @@ class Edits(Generic[AnyStr]):
 
 
 def edit(text: AnyStr) -> Edits[AnyStr]:
-    """Begins to edit a text, or its bytes. ``finish`` of what it returns makes the edits:
+    """Returns an empty list of edits of a text, or of its bytes. ``finish`` makes the edits:
 
     >>> toml_span.edit("a = 1 # one\\n").set("a", 2).add("b", [True]).finish()
     'a = 2 # one\\nb = [true]\\n'
@@ -143,10 +143,10 @@ def edit(text: AnyStr) -> Edits[AnyStr]:
 
 
 def format(text: AnyStr, *, width: int = 80, indent: int = 4) -> AnyStr:
-    """Formats a text, or its bytes. Raises TOMLDecodeError.
+    """Formats a text, or its bytes. Raises TOMLDecodeError if it is not valid TOML.
 
-    Arrays on one line take at most ``width`` columns. Elements on lines of their own are indented by ``indent`` spaces,
-    at most 64.
+    An array is written on one line if the line then has at most ``width`` columns. Otherwise each element is on a line
+    of its own, indented by ``indent`` spaces per level, which may be 64 at most.
     """
     if width < 0 or not 0 <= indent <= 64:
         raise ValueError("width must not be negative, and indent must be from 0 to 64")

@@ -1,4 +1,4 @@
-"""From a dict to a text."""
+"""Writes a dict as a text."""
 
 from __future__ import annotations
 
@@ -49,12 +49,12 @@ def _inline(value: Any, depth: int) -> str:
 
 
 def _is_tables(value: Any) -> bool:
-    """Whether a value is written as tables with headers: [[name]]."""
+    """Returns whether a value is written as tables with headers: [[name]]."""
     return isinstance(value, list) and bool(value) and all(isinstance(held, dict) and held for held in value)
 
 
 def _lines(table: Dict[str, Any], path: Tuple[str, ...]) -> Iterator[str]:
-    """The lines of a table whose header, if it has one, is written."""
+    """Yields the lines of a table, after its header."""
     if len(path) > _DEEPEST:
         raise ValueError(f"nested deeper than {_DEEPEST} levels")
     below: List[Tuple[str, Any]] = []
@@ -71,7 +71,7 @@ def _lines(table: Dict[str, Any], path: Tuple[str, ...]) -> Iterator[str]:
 
 
 def _plain(value: Any, depth: int = 0) -> Any:
-    """A value with dicts for mappings and lists for tuples, as ``loads`` has them."""
+    """Converts mappings to dicts and tuples to lists, as ``loads`` returns them."""
     if depth > 2 * _DEEPEST:
         raise ValueError(f"nested deeper than {_DEEPEST} levels")
     if isinstance(value, Mapping):
@@ -85,7 +85,7 @@ def _plain(value: Any, depth: int = 0) -> Any:
 
 
 def _is_same(one: Any, other: Any) -> bool:
-    """Whether two values are equal and of one type, to which a nan equals itself."""
+    """Returns whether two values are equal and of the same type, where a nan equals a nan."""
     if isinstance(one, dict):
         return isinstance(other, dict) and one.keys() == other.keys() and all(
             _is_same(value, other[name]) for name, value in one.items()
@@ -101,7 +101,7 @@ def dumps(mapping: Mapping[str, Any], /) -> str:
     """Writes a mapping as TOML, with a header for each table, and a tuple as an array.
 
     Raises TypeError for a type that TOML does not have, and ValueError for a value that it does not have, such as an
-    integer of more than 64 bits. The text is parsed again, and is returned only if ``loads`` has the same in it.
+    integer of more than 64 bits. The text is parsed again, and is returned only if ``loads`` reads the same values.
     """
     if not isinstance(mapping, Mapping):
         raise TypeError(f"Expected a mapping, not '{type(mapping).__qualname__}'")
@@ -110,7 +110,7 @@ def dumps(mapping: Mapping[str, Any], /) -> str:
 
 
 def _checked(text: str, plain: Any) -> str:
-    """A text, if ``loads`` has this value in it."""
+    """Returns the text if ``loads`` reads this value from it. Otherwise raises ValueError."""
     try:
         same = _is_same(plain, loads(text))
     except TOMLDecodeError as error:
@@ -121,7 +121,7 @@ def _checked(text: str, plain: Any) -> str:
 
 
 def value_text(value: Any) -> str:
-    """A value on one line, as ``dumps`` writes it."""
+    """Returns a value on one line, as ``dumps`` writes it."""
     plain = _plain(value)
     return _checked(f"v = {_inline(plain, 0)}", {"v": plain})[4:]
 

@@ -20,13 +20,13 @@ NAME = "libtoml_span.so.0"
 
 
 class Change(ctypes.Structure):
-    """A change of a text: its number, its path and its value."""
+    """A change of a text: its kind, its path and its value."""
 
     _fields_ = [("number", ctypes.c_uint32), ("path", ctypes.c_char_p), ("value", ctypes.c_char_p)]
 
 
 def _library() -> ctypes.CDLL:
-    """The library: that of TOML_SPAN_LIBRARY, or in this folder, or in out/lib of the repository, or the system's."""
+    """Loads the library: from TOML_SPAN_LIBRARY, this folder, out/lib of the repository, or the system."""
     folder = os.path.dirname(os.path.abspath(__file__))
     places = [os.path.join(folder, NAME), os.path.join(folder, "..", "..", "..", "out", "lib", NAME)]
     named = os.environ.get("TOML_SPAN_LIBRARY")
@@ -55,7 +55,7 @@ lib = _library()
 
 
 def text_of(call: Any, *arguments: Any) -> str:
-    """The text that a call writes."""
+    """Returns the text that a call writes."""
     needed, room = ctypes.c_size_t(), 512
     while True:
         out = ctypes.create_string_buffer(room)

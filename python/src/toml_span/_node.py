@@ -1,4 +1,4 @@
-"""The values of a text with their places."""
+"""The values of a text, with their places."""
 
 from __future__ import annotations
 
@@ -13,18 +13,18 @@ Key = Union[str, int]
 
 
 class _Source(Document):
-    """The records of a text, with what is looked up in them, each found once."""
+    """The records of a text, with a cache of look-ups."""
 
     __slots__ = ("starts", "held")
 
     def __init__(self, text: str, data: bytes, name: str) -> None:
         super().__init__(text, data, name)
-        # the bytes at which lines start, with the characters before each; and what each table or array holds
+        # the offsets in bytes at which lines start, and in characters; and the children of tables and arrays
         self.starts: Optional[Tuple[List[int], List[int]]] = None
         self.held: Dict[int, Dict[Key, int]] = {}
 
     def name(self, number: int) -> Key:
-        """The name or the position of a record in what holds it."""
+        """Returns the name or the position of a record in its parent."""
         record = self.record(number)
         if self.record(record[12])[0] == ARRAY:
             position: int = record[13]
@@ -33,7 +33,7 @@ class _Source(Document):
         return (self.strings if source else self.data)[at : at + length].decode()
 
     def children(self, number: int) -> Dict[Key, int]:
-        """The numbers of the records that a table or an array holds, by names or positions."""
+        """Returns the indices of the records of the children of a table or array, by their names or positions."""
         found = self.held.get(number)
         if found is None:
             found, child, end = {}, number + 1, self.record(number)[15]
@@ -44,7 +44,7 @@ class _Source(Document):
         return found
 
     def place(self, offset: int) -> Tuple[int, int, int]:
-        """The line and the column of a byte, both counted from 1, and the characters before it."""
+        """Returns the line and the column of a byte, both counted from 1, and how many characters are before it."""
         if self.starts is None:
             bytes_before, chars_before = [0], [0]
             for row in self.data.split(b"\n")[:-1]:
@@ -57,8 +57,11 @@ class _Source(Document):
 
 
 class Node:
-    """A value with its place. A table works like a dict, an array like a list; ``==``, ``in`` and truth are those of
-    the value. Iteration follows the text; ``sorted(node)`` has the names in order."""
+    """A value with its place.
+
+    A table works like a dict, an array like a list. ``==``, ``in`` and truth are those of the value. Iteration follows
+    the text; ``sorted(node)`` returns the names in order.
+    """
 
     __slots__ = ("_source", "_number")
     __hash__ = None  # type: ignore[assignment]
@@ -77,24 +80,24 @@ class Node:
 
     @property
     def value(self) -> Any:
-        """What ``loads`` has here."""
+        """The value as ``loads`` returns it."""
         return self._source.value(self._number)
 
     @property
     def key(self) -> Optional[str]:
-        """Its name in the table that holds it; None for elements and for the root."""
+        """The name of its key; None for elements and for the root."""
         name = None if self._number == 0 else self._source.name(self._number)
         return name if isinstance(name, str) else None
 
     @property
     def parent(self) -> Optional[Node]:
-        """The table or array that holds it; None for the root."""
+        """The table or array around it; None for the root."""
         number = self._record[12]
         return None if number == NONE else Node(self._source, number)
 
     @property
     def path(self) -> Tuple[Key, ...]:
-        """The names and positions that lead to it from the root."""
+        """The path from the root: names and positions."""
         steps: List[Key] = []
         number = self._number
         while number != 0:
@@ -104,7 +107,7 @@ class Node:
 
     @property
     def span(self) -> Span:
-        """Its bytes in the text, the end exclusive; for a string those between its quotes."""
+        """Its bytes in the text, as (start, end), the end exclusive; for a string, those between its quotes."""
         return self._record[2], self._record[3]
 
     @property
@@ -117,7 +120,7 @@ class Node:
 
     @property
     def char_span(self) -> Span:
-        """Its span in characters, so that ``text[start:end]`` is what is there."""
+        """Its span in characters: ``text[start:end]`` is what is there."""
         start, end = self.span
         return self._source.place(start)[2], self._source.place(end)[2]
 
@@ -128,17 +131,17 @@ class Node:
 
     @property
     def line(self) -> int:
-        """The line at which it starts, counted from 1."""
+        """The line where it starts, counted from 1."""
         return self._source.place(self._record[2])[0]
 
     @property
     def column(self) -> int:
-        """The column at which it starts, in characters counted from 1."""
+        """The column where it starts, counted from 1 in characters."""
         return self._source.place(self._record[2])[1]
 
     def find(self, path: str) -> Optional[Node]:
-        """The value at a dotted key with positions, such as ``server.ports[0]`` or ``dependencies."a/b"``, or, if the
-        path begins with a slash, at a JSON Pointer, such as ``/server/ports/0``; None if there is none."""
+        """Returns the value at a dotted key with positions, such as ``server.ports[0]`` or ``dependencies."a/b"``, or
+        at a JSON Pointer, such as ``/server/ports/0``. Returns None if there is no such value."""
         source, name = self._source, path.encode("utf-8", "surrogatepass")
         if b"\0" in name:
             return None
@@ -146,7 +149,7 @@ class Node:
         return None if number == NONE else Node(source, number)
 
     def pointer(self, pointer: str) -> Optional[Node]:
-        """The value at a JSON Pointer, such as ``/server/ports/0``; None if there is none."""
+        """Returns the value at a JSON Pointer, such as ``/server/ports/0``, or None if there is no such value."""
         if pointer and pointer[0] != "/":
             raise ValueError(f"a pointer that is not empty begins with a slash: {pointer!r}")
         node = self

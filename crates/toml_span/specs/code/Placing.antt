@@ -17,130 +17,132 @@ use Rattle.toml_span_tree.specs.Value.{view, inner_view, inner_of as tree_inner}
 use Rattle.toml_span_tree.specs.declared.value.Value.{Value}
 use Rattle.toml_span_tree.specs.Node as tree
 use Rattle.toml_span_tree.specs.declared.value.ValueInner.TheVariants.{Table as table_inner}
-use Rattle.toml_span_read.specs.Data.{ParsedValue as Read, parsed_span, Block, key_value, simple_key}
+use Rattle.toml_span_read.specs.Data.{ParsedValue as Read, parsed_span, ParsedSection, parsed_assignment, simple_key}
 use Rattle.toml_span_read.specs.declared.value.Assignment.{Assignment}
 use Rattle.toml_span.specs.declared.branch.Branch.{Branch}
 use Rattle.toml_span.specs.Claims.{Claims, value_claims, value_shape, parsed_inner, shape_claimed, claims}
-use Rattle.toml_span.specs.Claims.{header_mark, key_value_claims}
-use Rattle.toml_span.specs.code.Machine.{Gives, clash_met, put_all, nothing, show_all, Cell, State, clash_told}
+use Rattle.toml_span.specs.Claims.{part_info, assignments_claims}
+use Rattle.toml_span.specs.code.Machine.{OkOrClash, clash_met, put_all, no_cells, show_all, Cell, CellMap, named_clash}
 use Rattle.toml_span.specs.code.Relative.{counts_after, counts_after_through, passing, section_at, through}
 use Rattle.toml_span.specs.code.Relative.{through_pair}
-use Rattle.toml_span.specs.code.Tree.{entries, cells, counts, marks, IsScope, IsChild, IsHeld, Sound, value_shows}
-use Rattle.toml_span.specs.declared.claims.Head.{Head}
-use Rattle.toml_span.specs.declared.claims.Mark.{Mark}
-use Rattle.toml_span.specs.code.Marks.{Halt, remember, deciding}
-use Rattle.toml_span.specs.declared.claims.Sort.{Sort}
-use Rattle.toml_span.specs.declared.claims.Sort.TheVariants.{Passed, StandardTable, TableElement}
+use Rattle.toml_span.specs.code.Tree.{entries, cells, counts, infos, IsScope, IsChild, IsHeld, Sound, value_shows}
+use Rattle.toml_span.specs.declared.claims.HeaderInfo.{HeaderInfo}
+use Rattle.toml_span.specs.declared.claims.ClaimInfo.{ClaimInfo}
+use Rattle.toml_span.specs.code.ClaimInfos.{PlaceError, remember, deciding}
+use Rattle.toml_span.specs.declared.claims.ClaimKind.{ClaimKind}
+use Rattle.toml_span.specs.declared.claims.ClaimKind.TheVariants.{Passed, StandardTable, TableElement}
 use Rattle.toml_span.specs.declared.scopes.Pending.{Pending}
 use Rattle.toml_span.specs.Ordered.{IsOrdered, HoldsOrdered}
-use Rattle.toml_span.specs.Borrowed.{held}
+use Rattle.toml_span.specs.Borrowed.{strings_and_keys}
 use Rattle.toml_span.specs.code.Borrowed.{table_held, StaysRight}
 use Rattle.toml_span.specs.declared.branch.Branch.TheViews.{out-Branch}
 use Rattle.toml_span_lex.specs.declared.stop.Stop.TheVariants.{Memory, Fault}
 use Rattle.toml_span.specs.Clashes.{Resolves, first_clash}
-use Rattle.toml_span.specs.Flat.{Shows, flat}
+use Rattle.toml_span.specs.Flat.{ShowsExactly, flat}
 
--- The claims have been placed, beginning at a branch, which then has this many entries; or the result is the first
--- clash.
-abbrev pub Reaches : (Branch → Type 0) → (Branch → Type 0) → Branch → Branch → Result (Unit {0}) Halt → Claims
+-- If the branch satisfied the first predicate, the claims have been placed below it: it then satisfies the second
+-- predicate, and has these numbers of entries. Or the result is their first clash.
+abbrev pub Reaches : (Branch → Type 0) → (Branch → Type 0) → Branch → Branch → Result (Unit {0}) PlaceError → Claims
     → (Path → ℕ) → Type 0
 Reaches Before After old new r cs entries =
     Before old
-    → Gives r (clash_met (cells old) cs)
+    → OkOrClash r (clash_met (cells old) cs)
     (λ _. (cells new ≡ put_all (cells old) cs) × (counts new ≡ entries) × After new)
 
--- the same below a table, whose own claims are unchanged
-abbrev pub Places : Branch → Branch → Result (Unit {0}) Halt → Claims → (Path → ℕ) → Type 0
-Places old new r cs entries = Reaches IsScope (λ n. IsScope n × (marks n ≡ marks old)) old new r cs entries
+-- the same for a table, whose own claims stay the same
+abbrev pub Places : Branch → Branch → Result (Unit {0}) PlaceError → Claims → (Path → ℕ) → Type 0
+Places old new r cs entries = Reaches IsScope (λ n. IsScope n × (infos n ≡ infos old)) old new r cs entries
 
--- the same beginning at a branch below a name
-abbrev pub Passes : Branch → Branch → Result (Unit {0}) Halt → Claims → (Path → ℕ) → Type 0
+-- the same for the branch that a name leads to
+abbrev pub Passes : Branch → Branch → Result (Unit {0}) PlaceError → Claims → (Path → ℕ) → Type 0
 Passes old new r cs entries = Reaches IsChild IsHeld old new r cs entries
 
--- the same beginning at a table, which is claimed
-abbrev pub Opening : (Branch → Type 0) → Mark → Branch → Branch → Result (Unit {0}) Halt → Claims → (Path → ℕ) → Type 0
+-- the same for a table, which is claimed first
+abbrev pub Opening : (Branch → Type 0) → ClaimInfo → Branch → Branch → Result (Unit {0}) PlaceError → Claims
+    → (Path → ℕ) → Type 0
 Opening Before m old new r cs entries =
-    Reaches Before (λ n. IsScope n × (marks n ≡ remember (marks old) m)) old new r cs entries
+    Reaches Before (λ n. IsScope n × (infos n ≡ remember (infos old) m)) old new r cs entries
 
--- a branch that is claimed for a section, or a table that is claimed for an entry
-abbrev pub Opens : Sort → Branch → Type 0
-Opens sort n = Sound n × ((sort ≡ StandardTable) ⊎ ((sort ≡ TableElement) × (entries n ≡ [])))
+-- A branch that can be claimed for a section, or a new entry that can be claimed.
+abbrev pub Opens : ClaimKind → Branch → Type 0
+Opens kind n = Sound n × ((kind ≡ StandardTable) ⊎ ((kind ≡ TableElement) × (entries n ≡ [])))
 
 -- ---- keys and headers
 
--- the claims of these assignments, seen from their table
+-- the claims of these assignments, as paths below their table
 abbrev pub claims_of : List Assignment → Claims
-claims_of pairs = key_value_claims (map key_value pairs) []
+claims_of pairs = assignments_claims (map parsed_assignment pairs) []
 
--- The pending value has been placed, beginning at the branch of a part that is followed by the parts `rest`.
-abbrev pub PassesPair : Branch → Branch → Result (Unit {0}) Halt
+-- The pending value has been placed. The branch is that of a part of its key, and `rest` are the inner parts after it.
+abbrev pub PassesPair : Branch → Branch → Result (Unit {0}) PlaceError
     → Key → List Key → Pending → Read → Type 0
 PassesPair old new r part rest d v =
     Passes old new r (through_pair (simple_key part) (map simple_key rest) (simple_key d.last) v) (counts old)
 
--- A section has been placed below a branch; `parts` are the remaining parts of its header.
-abbrev pub PlacesSection : Branch → Branch → Result (Unit {0}) Halt
-    → Head → List Key → List Assignment → Type 0
+-- A section has been placed below a branch. `parts` is what is left of its header.
+abbrev pub PlacesSection : Branch → Branch → Result (Unit {0}) PlaceError
+    → HeaderInfo → List Key → List Assignment → Type 0
 PlacesSection old new r h parts pairs =
     Places old new r (section_at (counts old) h (map simple_key parts) (claims_of pairs))
     (counts_after (counts old) h (map simple_key parts))
 
--- the same beginning at the branch of a part
-abbrev pub PassesHeader : Branch → Branch → Result (Unit {0}) Halt
-    → Head → Key → List Key → List Assignment → Type 0
+-- the same for the branch of a part, with the parts after it
+abbrev pub PassesHeader : Branch → Branch → Result (Unit {0}) PlaceError
+    → HeaderInfo → Key → List Key → List Assignment → Type 0
 PassesHeader old new r h part rest pairs =
     Passes old new r (through (counts old) h (simple_key part) (map simple_key rest) (claims_of pairs))
     (counts_after_through (counts old) h (map simple_key rest))
 
--- the same beginning at a table through which the header passes
-abbrev pub PassesTable : Branch → Branch → Result (Unit {0}) Halt
-    → Head → Key → List Key → List Assignment → Type 0
+-- the same for a table that the header passes through
+abbrev pub PassesTable : Branch → Branch → Result (Unit {0}) PlaceError
+    → HeaderInfo → Key → List Key → List Assignment → Type 0
 PassesTable old new r h part rest pairs =
-    Opening IsScope (header_mark h Passed part.span) old new r
+    Opening IsScope (part_info h Passed part.span) old new r
     (passing h (simple_key part) (map simple_key rest) (claims_of pairs) (counts old))
     (counts_after (counts old) h (map simple_key rest))
 
 -- ---- values
 
--- The finished value shows what was read, at its own path and at those below it, and its tables are in order.
+-- The finished value shows what was read, at its own path and below it, and its tables are in order.
 abbrev pub IsFinished : Read → Value → Type 0
 IsFinished v x =
     ((at : Option Span)
     → tree_place (at, view x) ≡ record { shape = value_shape (parsed_inner v); key_span = at; span = parsed_span v })
-    × ((s : Step) (p : Path) → value_shows None (view x) (s ∷ p) ≡ (show_all nothing (value_claims v []) (s ∷ p)).shown)
+    × ((s : Step) (p : Path) → value_shows None (view x) (s ∷ p)
+    ≡ (show_all no_cells (value_claims v []) (s ∷ p)).shown)
     × IsOrdered (view x)
 
--- the value, or the first clash in it
-abbrev pub ValueGives : Result Value Halt → Read → Type 0
-ValueGives r v = Gives r (clash_met nothing (value_claims v [])) (IsFinished v)
+-- The result is the finished value, or the first clash in it.
+abbrev pub ValueGives : Result Value PlaceError → Read → Type 0
+ValueGives r v = OkOrClash r (clash_met no_cells (value_claims v [])) (IsFinished v)
 
--- the place, without what decides it
+-- the place in a cell
 abbrev pub place_shown : Cell → Option Place
 place_shown x = option_map (λ d. d.place) x.shown
 
--- Below it, a tree shows the places of a state.
-abbrev pub ShowsBelow : tree.Inner → State → Type 0
+-- The tree shows the places of a state, except for its own.
+abbrev pub ShowsBelow : tree.Inner → CellMap → Type 0
 ShowsBelow i st =
     (s : Step) (p : Path)
     → option_map tree_place (reached (s ∷ p) (None, tree.node i (record { start = 0; end = 0 })))
     ≡ place_shown (st (s ∷ p))
 
--- the same with what decides, which is never a header
-abbrev pub ShowsPlain : tree.Inner → State → Type 0
+-- The same, and what determines them is never a header.
+abbrev pub ShowsPlain : tree.Inner → CellMap → Type 0
 ShowsPlain i st =
     (s : Step) (p : Path) → value_shows None (tree.node i (record { start = 0; end = 0 })) (s ∷ p) ≡ (st (s ∷ p)).shown
 
--- the result for the scope of an inline table or of an array
-abbrev pub ScopeGives : {A : Type 0} → Result A Halt → (A → tree.Inner) → Claims → Type 0
+-- the result for the scope of an inline table or array
+abbrev pub ScopeGives : {A : Type 0} → Result A PlaceError → (A → tree.Inner) → Claims → Type 0
 ScopeGives r seen cs =
-    Gives r (clash_met nothing cs) (λ x. ShowsPlain (seen x) (show_all nothing cs) × HoldsOrdered (seen x))
+    OkOrClash r (clash_met no_cells cs) (λ x. ShowsPlain (seen x) (show_all no_cells cs) × HoldsOrdered (seen x))
 
 -- ---- finishing
 
 abbrev pub Table : Type 0
 Table = BTreeMap Key Value
 
--- The names of a table ascend.
+-- The names in the table ascend.
 abbrev pub NamesAscend : Table → Type 0
 NamesAscend t =
     IsStrictlySortedBy (λ k l. slice_cmp nat_cmp (cow_str_bytes k.name) (cow_str_bytes l.name)) (keys_of t.entries)
@@ -148,8 +150,8 @@ NamesAscend t =
 abbrev pub Array : Type 0
 Array = Vec Value
 
--- the table of a branch's values and of those made from its branches, whose strings and keys are borrowed correctly if
--- those of the branch are
+-- The table of `values` and of the values made from `tables`. Its strings and keys are borrowed correctly if those of
+-- the two are.
 abbrev pub Finishes : BTreeMap Key (Box Branch) → Table → Result Table AllocError → Type 0
 Finishes tables values (Ok t) =
     (n : Branch) → (out-Branch n).tables ≡ tables → (out-Branch n).values ≡ values → IsScope n
@@ -157,36 +159,36 @@ Finishes tables values (Ok t) =
     × StaysRight n (table_held t.entries)
 Finishes tables values (Err e) = ⊤
 
--- the span of the key and the value made from a branch
+-- the value made from a branch, with the span of its key
 abbrev pub Becomes : Branch → Result (Span × Value) AllocError → Type 0
 Becomes n (Ok r) =
     Sound n
-    → ((m : Mark) (at : Option Span) → deciding (marks n) ≡ Some m
+    → ((m : ClaimInfo) (at : Option Span) → deciding (infos n) ≡ Some m
     → (r.0 ≡ m.key)
-    × (tree_place (at, view r.1) ≡ record { shape = shape_claimed m.sort; key_span = at; span = m.extent }))
-    × ShowsBelow (tree_inner (view r.1)) (cells n) × IsOrdered (view r.1) × StaysRight n (held r.1)
+    × (tree_place (at, view r.1) ≡ record { shape = shape_claimed m.kind; key_span = at; span = m.extent }))
+    × ShowsBelow (tree_inner (view r.1)) (cells n) × IsOrdered (view r.1) × StaysRight n (strings_and_keys r.1)
 Becomes n (Err e) = ⊤
 
--- the value of an entry, which has no key
+-- the value made from an entry, which has no key
 abbrev pub BecomesEntry : Branch → Value → Type 0
 BecomesEntry n v = (at : Span) × Becomes n (Ok (at, v))
 
--- the elements made from the entries of an array of tables, in order
+-- the values made from the entries of an array of tables, in order
 abbrev pub EachBecomes : List Branch → Result Array AllocError → Type 0
 EachBecomes ns (Ok a) = AllZip BecomesEntry ns a.items
 EachBecomes ns (Err e) = ⊤
 
 -- ---- the document
 
--- A section without a header is not an element of an array of tables.
-abbrev pub AreSections : List Block → Type 0
+-- A section without a header does not add an element.
+abbrev pub AreSections : List ParsedSection → Type 0
 AreSections [] = ⊤
 AreSections (b ∷ bs) = (b.header ≡ [] → b.array ≡ false) × AreSections bs
 
--- The result is a tree exactly if no two claims clash; it shows the flat document and is in order. Otherwise it is the
--- first clash.
-abbrev pub Assembles : List Block → ℕ → Result Value Halt → Type 0
+-- If no two claims clash, the result is a tree that shows the flat document and is in order. Otherwise it is the first
+-- clash.
+abbrev pub Assembles : List ParsedSection → ℕ → Result Value PlaceError → Type 0
 Assembles bs length (Ok root) =
-    Resolves (claims bs) × Shows (view root) (flat length (claims bs)) × IsOrdered (view root)
-Assembles bs length (Err (Fault c)) = first_clash (claims bs) ≡ Some (clash_told c)
+    Resolves (claims bs) × ShowsExactly (view root) (flat length (claims bs)) × IsOrdered (view root)
+Assembles bs length (Err (Fault c)) = first_clash (claims bs) ≡ Some (named_clash c)
 Assembles bs length (Err (Memory e)) = ⊤

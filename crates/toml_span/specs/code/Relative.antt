@@ -1,17 +1,17 @@
--- The claims of headers and assignments, seen from the branch at which they begin.
+-- The claims of headers and assignments, as paths below the branch at which a function begins.
 use Rattle.std.specs.Prelude.{ℕ, zero, suc, if◌then◌else◌, List, [], ◌∷◌}
 use Rattle.toml_span_tree.specs.Path.{Step, key, position, Path}
 use Rattle.toml_span_read.specs.Data.{ParsedValue, SimpleKey}
 use Rattle.toml_span.specs.Claims.{Claim, Claims, no_claims, claimed, scope, assigned, dotted, value_claims}
 use Rattle.toml_span.specs.Claims.{header_claim, array_claims}
-use Rattle.toml_span.specs.declared.claims.Sort.{Sort}
-use Rattle.toml_span.specs.declared.claims.Sort.TheVariants.{Passed, StandardTable, ArrayOfTables, TableElement}
-use Rattle.toml_span.specs.declared.claims.Head.{Head}
+use Rattle.toml_span.specs.declared.claims.ClaimKind.{ClaimKind}
+use Rattle.toml_span.specs.declared.claims.ClaimKind.TheVariants.{Passed, StandardTable, ArrayOfTables, TableElement}
+use Rattle.toml_span.specs.declared.claims.HeaderInfo.{HeaderInfo}
 use Rattle.toml_span.specs.code.Machine.{graft}
 
--- a claim below a step, and all claims below it
+-- a claim one step further down, and all claims one step further down
 abbrev pub step_down : Step → Claim → Claim
-step_down s c = record { path = s ∷ c.path; name = c.name; mark = c.mark; place = c.place }
+step_down s c = record { path = s ∷ c.path; name = c.name; info = c.info; place = c.place }
 
 unfoldable pub under : Step → Claims → Claims
 under s no_claims = no_claims
@@ -20,53 +20,53 @@ under s (scope inner cs) = scope (under s inner) (under s cs)
 
 -- ---- assignments
 
--- The claims of a value that is assigned to the last part of a key, after these inner parts.
+-- The claims of a value that is assigned to a key with these inner parts and this last part.
 unfoldable pub pair_at : List SimpleKey → SimpleKey → ParsedValue → Claims
 pair_at [] last v = under (key last.name) (claimed (assigned [] last v) (value_claims v []))
 pair_at (k ∷ inner) last v = under (key k.name) (claimed (dotted [] k v) (pair_at inner last v))
 
--- the same, beginning at the branch of the first inner part
+-- the same as paths below the branch of the first inner part
 abbrev pub through_pair : SimpleKey → List SimpleKey → SimpleKey → ParsedValue → Claims
 through_pair k inner last v = claimed (dotted [] k v) (pair_at inner last v)
 
 -- ---- sections
 
--- the sort of claim of a header's part that these parts follow, if it is the first claim
-abbrev pub part_sort : Head → List SimpleKey → Sort
-part_sort h [] = if h.array then ArrayOfTables else StandardTable
-part_sort h (l ∷ more) = Passed
+-- the kind of claim that a part of a header makes; the list has the parts after it
+abbrev pub part_kind : HeaderInfo → List SimpleKey → ClaimKind
+part_kind h [] = if h.array then ArrayOfTables else StandardTable
+part_kind h (l ∷ more) = Passed
 
--- beginning at the latest entry of a branch, or, without entries, at the branch itself
+-- as paths below the latest entry of a branch or, if it has no entries, below the branch itself
 abbrev pub entered : ℕ → (Path → ℕ) → ((Path → ℕ) → Claims) → Claims
 entered zero e f = f e
 entered (suc latest) e f = under (position latest) (f (λ q. e (position latest ∷ q)))
 
--- the claim of a table, and those below it
-abbrev pub opening : Head → Sort → SimpleKey → Claims → Claims
-opening h sort k tail = claimed (header_claim h sort [] k) tail
+-- the claim of a table, and those in it
+abbrev pub opening : HeaderInfo → ClaimKind → SimpleKey → Claims → Claims
+opening h kind k tail = claimed (header_claim h kind [] k) tail
 
--- the entry that follows n others
-abbrev pub adding : Head → SimpleKey → Claims → ℕ → Claims
+-- the claims of an entry that is added after n others
+abbrev pub adding : HeaderInfo → SimpleKey → Claims → ℕ → Claims
 adding h k tail n = under (position n) (opening h TableElement k tail)
 
--- the claims at the branch at which a header ends, if n entries have been added
-abbrev pub ending : Head → SimpleKey → Claims → ℕ → Claims
+-- the claims of the last part of a header, whose branch has n entries so far
+abbrev pub ending : HeaderInfo → SimpleKey → Claims → ℕ → Claims
 ending h k tail n = if h.array then array_claims h [] k n (adding h k tail n) else opening h StandardTable k tail
 
--- the claims of a section, where `tail` are those below the table that the header opens
-unfoldable pub section_at : (Path → ℕ) → Head → List SimpleKey → Claims → Claims
+-- the claims of a section, where `tail` are those in the table that the header opens
+unfoldable pub section_at : (Path → ℕ) → HeaderInfo → List SimpleKey → Claims → Claims
 section_at e h [] tail = tail
 section_at e h (k ∷ []) tail = under (key k.name) (ending h k tail (e (key k.name ∷ [])))
 section_at e h (k ∷ l ∷ more) tail =
     under (key k.name)
     (entered (e (key k.name ∷ [])) (λ q. e (key k.name ∷ q)) (λ f. opening h Passed k (section_at f h (l ∷ more) tail)))
 
--- beginning at a branch through which the header passes
-abbrev pub passing : Head → SimpleKey → List SimpleKey → Claims → (Path → ℕ) → Claims
+-- the same as paths below a branch that the header passes through
+abbrev pub passing : HeaderInfo → SimpleKey → List SimpleKey → Claims → (Path → ℕ) → Claims
 passing h k rest tail f = opening h Passed k (section_at f h rest tail)
 
--- beginning at the branch of the part k
-abbrev pub through : (Path → ℕ) → Head → SimpleKey → List SimpleKey → Claims → Claims
+-- the same as paths below the branch of the part k
+abbrev pub through : (Path → ℕ) → HeaderInfo → SimpleKey → List SimpleKey → Claims → Claims
 through e h k [] tail = ending h k tail (e [])
 through e h k (l ∷ more) tail = entered (e []) e (passing h k (l ∷ more) tail)
 
@@ -76,20 +76,20 @@ abbrev pub counts_after_adding : (Path → ℕ) → Path → ℕ
 counts_after_adding e [] = suc (e [])
 counts_after_adding e (s ∷ p) = e (s ∷ p)
 
-abbrev pub counts_after_end : (Path → ℕ) → Head → Path → ℕ
+abbrev pub counts_after_end : (Path → ℕ) → HeaderInfo → Path → ℕ
 counts_after_end e h p = if h.array then counts_after_adding e p else e p
 
 abbrev pub counts_after_entered : ℕ → (Path → ℕ) → ((Path → ℕ) → Path → ℕ) → Path → ℕ
 counts_after_entered zero e f = f e
 counts_after_entered (suc latest) e f = graft (position latest) e (f (λ q. e (position latest ∷ q)))
 
-unfoldable pub counts_after : (Path → ℕ) → Head → List SimpleKey → Path → ℕ
+unfoldable pub counts_after : (Path → ℕ) → HeaderInfo → List SimpleKey → Path → ℕ
 counts_after e h [] = e
 counts_after e h (k ∷ []) = graft (key k.name) e (counts_after_end (λ q. e (key k.name ∷ q)) h)
 counts_after e h (k ∷ l ∷ more) =
     graft (key k.name) e
     (counts_after_entered (e (key k.name ∷ [])) (λ q. e (key k.name ∷ q)) (λ f. counts_after f h (l ∷ more)))
 
-abbrev pub counts_after_through : (Path → ℕ) → Head → List SimpleKey → Path → ℕ
+abbrev pub counts_after_through : (Path → ℕ) → HeaderInfo → List SimpleKey → Path → ℕ
 counts_after_through e h [] = counts_after_end e h
 counts_after_through e h (l ∷ more) = counts_after_entered (e []) e (λ f. counts_after f h (l ∷ more))

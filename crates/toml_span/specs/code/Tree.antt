@@ -1,4 +1,4 @@
--- What a branch of the tree under construction has at each path.
+-- What the tree under construction has at each path.
 use Rattle.std.specs.Prelude.{◌≡◌, ℕ, zero, suc, ◌⊎◌, Bool, true, false, List, [], ◌∷◌, length, Option, Some, None}
 use Rattle.std.specs.Prelude.{option_map}
 use Rattle.std.specs.Cow.{cow_str_bytes}
@@ -15,28 +15,28 @@ use Rattle.toml_span_tree.specs.declared.value.Value.{Value}
 use Rattle.toml_span_tree.specs.Path.{Place, Path, reached, place_of as tree_place, key, position}
 use Rattle.toml_span_tree.specs.Node as tree
 use Rattle.toml_span_tree.specs.Value.{span_of, view}
-use Rattle.toml_span.specs.declared.claims.Mark.{Mark}
+use Rattle.toml_span.specs.declared.claims.ClaimInfo.{ClaimInfo}
 use Rattle.toml_span.specs.declared.branch.Branch.{Branch}
 use Rattle.toml_span.specs.declared.branch.Branch.TheViews.{out-Branch}
-use Rattle.toml_span.specs.Claims.{place_claimed, pair_mark}
+use Rattle.toml_span.specs.Claims.{place_claimed, pair_info}
 use Rattle.toml_span.specs.Flat.{by_header}
-use Rattle.toml_span.specs.code.Machine.{Decided, State, no_cell, with_span, Cell}
-use Rattle.toml_span.specs.declared.claims.Sort.TheVariants.{Assigned, ArrayOfTables, TableElement}
-use Rattle.toml_span.specs.code.Marks.{deciding}
-use Rattle.toml_span.specs.declared.claims.Sort.{Sort}
+use Rattle.toml_span.specs.code.Machine.{Decided, CellMap, no_cell, with_span, Cell}
+use Rattle.toml_span.specs.declared.claims.ClaimKind.TheVariants.{Assigned, ArrayOfTables, TableElement}
+use Rattle.toml_span.specs.code.ClaimInfos.{deciding}
+use Rattle.toml_span.specs.declared.claims.ClaimKind.{ClaimKind}
 use Rattle.toml_span.specs.Ordered.{IsOrdered}
 
--- Whether the key has this name.
+-- whether the key has this name
 abbrev pub is_named : List ℕ → Key → Bool
 is_named name k = is_eq (slice_cmp nat_cmp name (cow_str_bytes k.name))
 
-abbrev pub marks : Branch → List Mark
-marks n = (out-Branch n).marks.items
+abbrev pub infos : Branch → List ClaimInfo
+infos n = (out-Branch n).infos.items
 
 abbrev pub entries : Branch → List Branch
 entries n = (out-Branch n).entries.items
 
--- the branch with this name, the value with this name and its key, and the entry at a position
+-- the branch with this name; the value with this name, with its key; the entry at a position
 abbrev pub child : List ℕ → Branch → Option Branch
 child name n = option_map box_value (lookup (is_named name) (out-Branch n).tables.entries)
 
@@ -51,25 +51,25 @@ item i [] = None
 item zero (x ∷ xs) = Some x
 item (suc i) (x ∷ xs) = item i xs
 
--- the branch with this name among those of a map, and the claims on it
+-- the branch with this name in a map, and the claims on it
 abbrev pub child_in : List ℕ → BTreeMap Key (Box Branch) → Option Branch
 child_in name tables = option_map box_value (lookup (is_named name) tables.entries)
 
-abbrev pub held_marks : Option Branch → List Mark
-held_marks None = []
-held_marks (Some n) = marks n
+abbrev pub child_infos : Option Branch → List ClaimInfo
+child_infos None = []
+child_infos (Some n) = infos n
 
--- ---- what it keeps and shows
+-- ---- what a branch keeps and shows
 
-abbrev pub by_mark : Mark → Decided
-by_mark m = record { header = by_header m.sort; place = place_claimed m; key = m.key }
+abbrev pub by_info : ClaimInfo → Decided
+by_info m = record { header = by_header m.kind; place = place_claimed m; key = m.key }
 
--- What these claims show. The first of them has the key.
-abbrev pub by_marks : List Mark → Option Decided
-by_marks [] = None
-by_marks (m ∷ ms) = option_map (λ x. with_span m.key (by_mark x)) (deciding (m ∷ ms))
+-- What these claims show at their path. The key is that of the first one.
+abbrev pub by_infos : List ClaimInfo → Option Decided
+by_infos [] = None
+by_infos (m ∷ ms) = option_map (λ x. with_span m.key (by_info x)) (deciding (m ∷ ms))
 
--- the key's span, or, for an element in brackets, which has no key, its own span
+-- the span of the key or, for an element in brackets, which has no key, its own span
 abbrev pub span_or : Span → Option Span → Span
 span_or span None = span
 span_or span (Some at) = at
@@ -77,21 +77,21 @@ span_or span (Some at) = at
 abbrev pub plain : Place → Decided
 plain p = record { header = false; place = p; key = span_or p.span p.key_span }
 
--- what a finished value, whose key has this span, if it has one, shows at each path inside it
+-- what a finished value shows at each path inside it; its own key has this span, if it has one
 abbrev pub value_shows : Option Span → tree.Node → Path → Option Decided
 value_shows at n p = option_map (λ m. plain (tree_place m)) (reached p (at, n))
 
-abbrev pub value_cell : Span → tree.Node → State
-value_cell at n [] = record { marks = pair_mark Assigned at (span_of n) ∷ []; shown = value_shows (Some at) n [] }
-value_cell at n (s ∷ p) = record { marks = []; shown = value_shows (Some at) n (s ∷ p) }
+abbrev pub value_cell : Span → tree.Node → CellMap
+value_cell at n [] = record { infos = pair_info Assigned at (span_of n) ∷ []; shown = value_shows (Some at) n [] }
+value_cell at n (s ∷ p) = record { infos = []; shown = value_shows (Some at) n (s ∷ p) }
 
-abbrev pub closed_cell : Option (Key × Value) → State
+abbrev pub closed_cell : Option (Key × Value) → CellMap
 closed_cell None p = no_cell
 closed_cell (Some e) p = value_cell e.0.span (view e.1) p
 
--- the claim of a value on its own name
-abbrev pub closed_marks : Option (Key × Value) → List Mark
-closed_marks o = (closed_cell o []).marks
+-- the claim of an assigned value on its name
+abbrev pub closed_infos : Option (Key × Value) → List ClaimInfo
+closed_infos o = (closed_cell o []).infos
 
 abbrev pub or_closed : Option Cell → Cell → Cell
 or_closed (Some x) y = x
@@ -101,15 +101,15 @@ abbrev pub or_nothing : Option Cell → Cell
 or_nothing (Some x) = x
 or_nothing None = no_cell
 
-abbrev pub own_cell : List Mark → Cell
-own_cell ms = record { marks = ms; shown = by_marks ms }
+abbrev pub own_cell : List ClaimInfo → Cell
+own_cell ms = record { infos = ms; shown = by_infos ms }
 
 unfoldable pub cell_at : Path → Branch → Cell
-cell_at [] n = own_cell (marks n)
+cell_at [] n = own_cell (infos n)
 cell_at (key name ∷ p) n = or_closed (option_map (cell_at p) (child name n)) (closed_cell (closed name n) p)
 cell_at (position i ∷ p) n = or_nothing (option_map (cell_at p) (item i (entries n)))
 
-abbrev pub cells : Branch → State
+abbrev pub cells : Branch → CellMap
 cells n p = cell_at p n
 
 abbrev pub or_zero : Option ℕ → ℕ
@@ -127,63 +127,63 @@ counts n p = count_at p n
 
 -- ---- invariants
 
-abbrev pub is_array_sort : Sort → Bool
-is_array_sort ArrayOfTables = true
-is_array_sort _ = false
+abbrev pub is_array_kind : ClaimKind → Bool
+is_array_kind ArrayOfTables = true
+is_array_kind _ = false
 
-abbrev pub is_entry_sort : Sort → Bool
-is_entry_sort TableElement = true
-is_entry_sort _ = false
+abbrev pub is_entry_kind : ClaimKind → Bool
+is_entry_kind TableElement = true
+is_entry_kind _ = false
 
--- No claim is one of an array of tables, or of an entry.
-abbrev pub NoArray : List Mark → Type 0
-NoArray ms = AllByRecursion (λ m. is_array_sort m.sort ≡ false) ms
+-- None of the claims is of an array of tables or of an entry.
+abbrev pub NoArray : List ClaimInfo → Type 0
+NoArray ms = AllByRecursion (λ m. is_array_kind m.kind ≡ false) ms
 
-abbrev pub NoEntry : List Mark → Type 0
-NoEntry ms = AllByRecursion (λ m. is_entry_sort m.sort ≡ false) ms
+abbrev pub NoEntry : List ClaimInfo → Type 0
+NoEntry ms = AllByRecursion (λ m. is_entry_kind m.kind ≡ false) ms
 
--- the claims on a branch below a name, and those on an entry
-abbrev pub IsNamed : List Mark → Type 0
+-- The claims on a branch that a name leads to, and the claims on an entry.
+abbrev pub IsNamed : List ClaimInfo → Type 0
 IsNamed [] = ⊥
 IsNamed (m ∷ ms) = NoEntry (m ∷ ms)
 
-abbrev pub IsEntry : List Mark → Type 0
+abbrev pub IsEntry : List ClaimInfo → Type 0
 IsEntry [] = ⊥
-IsEntry (m ∷ ms) = m.sort ≡ TableElement
+IsEntry (m ∷ ms) = m.kind ≡ TableElement
 
--- The branch has no claims, and nothing below it.
+-- The branch has no claims and nothing in it.
 pub record IsFresh (n : Branch) : Type 0 where
-  pub no_marks : marks n ≡ []
+  pub no_infos : infos n ≡ []
   pub no_values : (out-Branch n).values.entries ≡ []
   pub no_tables : (out-Branch n).tables.entries ≡ []
   pub no_entries : entries n ≡ []
 
--- An array of tables is claimed once, and has only entries.
+-- An array of tables is claimed once, and has nothing but entries.
 pub record IsArray (n : Branch) : Type 0 where
-  pub claim : Mark
-  pub only : marks n ≡ claim ∷ []
-  pub array : claim.sort ≡ ArrayOfTables
+  pub claim : ClaimInfo
+  pub only : infos n ≡ claim ∷ []
+  pub array : claim.kind ≡ ArrayOfTables
   pub no_values : (out-Branch n).values.entries ≡ []
   pub no_tables : (out-Branch n).tables.entries ≡ []
 
 -- A branch without entries is a table, and a branch with entries is an array of tables.
 abbrev pub IsTableOrArray : Branch → List Branch → Type 0
-IsTableOrArray n [] = NoArray (marks n)
+IsTableOrArray n [] = NoArray (infos n)
 IsTableOrArray n (x ∷ xs) = IsArray n
 
--- the branches below names, and those that are entries
+-- the branches in `tables`, and those in `entries`
 abbrev pub AreNamed : Branch → Type 0
-AreNamed n = (name : List ℕ) (c : Branch) → child name n ≡ Some c → (closed name n ≡ None) × IsNamed (marks c)
+AreNamed n = (name : List ℕ) (c : Branch) → child name n ≡ Some c → (closed name n ≡ None) × IsNamed (infos c)
 
 abbrev pub AreEntries : List Branch → Type 0
-AreEntries ns = (i : ℕ) (c : Branch) → item i ns ≡ Some c → (entries c ≡ []) × IsEntry (marks c)
+AreEntries ns = (i : ℕ) (c : Branch) → item i ns ≡ Some c → (entries c ≡ []) × IsEntry (infos c)
 
--- The tables of the values are in the order of their names.
+-- The names in the tables of the values ascend.
 abbrev pub HoldsOrderedValues : Branch → Type 0
 HoldsOrderedValues n = (name : List ℕ) (e : Key × Value) → closed name n ≡ Some e → IsOrdered (view e.1)
 
--- A branch is a table or an array of tables, and so is everything below it. No name is in both `values` and `tables`.
--- The values are in order.
+-- Each branch is a table or an array of tables. No name is in both `values` and `tables`. The names in the values'
+-- tables ascend.
 pub data Sound : Branch → Type 0 where
   sound : (n : Branch)
       → IsTableOrArray n (entries n) → AreNamed n → AreEntries (entries n) → HoldsOrderedValues n
@@ -195,14 +195,14 @@ pub data Sound : Branch → Type 0 where
 abbrev pub IsScope : Branch → Type 0
 IsScope n = Sound n × (entries n ≡ [])
 
--- a branch below a name, or one that will be there once it is claimed
+-- a branch that a name leads to, or a new one that will be claimed for the name
 abbrev pub IsChild : Branch → Type 0
-IsChild n = Sound n × (IsFresh n ⊎ IsNamed (marks n))
+IsChild n = Sound n × (IsFresh n ⊎ IsNamed (infos n))
 
 abbrev pub IsHeld : Branch → Type 0
-IsHeld n = Sound n × IsNamed (marks n)
+IsHeld n = Sound n × IsNamed (infos n)
 
--- an array of tables to which an entry is added, be it the first or a later one
+-- an array of tables to which an entry is added, the first or a later one
 pub record IsOpen (n : Branch) : Type 0 where
   pub array : IsArray n
   pub added : AreEntries (entries n)

@@ -1,11 +1,11 @@
--- How arrays are filled, one part at a time.
+-- How the arrays are filled, one part after another.
 use Rattle.std.specs.Prelude.{◌≡◌, ◌≤◌, ℕ, zero, suc, ◌+◌, List, [], ◌∷◌, length}
 use Rattle.toml_span_c.specs.declared.records.Counts.{Counts}
 use Rattle.toml_span_c.specs.declared.records.Record.{Record}
 use Rattle.toml_span_c.specs.Records.{Entry, records_of, strings_of}
 use Rattle.toml_span_c.specs.declared.records.TheConstants.{NONE}
 
--- an array with this list at this index, as far as there is room
+-- an array with this list from this index on, as much of it as fits
 abbrev pub laid : {A : Type 0} → ℕ → List A → List A → List A
 laid at xs [] = []
 laid zero [] (y ∷ ys) = y ∷ ys
@@ -22,7 +22,7 @@ pub record IsAt (k m : ℕ) (counts : Counts) : Type 0 where
   pub nodes : counts.nodes ≡ k
   pub strings : counts.strings ≡ m
 
--- After k records and m bytes, those of these entries can be counted.
+-- After k records and m bytes, the numbers with those of these entries can be represented.
 pub record Fits (document : List ℕ) (k m : ℕ) (es : List Entry) : Type 0 where
   pub few : k + length es ≤ NONE
   pub short : m + length (strings_of document es) ≤ NONE

@@ -1,4 +1,4 @@
--- How the functions that find all errors share the work.
+-- How the functions that find errors share the work.
 use Rattle.std.specs.Prelude.{◌≡◌, ℕ, List, map, Option, Some, None, string_bytes}
 use Rattle.toml_span_lex.specs.declared.stop.Stop.TheVariants.{Fault}
 use Rattle.toml_span_tree.specs.declared.error.Error.{Error}
@@ -26,7 +26,7 @@ IsErrorOf text error made =
     TellsError severity.Error text (content_of error) (report_content made.report)
     × (made.place ≡ error.span.start)
 
--- the error of a text, or none
+-- the error of a text, or None if there is none
 abbrev pub Judges : List ℕ → Option ErrorAt → Type 0
 Judges text None = (root : Value) × IsTree text depth_limit root
 Judges text (Some made) = (error : Error) × IsRefusal text depth_limit (Fault error) × IsErrorOf text error made

@@ -1,4 +1,4 @@
--- The answer to the bytes of a file once they are judged: a text, or a document that is to be shown.
+-- The answer to a file: a text, or a document to print.
 use Rattle.std.specs.Prelude.{◌≡◌, ℕ, List}
 use Rattle.toml_span_tree.specs.Pointer.{pointed}
 use Rattle.toml_span_tree.specs.Value.{view}
@@ -9,14 +9,14 @@ use Rattle.toml_span_check.specs.declared.answer.Task.{Task}
 use Rattle.toml_span_check.specs.declared.answer.Task.TheVariants.{Show}
 use Rattle.toml_span_check.specs.declared.faults.Format.{Format}
 
--- of a text
+-- the answer to a text
 abbrev pub JudgesText : Format → Task → List ℕ → List ℕ → List ℕ → Judged → Type 0
 JudgesText format task pointer name text (Text count out) = IsRead format task pointer name text (count, out.items)
 JudgesText format task pointer name text (Document form root) =
     (task ≡ Show form)
     × IsRead format task pointer name text (found format form pointer name (pointed pointer (view root)))
 
--- of bytes
+-- the answer to bytes
 abbrev pub Judges : Format → Task → List ℕ → List ℕ → List ℕ → Judged → Type 0
 Judges format task pointer name bytes (Text count out) = IsAnswer format task pointer name bytes (count, out.items)
 Judges format task pointer name bytes (Document form root) =

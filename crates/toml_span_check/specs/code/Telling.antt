@@ -1,4 +1,4 @@
--- Reports while files are read: what is written of them, and what is held.
+-- The output while files are read: what has been written, and what is in the buffer.
 use Rattle.std.specs.Prelude.{◌≡◌, ◌⊎◌, ℕ, max, Bool, true, false, List, [], ◌++◌, Option, Result, Ok, Err}
 use Rattle.std.specs.Prelude.{string_bytes}
 use Rattle.toml_span_lines.specs.Held.{HoldsRest}
@@ -13,20 +13,21 @@ use Rattle.toml_span_check.specs.declared.faults.Format.{Format}
 use Rattle.toml_span_check.specs.declared.run.Tally.{Tally}
 use Rattle.toml_span_check.specs.declared.run.Telling.{Telling}
 
--- Of a text a front was written, and the rest is held: all of it, where no document is shown.
+-- A prefix of a text has been written, and the rest is in the buffer. If no document is printed, nothing has been
+-- written.
 abbrev pub Holds : Task → Option (List ℕ) → Option (List ℕ) → List ℕ → List ℕ → Type 0
 Holds task old new text held = HoldsRest old new text held × ((held ≡ text) ⊎ Shows task)
 
 -- ---- the bytes of a file
 
--- a document is shown, and the first bytes were written
+-- A document is being printed, and a prefix has been written.
 abbrev pub Begun : Format → Task → List ℕ → List ℕ → List ℕ → Option (List ℕ) → Option (List ℕ) → List ℕ → Type 0
 Begun format task pointer name bytes old new held =
     Shows task × ((answer : ℕ × List ℕ) × IsAnswer format task pointer name bytes answer
     × HasWritten old new (held ++ answer.1))
 
--- With Ok the number of errors: what is held and the answer are written, except for what is held now. Only of a
--- document that is shown anything is written.
+-- If the result is `Ok` with the number of errors, what was in the buffer and the answer have been written, except for
+-- what is in the buffer now. Something is written only if a document is printed.
 abbrev pub TellsBytes : Format → Task → List ℕ → List ℕ → List ℕ → Result ℕ Unwritten → Option (List ℕ)
     → Option (List ℕ) → Bool → List ℕ → List ℕ → Type 0
 TellsBytes format task pointer name bytes (Ok count) old new failed held held' =
@@ -40,11 +41,11 @@ TellsBytes format task pointer name bytes (Err Failed) old new failed held held'
 
 -- ---- a file
 
--- the reports on files: on those that are read, on those that can't be read, the status, and how many have errors
+-- the output for files: standard output, standard error, the status, and the counts
 abbrev pub TextsOf : Type 0
 TextsOf = List ℕ × List ℕ × ℕ × Tally
 
--- what one more reading adds
+-- what one more file adds
 abbrev pub Adds : Format → Task → List ℕ → List ℕ → Result (List ℕ) (List ℕ) → TextsOf → TextsOf → Type 0
 Adds format task pointer name (Ok bytes) old new =
     (answer : ℕ × List ℕ) × IsAnswer format task pointer name bytes answer
@@ -59,7 +60,7 @@ abbrev pub BegunOne : Format → Task → List ℕ → List ℕ → Result (List
 BegunOne format task pointer name reading old new held =
     Shows task × ((all : TextsOf) × Adds format task pointer name reading held all × HasWritten old new all.0)
 
--- before and after: what is held of the first text, and the others
+-- before and after: what is in the buffer of the first text, and the others
 abbrev pub TellsOne : Format → Task → List ℕ → List ℕ → Result (List ℕ) (List ℕ) → Result (Unit {0}) Unwritten
     → Option (List ℕ) → Option (List ℕ) → Bool → TextsOf → TextsOf → Type 0
 TellsOne format task pointer name reading (Ok done) old new failed held held' =
@@ -85,9 +86,9 @@ TellsFiles format task pointer names (Err Memory) old new told told' failed =
 TellsFiles format task pointer names (Err Failed) old new told told' failed =
     (failed ≡ true) × Shows task × TellsFirst format task pointer names old new told told'
 
--- ---- the files that names are for
+-- ---- the files that arguments stand for
 
--- nothing was written, or where documents are shown the first bytes of the reports on the first files
+-- Nothing was written or, if documents are printed, a prefix of the output for the first files.
 abbrev pub TellsAll : Format → Task → List ℕ → List (List ℕ) → List (List ℕ) → Bool → Result Telling Unwritten
     → Option Asked → Option Asked → Option (List ℕ) → Option (List ℕ) → Bool → Type 0
 TellsAll format task pointer excludes names is_watched (Ok t) old new told told' failed =
@@ -101,7 +102,7 @@ TellsAll format task pointer excludes names is_watched (Err Memory) old new told
 TellsAll format task pointer excludes names is_watched (Err Failed) old new told told' failed =
     (failed ≡ true) × Begins format task pointer excludes names false old new told told'
 
--- a quiet run: without memory status 4, otherwise that of the reports
+-- a quiet run: status 4 if an allocation failed, otherwise that of the output
 abbrev pub EndsQuiet : Format → Task → List ℕ → List (List ℕ) → List (List ℕ) → Bool → Option Asked → Option Asked → ℕ
     → Type 0
 EndsQuiet format task pointer excludes names is_watched old new status =

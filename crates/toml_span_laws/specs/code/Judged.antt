@@ -14,12 +14,12 @@ use Rattle.toml_span_read.specs.Read as read
 abbrev pub Onto : List ℕ → ℕ → ℕ → Type 0
 Onto text i j = (i ≤ j) × IsCharBoundary text j
 
--- What is read ends after i.
+-- What was read ends after i.
 abbrev pub EndsPast : {A : Type 0} → List ℕ → ℕ → Result (A × ℕ) Fault → Type 0
 EndsPast text i (Ok found) = Onto text (i + 1) found.1
 EndsPast text i (Err fault) = Unit {0}
 
--- The forms at i that are read without regard to other forms.
+-- Each form that can be read independently of others is present at i or absent.
 pub record Judged (text : List ℕ) (i : ℕ) : Type 0 where
   pub stands : SomethingStands text i
   pub gap : (j : ℕ) × MaximalGap text i j × Onto text i j

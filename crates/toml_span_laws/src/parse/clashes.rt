@@ -1,43 +1,46 @@
-//! Laws about which clash is reported.
+//! Laws about which clash `parse` reports.
 ghost use Rattle.std.specs.Prelude.{◌≡◌, ◌≢◌, ◌↔◌, ◌++◌, ◌∷◌, ℕ, List, [], Some};
 ghost use Rattle.toml_span_tree.specs.Path.{Path, position};
-ghost use Rattle.toml_span.specs.declared.claims.Sort.TheVariants.{Assigned, Dotted, Passed};
+ghost use Rattle.toml_span.specs.declared.claims.ClaimKind.TheVariants.{Assigned, Dotted, Passed};
 ghost use Rattle.toml_span.specs.Flat.{all_claims, claims_at, deciding_claim};
 ghost use Rattle.toml_span.specs.Claims.{Claim, claims};
 ghost use Rattle.toml_span.specs.Clashes.{NamedClash, Resolves, first_clash, clash};
-ghost use Rattle.toml_span_read.specs.Data.{Block};
+ghost use Rattle.toml_span_read.specs.Data.{ParsedSection};
 ghost use Rattle.toml_span_read.specs.Grammar.{SpellsDocument};
 ghost use Rattle.toml_span_laws.specs.Clashing.{IsFirstPair, IsIn, ShareScope};
 
-/// The clash that is reported is that of the first two claims by their offsets: the later claim starts before every
-/// other one of the document that clashes with an earlier one of its scope, and its partner before every other one with
-/// which it clashes.
-pub fn told_is_first_by_place()
-    ensures { (text : List ℕ) (limit : ℕ) (blocks : List Block) (told : NamedClash) → SpellsDocument blocks text limit
-        → (first_clash (claims blocks) ≡ Some told) ↔ ((c d : Claim) × IsFirstPair [] (claims blocks) c d
-        × (clash c d ≡ Some told)) }
+/// The clash that is reported is the first by its offsets. Its later claim starts before every other claim of the
+/// document that clashes with an earlier one in its scope. Its earlier claim starts before every other one that clashes
+/// with the later one.
+pub fn reported_is_first_by_place()
+    ensures { (text : List ℕ) (limit : ℕ) (sections : List ParsedSection) (reported : NamedClash)
+        → SpellsDocument sections text limit
+        → (first_clash (claims sections) ≡ Some reported) ↔ ((c d : Claim) × IsFirstPair [] (claims sections) c d
+        × (clash c d ≡ Some reported)) }
 {}
 
-/// A header that passes through an element never decides at its position: the claim of the element does, for an array
-/// of tables as well as an array in brackets.
+/// A claim of a header that passes through an element does not determine the place at the element's position: the
+/// element's own claim does, in an array of tables and in an array in brackets.
 pub fn no_header_through_an_element_decides()
-    ensures { (text : List ℕ) (limit : ℕ) (blocks : List Block) (path : Path) (index : ℕ) (c : Claim)
-        → SpellsDocument blocks text limit
-        → deciding_claim (claims_at (path ++ (position index ∷ [])) (all_claims (claims blocks))) ≡ Some c
-        → c.mark.sort ≢ Passed }
+    ensures { (text : List ℕ) (limit : ℕ) (sections : List ParsedSection) (path : Path) (index : ℕ) (c : Claim)
+        → SpellsDocument sections text limit
+        → deciding_claim (claims_at (path ++ (position index ∷ [])) (all_claims (claims sections))) ≡ Some c
+        → c.info.kind ≢ Passed }
 {}
 
-/// If no two claims of a document clash, those on the same path belong to the same scope.
+/// If no two claims of a document clash, claims on the same path belong to the same scope.
 pub fn claims_on_one_path_are_of_one_scope()
-    ensures { (text : List ℕ) (limit : ℕ) (blocks : List Block) (c d : Claim) → SpellsDocument blocks text limit
-        → Resolves (claims blocks) → IsIn c (all_claims (claims blocks)) → IsIn d (all_claims (claims blocks))
-        → c.path ≡ d.path → ShareScope (claims blocks) c d }
+    ensures { (text : List ℕ) (limit : ℕ) (sections : List ParsedSection) (c d : Claim)
+        → SpellsDocument sections text limit
+        → Resolves (claims sections) → IsIn c (all_claims (claims sections)) → IsIn d (all_claims (claims sections))
+        → c.path ≡ d.path → ShareScope (claims sections) c d }
 {}
 
-/// A dotted key that goes through a value is never the first clash. Within a section or an inline table the reader
-/// reports it, so the text spells no document. A dotted key of another section goes through a value only if two earlier
-/// claims clash: on a table that is opened twice, or that is both opened and created by a dotted key.
-pub fn no_dotted_key_through_a_value_is_told()
-    ensures { (text : List ℕ) (limit : ℕ) (blocks : List Block) (c d : Claim) → SpellsDocument blocks text limit
-        → IsFirstPair [] (claims blocks) c d → c.mark.sort ≡ Assigned → d.mark.sort ≢ Dotted }
+/// A dotted key that goes through a value is never the first clash. In one section or inline table it is a fault, so
+/// the text does not spell a document. A dotted key of another section goes through a value only if two earlier claims
+/// clash: on a table that two headers open, or that a header opens and a dotted key creates.
+pub fn no_dotted_key_through_a_value_is_reported()
+    ensures { (text : List ℕ) (limit : ℕ) (sections : List ParsedSection) (c d : Claim)
+        → SpellsDocument sections text limit
+        → IsFirstPair [] (claims sections) c d → c.info.kind ≡ Assigned → d.info.kind ≢ Dotted }
 {}

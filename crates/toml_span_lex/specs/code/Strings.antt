@@ -13,7 +13,8 @@ use Rattle.toml_span_lex.specs.declared.tokens.Token.TheVariants as tokens
 use Rattle.toml_span_lex.specs.Strings.{IsContent, IsContentCutOff, HasChange, NeedsCopy, opens_multi, IsString}
 use Rattle.toml_span_lex.specs.Strings.{IsNoString, NeedsMemory, Borrows, BorrowsWhereSame}
 
--- The content is borrowed while it equals the text, and a shorter string of its own from then on.
+-- The value read so far is not copied as long as it equals the text. From then on it is an owned string, which is
+-- shorter than the text.
 abbrev pub Kept : {Z : Type 0} → ℕ → List ℕ → ℕ → ℕ → List ℕ → Option (String Z) → Type 0
 Kept q text from at value None = value ≡ slice_range text from at
 Kept q text from at value (Some s) = (string_bytes s ≡ value) × (length value + from < at) × HasChange q text from at
@@ -37,13 +38,13 @@ StringGives text i (Ok (span, _, j)) = ⊥
 StringGives text i (Err (stops.Memory e)) = NeedsMemory text i
 StringGives text i (Err (stops.Fault (e, j))) = IsNoString text i j e
 
--- the result of a walk over the string at i
+-- the result of scanning the string at i
 abbrev pub ScanGives : List ℕ → ℕ → Result ℕ (Error × ℕ) → Type 0
 ScanGives text i (Ok j) =
     (span : Span) × (source : List ℕ) × (value : List ℕ) × IsString text i j span source value (opens_multi text i)
 ScanGives text i (Err (e, j)) = IsNoString text i j e
 
--- The content and the string end at characters, within the text.
+-- The content and the string end at character boundaries, inside the text.
 pub record Ends (text : List ℕ) (from to end : ℕ) : Type 0 where
   pub forward : from ≤ to
   pub on : to < end

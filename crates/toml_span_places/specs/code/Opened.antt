@@ -1,9 +1,9 @@
--- The map of how many elements headers have added to each array of tables.
+-- The map that counts the elements which headers have added to each array of tables.
 use Rattle.std.specs.Prelude.{ℕ, suc, Bool, if◌then◌else◌, List, [], map, unwrap_or, Vec}
 use Rattle.std.specs.Global.{Global}
 use Rattle.std.specs.Map.{lookup}
 use Rattle.toml_span_tree.specs.Path.{Path, Step, key, position}
-use Rattle.toml_span_read.specs.Data.{Block}
+use Rattle.toml_span_read.specs.Data.{ParsedSection}
 use Rattle.toml_span.specs.Paths.{same_path, target, with_position}
 use Rattle.toml_span_places.specs.declared.opened.Opened.{Opened}
 use Rattle.toml_span_places.specs.declared.opened.SortedStep.{SortedStep}
@@ -26,18 +26,18 @@ counts_of o = counts_in o.elements.entries
 abbrev pub no_counts : Path → ℕ
 no_counts p = 0
 
--- one element more at a path
+-- the counts with one more element at a path
 abbrev pub one_more : (Path → ℕ) → Path → (Path → ℕ)
 one_more counts q p = if same_path q p then suc (counts p) else counts p
 
--- the same after a header with this path, if it has double brackets
+-- the counts after a header with this path, which has double brackets or not
 abbrev pub with_counted : (Path → ℕ) → Bool → Path → (Path → ℕ)
 with_counted counts doubled p = if doubled then one_more counts p else counts
 
--- the path below which a section assigns, given the path of its header
+-- the path of the table that a section fills, given the path of its header
 abbrev pub assigned_below : (Path → ℕ) → Bool → Path → Path
 assigned_below counts doubled p = if doubled then with_position p (counts p) else p
 
--- the same after a section
-abbrev pub counts_behind : (Path → ℕ) → Block → (Path → ℕ)
-counts_behind counts b = with_counted counts b.array (target counts [] b.header)
+-- the counts after a section
+abbrev pub counts_after : (Path → ℕ) → ParsedSection → (Path → ℕ)
+counts_after counts b = with_counted counts b.array (target counts [] b.header)

@@ -1,4 +1,4 @@
--- Properties of values that can be written as TOML source.
+-- What is true of every value in memory, so that it can be written as TOML.
 use Rattle.std.specs.Prelude.{FitsSigned}
 use Rattle.std.specs.Str.{IsUtf8}
 use Rattle.toml_span_tree.specs.Date.{IsDateText}
@@ -8,7 +8,7 @@ use mir.Syntax.{w64}
 
 -- ---- properties of every value in memory
 
--- a string is UTF-8, an integer has 64 bits, and a date is a valid date text
+-- A string is valid UTF-8, an integer has 64 bits, and a date text is valid.
 abbrev pub IsHeldScalar : Scalar → Type 0
 IsHeldScalar (text s) = IsUtf8 s
 IsHeldScalar (integer z) = FitsSigned w64 z

@@ -1,4 +1,4 @@
--- The tree of earlier values, with which dotted keys are checked.
+-- The tree of earlier values, by which dotted keys are checked.
 use Rattle.std.specs.Prelude.{◌≡◌, ℕ, ◌<◌, ◌≤◌, Bool, List, [], ◌∷◌, ◌++◌, map, take, length, Result, Ok, Err, Option}
 use Rattle.std.specs.Prelude.{Some, None, unwrap_or}
 use Rattle.std.specs.Cow.{cow_str_bytes}
@@ -10,7 +10,7 @@ use Rattle.toml_span_lex.specs.declared.key.Key.{Key}
 use Rattle.toml_span_lex.specs.declared.span.Span.{Span}
 use Rattle.toml_span_lex.specs.declared.stop.Stop.{Stop}
 use Rattle.toml_span_lex.specs.declared.stop.Stop.TheVariants as stops
-use Rattle.toml_span_read.specs.Data.{SimpleKey, KeyValue, key_value}
+use Rattle.toml_span_read.specs.Data.{SimpleKey, ParsedAssignment, parsed_assignment}
 use Rattle.toml_span_read.specs.declared.earlier.Node.TheOpen.{Node-F}
 use Rattle.toml_span_read.specs.declared.earlier.Node.{Node as Tree, fold-Node}
 use Rattle.toml_span_read.specs.Earlier.{part_names, NoneAt, EarliestAt, Clear, Crossing}
@@ -18,7 +18,7 @@ use Rattle.toml_span_read.specs.declared.earlier.Earlier.{Earlier}
 use Rattle.toml_span_read.specs.declared.fault.Fault.{Fault}
 use Rattle.toml_span_read.specs.declared.value.Assignment.{Assignment}
 
--- Whether the key has this name.
+-- whether the key has this name
 abbrev pub is_named : List ℕ → Key → Bool
 is_named name key = is_eq (slice_cmp nat_cmp name (cow_str_bytes key.name))
 
@@ -30,10 +30,10 @@ Holds = List (List ℕ) → Option Span
 abbrev pub child : {A : Type 0} → List ℕ → List (Key × A) → Option A
 child name es = lookup (is_named name) es
 
-abbrev pub nothing : Holds
-nothing names = None
+abbrev pub no_spans : Holds
+no_spans names = None
 
--- what a child stores, if there is one
+-- what a child stores, or nothing if there is none
 abbrev pub below : Option Holds → Holds
 below None names = None
 below (Some holds) names = holds names
@@ -46,13 +46,13 @@ holds_step n (name ∷ names) = below (child name n.below.entries) names
 abbrev pub holds : Tree → Holds
 holds = fold-Node Holds holds_step
 
--- The span is stored at this path if there was none, and nothing else changes.
+-- The span is stored at this path, unless there was one before. Nothing else changes.
 abbrev pub Puts : List (List ℕ) → Span → Holds → Holds → Type 0
 Puts names first old new =
     (new names ≡ Some (unwrap_or (old names) first))
     × ((other : List (List ℕ)) → (other ≡ names → ⊥) → new other ≡ old other)
 
--- Below the name, the new tree stores what `under` says, and nothing else changes.
+-- Below the name, the new tree stores what `under` says. Nothing else changes.
 abbrev pub PutsBelow : List ℕ → Holds → Holds → Holds → Type 0
 PutsBelow name under old new =
     ((names : List (List ℕ)) → new (name ∷ names) ≡ under names)
@@ -65,7 +65,7 @@ HoldsNone tree parts =
     (outer : List SimpleKey) (p : SimpleKey) (rest : List SimpleKey) → parts ≡ outer ++ (p ∷ rest)
     → tree (part_names (outer ++ (p ∷ []))) ≡ None
 
--- The first part to whose path the tree stores a span starts at `found.0`, and `found.1` is that span.
+-- The first part to whose path the tree stores a span starts at `found.0`, and that span is `found.1`.
 abbrev pub FindsOutermost : Holds → List SimpleKey → Option (ℕ × Span) → Type 0
 FindsOutermost tree parts None = HoldsNone tree parts
 FindsOutermost tree parts (Some found) =
@@ -73,31 +73,32 @@ FindsOutermost tree parts (Some found) =
     × (parts ≡ outer ++ (p ∷ rest)) × HoldsNone tree outer × (tree (part_names (outer ++ (p ∷ []))) ≡ Some found.1)
     × (found.0 ≡ p.span.start)
 
--- The result is the earliest assignment at this path, if any.
-abbrev pub TellsEarliest : List (List ℕ) → List KeyValue → Option Span → Type 0
-TellsEarliest names key_values None = NoneAt names key_values
-TellsEarliest names key_values (Some first) = EarliestAt names key_values first
+-- The result is that of the earliest assignment at this path, if there is one.
+abbrev pub IsEarliestAt : List (List ℕ) → List ParsedAssignment → Option Span → Type 0
+IsEarliestAt names assignments None = NoneAt names assignments
+IsEarliestAt names assignments (Some first) = EarliestAt names assignments first
 
 -- Each key has more than n parts.
-abbrev pub EachLonger : ℕ → List KeyValue → Type 0
+abbrev pub EachLonger : ℕ → List ParsedAssignment → Type 0
 EachLonger n [] = Unit {0}
 EachLonger n (e ∷ es) = (n < length e.parts) × EachLonger n es
 
--- No key has fewer inner parts than `fewest`, and the tree stores, at each path, the earliest of the first `known`
+-- No key has fewer inner parts than `fewest`. The tree stores, at each path, that of the earliest of the first `known`
 -- assignments.
-pub record Knows (earlier : Earlier) (key_values : List KeyValue) : Type 0 where
-  pub fewest : EachLonger earlier.fewest key_values
-  pub within : earlier.known ≤ length key_values
-  pub tree : (names : List (List ℕ)) → TellsEarliest names (take earlier.known key_values) (holds earlier.tree names)
+pub record Knows (earlier : Earlier) (assignments : List ParsedAssignment) : Type 0 where
+  pub fewest : EachLonger earlier.fewest assignments
+  pub within : earlier.known ≤ length assignments
+  pub tree : (names : List (List ℕ)) → IsEarliestAt names (take earlier.known assignments) (holds earlier.tree names)
 
--- The next key goes through no earlier value and is counted, or it goes through one, which is the fault.
-abbrev pub Judges : Earlier → List KeyValue → KeyValue → Result (Option Fault) AllocError → Type 0
-Judges new key_values next (Ok None) = Clear key_values next × Knows new (key_values ++ (next ∷ []))
-Judges new key_values next (Ok (Some fault)) = Crossing key_values next fault
-Judges new key_values next (Err e) = Unit {0}
+-- The next key goes through no earlier value, and is counted; or it goes through one, and this is the fault.
+abbrev pub ChecksNext : Earlier → List ParsedAssignment → ParsedAssignment → Result (Option Fault) AllocError → Type 0
+ChecksNext new assignments next (Ok None) = Clear assignments next × Knows new (assignments ++ (next ∷ []))
+ChecksNext new assignments next (Ok (Some fault)) = Crossing assignments next fault
+ChecksNext new assignments next (Err e) = Unit {0}
 
 -- The assignment is appended to the earlier ones, or its key goes through the value of one of them.
 abbrev pub AddsClear : List Assignment → List Assignment → Assignment → Result (Unit {0}) (Stop Fault) → Type 0
-AddsClear old new next (Ok done) = (new ≡ old ++ (next ∷ [])) × Clear (map key_value old) (key_value next)
+AddsClear old new next (Ok done) =
+    (new ≡ old ++ (next ∷ [])) × Clear (map parsed_assignment old) (parsed_assignment next)
 AddsClear old new next (Err (stops.Memory e)) = Unit {0}
-AddsClear old new next (Err (stops.Fault fault)) = Crossing (map key_value old) (key_value next) fault
+AddsClear old new next (Err (stops.Fault fault)) = Crossing (map parsed_assignment old) (parsed_assignment next) fault

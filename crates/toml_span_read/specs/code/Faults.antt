@@ -1,4 +1,4 @@
--- The faults of single functions.
+-- The faults that functions return.
 use Rattle.std.specs.Prelude.{◌≡◌, ℕ, ◌+◌, ◌<◌, List, Result, Ok, Err}
 use Rattle.toml_span_lex.specs.declared.stop.Stop.{Stop}
 use Rattle.toml_span_lex.specs.declared.stop.Stop.TheVariants as stops
@@ -10,17 +10,17 @@ use Rattle.toml_span_read.specs.Faults.{StartsInside, token_fault}
 use Rattle.toml_span_read.specs.Read.{Reading}
 use Rattle.toml_span_read.specs.code.Gaps.{Further}
 
--- The code returns what the definition reads, or its fault, unless an allocation fails.
-abbrev pub Gives : {A B : Type 0} → (A → B) → Reading B → Result A (Stop Fault) → Type 0
-Gives view m (Ok a) = m (Ok (view a))
-Gives view m (Err (stops.Memory e)) = Unit {0}
-Gives view m (Err (stops.Fault e)) = m (Err e)
+-- The function returns what the definition reads, or its fault, unless an allocation fails.
+abbrev pub MatchesReading : {A B : Type 0} → (A → B) → Reading B → Result A (Stop Fault) → Type 0
+MatchesReading view m (Ok a) = m (Ok (view a))
+MatchesReading view m (Err (stops.Memory e)) = Unit {0}
+MatchesReading view m (Err (stops.Fault e)) = m (Err e)
 
 abbrev pub IsPlacedStop : List ℕ → Stop Fault → Type 0
 IsPlacedStop text (stops.Memory e) = Unit {0}
 IsPlacedStop text (stops.Fault fault) = StartsInside text fault
 
--- What is read ends after i, or the fault is within the text.
+-- What was read ends after i, or the fault is inside the text.
 abbrev pub Advances : {A : Type 0} → List ℕ → ℕ → Result (A × ℕ) (Stop Fault) → Type 0
 Advances text i (Ok found) = Further text i found.1
 Advances text i (Err stop) = IsPlacedStop text stop

@@ -4,8 +4,8 @@ use Rattle.std.specs.Str.{IsCharBoundary}
 use Rattle.toml_span_lex.specs.Bytes.{is_blank, MaximalRun, comma, equals}
 use Rattle.toml_span_read.specs.Gaps.{GapPiece, begins_gap, Tail, NoTail, Dot, NoDot, Separator, Closes, Neither}
 use Rattle.toml_span_read.specs.Gaps.{MaximalGap, Equals}
-use Rattle.toml_span_read.specs.declared.gaps.Behind.{Behind}
-use Rattle.toml_span_read.specs.declared.gaps.Behind.TheVariants as behind
+use Rattle.toml_span_read.specs.declared.gaps.AfterElement.{AfterElement}
+use Rattle.toml_span_read.specs.declared.gaps.AfterElement.TheVariants as after
 
 -- j is after i, and is a character boundary.
 pub record Further (text : List ℕ) (i j : ℕ) : Type 0 where
@@ -24,10 +24,10 @@ abbrev pub DotGives : List ℕ → ℕ → Option ℕ → Type 0
 DotGives text i None = NoDot text i
 DotGives text i (Some j) = Dot text i j × Further text i j
 
-abbrev pub BehindGives : ℕ → List ℕ → ℕ → Behind → Type 0
-BehindGives c text i (behind.Comma j) = Separator comma text i j × Further text i j
-BehindGives c text i (behind.Closed j) = Closes c text i j × Further text i j
-BehindGives c text i (behind.Neither j) = Neither c text i j × IsCharBoundary text j
+abbrev pub AfterElementGives : ℕ → List ℕ → ℕ → AfterElement → Type 0
+AfterElementGives c text i (after.Comma j) = Separator comma text i j × Further text i j
+AfterElementGives c text i (after.Closed j) = Closes c text i j × Further text i j
+AfterElementGives c text i (after.Neither j) = Neither c text i j × IsCharBoundary text j
 
 -- a byte with gaps around it, or the offset at which it was expected
 abbrev pub SeparatorGives : ℕ → List ℕ → ℕ → Result ℕ ℕ → Type 0

@@ -13,12 +13,12 @@ abbrev pub DigitGives : ℕ → ℕ → Option ℕ → Type 0
 DigitGives radix c None = is_digit_in radix c ≡ false
 DigitGives radix c (Some value) = (is_digit_in radix c ≡ true) × (value ≡ digit_value c)
 
--- the number, or None if it does not fit in 64 bits
+-- the number, or None if it does not fit into 64 bits
 abbrev pub WithinGives : ℕ → Option ℕ → Type 0
 WithinGives n None = 2 ^ 64 ≤ n
 WithinGives n (Some m) = m ≡ n
 
--- The text from i to j is a literal of the number read.
+-- The text from i to j is a literal of this number.
 abbrev pub NumeralStands : List ℕ → ℕ → ℕ → Numeral → Type 0
 NumeralStands text i j n = IsNumber (scalar_of n (slice_range text i j)) text i j
 

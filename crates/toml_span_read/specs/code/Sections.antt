@@ -7,8 +7,8 @@ use Rattle.toml_span_lex.specs.declared.stop.Stop.{Stop}
 use Rattle.toml_span_lex.specs.Bytes.{left_bracket}
 use Rattle.toml_span_read.specs.declared.fault.Fault.{Fault}
 use Rattle.toml_span_read.specs.declared.value.Assignment.{Assignment}
-use Rattle.toml_span_read.specs.Data.{key_value, Block, block, simple_key}
-use Rattle.toml_span_read.specs.Read.{Pairs, HeaderEnd, Blocks}
+use Rattle.toml_span_read.specs.Data.{parsed_assignment, ParsedSection, parsed_section, simple_key}
+use Rattle.toml_span_read.specs.Read.{Pairs, HeaderEnd, ParsedSections}
 use Rattle.toml_span_read.specs.declared.sections.Header.{Header}
 use Rattle.toml_span_read.specs.declared.section.Section.{Section}
 use Rattle.toml_span_read.specs.Borrowed.{AreWrittenRight, section_written}
@@ -18,37 +18,37 @@ use Rattle.toml_span_read.specs.code.Gaps.{Further}
 -- ---- the code's values as plain data
 
 abbrev pub lines_found : Vec Assignment Global × ℕ → Pairs
-lines_found (found, j) = (map key_value found.items, j)
+lines_found (found, j) = (map parsed_assignment found.items, j)
 
 abbrev pub head_found : Header → HeaderEnd
 head_found h = record { parts = map simple_key h.parts.items; array = h.array; end = h.extent.end }
 
-abbrev pub first_blocks : Option Section → List Block
-first_blocks None = []
-first_blocks (Some s) = block s ∷ []
+abbrev pub first_sections : Option Section → List ParsedSection
+first_sections None = []
+first_sections (Some s) = parsed_section s ∷ []
 
-abbrev pub first_found : Option Section × ℕ → Blocks
-first_found (first, j) = (first_blocks first, j)
+abbrev pub first_found : Option Section × ℕ → ParsedSections
+first_found (first, j) = (first_sections first, j)
 
-abbrev pub section_found : Section × ℕ → Block × ℕ
-section_found (s, j) = (block s, j)
+abbrev pub section_found : Section × ℕ → ParsedSection × ℕ
+section_found (s, j) = (parsed_section s, j)
 
-abbrev pub sections_found : Vec Section Global → List Block
-sections_found found = map block found.items
+abbrev pub sections_found : Vec Section Global → List ParsedSection
+sections_found found = map parsed_section found.items
 
 -- ---- where reading ends
 
--- What is read ends at i or after it, or the fault is within the text.
-abbrev pub EndsBehind : {A : Type 0} → List ℕ → ℕ → Result (A × ℕ) (Stop Fault) → Type 0
-EndsBehind text i (Ok found) = (i ≤ found.1) × IsCharBoundary text found.1
-EndsBehind text i (Err stop) = IsPlacedStop text stop
+-- What was read ends at i or after it, or the fault is inside the text.
+abbrev pub EndsAfter : {A : Type 0} → List ℕ → ℕ → Result (A × ℕ) (Stop Fault) → Type 0
+EndsAfter text i (Ok found) = (i ≤ found.1) × IsCharBoundary text found.1
+EndsAfter text i (Err stop) = IsPlacedStop text stop
 
 -- The assignments end where a header begins, or at the end of the text.
 abbrev pub EndsAtHeader : {A : Type 0} → List ℕ → Result (A × ℕ) (Stop Fault) → Type 0
 EndsAtHeader text (Ok found) = (found.1 ≡ length text) ⊎ (slice_index text found.1 ≡ left_bracket)
 EndsAtHeader text (Err stop) = Unit {0}
 
--- The rest of a line or of a header ends at i or after it, or the fault is within the text.
+-- The rest of a line or of a header ends at i or after it, or the fault is inside the text.
 abbrev pub LineReads : List ℕ → ℕ → Result ℕ (Stop Fault) → Type 0
 LineReads text i (Ok j) = (i ≤ j) × IsCharBoundary text j
 LineReads text i (Err stop) = IsPlacedStop text stop

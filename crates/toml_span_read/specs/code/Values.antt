@@ -3,7 +3,8 @@ use Rattle.std.specs.Prelude.{◌≡◌, ℕ, ◌⊎◌, Bool, true, false, List
 use Rattle.toml_span_lex.specs.declared.stop.Stop.{Stop}
 use Rattle.toml_span_lex.specs.declared.stop.Stop.TheVariants as stops
 use Rattle.toml_span_tree.specs.Node.{Scalar}
-use Rattle.toml_span_read.specs.Data.{ParsedInner, scalar, array, inline, kind_view, view, key_value, KeyValue}
+use Rattle.toml_span_read.specs.Data.{ParsedInner, scalar, array, inline, parsed_kind, parsed_value, parsed_assignment}
+use Rattle.toml_span_read.specs.Data.{ParsedAssignment}
 use Rattle.toml_span_read.specs.declared.fault.Fault.{Fault}
 use Rattle.toml_span_read.specs.declared.fault.FaultKind.TheVariants as kinds
 use Rattle.toml_span_read.specs.declared.value.Assignment.{Assignment}
@@ -15,28 +16,28 @@ use Rattle.toml_span_read.specs.Faults.{fault_at}
 use Rattle.toml_span_read.specs.Read.{Reading, ValueEnd}
 
 abbrev pub value_found : Val × ℕ → ValueEnd
-value_found (v, j) = (view v, j)
+value_found (v, j) = (parsed_value v, j)
 
-abbrev pub key_value_found : Assignment × ℕ → KeyValue × ℕ
-key_value_found (a, j) = (key_value a, j)
+abbrev pub assignment_found : Assignment × ℕ → ParsedAssignment × ℕ
+assignment_found (a, j) = (parsed_assignment a, j)
 
--- Whether a value is neither an array nor an inline table.
+-- whether a value is neither an array nor an inline table
 abbrev pub is_scalar : ParsedInner → Bool
 is_scalar (scalar s) = true
 is_scalar (array vs) = false
 is_scalar (inline ps) = false
 
 abbrev pub IsScalarKind : Result (ValKind × ℕ) (Stop Fault) → Type 0
-IsScalarKind (Ok found) = is_scalar (kind_view found.0) ≡ true
+IsScalarKind (Ok found) = is_scalar (parsed_kind found.0) ≡ true
 IsScalarKind (Err stop) = Unit {0}
 
--- the scalar that the definition reads, or its fault, unless an allocation fails
+-- The scalar that the definition reads, or its fault, unless an allocation fails.
 abbrev pub ScalarGives : Reading (Scalar × ℕ) → Result (ValKind × ℕ) (Stop Fault) → Type 0
-ScalarGives m (Ok (kind, j)) = (s : Scalar) × (kind_view kind ≡ scalar s) × m (Ok (s, j))
+ScalarGives m (Ok (kind, j)) = (s : Scalar) × (parsed_kind kind ≡ scalar s) × m (Ok (s, j))
 ScalarGives m (Err (stops.Memory e)) = Unit {0}
 ScalarGives m (Err (stops.Fault fault)) = m (Err fault)
 
--- the fault of a value that is nested too deeply
+-- the fault of a value that is nested too deep
 abbrev pub IsTooDeep : ℕ → Stop Fault → Type 0
 IsTooDeep i (stops.Memory e) = ⊥
 IsTooDeep i (stops.Fault fault) = fault ≡ fault_at kinds.ExceededDepthLimit i
@@ -48,7 +49,7 @@ pub record IsOtherWord (word : List ℕ) : Type 0 where
   pub no_infinity : word ≡ codes "inf" → ⊥
   pub no_nan : word ≡ codes "nan" → ⊥
 
--- what kind of run the bytes are
+-- what the bytes of a run are
 abbrev pub IsRunOf : List ℕ → Run → Type 0
 IsRunOf bytes runs.True = bytes ≡ codes "true"
 IsRunOf bytes runs.False = bytes ≡ codes "false"

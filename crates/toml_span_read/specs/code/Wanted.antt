@@ -3,31 +3,31 @@ use Rattle.std.specs.Prelude.{◌≡◌, ℕ, ◌⊎◌, List, length, Result, O
 use Rattle.toml_span_lex.specs.declared.span.Span.{Span}
 use Rattle.toml_span_lex.specs.declared.stop.Stop.{Stop}
 use Rattle.toml_span_lex.specs.declared.stop.Stop.TheVariants as stops
-use Rattle.toml_span_lex.specs.Tokens.{Lexeme, Stands}
-use Rattle.toml_span_read.specs.declared.fault.Found.{Found}
-use Rattle.toml_span_read.specs.declared.fault.Found.TheVariants as founds
+use Rattle.toml_span_lex.specs.Tokens.{Lexeme, IsLexeme}
+use Rattle.toml_span_read.specs.declared.fault.FoundToken.{FoundToken}
+use Rattle.toml_span_read.specs.declared.fault.FoundToken.TheVariants as found_tokens
 use Rattle.toml_span_read.specs.declared.fault.Fault.{Fault}
 use Rattle.toml_span_read.specs.Faults.{found_of}
-use Rattle.toml_span_read.specs.Read.{Standing, StandsAt, wanted, string_value}
-use Rattle.toml_span_read.specs.declared.fault.Due.{Due}
+use Rattle.toml_span_read.specs.Read.{NextToken, IsNextToken, wanted, string_value}
+use Rattle.toml_span_read.specs.declared.fault.ExpectedToken.{ExpectedToken}
 use Rattle.toml_span_read.specs.code.Faults.{IsTokenFault}
 
 -- The text from i to j is a token with this name, or the text ends at i.
-abbrev pub IsFound : List ℕ → ℕ → ℕ → Found → Type 0
+abbrev pub IsFound : List ℕ → ℕ → ℕ → FoundToken → Type 0
 IsFound text i j found =
-    ((i ≡ length text) × (j ≡ i) × (found ≡ founds.EndOfText))
-    ⊎ ((span : Span) × (lexeme : Lexeme) × Stands text i j span lexeme × (found ≡ found_of lexeme))
+    ((i ≡ length text) × (j ≡ i) × (found ≡ found_tokens.EndOfText))
+    ⊎ ((span : Span) × (lexeme : Lexeme) × IsLexeme text i j span lexeme × (found ≡ found_of lexeme))
 
-abbrev pub FoundGives : List ℕ → ℕ → Result (Found × ℕ) (Stop Fault) → Type 0
+abbrev pub FoundGives : List ℕ → ℕ → Result (FoundToken × ℕ) (Stop Fault) → Type 0
 FoundGives text i (Ok (found, j)) = IsFound text i j found
 FoundGives text i (Err (stops.Memory e)) = Unit {0}
 FoundGives text i (Err (stops.Fault fault)) = IsTokenFault text i fault
 
 -- the fault if the expected token is not at i
-abbrev pub WantedGives : List ℕ → ℕ → Due → Stop Fault → Type 0
-WantedGives text i due (stops.Memory e) = Unit {0}
-WantedGives text i due (stops.Fault fault) =
-    (standing : Standing) × StandsAt text i standing × (fault ≡ wanted due i standing)
+abbrev pub WantedGives : List ℕ → ℕ → ExpectedToken → Stop Fault → Type 0
+WantedGives text i expected (stops.Memory e) = Unit {0}
+WantedGives text i expected (stops.Fault fault) =
+    (next_token : NextToken) × IsNextToken text i next_token × (fault ≡ wanted expected i next_token)
 
 abbrev pub NoValueGives : List ℕ → ℕ → Stop Fault → Type 0
 NoValueGives text i (stops.Memory e) = Unit {0}

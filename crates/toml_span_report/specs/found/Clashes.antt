@@ -1,22 +1,22 @@
--- Definitions that clash.
+-- Mistakes in keys and headers that clash.
 use Rattle.std.specs.Prelude.{ℕ, ◌-◌, ◌==◌, ◌&&◌, ◌||◌, not, List, [], codes, length}
 use Rattle.std.specs.Prelude.{slice_index, Option, Some, None, if◌then◌else◌}
 use Rattle.toml_span_lex.specs.declared.span.Span.{Span}
-use Rattle.toml_span_report.specs.Bytes.{ahead, begins, byte_behind, end_of, first_of_line, last_of_line, part}
+use Rattle.toml_span_report.specs.Bytes.{ahead, begins, byte_after, end_of, first_of_line, last_of_line, part}
 use Rattle.toml_span_report.specs.Bytes.{start_of}
 use Rattle.toml_span_report.specs.Finding.{CodeContent, FindingContent, pieces, shown, six, span_of}
-use Rattle.toml_span_report.specs.found.Numbers.{behind_sign}
+use Rattle.toml_span_report.specs.found.Numbers.{after_sign}
 use Rattle.toml_span_report.specs.declared.bytes.Class.TheVariants as class
 use Rattle.toml_span_report.specs.Words.{said}
 use Rattle.toml_span_report.specs.declared.words.TheConstants.{ARRAY_OF_TABLE, CLOSED_ARRAY, CLOSED_TABLE}
 use Rattle.toml_span_report.specs.declared.words.TheConstants.{CLOSED_TABLE_HEADER, DOTTED_TABLE, TABLE_OF_ARRAY}
 use Rattle.toml_span_report.specs.declared.words.TheConstants.{TABLE_TWICE, THROUGH_VALUE}
 
--- where a header ends, without a comment after it
+-- the end of a header, without a comment after it
 abbrev pub header_end : List ℕ → ℕ → ℕ
 header_end text at = start_of class.Blank text (end_of class.Left text at)
 
--- Either header may be that of an array of tables.
+-- Each of the two headers may be of a table or of an array of tables.
 unfoldable pub table_twice : List ℕ → Span → Span → FindingContent
 table_twice text span first =
     let was_array = begins text first.start (codes "[[") in
@@ -32,17 +32,17 @@ table_twice text span first =
     then record (shown (said TABLE_OF_ARRAY) span first as_element) { edit = Some (span_of span.start end) }
     else shown (said TABLE_TWICE) span first as_element
 
--- where the value of a key begins, or whatever else follows the key
+-- the offset of the value of a key, or of whatever follows the key instead
 unfoldable pub value_at : List ℕ → ℕ → ℕ
 value_at text end =
     let equals = end_of class.Blank text end in
     if slice_index text equals == 61 then end_of class.Blank text (ahead text equals 1) else equals
 
--- the label of a value that is not a table
+-- the label for a value that is not a table
 unfoldable pub no_table : List ℕ → ℕ → List ℕ
 no_table text at =
     let first = slice_index text at in
-    let next = slice_index text (end_of class.Grouped text (behind_sign text at)) in
+    let next = slice_index text (end_of class.Grouped text (after_sign text at)) in
     if first == 34 || first == 39 then codes "this is a string, not a table"
     else if first == 91 then codes "this is an array, not a table"
     else if first == 116 || first == 102 then codes "this is a boolean, not a table"
@@ -51,7 +51,7 @@ no_table text at =
     else if next == 45 || next == 58 then codes "this is a date or time, not a table"
     else codes "this is an integer, not a table"
 
--- an inline table with the assignment of a dotted key in it, if the key begins with that of the table
+-- the line of an inline table with one more assignment, if its key begins with the key of the table
 unfoldable pub extended : List ℕ → ℕ → ℕ → ℕ → CodeContent
 extended text key_end table at =
     let start = first_of_line text key_end in
@@ -65,7 +65,8 @@ extended text key_end table at =
     else six (part text start end) (if slice_index text (end - 1) == 123 then [] else codes ", ")
     (part text (ahead text dot 1) (last_of_line text at)) (part text end last) [] []
 
--- the body of a section in an inline table: its only assignment, nothing if it is empty, or two dots
+-- the body of a section, as part of an inline table: its assignment if there is only one, nothing if there is none,
+-- otherwise `..`
 unfoldable pub body : List ℕ → ℕ → List ℕ
 body text end =
     let start = end_of class.Gap text end in
@@ -77,7 +78,7 @@ body text end =
     then part text start last
     else codes ".."
 
--- what to write in an inline table for a header through it
+-- what to write in an inline table instead of a header through it
 unfoldable pub subtable : List ℕ → ℕ → CodeContent
 subtable text end =
     let dot = end_of class.Blank text end in
@@ -109,6 +110,6 @@ through_value text span first =
 
 unfoldable pub key_twice : List ℕ → Span → Span → Option FindingContent
 key_twice text span first =
-    if slice_index text (first_of_line text span.start) == 91 || byte_behind text span.end == 46
+    if slice_index text (first_of_line text span.start) == 91 || byte_after text span.end == 46
     then through_value text span first
     else None

@@ -1,4 +1,4 @@
--- Dates and times that TOML does not have.
+-- Mistakes in dates and times.
 use Rattle.std.specs.Prelude.{ℕ, ◌+◌, ◌-◌, ◌*◌, ◌%◌, ◌==◌, ◌&&◌, ◌||◌, Bool, nat_lt, List, [], codes, map}
 use Rattle.std.specs.Prelude.{slice_index, Option, Some, None, if◌then◌else◌}
 use Rattle.toml_span_report.specs.Bytes.{ahead, begins, end_of, is_digit, part, start_of}
@@ -13,7 +13,7 @@ use Rattle.toml_span_report.specs.declared.words.TheConstants.{SHORT_DATE, SLASH
 abbrev pub are_digits : List ℕ → ℕ → ℕ → Bool
 are_digits text from count = end_of class.Digit text from == ahead text from count
 
--- There is a date between two offsets, valid or not.
+-- whether there is something of the form of a date, valid or not
 abbrev pub is_date : List ℕ → ℕ → ℕ → Bool
 is_date text start end =
     slice_index text (ahead text start 4) == 45 && (slice_index text (ahead text start 7) == 45
@@ -36,18 +36,17 @@ slash_date text start end =
 abbrev pub zero_for : ℕ → ℕ → List ℕ
 zero_for from to = if to - from == 1 then codes "0" else []
 
--- two digits make a number greater than that of two other digits
+-- whether two digits spell a greater number than two others
 abbrev pub is_past : List ℕ → ℕ → ℕ → ℕ → Bool
 is_past text at tens ones =
     nat_lt tens (slice_index text at)
     || (slice_index text at == tens && nat_lt ones (slice_index text (ahead text at 1)))
 
--- A number of two digits is divisible by four: ten is two modulo four, and 48, which each byte has more than its digit,
--- is zero.
+-- Whether the number of two digits is divisible by four: ten is 2 modulo 4, and the code of `0`, 48, is 0 modulo 4.
 abbrev pub is_fourth : List ℕ → ℕ → Bool
 is_fourth text at = (2 * slice_index text at + slice_index text (ahead text at 1)) % 4 == 0
 
--- how many days a month has, in words
+-- the message with the length of a month
 abbrev pub days_of : List ℕ → Option (List ℕ)
 days_of month = text_in (map (λ entry. (entry.0.now, entry.1.now)) MONTHS) month
 

@@ -1,14 +1,14 @@
--- Keys and headers.
+-- Mistakes in keys and headers.
 use Rattle.std.specs.Prelude.{ℕ, ◌-◌, ◌==◌, ◌&&◌, ◌||◌, Bool, true, false, not, nat_lt, List, [], codes}
 use Rattle.std.specs.Prelude.{length, slice_index, Option, Some, None, if◌then◌else◌}
 use Rattle.std.specs.Str.{bytes_eq}
-use Rattle.toml_span_report.specs.Bytes.{ahead, begins, byte_before, byte_behind, end_of, first_of_line, is_last}
+use Rattle.toml_span_report.specs.Bytes.{ahead, begins, byte_before, byte_after, end_of, first_of_line, is_last}
 use Rattle.toml_span_report.specs.Bytes.{last_of_line, part, start_of}
 use Rattle.toml_span_lex.specs.declared.span.Span.{Span}
 use Rattle.toml_span_report.specs.Finding.{CodeContent, FindingContent, MeantContent, marked, mended, pieces, quote_for}
 use Rattle.toml_span_report.specs.Finding.{quoted, removed, replaced, shown, six, span_of}
 use Rattle.toml_span_report.specs.found.Dates.{is_date}
-use Rattle.toml_span_report.specs.found.Numbers.{behind_sign}
+use Rattle.toml_span_report.specs.found.Numbers.{after_sign}
 use Rattle.toml_span_report.specs.found.Values.{known_word, phrase_end}
 use Rattle.toml_span_report.specs.declared.bytes.Class.TheVariants as class
 use Rattle.toml_span_report.specs.Words.{WordsContent, said}
@@ -23,7 +23,7 @@ unfoldable pub comment : WordsContent → List ℕ → ℕ → ℕ → FindingCo
 comment mistake text at length =
     mended mistake (span_of at (last_of_line text at)) (span_of at (ahead text at length)) (pieces (codes "#") [] [])
 
--- the part of a header, and the key, at an offset, if it needs quotes
+-- a part of a header, or a key, that needs quotes
 unfoldable pub header_key : List ℕ → ℕ → Option FindingContent
 header_key text at =
     let from = end_of class.Blank text (start_of class.Header text at) in
@@ -37,11 +37,11 @@ unfoldable pub other_key : List ℕ → ℕ → Option FindingContent
 other_key text at =
     let from = start_of class.Name text at in
     let to = end_of class.Name text at in
-    if nat_lt from to && (byte_behind text to == 61 || byte_behind text to == 46)
+    if nat_lt from to && (byte_after text to == 61 || byte_after text to == 46)
     then Some (quoted (said BARE_KEY) text from to)
     else None
 
--- where a key begins, and where a value ends, as far as it is on the line
+-- the start of a key, and the end of a value on its line
 unfoldable pub key_start : List ℕ → ℕ → ℕ
 key_start text end =
     if byte_before text end == 34 || byte_before text end == 39
@@ -55,7 +55,7 @@ value_end text at =
     else if slice_index text at == 91 || slice_index text at == 123 then last_of_line text at
     else end_of class.Word text at
 
--- A word is a value as it is: a boolean, a float or integer, a date, or what begins with a quote or a bracket.
+-- whether a word is a valid value: a boolean, a number, a date, or something that begins with a quote or bracket
 abbrev pub is_named : List ℕ → Bool
 is_named word =
     bytes_eq word (codes "true") || bytes_eq word (codes "false") || bytes_eq word (codes "inf")
@@ -63,7 +63,7 @@ is_named word =
 
 unfoldable pub is_number : List ℕ → ℕ → ℕ → Bool
 is_number text at end =
-    let digits = behind_sign text at in
+    let digits = after_sign text at in
     let point = end_of class.Grouped text digits in
     let other = ahead text point 1 in
     if digits == point || (slice_index text digits == 48 && not (point == ahead text digits 1)) then false
@@ -77,7 +77,7 @@ is_value text at end =
     else if is_date text at end then true
     else is_named (part text at end)
 
--- a key and a word that is no value, with another sign than `=` between them
+-- a key and a word that is not a value, with another sign than `=` between them
 abbrev pub doubtful : WordsContent → Span → Span → CodeContent → FindingContent
 doubtful words mark edit code = mended (record words { is_safe = false }) mark edit code
 
@@ -97,7 +97,7 @@ unfoldable pub other_word : WordsContent → List ℕ → List ℕ → Span → 
 other_word mistake text key mark edit at =
     with_word mistake text key mark edit at (known_word (part text at edit.end))
 
--- a key and its value with another sign than `=` between them
+-- a key and a value, with another sign than `=` between them
 unfoldable pub other_sign : WordsContent → List ℕ → ℕ → ℕ → FindingContent
 other_sign mistake text from to =
     let end = start_of class.Blank text from in
@@ -109,7 +109,7 @@ other_sign mistake text from to =
     then mended mistake (span_of from to) (span_of start stop) (pieces key (codes " = ") (part text value stop))
     else other_word mistake text key (span_of from to) (span_of start stop) value
 
--- a key and a list below it: one or two elements, and two dots if there are more
+-- a list in the style of YAML: one or two elements, and `..` if there are more
 abbrev pub closing_of : Bool → Bool → List ℕ
 closing_of are_values has_more =
     if are_values then (if has_more then codes ", ..]" else codes "]")
@@ -138,7 +138,7 @@ yaml_list text start colon dash =
     else if has_more then shown (said YAML_LIST) mark mark two
     else mended (said YAML_LIST) mark (span_of start second_end) two
 
--- a key and a colon with nothing after it on the line
+-- a key and a colon at the end of a line
 unfoldable pub yaml : List ℕ → ℕ → FindingContent
 yaml text at =
     let end = ahead text at 1 in
@@ -151,7 +151,7 @@ unfoldable pub colon : List ℕ → ℕ → FindingContent
 colon text at =
     let next = ahead text at 1 in
     if begins text at (codes ":=") then other_sign (said COLON_EQUALS) text at (ahead text at 2)
-    else if is_last text next || byte_behind text next == 35 then yaml text at
+    else if is_last text next || byte_after text next == 35 then yaml text at
     else if byte_before text at == 34 then other_sign (said JSON) text at next
     else other_sign (said COLON) text at next
 
@@ -167,7 +167,7 @@ lone_key text end =
     if bytes_eq (part text start end) (codes "---") then marked (said DOCUMENT_MARKER) start end
     else marked (said NO_VALUE) start end
 
--- a key followed by another word
+-- a key of several words
 unfoldable pub spaced_key : List ℕ → ℕ → ℕ → ℕ → FindingContent
 spaced_key text end at stop =
     let start = start_of class.Name text end in
@@ -175,7 +175,7 @@ spaced_key text end at stop =
     else quoted (said BARE_KEY) text (end_of class.Blank text (start_of class.Spaced text at))
     (start_of class.Blank text stop)
 
--- an item of a list
+-- an item of a YAML list
 unfoldable pub yaml_item : List ℕ → ℕ → ℕ → FindingContent
 yaml_item text dash at =
     let end = last_of_line text at in
@@ -196,7 +196,7 @@ second_word text end at =
     else if slice_index text (end_of class.Left text at) == 61 then None
     else Some (other_sign (said NO_EQUALS) text at at)
 
--- where `=` is expected
+-- a token where `=` is expected
 unfoldable pub no_equals : List ℕ → List ℕ → ℕ → Option FindingContent
 no_equals found text at =
     let end = start_of class.Blank text at in
@@ -215,7 +215,7 @@ brace_header text at =
     (pieces (codes "[") (part text name end) (codes "]")))
     else None
 
--- a template's placeholder in double braces
+-- a placeholder of a template, in double braces
 unfoldable pub placeholder : List ℕ → ℕ → FindingContent
 placeholder text at =
     let close = end_of class.Enclosed text at in
@@ -242,7 +242,7 @@ missing_key mistake text at =
     else if begins text at (codes "=======") then marked (said CONFLICT) at (last_of_line text at)
     else marked mistake at (ahead text at 1)
 
--- where a key is expected
+-- a token where a key is expected
 unfoldable pub no_key : List ℕ → List ℕ → ℕ → Option FindingContent
 no_key found text at =
     if bytes_eq found (codes "a period") then Some (extra (said EXTRA_DOT) text at)

@@ -1,9 +1,9 @@
--- Missing values, and arrays, inline tables and headers that are not closed.
+-- Mistakes such as missing values, and brackets that are not closed.
 use Rattle.std.specs.Prelude.{ℕ, ◌-◌, ◌==◌, ◌&&◌, ◌||◌, Bool, not, nat_lt, nat_le, List, [], codes, slice_index}
 use Rattle.std.specs.Prelude.{Option, Some, None, if◌then◌else◌}
 use Rattle.std.specs.Str.{bytes_eq}
 use Rattle.toml_span_lex.specs.declared.span.Span.{Span}
-use Rattle.toml_span_report.specs.Bytes.{ahead, begins, byte_before, byte_behind, end_of, first_of_line, last_of_line}
+use Rattle.toml_span_report.specs.Bytes.{ahead, begins, byte_before, byte_after, end_of, first_of_line, last_of_line}
 use Rattle.toml_span_report.specs.Bytes.{is_last, part, start_of}
 use Rattle.toml_span_report.specs.Finding.{FindingContent, first_found, marked, mended, pieces, removed, replaced}
 use Rattle.toml_span_report.specs.Finding.{span_of}
@@ -17,7 +17,7 @@ use Rattle.toml_span_report.specs.declared.words.TheConstants.{EQUALS, EXTRA_COM
 use Rattle.toml_span_report.specs.declared.words.TheConstants.{NO_COMMA, NO_COMMA_IN_TABLE, NO_VALUE_BEHIND}
 use Rattle.toml_span_report.specs.declared.words.TheConstants.{OPEN_ARRAY, OPEN_HEADER, OPEN_TABLE, VALUE_BELOW}
 
--- The outermost bracket before an offset is not closed there.
+-- the outermost open bracket
 abbrev pub bracket_span : List ℕ → ℕ → Span
 bracket_span text bracket = span_of bracket (ahead text bracket 1)
 
@@ -31,7 +31,7 @@ unclosed text at =
 unfoldable pub open_end : List ℕ → ℕ → Option FindingContent
 open_end text at = if nat_lt 0 (open_before text at).depth then Some (unclosed text at) else None
 
--- The value of a key is on a line below.
+-- a value that begins on the line below its key
 unfoldable pub value_below : List ℕ → ℕ → Option FindingContent
 value_below text at =
     let below = end_of class.Gap text at in
@@ -49,7 +49,7 @@ missing_value text at =
     then first_found (value_below text at) (Some (marked (said NO_VALUE_BEHIND) at at))
     else open_end text at
 
--- a comment, a comma, a decimal point and an equals sign where a value is expected
+-- a comment, a comma, a decimal point or `=` where a value is expected
 unfoldable pub hash : List ℕ → ℕ → Option FindingContent
 hash text at =
     let end = end_of class.Hex text (ahead text at 1) in
@@ -76,7 +76,7 @@ equals text at =
     if begins text (at - 1) (codes "==") then Some (other_sign (said EQUALS) text (at - 1) (ahead text at 1))
     else None
 
--- where a value is expected
+-- a token where a value is expected
 unfoldable pub no_value : List ℕ → List ℕ → ℕ → Option FindingContent
 no_value found text at =
     if bytes_eq found (codes "a comma") then comma text at
@@ -101,20 +101,20 @@ header found text at bracket =
     else if bytes_eq found (codes "a comma") then Some (marked (said ARRAY_ALONE) bracket (last_of_line text at))
     else header_key text at
 
--- An assignment begins here, at the beginning of a line.
+-- whether an assignment begins at an offset at the start of a line
 unfoldable pub is_assignment : List ℕ → ℕ → Bool
 is_assignment text at =
     let end = end_of class.Dotted text at in
-    first_of_line text at == at && (nat_lt at end && byte_behind text end == 61)
+    first_of_line text at == at && (nat_lt at end && byte_after text end == 61)
 
--- the line is a header
+-- whether the line looks like a header
 unfoldable pub is_heading : List ℕ → ℕ → Bool
 is_heading text at =
     let end = end_of class.Dotted text at in
     slice_index text (start_of class.Line text at) == 91 && slice_index text end == 93
     && (is_last text (ahead text end 1) || is_last text (ahead text end 2))
 
--- a word in place of a value
+-- a word instead of a value
 unfoldable pub word : List ℕ → ℕ → FindingContent
 word text at =
     if (is_assignment text at || is_heading text at) && nat_lt 0 (open_before text at).depth
@@ -142,7 +142,7 @@ wrong_closing mistake text at closing =
       also = bracket_span text (open_before text at).bracket;
     }
 
--- a period or the like after a value
+-- a value that `.`, `:` or `+` follows
 unfoldable pub glued : List ℕ → ℕ → Option FindingContent
 glued text at =
     let start = start_of class.Atom text at in
@@ -154,7 +154,7 @@ abbrev pub is_glue : List ℕ → Bool
 is_glue found =
     bytes_eq found (codes "a period") || bytes_eq found (codes "a colon") || bytes_eq found (codes "a plus")
 
--- where `]` is expected, and where a comma is expected in an inline table
+-- a token where `]` is expected, and where a comma is expected in an inline table
 abbrev pub in_array : List ℕ → List ℕ → ℕ → Option FindingContent
 in_array found text at =
     if bytes_eq found (codes "eof") then Some (unclosed text at)

@@ -1,4 +1,4 @@
--- Numbers that are not valid in TOML.
+-- Mistakes in numbers.
 use Rattle.std.specs.Prelude.{ℕ, zero, suc, ◌+◌, ◌-◌, ◌*◌, min, ◌==◌, ◌&&◌, ◌||◌, not, nat_lt, nat_le, List, []}
 use Rattle.std.specs.Prelude.{codes, length, slice_index, Option, Some, None, if◌then◌else◌}
 use Rattle.toml_span_report.specs.Bytes.{ahead, begins, end_of, is_digit, part, start_of}
@@ -10,8 +10,8 @@ use Rattle.toml_span_report.specs.declared.words.TheConstants.{LEADING_ZERO, OCT
 use Rattle.toml_span_report.specs.declared.words.TheConstants.{SIGNED_PREFIX, SIGNS, THOUSANDS, TOO_LARGE}
 use Rattle.toml_span_report.specs.declared.words.TheConstants.{TRAILING_POINT, UNDERSCORE, UNQUOTED, UPPER_PREFIX}
 
-abbrev pub behind_sign : List ℕ → ℕ → ℕ
-behind_sign text at = if slice_index text at == 43 || slice_index text at == 45 then ahead text at 1 else at
+abbrev pub after_sign : List ℕ → ℕ → ℕ
+after_sign text at = if slice_index text at == 43 || slice_index text at == 45 then ahead text at 1 else at
 
 abbrev pub digits_of : ℕ → List ℕ
 digits_of letter =
@@ -24,7 +24,7 @@ abbrev pub lower_prefix : ℕ → List ℕ
 lower_prefix letter =
     if letter == 88 then codes "0x" else if letter == 79 then codes "0o" else if letter == 66 then codes "0b" else []
 
--- the value of a digit, or 16
+-- the value of a hexadecimal digit, or 16
 abbrev pub digit_of : ℕ → ℕ
 digit_of b =
     if is_digit b then b - 48
@@ -36,7 +36,7 @@ abbrev pub base_of : ℕ → ℕ
 base_of letter =
     if letter == 120 || letter == 88 then 16 else if letter == 111 || letter == 79 then 8 else 2
 
--- the value of digits and `_`, or 2 ^ 64 - 1 if it is greater
+-- the number that digits and `_` spell, or 2 ^ 64 - 1 if it is higher
 abbrev pub next_value : Option ℕ → ℕ → ℕ → Option ℕ
 next_value None base b = None
 next_value (Some value) base b =
@@ -49,7 +49,7 @@ unfoldable pub value_of : List ℕ → ℕ → ℕ → Option ℕ
 value_of digits base zero = Some 0
 value_of digits base (suc i) = next_value (value_of digits base i) base (slice_index digits i)
 
--- a signed number with a prefix
+-- a sign before a prefix
 abbrev pub signed_value : List ℕ → ℕ → ℕ → Option ℕ → FindingContent
 signed_value text start end None = marked (said SIGNED_PREFIX) start end
 signed_value text start end (Some value) =
@@ -64,7 +64,7 @@ signed_prefix text start zero_at end =
     signed_value text start end
     (value_of digits (base_of (slice_index text (ahead text zero_at 1))) (length digits))
 
--- a number with a prefix
+-- a mistake in a number with a prefix
 unfoldable pub prefixed : List ℕ → ℕ → ℕ → ℕ → Option FindingContent
 prefixed text start zero_at end =
     let letter = slice_index text (ahead text zero_at 1) in
@@ -76,7 +76,7 @@ prefixed text start zero_at end =
     (pieces (lower_prefix letter) (part text (ahead text zero_at 2) end) []))
     else Some (record (marked (said OTHER_DIGIT) start end) { label = pieces (digits_of letter) [] [] })
 
--- a number with leading zeros
+-- leading zeros
 unfoldable pub zeros : List ℕ → ℕ → ℕ → ℕ → FindingContent
 zeros text start digits end =
     let more = ahead text digits 1 in
@@ -128,11 +128,11 @@ unfoldable pub number : List ℕ → ℕ → Option FindingContent
 number text at =
     let start = start_of class.Atom text at in
     let end = end_of class.Word text at in
-    let digits = behind_sign text start in
+    let digits = after_sign text start in
     first_found (slash_date text start end)
     (first_found (prefixed text start digits end) (signed text start digits end))
 
--- digits grouped by commas, up to the first comma
+-- digits that are grouped by commas
 unfoldable pub thousands : List ℕ → ℕ → Option FindingContent
 thousands text at =
     let start = start_of class.Atom text at in

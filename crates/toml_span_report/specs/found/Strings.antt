@@ -1,4 +1,4 @@
--- Strings that are not closed in time, and characters and escapes that they can't contain.
+-- Mistakes in strings: missing quotes, and invalid characters and escapes.
 use Rattle.std.specs.Prelude.{ℕ, ◌+◌, ◌-◌, ◌*◌, ◌==◌, ◌&&◌, ◌||◌, Bool, not, nat_lt, nat_le, List, [], ◌∷◌, codes}
 use Rattle.std.specs.Prelude.{slice_index, Option, Some, None, if◌then◌else◌}
 use Rattle.toml_span_report.specs.Bytes.{ahead, begins, end_of, first_of_line, last_of_line, part, start_of}
@@ -11,7 +11,7 @@ use Rattle.toml_span_report.specs.declared.words.TheConstants.{CONTROL_IN_LITERA
 use Rattle.toml_span_report.specs.declared.words.TheConstants.{OPEN_LITERAL, OPEN_LONG, OPEN_LONG_LITERAL}
 use Rattle.toml_span_report.specs.declared.words.TheConstants.{OPEN_STRING, QUOTE_IN_STRING, SHORT_ESCAPE, SURROGATE}
 
--- a key that is not closed
+-- a quoted key that is not closed
 unfoldable pub open_key : List ℕ → ℕ → ℕ → FindingContent
 open_key text quote end =
     let equals = end_of class.Left text quote in
@@ -20,14 +20,14 @@ open_key text quote end =
     else replaced (said OPEN_KEY) quote end
     (pieces (part text quote key_end) (part text quote (ahead text quote 1)) (part text key_end end))
 
--- a string on one line that is not closed
+-- a single-line string that is not closed
 unfoldable pub open_string : List ℕ → ℕ → ℕ → FindingContent
 open_string text quote end =
     if first_of_line text quote == quote && (open_before text quote).depth == 0 then open_key text quote end
     else if slice_index text quote == 34 then marked (said OPEN_STRING) quote end
     else marked (said OPEN_LITERAL) quote end
 
--- two hexadecimal digits for a byte below 32, or for 127
+-- two hexadecimal digits for a byte that is below 32, or is 127
 unfoldable pub hex_of : ℕ → List ℕ
 hex_of byte =
     if byte == 127 then codes "7f"
@@ -47,7 +47,7 @@ character text at c =
     then open_string text state.string at
     else control text at state.string
 
--- a backslash that begins no escape
+-- a backslash that does not begin an escape
 unfoldable pub backslash : List ℕ → ℕ → ℕ → FindingContent
 backslash text at end =
     let quote = (open_before text at).string in
@@ -61,12 +61,12 @@ backslash text at end =
 abbrev pub escape : List ℕ → ℕ → FindingContent
 escape text at = backslash text (at - 1) (ahead text at 1)
 
--- the zeros missing from an escape
+-- the zeros that an escape lacks
 unfoldable pub zeros_of : ℕ → ℕ → List ℕ
 zeros_of letter count =
     part (codes "00000000") 0 ((if letter == 85 then 8 else if letter == 117 then 4 else 2) - count)
 
--- the digits that an escape needs
+-- a description of the digits that an escape needs
 abbrev pub digits_after : ℕ → List ℕ
 digits_after letter =
     if letter == 85 then codes "`\\U` needs eight hexadecimal digits"

@@ -2,14 +2,41 @@
 use Rattle.std.specs.Prelude.{ℕ, ◌==◌, ◌&&◌, ◌||◌, max, Bool, true, false, not, nat_le, List, [], codes, length}
 use Rattle.std.specs.Prelude.{slice_index, Option, Some, None, if◌then◌else◌}
 use Rattle.std.specs.Str.{bytes_eq}
-use Rattle.toml_span_report.specs.Bytes.{ahead, byte_behind, end_of, part, start_of}
+use Rattle.toml_span_report.specs.Bytes.{ahead, byte_after, end_of, part, start_of}
 use Rattle.toml_span_report.specs.Finding.{FindingContent, MeantContent, as_meant, marked, pieces, quoted, replaced}
 use Rattle.toml_span_report.specs.declared.bytes.Class.TheVariants as class
 use Rattle.toml_span_report.specs.Words.{said}
-use Rattle.toml_span_report.specs.declared.words.TheConstants.{NULL, OTHER_BOOLEAN, OTHER_FLOAT, PREFIXED, RAW_STRING}
+use Rattle.toml_span_report.specs.declared.words.TheConstants.{NEAR_FALSE, NEAR_TRUE, NULL, OTHER_BOOLEAN, OTHER_FLOAT, PREFIXED, RAW_STRING}
 use Rattle.toml_span_report.specs.declared.words.TheConstants.{UNQUOTED, UNQUOTED_TEXT, UPPER_BOOLEAN}
 
--- what TOML has for a word of other languages
+-- The word and the name are the same up to an offset, and then after one byte of either or both, or of each after two
+-- that are swapped.
+unfoldable pub is_near_at : List ℕ → List ℕ → ℕ → Bool
+is_near_at word name at =
+    let after = ahead word at 1 in
+    let last = length word in
+    let name_after = ahead name at 1 in
+    let name_last = length name in
+    let rest = part word after last in
+    let name_rest = part name name_after name_last in
+    bytes_eq (part word 0 at) (part name 0 at)
+    && (bytes_eq rest name_rest || bytes_eq rest (part name at name_last) || bytes_eq (part word at last) name_rest
+    || (slice_index word at == slice_index name name_after && slice_index word after == slice_index name at
+    && bytes_eq (part rest 1 last) (part name_rest 1 name_last)))
+
+-- a word that is at most one edit away from a name of at most five bytes
+unfoldable pub is_near : List ℕ → List ℕ → Bool
+is_near word name =
+    is_near_at word name 0 || is_near_at word name 1 || is_near_at word name 2 || is_near_at word name 3
+    || is_near_at word name 4 || is_near_at word name 5
+
+unfoldable pub near_boolean : List ℕ → Option MeantContent
+near_boolean word =
+    if is_near word (codes "true") then Some (as_meant (said NEAR_TRUE) [] (codes "true"))
+    else if is_near word (codes "false") then Some (as_meant (said NEAR_FALSE) [] (codes "false"))
+    else None
+
+-- what TOML has for a word of other languages, or for a misspelled boolean
 unfoldable pub known_word : List ℕ → Option MeantContent
 known_word word =
     if bytes_eq word (codes "True") || bytes_eq word (codes "TRUE")
@@ -30,7 +57,7 @@ known_word word =
     else if bytes_eq word (codes "Infinity") || bytes_eq word (codes "infinity") || bytes_eq word (codes "Inf")
     || bytes_eq word (codes "INF")
     then Some (as_meant (said OTHER_FLOAT) [] (codes "inf"))
-    else None
+    else near_boolean word
 
 -- where the words end that may be meant as one string
 abbrev pub ends_phrase : ℕ → Bool
@@ -47,7 +74,7 @@ is_quote b = b == 34 || b == 39
 unfoldable pub unquoted_value : List ℕ → ℕ → FindingContent
 unquoted_value text at =
     let end = end_of class.Word text at in
-    if is_quote (byte_behind text end) then marked (said UNQUOTED_TEXT) at end
+    if is_quote (byte_after text end) then marked (said UNQUOTED_TEXT) at end
     else quoted (said UNQUOTED) text at (phrase_end text at end)
 
 -- a string with a prefix, whose quote is at `quote`

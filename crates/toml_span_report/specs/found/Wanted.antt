@@ -1,9 +1,9 @@
--- Tokens other than the expected ones, and values of another kind than a typed read expects.
+-- Mistakes in tokens other than the expected ones, and in values of another kind than a typed read expects.
 use Rattle.std.specs.Prelude.{ℕ, ◌-◌, ◌==◌, ◌&&◌, ◌||◌, Bool, not, nat_lt, List, [], ◌∷◌, codes, slice_index, map}
 use Rattle.std.specs.Prelude.{Option, Some, None, if◌then◌else◌}
 use Rattle.std.specs.Str.{bytes_eq}
 use Rattle.toml_span_lex.specs.declared.span.Span.{Span}
-use Rattle.toml_span_report.specs.Bytes.{ahead, byte_before, byte_behind, end_of, first_of_line, is_digit, is_last}
+use Rattle.toml_span_report.specs.Bytes.{ahead, byte_before, byte_after, end_of, first_of_line, is_digit, is_last}
 use Rattle.toml_span_report.specs.Bytes.{last_of_line, part, start_of}
 use Rattle.toml_span_report.specs.Finding.{FindingContent, marked, mended, pieces, quoted, removed, replaced, span_of}
 use Rattle.toml_span_report.specs.found.Keys.{extra, no_equals, no_key}
@@ -20,12 +20,12 @@ use Rattle.toml_span_report.specs.declared.words.TheConstants.{FLOAT_DUE, HALF_D
 use Rattle.toml_span_report.specs.declared.words.TheConstants.{KEY_AFTER_HEADER, LAST_COMMA, SECOND_KEY, STRING_DUE}
 use Rattle.toml_span_report.specs.declared.words.TheConstants.{VALUE_OF_HEADER, ZONE_NAME}
 
--- a new line before something
+-- a line feed before something
 abbrev pub broken : WordsContent → List ℕ → ℕ → ℕ → FindingContent
 broken mistake text from at = mended mistake (span_of at (end_of class.Dotted text at)) (span_of from at)
     (pieces (10 ∷ []) [] [])
 
--- a comma after a value, on its line
+-- a comma after a value, at the end of an assignment
 abbrev pub or_comma : Option FindingContent → FindingContent → FindingContent
 or_comma (Some f) other = f
 or_comma None other = other
@@ -34,21 +34,21 @@ unfoldable pub comma : List ℕ → ℕ → FindingContent
 comma text at =
     let end = ahead text at 1 in
     or_comma (thousands text at)
-    (if is_last text end || byte_behind text end == 35 then removed (said LAST_COMMA) at end
+    (if is_last text end || byte_after text end == 35 then removed (said LAST_COMMA) at end
     else if slice_index text (end_of class.Left text end) == 61
     then mended (said COMMA_BEHIND_VALUE) (span_of at end) (span_of at (end_of class.Blank text end))
     (pieces (10 ∷ []) [] [])
     else marked (said AFTER_VALUE) at end)
 
--- more after a header, on its line
+-- something after a header, on its line
 unfoldable pub header_value : List ℕ → ℕ → ℕ → FindingContent
 header_value text line at =
     replaced (said VALUE_OF_HEADER) line (last_of_line text at)
     (pieces (part text (ahead text line 1) (start_of class.Blank text at - 1)) (codes " ")
     (part text at (last_of_line text at)))
 
-unfoldable pub behind_header : List ℕ → List ℕ → ℕ → ℕ → Option FindingContent
-behind_header found text line at =
+unfoldable pub after_header : List ℕ → List ℕ → ℕ → ℕ → Option FindingContent
+after_header found text line at =
     if bytes_eq found (codes "a right bracket") then Some (extra (said HEADER_BRACKET) text at)
     else if bytes_eq found (codes "an equals") then Some (header_value text line at)
     else if bytes_eq found (codes "an identifier") || bytes_eq found (codes "a string")
@@ -59,7 +59,7 @@ abbrev pub is_half_day : List ℕ → Bool
 is_half_day word =
     bytes_eq word (codes "AM") || bytes_eq word (codes "PM") || bytes_eq word (codes "am") || bytes_eq word (codes "pm")
 
--- an hour of a 12-hour clock on a 24-hour clock
+-- an hour of a 12-hour clock, on a 24-hour clock
 abbrev pub or_same : List ℕ → Option (List ℕ) → List ℕ
 or_same hour None = hour
 or_same hour (Some later) = later
@@ -92,20 +92,20 @@ zone text at end =
     mended (said ZONE_NAME) (span_of at end) (span_of start end) (pieces (part text start before) (codes "Z") [])
 
 -- a word after a value, on its line
-unfoldable pub word_behind : List ℕ → ℕ → FindingContent
-word_behind text at =
+unfoldable pub word_after : List ℕ → ℕ → FindingContent
+word_after text at =
     let end = end_of class.Word text at in
     let is_time = is_digit (byte_before text at) in
     let word = part text at end in
     if is_time && is_half_day word then half_day text at end
     else if is_time && is_zone word then zone text at end
-    else if byte_behind text (end_of class.Dotted text at) == 61
+    else if byte_after text (end_of class.Dotted text at) == 61
     then broken (said SECOND_KEY) text (start_of class.Blank text at) at
     else marked (said AFTER_VALUE) at end
 
--- what was found after a value, on its line
-unfoldable pub behind_value : List ℕ → List ℕ → ℕ → Option FindingContent
-behind_value found text at =
+-- a token after a value, on its line
+unfoldable pub after_value : List ℕ → List ℕ → ℕ → Option FindingContent
+after_value found text at =
     let is_string = byte_before text at == 34 || byte_before text at == 39 in
     let start = start_of class.Atom text at in
     if bytes_eq found (codes "a comma") then Some (comma text at)
@@ -117,16 +117,16 @@ behind_value found text at =
     then Some (unquoted_value text start)
     else if (bytes_eq found (codes "an identifier") || bytes_eq found (codes "a string")) && is_string
     then quote_in_string text at
-    else if bytes_eq found (codes "an identifier") then Some (word_behind text at)
+    else if bytes_eq found (codes "an identifier") then Some (word_after text at)
     else Some (marked (said AFTER_VALUE) at (ahead text at 1))
 
 unfoldable pub no_newline : List ℕ → List ℕ → ℕ → Option FindingContent
 no_newline found text at =
     let line = first_of_line text at in
-    if slice_index text line == 91 && byte_before text at == 93 then behind_header found text line at
-    else behind_value found text at
+    if slice_index text line == 91 && byte_before text at == 93 then after_header found text line at
+    else after_value found text at
 
--- another kind of value than a typed read expects
+-- a value of another kind than a typed read expects
 unfoldable pub other_kind : List ℕ → List ℕ → List ℕ → Span → Option FindingContent
 other_kind expected found text span =
     if bytes_eq found (codes "integer") && (bytes_eq expected (codes "a float")

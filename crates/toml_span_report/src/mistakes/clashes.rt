@@ -1,27 +1,27 @@
-//! Definitions that clash.
+//! Mistakes in keys and headers that clash.
 ghost use Rattle.std.specs.Prelude.{◌≡◌, option_map};
 ghost use Rattle.toml_span_report.specs.Finding.{code_content, finding_content};
 ghost use Rattle.toml_span_report.specs.found.Clashes as spec;
 
 use crate::bytes::{
-    Class, ahead, begins, byte_at, byte_behind, end_of, first_of_line, last_of_line, part, start_of,
+    Class, ahead, begins, byte_after, byte_at, end_of, first_of_line, last_of_line, part, start_of,
 };
 use crate::finding::{Code, Finding, pieces, shown, six, span_of};
-use crate::mistakes::numbers::behind_sign;
+use crate::mistakes::numbers::after_sign;
 use crate::words::{
     ARRAY_OF_TABLE, CLOSED_ARRAY, CLOSED_TABLE, CLOSED_TABLE_HEADER, DOTTED_TABLE, TABLE_OF_ARRAY,
     TABLE_TWICE, THROUGH_VALUE, Words,
 };
 use toml_span_lex::span::Span;
 
-/// Returns where the header at an offset ends, without a comment after it.
+/// Returns the end of the header that begins at the offset, without a comment after it.
 fn header_end(text: &str, at: usize) -> usize
     ensures { result ≡ spec.header_end text.now at }
 {
     start_of(Class::Blank, text, end_of(Class::Left, text, at))
 }
 
-/// Finds the mistake of a table with two headers, either of which may be that of an array of tables.
+/// Returns the finding for two headers, at `first` and `span`, for the same table or array of tables.
 #[tactic(auto, unfolding(crate::specs::found::Clashes::table_twice))]
 pub(crate) fn table_twice<'a>(text: &'a str, span: Span, first: Span) -> Finding<'a>
     ensures { finding_content result ≡ spec.table_twice text.now span first }
@@ -43,7 +43,7 @@ pub(crate) fn table_twice<'a>(text: &'a str, span: Span, first: Span) -> Finding
     }
 }
 
-/// Returns where the value of a key that ends at an offset begins, or whatever else follows the key.
+/// Returns the offset of the value of a key that ends at `end`, or of whatever follows the key instead.
 #[tactic(auto, unfolding(crate::specs::found::Clashes::value_at))]
 fn value_at(text: &str, end: usize) -> usize
     ensures { result ≡ spec.value_at text.now end }
@@ -56,12 +56,12 @@ fn value_at(text: &str, end: usize) -> usize
     }
 }
 
-/// Returns the label of a value that is not a table.
+/// Returns the label for the value at an offset, which is not a table. The label says what kind of value it is.
 #[tactic(auto, unfolding(crate::specs::found::Clashes::no_table))]
 fn no_table(text: &str, at: usize) -> &'static str
     ensures { result.now ≡ spec.no_table text.now at }
 {
-    let digits = behind_sign(text, at);
+    let digits = after_sign(text, at);
     let end = end_of(Class::Grouped, text, digits);
     match byte_at(text, at) {
         b'"' | b'\'' => "this is a string, not a table",
@@ -75,8 +75,9 @@ fn no_table(text: &str, at: usize) -> &'static str
     }
 }
 
-/// Returns an inline table at an offset, with the key before it and another assignment in it: the dotted key at `at`
-/// without the table's key. Nothing if the table is not the last on its line, or the dotted key begins otherwise.
+/// Returns the line of an inline table with one more assignment. The table begins at `table`, and its key ends at
+/// `key_end`. The assignment is that of the dotted key at `at`, without the part that names the table. Returns nothing
+/// if the table does not end at the end of its line, or the dotted key begins with another part.
 #[tactic(auto, unfolding(crate::specs::found::Clashes::extended))]
 fn extended<'a>(text: &'a str, key_end: usize, table: usize, at: usize) -> Code<'a>
     ensures { code_content result ≡ spec.extended text.now key_end table at }
@@ -109,8 +110,8 @@ fn extended<'a>(text: &'a str, key_end: usize, table: usize, at: usize) -> Code<
     )
 }
 
-/// Returns the body of the section whose header ends at an offset, as it is written in an inline table: its only
-/// assignment, nothing if it is empty, or two dots.
+/// Returns the body of the section whose header ends at `end`, to be written in an inline table: its assignment if
+/// there is only one, an empty string if there is none, otherwise `..`.
 #[tactic(auto, unfolding(crate::specs::found::Clashes::body))]
 fn body<'a>(text: &'a str, end: usize) -> &'a str
     ensures { result.now ≡ spec.body text.now end }
@@ -129,8 +130,8 @@ fn body<'a>(text: &'a str, end: usize) -> &'a str
     }
 }
 
-/// Returns what to write in an inline table for a header through it, whose key ends at an offset. Nothing if the header
-/// ends with that key.
+/// Returns what to write in an inline table instead of a header through it. `end` is the end of the header's part that
+/// names the table. Returns nothing if the header has no part after that one.
 #[tactic(auto, unfolding(crate::specs::found::Clashes::subtable))]
 fn subtable<'a>(text: &'a str, end: usize) -> Code<'a>
     ensures { code_content result ≡ spec.subtable text.now end }
@@ -152,7 +153,7 @@ fn subtable<'a>(text: &'a str, end: usize) -> Code<'a>
     )
 }
 
-/// Finds the mistake of a key or a header that goes through an earlier value.
+/// Recognizes a key or header, at `span`, that goes through an earlier value, whose key is at `first`.
 #[tactic(auto, unfolding(crate::specs::found::Clashes::through_value))]
 pub(crate) fn through_value<'a>(text: &'a str, span: Span, first: Span) -> Option<Finding<'a>>
     ensures { option_map finding_content result ≡ spec.through_value text.now span first }
@@ -186,13 +187,14 @@ pub(crate) fn through_value<'a>(text: &'a str, span: Span, first: Span) -> Optio
     }
 }
 
-/// Finds the mistake of a key that is defined twice: a header or a dotted key through an earlier value has help.
+/// Recognizes a key, at `span`, that is defined twice because it is a header or dotted key through an earlier value,
+/// whose key is at `first`.
 #[tactic(auto, unfolding(crate::specs::found::Clashes::key_twice))]
 pub(crate) fn key_twice<'a>(text: &'a str, span: Span, first: Span) -> Option<Finding<'a>>
     ensures { option_map finding_content result ≡ spec.key_twice text.now span first }
 {
     let line = first_of_line(text, span.start);
-    if byte_at(text, line) == b'[' || byte_behind(text, span.end) == b'.' {
+    if byte_at(text, line) == b'[' || byte_after(text, span.end) == b'.' {
         through_value(text, span, first)
     } else {
         None

@@ -1,4 +1,4 @@
-//! Dates and times that TOML does not have.
+//! Mistakes in dates and times.
 ghost use Rattle.std.specs.Prelude.{◌≡◌, option_map};
 ghost use Rattle.toml_span_report.specs.Finding.{code_content, finding_content};
 ghost use Rattle.toml_span_report.specs.found.Dates as spec;
@@ -8,14 +8,14 @@ use crate::finding::{Code, Finding, marked, pieces, replaced, six};
 use crate::tables::text_in;
 use crate::words::{DATETIME, NO_DAY, NO_MONTH, NO_TIME, OFFSET, SHORT_DATE, SLASH_DATE};
 
-/// Returns whether there are exactly this many digits between two offsets.
+/// Returns whether there are exactly `count` digits at the offset `from`.
 fn are_digits(text: &str, from: usize, count: usize) -> bool
     ensures { result ≡ spec.are_digits text.now from count }
 {
     end_of(Class::Digit, text, from) == ahead(text, from, count)
 }
 
-/// Returns whether there is a date between two offsets, valid or not.
+/// Returns whether the bytes from `start` to `end` have the form of a date, valid or not.
 pub(crate) fn is_date(text: &str, start: usize, end: usize) -> bool
     ensures { result ≡ spec.is_date text.now start end }
 {
@@ -29,7 +29,7 @@ pub(crate) fn is_date(text: &str, start: usize, end: usize) -> bool
         && ahead(text, start, 10) == end
 }
 
-/// Returns the code for a date with slashes, whose year is first or last.
+/// Recognizes a date with slashes, in which the year is first or last.
 #[tactic(auto, unfolding(crate::specs::found::Dates::slash_date))]
 pub(crate) fn slash_date<'a>(text: &'a str, start: usize, end: usize) -> Option<Finding<'a>>
     ensures { option_map finding_content result ≡ spec.slash_date text.now start end }
@@ -52,7 +52,7 @@ pub(crate) fn slash_date<'a>(text: &'a str, start: usize, end: usize) -> Option<
     }
 }
 
-/// Returns the zero that a number of one digit lacks.
+/// Returns `0` if a number has only one digit, otherwise an empty string.
 fn zero_for(from: usize, to: usize) -> &'static str
     ensures { result.now ≡ spec.zero_for from to }
 {
@@ -63,7 +63,7 @@ fn zero_for(from: usize, to: usize) -> &'static str
     }
 }
 
-/// Returns whether two digits make a number greater than that of two other digits.
+/// Returns whether the two digits at an offset spell a greater number than `tens` and `ones` do.
 fn is_past(text: &str, at: usize, tens: u8, ones: u8) -> bool
     ensures { result ≡ spec.is_past text.now at tens ones }
 {
@@ -71,7 +71,7 @@ fn is_past(text: &str, at: usize, tens: u8, ones: u8) -> bool
     first > tens || first == tens && byte_at(text, ahead(text, at, 1)) > ones
 }
 
-/// The lengths of the months, except for February.
+/// The lengths of all months except February.
 const MONTHS: [(&str, &str); 11] = [
     ("01", "January has 31 days"),
     ("03", "March has 31 days"),
@@ -86,7 +86,7 @@ const MONTHS: [(&str, &str); 11] = [
     ("12", "December has 31 days"),
 ];
 
-/// Returns whether a number of two digits is divisible by four.
+/// Returns whether the number that two digits spell is divisible by four.
 fn is_fourth(text: &str, at: usize) -> bool
     ensures { result ≡ spec.is_fourth text.now at }
 {
@@ -94,14 +94,14 @@ fn is_fourth(text: &str, at: usize) -> bool
     (2 * tens + u32::from(byte_at(text, ahead(text, at, 1)))) % 4 == 0
 }
 
-/// Returns how many days a month other than February has, in words.
+/// Returns the message with the length of a month, unless it is February.
 fn days_of(month: &str) -> Option<&'static str>
     ensures { option_map (λ days. days.now) result ≡ spec.days_of month.now }
 {
     text_in(&MONTHS, month)
 }
 
-/// Returns how many days a month has, in words.
+/// Returns the message with the length of a month. `year` and `month` are the offsets of their digits.
 #[tactic(auto, unfolding(crate::specs::found::Dates::month_length))]
 fn month_length<'a>(text: &'a str, year: usize, month: usize) -> Code<'a>
     ensures { code_content result ≡ spec.month_length text.now year month }
@@ -126,7 +126,8 @@ fn month_length<'a>(text: &'a str, year: usize, month: usize) -> Code<'a>
     }
 }
 
-/// Finds the mistake of a date and time whose offset has no colon, or of a time that does not exist.
+/// Returns the finding for a time that does not exist, or for an offset without a colon. The value spans `start..end`,
+/// and the time begins at `hour`.
 #[tactic(auto, unfolding(crate::specs::found::Dates::time))]
 fn time<'a>(text: &'a str, start: usize, hour: usize, end: usize) -> Finding<'a>
     ensures { finding_content result ≡ spec.time text.now start hour end }
@@ -146,7 +147,8 @@ fn time<'a>(text: &'a str, start: usize, hour: usize, end: usize) -> Finding<'a>
     marked(DATETIME, start, end)
 }
 
-/// Finds the mistake of a date with a year of four digits, whose month begins at `month` and whose day at `day`.
+/// Returns the finding for a date with a year of four digits. The value spans `start..end`, its month begins at
+/// `month`, its day at `day`.
 #[tactic(auto, unfolding(crate::specs::found::Dates::date))]
 fn date<'a>(text: &'a str, start: usize, month: usize, day: usize, end: usize) -> Finding<'a>
     ensures { finding_content result ≡ spec.date text.now start month day end }
@@ -178,7 +180,7 @@ fn date<'a>(text: &'a str, start: usize, month: usize, day: usize, end: usize) -
     time(text, start, ahead(text, day_end, 1), end)
 }
 
-/// Finds the mistake of an invalid date or time.
+/// Returns the finding for an invalid date or time.
 #[tactic(auto, unfolding(crate::specs::found::Dates::datetime))]
 pub(crate) fn datetime<'a>(text: &'a str, at: usize) -> Finding<'a>
     ensures { finding_content result ≡ spec.datetime text.now at }

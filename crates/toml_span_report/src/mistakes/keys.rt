@@ -1,11 +1,11 @@
-//! Keys and headers.
+//! Mistakes in keys and headers.
 ghost use Rattle.std.specs.Prelude.{◌≡◌, option_map};
 ghost use Rattle.toml_span_report.specs.Finding.{code_content, finding_content, meant_content};
 ghost use Rattle.toml_span_report.specs.Words.{texts};
 ghost use Rattle.toml_span_report.specs.found.Keys as spec;
 
 use crate::bytes::{
-    Class, ahead, begins, byte_at, byte_before, byte_behind, end_of, first_of_line, is_last,
+    Class, ahead, begins, byte_after, byte_at, byte_before, end_of, first_of_line, is_last,
     last_of_line, part, start_of,
 };
 use crate::finding::{
@@ -13,7 +13,7 @@ use crate::finding::{
     span_of,
 };
 use crate::mistakes::dates::is_date;
-use crate::mistakes::numbers::behind_sign;
+use crate::mistakes::numbers::after_sign;
 use crate::mistakes::values::{known_word, phrase_end};
 use crate::words::{
     BARE_KEY, BRACE_HEADER, COLON, COLON_EQUALS, CONFLICT, DASHES, DOCUMENT_MARKER, EXTRA_COMMA,
@@ -22,7 +22,7 @@ use crate::words::{
 };
 use toml_span_lex::span::Span;
 
-/// Makes the mistake of a comment of another language, whose sign has this length.
+/// Returns the finding for a comment of another language. `length` is that of the sign with which it begins.
 #[tactic(auto, unfolding(crate::specs::found::Keys::comment))]
 pub(crate) fn comment<'a>(mistake: Mistake, text: &'a str, at: usize, length: usize) -> Finding<'a>
     ensures { finding_content result ≡ spec.comment (texts mistake.entry) text.now at length }
@@ -35,7 +35,7 @@ pub(crate) fn comment<'a>(mistake: Mistake, text: &'a str, at: usize, length: us
     )
 }
 
-/// Finds the mistake of a header's part at an offset that needs quotes.
+/// Recognizes a part of a header that needs quotes.
 #[tactic(auto, unfolding(crate::specs::found::Keys::header_key))]
 pub(crate) fn header_key<'a>(text: &'a str, at: usize) -> Option<Finding<'a>>
     ensures { option_map finding_content result ≡ spec.header_key text.now at }
@@ -50,21 +50,21 @@ pub(crate) fn header_key<'a>(text: &'a str, at: usize) -> Option<Finding<'a>>
     }
 }
 
-/// Finds the mistake of the key at an offset, if it has characters that need quotes.
+/// Recognizes a key that needs quotes because of its characters.
 #[tactic(auto, unfolding(crate::specs::found::Keys::other_key))]
 pub(crate) fn other_key<'a>(text: &'a str, at: usize) -> Option<Finding<'a>>
     ensures { option_map finding_content result ≡ spec.other_key text.now at }
 {
     let from = start_of(Class::Name, text, at);
     let to = end_of(Class::Name, text, at);
-    if from < to && matches!(byte_behind(text, to), b'=' | b'.') {
+    if from < to && matches!(byte_after(text, to), b'=' | b'.') {
         Some(quoted(BARE_KEY, text, from, to))
     } else {
         None
     }
 }
 
-/// Returns where the key begins that ends at an offset: a quoted one, or one of bare parts.
+/// Returns the start of the key that ends at `end`: a quoted one, or one of bare parts.
 #[tactic(auto, unfolding(crate::specs::found::Keys::key_start))]
 fn key_start(text: &str, end: usize) -> usize
     ensures { result ≡ spec.key_start text.now end }
@@ -76,7 +76,7 @@ fn key_start(text: &str, end: usize) -> usize
     }
 }
 
-/// Returns where the value at an offset ends, as far as it is on the line.
+/// Returns the end of the value at an offset, or the end of the line if the value goes on.
 #[tactic(auto, unfolding(crate::specs::found::Keys::value_end))]
 fn value_end(text: &str, at: usize) -> usize
     ensures { result ≡ spec.value_end text.now at }
@@ -93,7 +93,7 @@ fn value_end(text: &str, at: usize) -> usize
 fn is_number(text: &str, at: usize, end: usize) -> bool
     ensures { result ≡ spec.is_number text.now at end }
 {
-    let digits = behind_sign(text, at);
+    let digits = after_sign(text, at);
     let point = end_of(Class::Grouped, text, digits);
     let other = ahead(text, point, 1);
     if digits == point || byte_at(text, digits) == b'0' && point != ahead(text, digits, 1) {
@@ -103,8 +103,8 @@ fn is_number(text: &str, at: usize, end: usize) -> bool
         || byte_at(text, point) == b'.' && other < end && end_of(Class::Digit, text, other) == end
 }
 
-/// Returns whether a word is a value as it is: it begins with a quote or a bracket, or is a number, a date, a boolean
-/// or a special float.
+/// Returns whether a word is a valid value: it begins with a quote or a bracket, or is a number, a date, a boolean,
+/// `inf` or `nan`.
 #[tactic(auto, unfolding(crate::specs::found::Keys::is_value))]
 fn is_value(text: &str, at: usize, end: usize) -> bool
     ensures { result ≡ spec.is_value text.now at end }
@@ -117,14 +117,14 @@ fn is_value(text: &str, at: usize, end: usize) -> bool
     }
 }
 
-/// Returns whether a word is a boolean or a special float.
+/// Returns whether a word is a boolean, `inf` or `nan`.
 fn is_named(word: &str) -> bool
     ensures { result ≡ spec.is_named word.now }
 {
     matches!(word, "true" | "false" | "inf" | "nan")
 }
 
-/// Makes a mistake whose repair may not be what was meant.
+/// Returns a finding that marks `mark`, with code that may not be what was meant, and that replaces `edit`.
 fn doubtful<'a>(mistake: Mistake, mark: Span, edit: Span, code: Code<'a>) -> Finding<'a>
     ensures { finding_content result ≡ spec.doubtful (texts mistake.entry) mark edit (code_content code.entry) }
 {
@@ -136,7 +136,7 @@ fn doubtful<'a>(mistake: Mistake, mark: Span, edit: Span, code: Code<'a>) -> Fin
     Finding { words, ..found }
 }
 
-/// Makes the mistake of a key and a word of another language, at `at`, with another sign than `=` between them.
+/// Returns the finding for a key, another sign than `=`, and a word of another language, which begins at `at`.
 fn known_pair<'a>(
     mistake: Mistake,
     key: &'a str,
@@ -154,8 +154,8 @@ fn known_pair<'a>(
     doubtful(mistake, mark, edit, pieces(key, " = ", known.code))
 }
 
-/// Makes the mistake of a key and a word that is no value, at `at`, with another sign than `=` between them: the word
-/// goes between quotes, or is one of another language.
+/// Returns the finding for a key, another sign than `=`, and a word at `at` that is not a value: the word belongs in
+/// quotes, or is one of another language.
 #[tactic(auto, unfolding(crate::specs::found::Keys::other_word))]
 fn other_word<'a>(
     mistake: Mistake,
@@ -176,7 +176,7 @@ fn other_word<'a>(
     doubtful(mistake, mark, span_of(edit.start, end), code)
 }
 
-/// Makes the mistake of a key and a value with another sign than `=` between them.
+/// Returns the finding for a sign, from `from` to `to`, that is written instead of `=` between a key and a value.
 #[tactic(auto, unfolding(crate::specs::found::Keys::other_sign))]
 pub(crate) fn other_sign<'a>(mistake: Mistake, text: &'a str, from: usize, to: usize) -> Finding<'a>
     ensures { finding_content result ≡ spec.other_sign (texts mistake.entry) text.now from to }
@@ -199,7 +199,8 @@ pub(crate) fn other_sign<'a>(mistake: Mistake, text: &'a str, from: usize, to: u
     }
 }
 
-/// Returns the end of an array, whose elements need quotes if they are not values, and which may have more elements.
+/// Returns how the code for an array ends. Unless they are values, its elements are in quotes; `, ..` is for more
+/// elements.
 fn closing_of(are_values: bool, has_more: bool) -> &'static str
     ensures { result.now ≡ spec.closing_of are_values has_more }
 {
@@ -211,8 +212,8 @@ fn closing_of(are_values: bool, has_more: bool) -> &'static str
     }
 }
 
-/// Makes the mistake of a key, whose colon is at `colon`, and a list below it, whose first dash is at `dash`. The
-/// code to write has one or two elements, and two dots if there are more.
+/// Returns the finding for a list in the style of YAML: a key that begins at `start`, a colon, and items on the lines
+/// below, the first of which has its dash at `dash`. The code has one or two elements, and `..` if there are more.
 #[tactic(auto, unfolding(crate::specs::found::Keys::yaml_list))]
 fn yaml_list<'a>(text: &'a str, start: usize, colon: usize, dash: usize) -> Finding<'a>
     ensures { finding_content result ≡ spec.yaml_list text.now start colon dash }
@@ -245,7 +246,7 @@ fn yaml_list<'a>(text: &'a str, start: usize, colon: usize, dash: usize) -> Find
     }
 }
 
-/// Makes the mistake of a key and a colon with nothing after it on the line.
+/// Returns the finding for a key and a colon at the end of its line.
 #[tactic(auto, unfolding(crate::specs::found::Keys::yaml))]
 fn yaml<'a>(text: &'a str, at: usize) -> Finding<'a>
     ensures { finding_content result ≡ spec.yaml text.now at }
@@ -264,7 +265,7 @@ fn yaml<'a>(text: &'a str, at: usize) -> Finding<'a>
     )
 }
 
-/// Finds the mistake of a colon in place of `=`.
+/// Returns the finding for a colon instead of `=`.
 #[tactic(auto, unfolding(crate::specs::found::Keys::colon))]
 fn colon<'a>(text: &'a str, at: usize) -> Finding<'a>
     ensures { finding_content result ≡ spec.colon text.now at }
@@ -272,7 +273,7 @@ fn colon<'a>(text: &'a str, at: usize) -> Finding<'a>
     let next = ahead(text, at, 1);
     if begins(text, at, b":=") {
         other_sign(COLON_EQUALS, text, at, ahead(text, at, 2))
-    } else if is_last(text, next) || byte_behind(text, next) == b'#' {
+    } else if is_last(text, next) || byte_after(text, next) == b'#' {
         yaml(text, at)
     } else if byte_before(text, at) == b'"' {
         other_sign(JSON, text, at, next)
@@ -281,14 +282,14 @@ fn colon<'a>(text: &'a str, at: usize) -> Finding<'a>
     }
 }
 
-/// Returns whether other languages put a word before a key or an assignment.
+/// Returns whether the word is one that other languages write before a key or an assignment, such as `let`.
 fn is_keyword(word: &str) -> bool
     ensures { result ≡ spec.is_keyword word.now }
 {
     matches!(word, "export" | "let" | "var" | "const" | "set" | "local")
 }
 
-/// Finds the mistake of a key alone on its line, up to an offset.
+/// Returns the finding for a key alone on its line, which ends at `end`.
 #[tactic(auto, unfolding(crate::specs::found::Keys::lone_key))]
 fn lone_key<'a>(text: &'a str, end: usize) -> Finding<'a>
     ensures { finding_content result ≡ spec.lone_key text.now end }
@@ -300,7 +301,8 @@ fn lone_key<'a>(text: &'a str, end: usize) -> Finding<'a>
     }
 }
 
-/// Finds the mistake of a key that is followed by another word, at an offset, and an equals sign.
+/// Returns the finding for a key of several words. The first word ends at `end`, the second begins at `at`, and the
+/// last ends at `stop`, before `=`.
 #[tactic(auto, unfolding(crate::specs::found::Keys::spaced_key))]
 fn spaced_key<'a>(text: &'a str, end: usize, at: usize, stop: usize) -> Finding<'a>
     ensures { finding_content result ≡ spec.spaced_key text.now end at stop }
@@ -314,7 +316,7 @@ fn spaced_key<'a>(text: &'a str, end: usize, at: usize, stop: usize) -> Finding<
     quoted(BARE_KEY, text, from, to)
 }
 
-/// Makes the mistake of an item of a list, whose dash is at `dash`, and whose first word is at `at`.
+/// Returns the finding for an item of a YAML list. Its dash is at `dash`, its first word at `at`.
 #[tactic(auto, unfolding(crate::specs::found::Keys::yaml_item))]
 fn yaml_item<'a>(text: &'a str, dash: usize, at: usize) -> Finding<'a>
     ensures { finding_content result ≡ spec.yaml_item text.now dash at }
@@ -333,7 +335,7 @@ fn yaml_item<'a>(text: &'a str, dash: usize, at: usize) -> Finding<'a>
     }
 }
 
-/// Finds the mistake of another token where `=` is expected, after a key that ends at an offset.
+/// Recognizes the mistake in a token after a key, which ends at `end`, where `=` is expected.
 #[tactic(auto, unfolding(crate::specs::found::Keys::second_word))]
 fn second_word<'a>(text: &'a str, end: usize, at: usize) -> Option<Finding<'a>>
     ensures { option_map finding_content result ≡ spec.second_word text.now end at }
@@ -357,7 +359,7 @@ fn second_word<'a>(text: &'a str, end: usize, at: usize) -> Option<Finding<'a>>
     }
 }
 
-/// Finds the mistake of what was found where `=` is expected.
+/// Recognizes the mistake in the token `found`, where `=` is expected.
 #[tactic(auto, unfolding(crate::specs::found::Keys::no_equals))]
 pub(crate) fn no_equals<'a>(found: &str, text: &'a str, at: usize) -> Option<Finding<'a>>
     ensures { option_map finding_content result ≡ spec.no_equals found.now text.now at }
@@ -370,7 +372,7 @@ pub(crate) fn no_equals<'a>(found: &str, text: &'a str, at: usize) -> Option<Fin
     }
 }
 
-/// Finds the mistake of a brace where a key is expected.
+/// Recognizes the mistake in a brace where a key is expected.
 #[tactic(auto, unfolding(crate::specs::found::Keys::brace))]
 fn brace<'a>(text: &'a str, at: usize) -> Option<Finding<'a>>
     ensures { option_map finding_content result ≡ spec.brace text.now at }
@@ -388,7 +390,7 @@ fn brace<'a>(text: &'a str, at: usize) -> Option<Finding<'a>>
     }
 }
 
-/// Finds the mistake of a header in braces.
+/// Recognizes a header in braces.
 #[tactic(auto, unfolding(crate::specs::found::Keys::brace_header))]
 fn brace_header<'a>(text: &'a str, at: usize) -> Option<Finding<'a>>
     ensures { option_map finding_content result ≡ spec.brace_header text.now at }
@@ -403,7 +405,7 @@ fn brace_header<'a>(text: &'a str, at: usize) -> Option<Finding<'a>>
     }
 }
 
-/// Finds the mistake of a template's placeholder in double braces, in place of a value.
+/// Returns the finding for a placeholder of a template, in double braces, instead of a value.
 #[tactic(auto, unfolding(crate::specs::found::Keys::placeholder))]
 fn placeholder<'a>(text: &'a str, at: usize) -> Finding<'a>
     ensures { finding_content result ≡ spec.placeholder text.now at }
@@ -417,7 +419,7 @@ fn placeholder<'a>(text: &'a str, at: usize) -> Finding<'a>
     quoted(TEMPLATE, text, at, end)
 }
 
-/// Makes the mistake of an extra dot or comma.
+/// Returns the finding for an extra dot or comma.
 #[tactic(auto, unfolding(crate::specs::found::Keys::extra))]
 pub(crate) fn extra<'a>(mistake: Mistake, text: &'a str, at: usize) -> Finding<'a>
     ensures { finding_content result ≡ spec.extra (texts mistake.entry) text.now at }
@@ -425,7 +427,7 @@ pub(crate) fn extra<'a>(mistake: Mistake, text: &'a str, at: usize) -> Finding<'
     removed(mistake, at, ahead(text, at, 1))
 }
 
-/// Makes the mistake of an equals sign or a closing bracket where a key is expected.
+/// Returns the finding for `=` or a closing bracket where a key is expected.
 #[tactic(auto, unfolding(crate::specs::found::Keys::missing_key))]
 fn missing_key<'a>(mistake: Mistake, text: &'a str, at: usize) -> Finding<'a>
     ensures { finding_content result ≡ spec.missing_key (texts mistake.entry) text.now at }
@@ -440,7 +442,7 @@ fn missing_key<'a>(mistake: Mistake, text: &'a str, at: usize) -> Finding<'a>
     }
 }
 
-/// Finds the mistake of what was found where a key is expected.
+/// Recognizes the mistake in the token `found`, where a key is expected.
 #[tactic(auto, unfolding(crate::specs::found::Keys::no_key))]
 pub(crate) fn no_key<'a>(found: &str, text: &'a str, at: usize) -> Option<Finding<'a>>
     ensures { option_map finding_content result ≡ spec.no_key found.now text.now at }

@@ -1,11 +1,11 @@
-//! Missing values, and arrays, inline tables and headers that are not closed.
+//! Mistakes such as missing values, and arrays, inline tables and headers that are not closed.
 ghost use Rattle.std.specs.Prelude.{◌≡◌, option_map};
 ghost use Rattle.toml_span_report.specs.Finding.{finding_content};
 ghost use Rattle.toml_span_report.specs.Words.{texts};
 ghost use Rattle.toml_span_report.specs.found.Lists as spec;
 
 use crate::bytes::{
-    Class, ahead, begins, byte_at, byte_before, byte_behind, end_of, first_of_line, is_last,
+    Class, ahead, begins, byte_after, byte_at, byte_before, end_of, first_of_line, is_last,
     last_of_line, part, start_of,
 };
 use crate::finding::{Finding, marked, mended, pieces, removed, replaced, span_of};
@@ -18,7 +18,7 @@ use crate::words::{
     OPEN_TABLE, VALUE_BELOW,
 };
 
-/// Makes the mistake of a bracket that is not closed: the outermost one open before an offset.
+/// Returns the finding for a bracket that is not closed: the outermost one that is open at the offset.
 #[tactic(auto, unfolding(crate::specs::found::Lists::unclosed))]
 pub(crate) fn unclosed<'a>(text: &'a str, at: usize) -> Finding<'a>
     ensures { finding_content result ≡ spec.unclosed text.now at }
@@ -34,7 +34,7 @@ pub(crate) fn unclosed<'a>(text: &'a str, at: usize) -> Finding<'a>
     found
 }
 
-/// Finds the mistake at the end of the text, where a bracket or a brace may be open.
+/// Recognizes an open bracket or brace at the end of the text.
 #[tactic(auto, unfolding(crate::specs::found::Lists::open_end))]
 pub(crate) fn open_end<'a>(text: &'a str, at: usize) -> Option<Finding<'a>>
     ensures { option_map finding_content result ≡ spec.open_end text.now at }
@@ -46,7 +46,7 @@ pub(crate) fn open_end<'a>(text: &'a str, at: usize) -> Option<Finding<'a>>
     }
 }
 
-/// Finds the mistake of a key whose value is on a line below.
+/// Recognizes a value that begins on the line below its key.
 #[tactic(auto, unfolding(crate::specs::found::Lists::value_below))]
 fn value_below<'a>(text: &'a str, at: usize) -> Option<Finding<'a>>
     ensures { option_map finding_content result ≡ spec.value_below text.now at }
@@ -68,7 +68,7 @@ fn value_below<'a>(text: &'a str, at: usize) -> Option<Finding<'a>>
     }
 }
 
-/// Finds the mistake of a missing value: the line or the text ends where one is expected.
+/// Recognizes a missing value, where the line or the text ends.
 #[tactic(auto, unfolding(crate::specs::found::Lists::missing_value))]
 pub(crate) fn missing_value<'a>(text: &'a str, at: usize) -> Option<Finding<'a>>
     ensures { option_map finding_content result ≡ spec.missing_value text.now at }
@@ -83,7 +83,7 @@ pub(crate) fn missing_value<'a>(text: &'a str, at: usize) -> Option<Finding<'a>>
     }
 }
 
-/// Finds the mistake of a comment where a value is expected.
+/// Recognizes the mistake in a comment where a value is expected, such as a color.
 #[tactic(auto, unfolding(crate::specs::found::Lists::hash))]
 fn hash<'a>(text: &'a str, at: usize) -> Option<Finding<'a>>
     ensures { option_map finding_content result ≡ spec.hash text.now at }
@@ -97,7 +97,7 @@ fn hash<'a>(text: &'a str, at: usize) -> Option<Finding<'a>>
     }
 }
 
-/// Finds the mistake of a comma where a value is expected.
+/// Recognizes the mistake in a comma where a value is expected.
 #[tactic(auto, unfolding(crate::specs::found::Lists::comma))]
 fn comma<'a>(text: &'a str, at: usize) -> Option<Finding<'a>>
     ensures { option_map finding_content result ≡ spec.comma text.now at }
@@ -110,7 +110,7 @@ fn comma<'a>(text: &'a str, at: usize) -> Option<Finding<'a>>
     }
 }
 
-/// Finds the mistake of a decimal point where a value is expected.
+/// Recognizes the mistake in a decimal point where a value is expected.
 #[tactic(auto, unfolding(crate::specs::found::Lists::point))]
 fn point<'a>(text: &'a str, at: usize) -> Option<Finding<'a>>
     ensures { option_map finding_content result ≡ spec.point text.now at }
@@ -127,7 +127,7 @@ fn point<'a>(text: &'a str, at: usize) -> Option<Finding<'a>>
     }
 }
 
-/// Finds the mistake of an equals sign where a value is expected.
+/// Recognizes the mistake in `=` where a value is expected.
 #[tactic(auto, unfolding(crate::specs::found::Lists::equals))]
 fn equals<'a>(text: &'a str, at: usize) -> Option<Finding<'a>>
     ensures { option_map finding_content result ≡ spec.equals text.now at }
@@ -140,7 +140,7 @@ fn equals<'a>(text: &'a str, at: usize) -> Option<Finding<'a>>
     }
 }
 
-/// Finds the mistake of what was found where a value is expected.
+/// Recognizes the mistake in the token `found`, where a value is expected.
 #[tactic(auto, unfolding(crate::specs::found::Lists::no_value))]
 pub(crate) fn no_value<'a>(found: &str, text: &'a str, at: usize) -> Option<Finding<'a>>
     ensures { option_map finding_content result ≡ spec.no_value found.now text.now at }
@@ -155,7 +155,7 @@ pub(crate) fn no_value<'a>(found: &str, text: &'a str, at: usize) -> Option<Find
     }
 }
 
-/// Finds the mistake of a header that is not closed on its line.
+/// Returns the finding for a header that is not closed on its line. `bracket` is the offset of its bracket.
 #[tactic(auto, unfolding(crate::specs::found::Lists::open_header))]
 fn open_header<'a>(text: &'a str, bracket: usize) -> Finding<'a>
     ensures { finding_content result ≡ spec.open_header text.now bracket }
@@ -171,7 +171,7 @@ fn open_header<'a>(text: &'a str, bracket: usize) -> Finding<'a>
     replaced(OPEN_HEADER, bracket, end, code)
 }
 
-/// Finds the mistake of what was found where a header should end.
+/// Recognizes the mistake in the token `found`, where a header whose bracket is at `bracket` should end.
 #[tactic(auto, unfolding(crate::specs::found::Lists::header))]
 fn header<'a>(found: &str, text: &'a str, at: usize, bracket: usize) -> Option<Finding<'a>>
     ensures { option_map finding_content result ≡ spec.header found.now text.now at bracket }
@@ -183,16 +183,16 @@ fn header<'a>(found: &str, text: &'a str, at: usize, bracket: usize) -> Option<F
     }
 }
 
-/// Returns whether an assignment begins at an offset, at the start of a line.
+/// Returns whether an assignment begins at the offset, and the offset is at the start of a line.
 #[tactic(auto, unfolding(crate::specs::found::Lists::is_assignment))]
 fn is_assignment(text: &str, at: usize) -> bool
     ensures { result ≡ spec.is_assignment text.now at }
 {
     let end = end_of(Class::Dotted, text, at);
-    first_of_line(text, at) == at && at < end && byte_behind(text, end) == b'='
+    first_of_line(text, at) == at && at < end && byte_after(text, end) == b'='
 }
 
-/// Returns whether the line of an offset is a header: its first byte is a bracket, and one closes after the word at
+/// Returns whether the line looks like a header: its first byte is a bracket, and a bracket closes after the word at
 /// the offset.
 #[tactic(auto, unfolding(crate::specs::found::Lists::is_heading))]
 fn is_heading(text: &str, at: usize) -> bool
@@ -204,8 +204,8 @@ fn is_heading(text: &str, at: usize) -> bool
         && (is_last(text, ahead(text, end, 1)) || is_last(text, ahead(text, end, 2)))
 }
 
-/// Finds the mistake of a word in place of a value: after a bracket that is not closed it begins the next assignment,
-/// or is the name of the next header.
+/// Returns the finding for a word instead of a value. After a bracket that is not closed it is the beginning of the
+/// next assignment, or the name in the next header.
 #[tactic(auto, unfolding(crate::specs::found::Lists::word))]
 pub(crate) fn word<'a>(text: &'a str, at: usize) -> Finding<'a>
     ensures { finding_content result ≡ spec.word text.now at }
@@ -217,7 +217,7 @@ pub(crate) fn word<'a>(text: &'a str, at: usize) -> Finding<'a>
     }
 }
 
-/// Makes the mistake of a missing comma before an offset.
+/// Returns the finding for a missing comma before the offset.
 #[tactic(auto, unfolding(crate::specs::found::Lists::missing_comma))]
 fn missing_comma<'a>(mistake: Mistake, text: &'a str, at: usize) -> Finding<'a>
     ensures { finding_content result ≡ spec.missing_comma (texts mistake.entry) text.now at }
@@ -235,7 +235,7 @@ fn missing_comma<'a>(mistake: Mistake, text: &'a str, at: usize) -> Finding<'a>
     found
 }
 
-/// Finds the mistake of another token where an array or an inline table continues or ends.
+/// Returns the finding for a token where an array or inline table should continue or end.
 #[tactic(auto, unfolding(crate::specs::found::Lists::unseparated))]
 fn unseparated<'a>(mistake: Mistake, text: &'a str, at: usize) -> Finding<'a>
     ensures { finding_content result ≡ spec.unseparated (texts mistake.entry) text.now at }
@@ -248,7 +248,7 @@ fn unseparated<'a>(mistake: Mistake, text: &'a str, at: usize) -> Finding<'a>
     }
 }
 
-/// Makes the mistake of a closing bracket of the wrong kind.
+/// Returns the finding for a closing bracket of the wrong kind. `closing` is the right one.
 #[tactic(auto, unfolding(crate::specs::found::Lists::wrong_closing))]
 fn wrong_closing<'a>(
     mistake: Mistake,
@@ -265,8 +265,7 @@ fn wrong_closing<'a>(
     found
 }
 
-/// Makes the mistake of a value in an array or an inline table that is followed by a period or the like, so that the
-/// word needs quotes.
+/// Recognizes a value in an array or inline table that is followed by `.`, `:` or `+`, so that the word needs quotes.
 #[tactic(auto, unfolding(crate::specs::found::Lists::glued))]
 fn glued<'a>(text: &'a str, at: usize) -> Option<Finding<'a>>
     ensures { option_map finding_content result ≡ spec.glued text.now at }
@@ -279,7 +278,7 @@ fn glued<'a>(text: &'a str, at: usize) -> Option<Finding<'a>>
     }
 }
 
-/// Finds the mistake of what was found where `]` is expected.
+/// Recognizes the mistake in the token `found`, where `]` is expected.
 #[tactic(auto, unfolding(crate::specs::found::Lists::no_bracket))]
 pub(crate) fn no_bracket<'a>(found: &str, text: &'a str, at: usize) -> Option<Finding<'a>>
     ensures { option_map finding_content result ≡ spec.no_bracket found.now text.now at }
@@ -296,7 +295,7 @@ pub(crate) fn no_bracket<'a>(found: &str, text: &'a str, at: usize) -> Option<Fi
     }
 }
 
-/// Finds the mistake of what was found where a comma is expected in an inline table.
+/// Recognizes the mistake in the token `found`, where a comma is expected in an inline table.
 #[tactic(auto, unfolding(crate::specs::found::Lists::no_comma))]
 pub(crate) fn no_comma<'a>(found: &str, text: &'a str, at: usize) -> Option<Finding<'a>>
     ensures { option_map finding_content result ≡ spec.no_comma found.now text.now at }

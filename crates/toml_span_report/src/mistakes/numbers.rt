@@ -1,4 +1,4 @@
-//! Numbers that are not valid in TOML.
+//! Mistakes in numbers.
 ghost use Rattle.std.specs.Prelude.{◌≡◌, length, option_map};
 ghost use Rattle.toml_span_report.specs.Finding.{finding_content};
 ghost use Rattle.toml_span_report.specs.found.Numbers as spec;
@@ -11,9 +11,9 @@ use crate::words::{
     TRAILING_POINT, UNDERSCORE, UNQUOTED, UPPER_PREFIX,
 };
 
-/// Returns where a number begins after its sign.
-pub(crate) fn behind_sign(text: &str, at: usize) -> usize
-    ensures { result ≡ spec.behind_sign text.now at }
+/// Returns the offset after the sign of a number, if it has one.
+pub(crate) fn after_sign(text: &str, at: usize) -> usize
+    ensures { result ≡ spec.after_sign text.now at }
 {
     if matches!(byte_at(text, at), b'+' | b'-') {
         ahead(text, at, 1)
@@ -22,7 +22,8 @@ pub(crate) fn behind_sign(text: &str, at: usize) -> usize
     }
 }
 
-/// Returns the digits of a number with a prefix, or nothing.
+/// Returns a description of the digits that a number with this prefix may have, or an empty string if the letter is not
+/// of a prefix.
 fn digits_of(letter: u8) -> &'static str
     ensures { result.now ≡ spec.digits_of letter }
 {
@@ -34,7 +35,7 @@ fn digits_of(letter: u8) -> &'static str
     }
 }
 
-/// Returns the prefix that an upper-case letter probably stands for, or nothing.
+/// Returns the lower-case prefix for an upper-case letter, or an empty string.
 fn lower_prefix(letter: u8) -> &'static str
     ensures { result.now ≡ spec.lower_prefix letter }
 {
@@ -46,7 +47,7 @@ fn lower_prefix(letter: u8) -> &'static str
     }
 }
 
-/// Returns the value of a digit, or 16 for any other byte.
+/// Returns the value of a hexadecimal digit, or 16 for any other byte.
 fn digit_of(byte: u8) -> u64
     ensures { result ≡ spec.digit_of byte }
 {
@@ -58,7 +59,7 @@ fn digit_of(byte: u8) -> u64
     }
 }
 
-/// Returns the base of a number whose prefix has this letter.
+/// Returns the base of a number with this letter in its prefix.
 fn base_of(letter: u8) -> u64
     ensures { result ≡ spec.base_of letter }
 {
@@ -69,7 +70,8 @@ fn base_of(letter: u8) -> u64
     }
 }
 
-/// Returns a value with one more digit, or with `_`, which changes nothing. `u64::MAX` stands for all that is greater.
+/// Returns the value of a number with one more digit, or with `_`, which does not change it. Values of `u64::MAX` and
+/// above are `u64::MAX`. Returns `None` if the byte is not a digit in this base.
 fn next_value(value: Option<u64>, base: u64, byte: u8) -> Option<u64>
     ensures { result ≡ spec.next_value value base byte }
 {
@@ -83,7 +85,8 @@ fn next_value(value: Option<u64>, base: u64, byte: u8) -> Option<u64>
     }
 }
 
-/// Returns the value of digits, or `u64::MAX` if it is greater. `None` if one of them is not a digit in this base.
+/// Returns the value of a number, or `u64::MAX` if it is higher. Returns `None` if it contains a byte that is neither
+/// `_` nor a digit in this base.
 fn value_of(digits: &str, base: u64) -> Option<u64>
     ensures { result ≡ spec.value_of digits.now base (length digits.now) }
 {
@@ -94,7 +97,8 @@ fn value_of(digits: &str, base: u64) -> Option<u64>
     value
 }
 
-/// Finds the mistake of a signed number with a prefix, whose `0` is at `zero`: a decimal number may have a sign.
+/// Returns the finding for a sign before a prefix. The `0` of the prefix is at `zero`. The repair is the number in
+/// decimal, which may have a sign.
 #[tactic(auto, unfolding(crate::specs::found::Numbers::signed_prefix))]
 fn signed_prefix<'a>(text: &'a str, start: usize, zero: usize, end: usize) -> Finding<'a>
     ensures { finding_content result ≡ spec.signed_prefix text.now start zero end }
@@ -117,7 +121,7 @@ fn signed_prefix<'a>(text: &'a str, start: usize, zero: usize, end: usize) -> Fi
     }
 }
 
-/// Finds the mistake of a number with a prefix, whose `0` is at `zero`.
+/// Recognizes the mistake in a number whose prefix begins with the `0` at `zero`.
 #[tactic(auto, unfolding(crate::specs::found::Numbers::prefixed))]
 fn prefixed<'a>(text: &'a str, start: usize, zero: usize, end: usize) -> Option<Finding<'a>>
     ensures { option_map finding_content result ≡ spec.prefixed text.now start zero end }
@@ -139,7 +143,7 @@ fn prefixed<'a>(text: &'a str, start: usize, zero: usize, end: usize) -> Option<
     }
 }
 
-/// Finds the mistake of a number with leading zeros, whose other digits begin at `digits`.
+/// Returns the finding for leading zeros. The digits of the number, with the zeros, begin at `digits`.
 #[tactic(auto, unfolding(crate::specs::found::Numbers::zeros))]
 fn zeros<'a>(text: &'a str, start: usize, digits: usize, end: usize) -> Finding<'a>
     ensures { finding_content result ≡ spec.zeros text.now start digits end }
@@ -161,7 +165,7 @@ fn zeros<'a>(text: &'a str, start: usize, digits: usize, end: usize) -> Finding<
     replaced(LEADING_ZERO, start, end, code)
 }
 
-/// Finds the mistake of a number whose decimal point, at `point`, has no digit after it.
+/// Recognizes a decimal point without a digit after it. It is at `point`.
 #[tactic(auto, unfolding(crate::specs::found::Numbers::trailing_point))]
 fn trailing_point<'a>(text: &'a str, start: usize, point: usize, end: usize) -> Option<Finding<'a>>
     ensures { option_map finding_content result ≡ spec.trailing_point text.now start point end }
@@ -175,7 +179,7 @@ fn trailing_point<'a>(text: &'a str, start: usize, point: usize, end: usize) -> 
     }
 }
 
-/// Finds the mistake of an integer of digits and `_`, which begin at `digits`.
+/// Returns the finding for an integer of digits and `_`, which begin at `digits`.
 #[tactic(auto, unfolding(crate::specs::found::Numbers::integer))]
 fn integer<'a>(text: &'a str, start: usize, digits: usize, end: usize) -> Finding<'a>
     ensures { finding_content result ≡ spec.integer text.now start digits end }
@@ -201,7 +205,7 @@ fn integer<'a>(text: &'a str, start: usize, digits: usize, end: usize) -> Findin
     }
 }
 
-/// Finds the mistake of a number without a prefix, whose digits begin at `digits`.
+/// Recognizes the mistake in a number without a prefix. Its digits begin at `digits`.
 #[tactic(auto, unfolding(crate::specs::found::Numbers::plain))]
 fn plain<'a>(text: &'a str, start: usize, digits: usize, end: usize) -> Option<Finding<'a>>
     ensures { option_map finding_content result ≡ spec.plain text.now start digits end }
@@ -220,14 +224,14 @@ fn plain<'a>(text: &'a str, start: usize, digits: usize, end: usize) -> Option<F
     }
 }
 
-/// Finds the mistake of an invalid number.
+/// Recognizes the mistake in an invalid number.
 #[tactic(auto, unfolding(crate::specs::found::Numbers::number))]
 pub(crate) fn number<'a>(text: &'a str, at: usize) -> Option<Finding<'a>>
     ensures { option_map finding_content result ≡ spec.number text.now at }
 {
     let start = start_of(Class::Atom, text, at);
     let end = end_of(Class::Word, text, at);
-    let digits = behind_sign(text, start);
+    let digits = after_sign(text, start);
     if let Some(found) = slash_date(text, start, end) {
         return Some(found);
     }
@@ -241,7 +245,7 @@ pub(crate) fn number<'a>(text: &'a str, at: usize) -> Option<Finding<'a>>
     plain(text, start, digits, end)
 }
 
-/// Finds the mistake of digits grouped by commas, of which the first is at `at`.
+/// Recognizes digits that are grouped by commas. The first comma is at `at`.
 #[tactic(auto, unfolding(crate::specs::found::Numbers::thousands))]
 pub(crate) fn thousands<'a>(text: &'a str, at: usize) -> Option<Finding<'a>>
     ensures { option_map finding_content result ≡ spec.thousands text.now at }

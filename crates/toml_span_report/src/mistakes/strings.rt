@@ -1,4 +1,4 @@
-//! Strings that are not closed in time, and characters and escapes that they can't contain.
+//! Mistakes in strings: missing quotes, and invalid characters and escapes.
 ghost use Rattle.std.specs.Prelude.{◌≡◌, option_map};
 ghost use Rattle.toml_span_report.specs.Finding.{finding_content};
 ghost use Rattle.toml_span_report.specs.found.Strings as spec;
@@ -14,7 +14,7 @@ use crate::words::{
     SURROGATE,
 };
 
-/// Makes the mistake of a string on one line, with its quote at `quote`, that is not closed before `end`.
+/// Returns the finding for a single-line string whose quote, at `quote`, is not closed before `end`.
 #[tactic(auto, unfolding(crate::specs::found::Strings::open_string))]
 fn open_string<'a>(text: &'a str, quote: usize, end: usize) -> Finding<'a>
     ensures { finding_content result ≡ spec.open_string text.now quote end }
@@ -30,7 +30,7 @@ fn open_string<'a>(text: &'a str, quote: usize, end: usize) -> Finding<'a>
     marked(mistake, quote, end)
 }
 
-/// Makes the mistake of a key with its quote at `quote`, that is not closed before `end`.
+/// Returns the finding for a quoted key whose quote, at `quote`, is not closed before `end`.
 #[tactic(auto, unfolding(crate::specs::found::Strings::open_key))]
 fn open_key<'a>(text: &'a str, quote: usize, end: usize) -> Finding<'a>
     ensures { finding_content result ≡ spec.open_key text.now quote end }
@@ -45,7 +45,7 @@ fn open_key<'a>(text: &'a str, quote: usize, end: usize) -> Finding<'a>
     replaced(OPEN_KEY, quote, end, code)
 }
 
-/// Returns two hexadecimal digits for a byte below 32, or for 127.
+/// Returns two hexadecimal digits for a byte that is below 32, or is 127.
 #[tactic(auto, unfolding(crate::specs::found::Strings::hex_of))]
 fn hex_of(byte: u8) -> &'static str
     ensures { result.now ≡ spec.hex_of byte }
@@ -62,7 +62,7 @@ fn hex_of(byte: u8) -> &'static str
     }
 }
 
-/// Finds the mistake of a control character in a string.
+/// Returns the finding for a control character in a string whose quote is at `quote`.
 #[tactic(auto, unfolding(crate::specs::found::Strings::control))]
 fn control<'a>(text: &'a str, at: usize, quote: usize) -> Finding<'a>
     ensures { finding_content result ≡ spec.control text.now at quote }
@@ -76,7 +76,7 @@ fn control<'a>(text: &'a str, at: usize, quote: usize) -> Finding<'a>
     }
 }
 
-/// Finds the mistake of a character that a string can't contain.
+/// Returns the finding for a character that may not occur in a string.
 #[tactic(auto, unfolding(crate::specs::found::Strings::character))]
 pub(crate) fn character<'a>(text: &'a str, at: usize, c: char) -> Finding<'a>
     ensures { finding_content result ≡ spec.character text.now at c }
@@ -90,7 +90,7 @@ pub(crate) fn character<'a>(text: &'a str, at: usize, c: char) -> Finding<'a>
     }
 }
 
-/// Makes the mistake of a backslash that begins no escape, up to an offset.
+/// Returns the finding for a backslash that does not begin an escape, up to the offset `end`.
 #[tactic(auto, unfolding(crate::specs::found::Strings::backslash))]
 fn backslash<'a>(text: &'a str, at: usize, end: usize) -> Finding<'a>
     ensures { finding_content result ≡ spec.backslash text.now at end }
@@ -113,14 +113,14 @@ fn backslash<'a>(text: &'a str, at: usize, end: usize) -> Finding<'a>
     )
 }
 
-/// Finds the mistake of a character after a backslash that begins no escape.
+/// Returns the finding for the character after a backslash that does not begin an escape.
 pub(crate) fn escape<'a>(text: &'a str, at: usize) -> Finding<'a>
     ensures { finding_content result ≡ spec.escape text.now at }
 {
     backslash(text, at.saturating_sub(1), ahead(text, at, 1))
 }
 
-/// Returns the zeros missing from an escape of some digits: it has two, four or eight.
+/// Returns the zeros that an escape with `count` digits lacks: one with this letter has two, four or eight.
 #[tactic(auto, unfolding(crate::specs::found::Strings::zeros_of))]
 fn zeros_of<'a>(letter: u8, count: usize) -> &'a str
     ensures { result.now ≡ spec.zeros_of letter count }
@@ -133,7 +133,7 @@ fn zeros_of<'a>(letter: u8, count: usize) -> &'a str
     part("00000000", 0, wanted.saturating_sub(count))
 }
 
-/// Returns the digits that an escape needs.
+/// Returns a description of the digits that an escape with this letter needs.
 fn digits_after(letter: u8) -> &'static str
     ensures { result.now ≡ spec.digits_after letter }
 {
@@ -144,7 +144,7 @@ fn digits_after(letter: u8) -> &'static str
     }
 }
 
-/// Finds the mistake of a character in place of a hexadecimal digit.
+/// Returns the finding for a character where a hexadecimal digit is expected.
 #[tactic(auto, unfolding(crate::specs::found::Strings::hex_escape))]
 pub(crate) fn hex_escape<'a>(text: &'a str, at: usize) -> Finding<'a>
     ensures { finding_content result ≡ spec.hex_escape text.now at }
@@ -164,7 +164,7 @@ pub(crate) fn hex_escape<'a>(text: &'a str, at: usize) -> Finding<'a>
     found
 }
 
-/// Finds the mistake of digits that name no character. The escape's letter is at `at`.
+/// Returns the finding for digits that are not the number of a character. The letter of the escape is at `at`.
 #[tactic(auto, unfolding(crate::specs::found::Strings::escape_value))]
 pub(crate) fn escape_value<'a>(text: &'a str, at: usize, value: u32) -> Finding<'a>
     ensures { finding_content result ≡ spec.escape_value text.now at value }
@@ -179,7 +179,7 @@ pub(crate) fn escape_value<'a>(text: &'a str, at: usize, value: u32) -> Finding<
     marked(mistake, start, ahead(text, at, length))
 }
 
-/// Finds the mistake of a string that is still open at the end of the text.
+/// Returns the finding for a string that is not closed before the end of the text.
 #[tactic(auto, unfolding(crate::specs::found::Strings::unterminated))]
 pub(crate) fn unterminated<'a>(text: &'a str, at: usize) -> Finding<'a>
     ensures { finding_content result ≡ spec.unterminated text.now at }
@@ -193,7 +193,7 @@ pub(crate) fn unterminated<'a>(text: &'a str, at: usize) -> Finding<'a>
     }
 }
 
-/// Makes the mistake of a multi-line string as a key.
+/// Returns the finding for a multi-line string as a key.
 #[tactic(auto, unfolding(crate::specs::found::Strings::long_key))]
 pub(crate) fn long_key<'a>(text: &'a str, at: usize) -> Finding<'a>
     ensures { finding_content result ≡ spec.long_key text.now at }
@@ -201,7 +201,7 @@ pub(crate) fn long_key<'a>(text: &'a str, at: usize) -> Finding<'a>
     marked(LONG_KEY, at, ahead(text, at, 3))
 }
 
-/// Finds the mistake of a word right after a string, or between two: the string contains its own quote.
+/// Recognizes a string that contains its own quote: a word follows it, or is between two strings.
 #[tactic(auto, unfolding(crate::specs::found::Strings::quote_in_string))]
 pub(crate) fn quote_in_string<'a>(text: &'a str, at: usize) -> Option<Finding<'a>>
     ensures { option_map finding_content result ≡ spec.quote_in_string text.now at }
@@ -236,7 +236,7 @@ pub(crate) fn quote_in_string<'a>(text: &'a str, at: usize) -> Option<Finding<'a
     }
 }
 
-/// Returns whether a part of a text contains a quote.
+/// Returns whether the bytes from `from` to `to` contain the quote.
 fn has(text: &str, from: usize, to: usize, quote: u8) -> bool
     ensures { result ≡ spec.has text.now from to quote }
 {

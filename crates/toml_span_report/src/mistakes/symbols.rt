@@ -1,4 +1,4 @@
-//! Characters that begin no token.
+//! Mistakes in characters that do not begin a token.
 ghost use Rattle.std.specs.Prelude.{◌≡◌, option_map};
 ghost use Rattle.toml_span_report.specs.Finding.{finding_content, meant_content};
 ghost use Rattle.toml_span_report.specs.found.Symbols as spec;
@@ -18,7 +18,7 @@ use crate::words::{
     MARKUP, OTHER_SIGN, OTHER_SPACE, PARENTHESES, SEMICOLON, SEMICOLONS, SLASHES,
 };
 
-/// Returns the TOML character that a character looks like, with the mistake and the character's Unicode name.
+/// Returns the character of TOML that a character looks like, with the mistake and the Unicode name of the character.
 #[tactic(auto, unfolding(crate::specs::found::Symbols::look_alike))]
 fn look_alike(c: char) -> Option<Meant>
     ensures { option_map meant_content result ≡ spec.look_alike c }
@@ -39,7 +39,7 @@ fn look_alike(c: char) -> Option<Meant>
     }
 }
 
-/// Returns the name of a curly quote, or nothing.
+/// Returns the Unicode name of a curly quote, or an empty string for any other character.
 #[tactic(auto, unfolding(crate::specs::found::Symbols::curly_name))]
 fn curly_name(c: char) -> &'static str
     ensures { result.now ≡ spec.curly_name c }
@@ -55,7 +55,7 @@ fn curly_name(c: char) -> &'static str
     }
 }
 
-/// Finds the mistake of a curly quote with this name, and of the string that it begins.
+/// Returns the finding for a curly quote with this name, and for the string that it begins.
 #[tactic(auto, unfolding(crate::specs::found::Symbols::curly))]
 fn curly<'a>(text: &'a str, at: usize, name: &'static str) -> Finding<'a>
     ensures { finding_content result ≡ spec.curly text.now at name.now }
@@ -78,7 +78,7 @@ fn curly<'a>(text: &'a str, at: usize, name: &'static str) -> Finding<'a>
     }
 }
 
-/// Makes the mistake of a character that stands for another one.
+/// Returns the finding for a character that is written instead of one of TOML.
 #[tactic(auto, unfolding(crate::specs::found::Symbols::other_character))]
 fn other_character<'a>(text: &'a str, at: usize, meant: Meant) -> Finding<'a>
     ensures { finding_content result ≡ spec.other_character text.now at (meant_content meant) }
@@ -90,7 +90,7 @@ fn other_character<'a>(text: &'a str, at: usize, meant: Meant) -> Finding<'a>
     found
 }
 
-/// Finds the mistake of a character that looks like another one.
+/// Recognizes a character that looks like another one.
 #[tactic(auto, unfolding(crate::specs::found::Symbols::alike))]
 fn alike<'a>(text: &'a str, at: usize, c: char) -> Option<Finding<'a>>
     ensures { option_map finding_content result ≡ spec.alike text.now at c }
@@ -105,7 +105,7 @@ fn alike<'a>(text: &'a str, at: usize, c: char) -> Option<Finding<'a>>
     }
 }
 
-/// Finds the mistake of a semicolon: the end of a line, or a comment.
+/// Returns the finding for a semicolon, which ends a line or begins a comment in other languages.
 #[tactic(auto, unfolding(crate::specs::found::Symbols::semicolon))]
 fn semicolon<'a>(text: &'a str, at: usize) -> Finding<'a>
     ensures { finding_content result ≡ spec.semicolon text.now at }
@@ -117,7 +117,7 @@ fn semicolon<'a>(text: &'a str, at: usize) -> Finding<'a>
     comment(SEMICOLONS, text, at, 1)
 }
 
-/// Finds the mistake of a string between backticks.
+/// Returns the finding for a string in backticks.
 #[tactic(auto, unfolding(crate::specs::found::Symbols::backticks))]
 fn backticks<'a>(text: &'a str, at: usize) -> Finding<'a>
     ensures { finding_content result ≡ spec.backticks text.now at }
@@ -131,7 +131,7 @@ fn backticks<'a>(text: &'a str, at: usize) -> Finding<'a>
     replaced(BACKTICKS, at, ahead(text, close, 1), code)
 }
 
-/// Finds the mistake of a list in parentheses.
+/// Returns the finding for a list in parentheses.
 #[tactic(auto, unfolding(crate::specs::found::Symbols::parentheses))]
 fn parentheses<'a>(text: &'a str, at: usize) -> Finding<'a>
     ensures { finding_content result ≡ spec.parentheses text.now at }
@@ -145,7 +145,7 @@ fn parentheses<'a>(text: &'a str, at: usize) -> Finding<'a>
     replaced(PARENTHESES, at, ahead(text, close, 1), code)
 }
 
-/// Finds the mistake of what was found at the beginning of a line.
+/// Recognizes the mistake in a character at the beginning of a line.
 #[tactic(auto, unfolding(crate::specs::found::Symbols::at_line_start))]
 fn at_line_start<'a>(text: &'a str, at: usize) -> Option<Finding<'a>>
     ensures { option_map finding_content result ≡ spec.at_line_start text.now at }
@@ -163,7 +163,7 @@ fn at_line_start<'a>(text: &'a str, at: usize) -> Option<Finding<'a>>
     None
 }
 
-/// Makes the mistake of a block comment: one on a single line, after which the line ends, can be replaced.
+/// Returns the finding for a block comment. It has a replacement if the comment is on one line, and nothing follows it.
 #[tactic(auto, unfolding(crate::specs::found::Symbols::block_comment))]
 fn block_comment<'a>(text: &'a str, at: usize) -> Finding<'a>
     ensures { finding_content result ≡ spec.block_comment text.now at }
@@ -178,7 +178,7 @@ fn block_comment<'a>(text: &'a str, at: usize) -> Finding<'a>
     replaced(COMMENT_LINE, at, last, pieces("#", content, ""))
 }
 
-/// Finds the mistake of a comment or a line's end as other languages write them.
+/// Recognizes a comment, or the end of a line, in the style of other languages.
 #[tactic(auto, unfolding(crate::specs::found::Symbols::foreign))]
 fn foreign<'a>(text: &'a str, at: usize) -> Option<Finding<'a>>
     ensures { option_map finding_content result ≡ spec.foreign text.now at }
@@ -196,7 +196,7 @@ fn foreign<'a>(text: &'a str, at: usize) -> Option<Finding<'a>>
     }
 }
 
-/// Finds the mistake of a character in a key, or in a value, that needs quotes.
+/// Recognizes a key or value that needs quotes because of a character. The word with the character begins at `start`.
 #[tactic(auto, unfolding(crate::specs::found::Symbols::unquoted))]
 fn unquoted<'a>(text: &'a str, at: usize, start: usize) -> Option<Finding<'a>>
     ensures { option_map finding_content result ≡ spec.unquoted text.now at start }
@@ -212,7 +212,7 @@ fn unquoted<'a>(text: &'a str, at: usize, start: usize) -> Option<Finding<'a>>
     }
 }
 
-/// Finds the mistake of a character after `=` that begins or continues a value.
+/// Recognizes the mistake in a value with an invalid character. The value begins at `start`, after `=`.
 #[tactic(auto, unfolding(crate::specs::found::Symbols::value))]
 fn value<'a>(text: &'a str, at: usize, start: usize) -> Option<Finding<'a>>
     ensures { option_map finding_content result ≡ spec.value text.now at start }
@@ -232,7 +232,7 @@ fn value<'a>(text: &'a str, at: usize, start: usize) -> Option<Finding<'a>>
     }
 }
 
-/// Finds the mistake of a character that begins no token.
+/// Recognizes the mistake in a character that does not begin a token.
 #[tactic(auto, unfolding(crate::specs::found::Symbols::unexpected))]
 pub(crate) fn unexpected<'a>(text: &'a str, at: usize, c: char) -> Option<Finding<'a>>
     ensures { option_map finding_content result ≡ spec.unexpected text.now at c }

@@ -1,15 +1,63 @@
-//! Words in place of values.
+//! Mistakes in words that are written instead of values.
 ghost use Rattle.std.specs.Prelude.{◌≡◌, option_map};
 ghost use Rattle.toml_span_report.specs.Finding.{finding_content, meant_content};
 ghost use Rattle.toml_span_report.specs.found.Values as spec;
 
-use crate::bytes::{Class, ahead, byte_at, byte_behind, end_of, part, start_of};
+use crate::bytes::{Class, ahead, byte_after, byte_at, end_of, part, start_of};
 use crate::finding::{Finding, Meant, as_meant, marked, pieces, quoted, replaced};
 use crate::words::{
-    NULL, OTHER_BOOLEAN, OTHER_FLOAT, PREFIXED, RAW_STRING, UNQUOTED, UNQUOTED_TEXT, UPPER_BOOLEAN,
+    NEAR_FALSE, NEAR_TRUE, NULL, OTHER_BOOLEAN, OTHER_FLOAT, PREFIXED, RAW_STRING, UNQUOTED,
+    UNQUOTED_TEXT, UPPER_BOOLEAN,
 };
 
-/// Returns what TOML has for a word of other languages: the mistake, and the code to write.
+/// Returns whether a word and a name are the same up to an offset, and differ there by one byte that is missing, extra
+/// or another one, or by two bytes in the other order.
+#[tactic(auto, unfolding(crate::specs::found::Values::is_near_at))]
+fn is_near_at(word: &str, name: &str, at: usize) -> bool
+    ensures { result ≡ spec.is_near_at word.now name.now at }
+{
+    let (after, last) = (ahead(word, at, 1), word.len());
+    let (name_after, name_last) = (ahead(name, at, 1), name.len());
+    let rest = part(word, after, last);
+    let name_rest = part(name, name_after, name_last);
+    let is_swapped = byte_at(word, at) == byte_at(name, name_after)
+        && byte_at(word, after) == byte_at(name, at)
+        && part(rest, 1, last) == part(name_rest, 1, name_last);
+    part(word, 0, at) == part(name, 0, at)
+        && (rest == name_rest
+            || rest == part(name, at, name_last)
+            || part(word, at, last) == name_rest
+            || is_swapped)
+}
+
+/// Returns whether a word is at most one byte, or two swapped ones, away from a name of at most five.
+#[tactic(auto, unfolding(crate::specs::found::Values::is_near))]
+fn is_near(word: &str, name: &str) -> bool
+    ensures { result ≡ spec.is_near word.now name.now }
+{
+    is_near_at(word, name, 0)
+        || is_near_at(word, name, 1)
+        || is_near_at(word, name, 2)
+        || is_near_at(word, name, 3)
+        || is_near_at(word, name, 4)
+        || is_near_at(word, name, 5)
+}
+
+/// Returns the boolean that a word probably misspells.
+#[tactic(auto, unfolding(crate::specs::found::Values::near_boolean))]
+fn near_boolean(word: &str) -> Option<Meant>
+    ensures { option_map meant_content result ≡ spec.near_boolean word.now }
+{
+    if is_near(word, "true") {
+        as_meant(NEAR_TRUE, "", "true")
+    } else if is_near(word, "false") {
+        as_meant(NEAR_FALSE, "", "false")
+    } else {
+        None
+    }
+}
+
+/// Returns what TOML has for a word of other languages, or for a misspelled boolean: the mistake, and the code to write.
 #[tactic(auto, unfolding(crate::specs::found::Values::known_word))]
 pub(crate) fn known_word(word: &str) -> Option<Meant>
     ensures { option_map meant_content result ≡ spec.known_word word.now }
@@ -22,12 +70,12 @@ pub(crate) fn known_word(word: &str) -> Option<Meant>
         "null" | "Null" | "NULL" | "None" | "nil" | "undefined" => as_meant(NULL, "", ""),
         "NaN" | "NAN" | "Nan" => as_meant(OTHER_FLOAT, "", "nan"),
         "Infinity" | "infinity" | "Inf" | "INF" => as_meant(OTHER_FLOAT, "", "inf"),
-        _ => None,
+        _ => near_boolean(word),
     }
 }
 
-/// Returns where the words end that may be meant as one string: with the last one, if a comment, the line's end, a
-/// comma or a closing bracket is next, or else with the first one, whose end is given.
+/// Returns the end of a string that needs quotes, whose first word ends at `end`. It has several words if only a
+/// comment, the end of the line, a comma or a closing bracket follows them, otherwise one.
 #[tactic(auto, unfolding(crate::specs::found::Values::phrase_end))]
 pub(crate) fn phrase_end(text: &str, at: usize, end: usize) -> usize
     ensures { result ≡ spec.phrase_end text.now at end }
@@ -39,19 +87,19 @@ pub(crate) fn phrase_end(text: &str, at: usize, end: usize) -> usize
     }
 }
 
-/// Finds the mistake of a value that needs quotes.
+/// Returns the finding for a value that needs quotes.
 #[tactic(auto, unfolding(crate::specs::found::Values::unquoted_value))]
 pub(crate) fn unquoted_value<'a>(text: &'a str, at: usize) -> Finding<'a>
     ensures { finding_content result ≡ spec.unquoted_value text.now at }
 {
     let end = end_of(Class::Word, text, at);
-    match byte_behind(text, end) {
+    match byte_after(text, end) {
         b'"' | b'\'' => marked(UNQUOTED_TEXT, at, end),
         _ => quoted(UNQUOTED, text, at, phrase_end(text, at, end)),
     }
 }
 
-/// Finds the mistake of a string with a prefix, as other languages have them, whose quote is at `quote`.
+/// Returns the finding for a string with a prefix, as other languages have them. Its quote is at `quote`.
 #[tactic(auto, unfolding(crate::specs::found::Values::prefixed))]
 fn prefixed<'a>(text: &'a str, at: usize, quote: usize) -> Finding<'a>
     ensures { finding_content result ≡ spec.prefixed text.now at quote }
@@ -77,7 +125,7 @@ fn prefixed<'a>(text: &'a str, at: usize, quote: usize) -> Finding<'a>
     }
 }
 
-/// Makes the mistake of another language's word in place of a value.
+/// Returns the finding for a word of another language, up to `end`, instead of a value.
 fn known_value<'a>(at: usize, end: usize, known: Meant) -> Finding<'a>
     ensures { finding_content result ≡ spec.known_value at end (meant_content known) }
 {
@@ -88,7 +136,7 @@ fn known_value<'a>(at: usize, end: usize, known: Meant) -> Finding<'a>
     }
 }
 
-/// Finds the mistake of a word in place of a value.
+/// Returns the finding for a word instead of a value.
 #[tactic(auto, unfolding(crate::specs::found::Values::unquoted))]
 pub(crate) fn unquoted<'a>(text: &'a str, at: usize) -> Finding<'a>
     ensures { finding_content result ≡ spec.unquoted text.now at }

@@ -1,11 +1,11 @@
-//! Tokens other than the expected ones, and values of another kind than a typed read expects.
+//! Mistakes in tokens other than the expected ones, and in values of another kind than a typed read expects.
 ghost use Rattle.std.specs.Prelude.{◌≡◌, option_map};
 ghost use Rattle.toml_span_report.specs.Finding.{finding_content};
 ghost use Rattle.toml_span_report.specs.Words.{texts};
 ghost use Rattle.toml_span_report.specs.found.Wanted as spec;
 
 use crate::bytes::{
-    Class, ahead, byte_at, byte_before, byte_behind, end_of, first_of_line, is_in, is_last,
+    Class, ahead, byte_after, byte_at, byte_before, end_of, first_of_line, is_in, is_last,
     last_of_line, part, start_of,
 };
 use crate::finding::{Finding, marked, mended, pieces, quoted, removed, replaced, span_of};
@@ -21,7 +21,8 @@ use crate::words::{
 };
 use toml_span_lex::span::Span;
 
-/// Makes the mistake of a key that needs its own line: a line feed replaces what precedes it from an offset on.
+/// Returns the finding for a key that should be on the next line. The repair is a line feed instead of the bytes from
+/// `from` to the key, at `at`.
 fn broken<'a>(mistake: Mistake, text: &'a str, from: usize, at: usize) -> Finding<'a>
     ensures { finding_content result ≡ spec.broken (texts mistake.entry) text.now from at }
 {
@@ -29,7 +30,7 @@ fn broken<'a>(mistake: Mistake, text: &'a str, from: usize, at: usize) -> Findin
     mended(mistake, mark, span_of(from, at), pieces("\n", "", ""))
 }
 
-/// Finds the mistake of a comma after a value, on its line.
+/// Returns the finding for a comma after a value, at the end of an assignment.
 #[tactic(auto, unfolding(crate::specs::found::Wanted::comma))]
 fn comma<'a>(text: &'a str, at: usize) -> Finding<'a>
     ensures { finding_content result ≡ spec.comma text.now at }
@@ -38,7 +39,7 @@ fn comma<'a>(text: &'a str, at: usize) -> Finding<'a>
     if let Some(found) = thousands(text, at) {
         return found;
     }
-    if is_last(text, end) || byte_behind(text, end) == b'#' {
+    if is_last(text, end) || byte_after(text, end) == b'#' {
         removed(LAST_COMMA, at, end)
     } else if byte_at(text, end_of(Class::Left, text, end)) == b'=' {
         mended(
@@ -52,7 +53,7 @@ fn comma<'a>(text: &'a str, at: usize) -> Finding<'a>
     }
 }
 
-/// Makes the mistake of a value after a header, whose equals sign is at `at`.
+/// Returns the finding for a value after a header. Its `=` is at `at`.
 #[tactic(auto, unfolding(crate::specs::found::Wanted::header_value))]
 fn header_value<'a>(text: &'a str, line: usize, at: usize) -> Finding<'a>
     ensures { finding_content result ≡ spec.header_value text.now line at }
@@ -64,10 +65,10 @@ fn header_value<'a>(text: &'a str, line: usize, at: usize) -> Finding<'a>
     replaced(VALUE_OF_HEADER, line, last, code)
 }
 
-/// Finds the mistake of a header with more after it on its line.
-#[tactic(auto, unfolding(crate::specs::found::Wanted::behind_header))]
-fn behind_header<'a>(found: &str, text: &'a str, line: usize, at: usize) -> Option<Finding<'a>>
-    ensures { option_map finding_content result ≡ spec.behind_header found.now text.now line at }
+/// Recognizes the mistake in the token `found`, which follows a header on its line. The header begins at `line`.
+#[tactic(auto, unfolding(crate::specs::found::Wanted::after_header))]
+fn after_header<'a>(found: &str, text: &'a str, line: usize, at: usize) -> Option<Finding<'a>>
+    ensures { option_map finding_content result ≡ spec.after_header found.now text.now line at }
 {
     let end = ahead(text, at, 1);
     let from = start_of(Class::Blank, text, at);
@@ -79,14 +80,14 @@ fn behind_header<'a>(found: &str, text: &'a str, line: usize, at: usize) -> Opti
     }
 }
 
-/// Returns whether a word follows a time in other notations.
+/// Returns whether the word is `AM`, `PM` or the like, which other notations write after a time.
 fn is_half_day(word: &str) -> bool
     ensures { result ≡ spec.is_half_day word.now }
 {
     matches!(word, "AM" | "PM" | "am" | "pm")
 }
 
-/// The hours of the afternoon on a 24-hour clock.
+/// The hours of the afternoon, on a 12-hour clock and on a 24-hour clock.
 const AFTERNOON: [(&str, &str); 11] = [
     ("01", "13"),
     ("02", "14"),
@@ -101,7 +102,7 @@ const AFTERNOON: [(&str, &str); 11] = [
     ("11", "23"),
 ];
 
-/// Returns an hour of a 12-hour clock on a 24-hour clock.
+/// Converts an hour from a 12-hour clock to a 24-hour clock. `is_late` is for the afternoon.
 #[tactic(auto, unfolding(crate::specs::found::Wanted::full_hour))]
 fn full_hour<'a>(hour: &'a str, is_late: bool) -> &'a str
     ensures { result.now ≡ spec.full_hour hour.now is_late }
@@ -118,7 +119,7 @@ fn full_hour<'a>(hour: &'a str, is_late: bool) -> &'a str
     }
 }
 
-/// Makes the mistake of a time with `AM` or `PM` after it, which is at `at`.
+/// Returns the finding for a time with `AM` or `PM` after it, which is at `at`.
 #[tactic(auto, unfolding(crate::specs::found::Wanted::half_day))]
 fn half_day<'a>(text: &'a str, at: usize, end: usize) -> Finding<'a>
     ensures { finding_content result ≡ spec.half_day text.now at end }
@@ -140,14 +141,14 @@ fn half_day<'a>(text: &'a str, at: usize, end: usize) -> Finding<'a>
     mended(HALF_DAY, span_of(at, end), span_of(start, end), code)
 }
 
-/// Returns whether a word is a name of the offset that TOML writes as `Z`.
+/// Returns whether the word is `UTC` or another name of the offset that TOML writes as `Z`.
 fn is_zone(word: &str) -> bool
     ensures { result ≡ spec.is_zone word.now }
 {
     matches!(word, "UTC" | "GMT")
 }
 
-/// Finds the mistake of an offset's name after a date and time.
+/// Returns the finding for the name of a time zone after a date and time.
 #[tactic(auto, unfolding(crate::specs::found::Wanted::zone))]
 fn zone<'a>(text: &'a str, at: usize, end: usize) -> Finding<'a>
     ensures { finding_content result ≡ spec.zone text.now at end }
@@ -158,10 +159,10 @@ fn zone<'a>(text: &'a str, at: usize, end: usize) -> Finding<'a>
     mended(ZONE_NAME, span_of(at, end), span_of(start, end), code)
 }
 
-/// Finds the mistake of a word after a value, on its line.
-#[tactic(auto, unfolding(crate::specs::found::Wanted::word_behind))]
-fn word_behind<'a>(text: &'a str, at: usize) -> Finding<'a>
-    ensures { finding_content result ≡ spec.word_behind text.now at }
+/// Returns the finding for a word after a value on its line.
+#[tactic(auto, unfolding(crate::specs::found::Wanted::word_after))]
+fn word_after<'a>(text: &'a str, at: usize) -> Finding<'a>
+    ensures { finding_content result ≡ spec.word_after text.now at }
 {
     let end = end_of(Class::Word, text, at);
     let is_time = is_in(Class::Digit, byte_before(text, at));
@@ -172,16 +173,16 @@ fn word_behind<'a>(text: &'a str, at: usize) -> Finding<'a>
     if is_time && is_zone(word) {
         return zone(text, at, end);
     }
-    if byte_behind(text, end_of(Class::Dotted, text, at)) == b'=' {
+    if byte_after(text, end_of(Class::Dotted, text, at)) == b'=' {
         return broken(SECOND_KEY, text, start_of(Class::Blank, text, at), at);
     }
     marked(AFTER_VALUE, at, end)
 }
 
-/// Finds the mistake of what was found after a value, on its line.
-#[tactic(auto, unfolding(crate::specs::found::Wanted::behind_value))]
-fn behind_value<'a>(found: &str, text: &'a str, at: usize) -> Option<Finding<'a>>
-    ensures { option_map finding_content result ≡ spec.behind_value found.now text.now at }
+/// Recognizes the mistake in the token `found`, which follows a value on its line.
+#[tactic(auto, unfolding(crate::specs::found::Wanted::after_value))]
+fn after_value<'a>(found: &str, text: &'a str, at: usize) -> Option<Finding<'a>>
+    ensures { option_map finding_content result ≡ spec.after_value found.now text.now at }
 {
     let is_string = matches!(byte_before(text, at), b'"' | b'\'');
     let start = start_of(Class::Atom, text, at);
@@ -191,25 +192,25 @@ fn behind_value<'a>(found: &str, text: &'a str, at: usize) -> Option<Finding<'a>
         "a plus" if is_string => Some(marked(JOINED, at, ahead(text, at, 1))),
         "a period" | "a colon" | "a plus" if start < at => Some(unquoted_value(text, start)),
         "an identifier" | "a string" if is_string => quote_in_string(text, at),
-        "an identifier" => Some(word_behind(text, at)),
+        "an identifier" => Some(word_after(text, at)),
         _ => Some(marked(AFTER_VALUE, at, ahead(text, at, 1))),
     }
 }
 
-/// Finds the mistake of what was found where a line should end.
+/// Recognizes the mistake in the token `found`, where a line should end.
 #[tactic(auto, unfolding(crate::specs::found::Wanted::no_newline))]
 fn no_newline<'a>(found: &str, text: &'a str, at: usize) -> Option<Finding<'a>>
     ensures { option_map finding_content result ≡ spec.no_newline found.now text.now at }
 {
     let line = first_of_line(text, at);
     if byte_at(text, line) == b'[' && byte_before(text, at) == b']' {
-        behind_header(found, text, line, at)
+        after_header(found, text, line, at)
     } else {
-        behind_value(found, text, at)
+        after_value(found, text, at)
     }
 }
 
-/// Finds the mistake of another token than the expected one, or, in a typed read, of another kind of value.
+/// Recognizes the mistake in a token other than the expected one or, in a typed read, in a value of another kind.
 #[tactic(auto, unfolding(crate::specs::found::Wanted::wanted))]
 pub(crate) fn wanted<'a>(
     expected: &str,
@@ -231,7 +232,7 @@ pub(crate) fn wanted<'a>(
     }
 }
 
-/// Finds the mistake of another kind of value than a typed read expects, if it is easily repaired.
+/// Recognizes a value that a typed read expects to be of another kind, if that is easily repaired.
 #[tactic(auto, unfolding(crate::specs::found::Wanted::other_kind))]
 fn other_kind<'a>(expected: &str, found: &str, text: &'a str, span: Span) -> Option<Finding<'a>>
     ensures { option_map finding_content result ≡ spec.other_kind expected.now found.now text.now span }

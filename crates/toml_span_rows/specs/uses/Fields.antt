@@ -1,4 +1,4 @@
--- What a caller reads of a field of a document, and the error that it tells.
+-- What a function reads from a field of a document, and the error that it returns.
 use Rattle.std.specs.Prelude.{◌≡◌, ◌^◌, ◌⊎◌, ⊤, ℕ, List, [], ◌∷◌, length, Option, Some, None, Result, Ok, Err, codes}
 use Rattle.toml_span_lex.specs.declared.span.Span.{Span}
 use Rattle.toml_span_lex.specs.declared.stop.Stop.{Stop}
@@ -19,7 +19,7 @@ inner_with (shape_scalar s) = scalar s
 inner_with shape_array = array no_items
 inner_with shape_table = table no_members
 
--- a value at the place; for an array or a table an empty one
+-- a value at the place; an array or a table is empty
 abbrev pub face : Place → Node
 face x = node (inner_with x.shape) x.span
 
@@ -27,7 +27,7 @@ abbrev pub read_or : {T : Type 0} → Result T Errors → (Node → Result T Err
 read_or otherwise read None = otherwise
 read_or otherwise read (Some x) = read (face x)
 
--- the error that a table at the span has no such key
+-- the error that the table with this span lacks this key
 abbrev pub lacks : List ℕ → Span → ErrorContent
 lacks name span = record { kind = missing_field name; span = span; line_info = None }
 
@@ -36,14 +36,14 @@ abbrev pub required_field : {T : Type 0} → (Node → Result T Errors) → List
     → Result T Errors
 required_field read name span places = read_or (Err (one (lacks name span))) read (places (key name ∷ []))
 
--- the bytes of the text
+-- the span of the whole text
 abbrev pub whole : List ℕ → Span
 whole text = record { start = 0; end = length text }
 
 abbrev pub number : Node → Result ℕ Errors
 number = read_integer (codes "u16") (unsigned (2 ^ 16))
 
--- The text is refused, and the error tells why; or it is read, and the error is the last of those of its port.
+-- The text is not valid, and this is its error. Or it is valid, and the error is the last of those of the port.
 abbrev pub NoPort : List ℕ → Stop Error → Type 0
 NoPort text (stops.Memory e) = ⊤
 NoPort text (stops.Fault error) =

@@ -1,8 +1,8 @@
-//! Types that are read in each way, and have each attribute.
+//! Types that together have each attribute and are read in each way.
 use serde::{Deserialize, Deserializer, Format};
 use std::alloc::Global;
 
-/// How a device is reached, which the tag among the fields names.
+/// How a device is reached. The tag is among the other fields.
 #[derive(Debug, Drop, Deserialize)]
 #[serde(tag = "kind", rename_all = "lowercase")]
 pub enum Transport<'a> {
@@ -10,7 +10,7 @@ pub enum Transport<'a> {
     Unix { path: &'a str },
 }
 
-/// What a device reads, with the tag beside the content.
+/// What a device measures. The tag is beside the content.
 #[derive(Debug, Drop, Deserialize)]
 #[serde(tag = "t", content = "c")]
 pub enum Reading<'a> {
@@ -18,7 +18,7 @@ pub enum Reading<'a> {
     Note(&'a str),
 }
 
-/// A name and a transport in one table.
+/// A name and a transport in the same table.
 #[derive(Debug, Drop, Deserialize)]
 pub struct Link<'a> {
     pub name: &'a str,
@@ -26,7 +26,7 @@ pub struct Link<'a> {
     pub transport: Transport<'a>,
 }
 
-/// A number, a text or numbers, which no tag distinguishes.
+/// A number, a text or numbers, without a tag.
 #[derive(Debug, Drop, Deserialize)]
 #[serde(untagged)]
 pub enum Either<'a> {
@@ -35,7 +35,7 @@ pub enum Either<'a> {
     List(Vec<i8>),
 }
 
-/// Values of several shapes.
+/// Values of several kinds.
 #[derive(Debug, Drop, Deserialize)]
 pub struct Tagged<'a> {
     pub transport: Option<Transport<'a>>,
@@ -44,7 +44,7 @@ pub struct Tagged<'a> {
     pub either: Option<Either<'a>>,
 }
 
-/// Values of single kinds.
+/// Values of one kind each.
 #[derive(Debug, Drop, Deserialize)]
 pub struct Device {
     pub flag: Option<bool>,
@@ -54,7 +54,7 @@ pub struct Device {
     pub max_body: Option<u64>,
 }
 
-/// Reads the number that a string spells.
+/// Reads a string that spells a number.
 mod spelled {
     use serde::{Deserializer, Format};
     use std::alloc::Global;
@@ -70,7 +70,7 @@ mod spelled {
     }
 }
 
-/// Reads a share in percent.
+/// Reads a percentage.
 fn percent<F: Format>(_alloc: Global, from: &mut Deserializer<'_, '_, F>) -> Result<u64, F::Error> {
     let share = from.u64()?;
     if share > 100 {
@@ -79,12 +79,12 @@ fn percent<F: Format>(_alloc: Global, from: &mut Deserializer<'_, '_, F>) -> Res
     Ok(share)
 }
 
-/// Returns the port where none is given.
+/// Returns the default port.
 fn eighty() -> u16 {
     80
 }
 
-/// What was sent.
+/// The kind of a message.
 #[derive(Debug, Drop, Deserialize)]
 #[serde(rename_all = "lowercase", rename_all_fields = "kebab-case")]
 pub enum Kind<'a> {
@@ -95,7 +95,7 @@ pub enum Kind<'a> {
     Unknown,
 }
 
-/// A field for each attribute that no other type here has. What is left out is as in the default.
+/// Fields with attributes that no other type in this file uses. A missing field has its default value.
 #[derive(Debug, Drop, Default, Deserialize)]
 #[serde(default, rename_all = "kebab-case")]
 pub struct Attributes<'a> {

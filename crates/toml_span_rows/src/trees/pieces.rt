@@ -1,11 +1,11 @@
-//! `again`: numbers, booleans, dates, arrays and inline tables, cut out of a document and parsed again after `x = `.
+//! `again`: cuts numbers, booleans, dates, arrays and inline tables out of a document, and parses them after `x = `.
 use crate::told::Out;
 use crate::trees::shown::push_lines;
 use std::alloc::Global;
 use toml_span::parse;
 use toml_span::value::{Value, nodes};
 
-/// Adds the lines of the value that a piece is parsed as. Blanks before it keep the place that it has in the document.
+/// Prints the lines of a piece's value. Blanks are put before the piece so that its spans are those in the document.
 fn push_reread(alloc: Global, piece: &str, start: usize, out: &mut Out) {
     let width = start.saturating_sub(3);
     let Some(text) = out.kept(format!(in alloc; "x ={:1$}{piece}", "", width)) else {
@@ -22,7 +22,7 @@ fn push_reread(alloc: Global, piece: &str, start: usize, out: &mut Out) {
     }
 }
 
-/// Tests whether a piece is parsed as this value.
+/// Returns whether the piece is parsed as this value.
 fn is_read_again(alloc: Global, piece: &str, value: &Value<'_>, out: &mut Out) -> bool {
     let mut lines = Out::new(alloc);
     push_lines(alloc, value, &mut lines);
@@ -32,8 +32,9 @@ fn is_read_again(alloc: Global, piece: &str, value: &Value<'_>, out: &mut Out) -
     lines.text == again.text
 }
 
-/// Tests whether a value is one piece of the text. A string is not: its span leaves its quotes out. The table of a
-/// dotted key begins where its first value does, and an array of tables where its first table does.
+/// Returns whether a value is written in one piece. A string is not, since its span does not include the quotes. Nor is
+/// the table of a dotted key, which begins where its first value does, nor an array of tables, which begins where its
+/// first table does.
 fn is_piece(text: &str, value: &Value<'_>) -> bool {
     let start = value.span.start;
     let (bracket, inner) = match (value.as_array(), value.as_table()) {
@@ -48,7 +49,7 @@ fn is_piece(text: &str, value: &Value<'_>) -> bool {
     is_outer && text.as_bytes().get(start).copied() == Some(bracket)
 }
 
-/// Adds each piece of a document, and whether it is parsed as the same value.
+/// Prints each piece of a document, and whether it is parsed as the same value.
 pub fn push_again(alloc: Global, text: &str, root: &Value<'_>, out: &mut Out) {
     let Some(list) = out.kept(nodes(alloc, root)) else {
         return;

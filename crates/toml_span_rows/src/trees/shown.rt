@@ -1,12 +1,12 @@
-//! The lines of trees and of errors.
+//! Prints the lines of trees and of errors.
 use crate::told::Out;
 use std::alloc::Global;
 use std::borrow::CowStr;
 use toml_span::Error;
 use toml_span::value::{Step, Value, ValueInner, nodes};
 
-/// Appends the path of steps, which is empty at the root. In a name, `%` and two digits replace each byte that is not
-/// printed, a slash or a percent sign.
+/// Prints a path, which is empty at the root. In a name, a slash, a percent sign, and each byte that is not printable
+/// are written as `%` and two digits.
 fn push_path(steps: &[Step<'_>], out: &mut Out) {
     for step in steps {
         out.push_str("/");
@@ -26,7 +26,7 @@ fn push_path(steps: &[Step<'_>], out: &mut Out) {
     }
 }
 
-/// Adds a value's kind and span.
+/// Prints the kind and span of a value.
 pub fn push_kind(value: &Value<'_>, out: &mut Out) {
     out.push_str(if value.is_taken() {
         "taken"
@@ -37,21 +37,21 @@ pub fn push_kind(value: &Value<'_>, out: &mut Out) {
     out.span(value.span);
 }
 
-/// Adds whether a text is not a part of the document.
+/// Prints whether a text is owned, that is, not borrowed from the document.
 pub fn push_owned(text: &CowStr<'_>, out: &mut Out) {
     if let CowStr::Owned(_) = text {
         out.push_str(" owned");
     }
 }
 
-/// Adds a string, and whether it is not a part of the document.
+/// Prints a string, and whether it is owned.
 pub fn push_string(text: &CowStr<'_>, out: &mut Out) {
     out.push_str(" ");
     out.told(text);
     push_owned(text, out);
 }
 
-/// Adds what a value is, if it is neither an array nor a table nor taken.
+/// Prints the content of a value, unless it is an array or a table, or has been taken.
 fn push_scalar(value: &Value<'_>, out: &mut Out) {
     if value.is_taken() {
         return;
@@ -73,7 +73,7 @@ fn push_scalar(value: &Value<'_>, out: &mut Out) {
     }
 }
 
-/// Adds the lines of a value and of all values in it.
+/// Prints the lines of a value, and of all values inside it.
 pub fn push_lines(alloc: Global, value: &Value<'_>, out: &mut Out) {
     let Some(list) = out.kept(nodes(alloc, value)) else {
         return;
@@ -93,7 +93,7 @@ pub fn push_lines(alloc: Global, value: &Value<'_>, out: &mut Out) {
     }
 }
 
-/// Adds what a pointer names.
+/// Prints the value that a pointer names.
 pub fn push_named(value: Option<&Value<'_>>, out: &mut Out) {
     match value {
         Some(value) => {
@@ -104,14 +104,14 @@ pub fn push_named(value: Option<&Value<'_>>, out: &mut Out) {
     }
 }
 
-/// Adds words, and a value that goes.
+/// Prints words and a value, and drops the value.
 pub fn push_back(said: &str, value: Value<'_>, out: &mut Out) {
     out.push_str(said);
     push_named(Some(&value), out);
     drop(value);
 }
 
-/// Adds the code, the span and the line and column of an error.
+/// Prints the code, the span, and the line and column of an error.
 pub fn push_stand(fault: &Error<'_>, out: &mut Out) {
     out.shown(&fault.kind);
     out.push_str(" ");
@@ -127,7 +127,7 @@ pub fn push_stand(fault: &Error<'_>, out: &mut Out) {
     }
 }
 
-/// Adds an error of `parse`: its place, and its kind.
+/// Prints an error of `parse`: its place and its kind.
 pub fn push_fault(fault: &Error<'_>, out: &mut Out) {
     out.push_str("error ");
     push_stand(fault, out);

@@ -1,23 +1,23 @@
-//! `write OPERATION ..`: calls on the tree of a document one after another, the answer of each, and the lines of the
-//! tree then.
+//! `write OPERATION ..`: makes calls on the tree of a document, one after the other. Prints the result of each, and
+//! then the lines of the tree.
 //!
 //! | Operation | What it calls |
 //! |---|---|
 //! | `find=POINTER` | `pointer` |
 //! | `look=POINTER` | `look_up` |
-//! | `at=POINTER` | `at` of the `Pointer` that is made of the text |
-//! | `set=POINTER=INTEGER` | `set` at what `pointer_mut` lends |
-//! | `take=POINTER` | `take` there |
-//! | `take_string=POINTER`, `take_string=POINTER=MESSAGE` | `take_string` there |
+//! | `at=POINTER` | `at` with the `Pointer` of this text |
+//! | `set=POINTER=INTEGER` | `set` on what `pointer_mut` returns |
+//! | `take=POINTER` | `take` on it |
+//! | `take_string=POINTER`, `take_string=POINTER=MESSAGE` | `take_string` on it |
 //! | `replace=POINTER=INTEGER` | `replace` by `Value::new` |
-//! | `taken=POINTER` | `is_taken` at what `pointer` names |
-//! | `has_key=NAME`, `has_keys`, `whole` | `has_key`, `has_keys` and `is_whole` of the root |
+//! | `taken=POINTER` | `is_taken` on what `pointer` returns |
+//! | `has_key=NAME`, `has_keys`, `whole` | `has_key`, `has_keys` and `is_whole` on the root |
 use crate::told::Out;
 use crate::trees::shown::{push_back, push_lines, push_named, push_string};
 use std::alloc::Global;
 use toml_span::value::{Pointer, Value, ValueInner};
 
-/// A call on a tree, as its word spells it.
+/// A call on a tree, as a word spells it.
 #[derive(Clone, Copy)]
 struct Operation<'w> {
     name: &'w str,
@@ -27,7 +27,7 @@ struct Operation<'w> {
     rest: Option<&'w str>,
 }
 
-/// Takes what a value has, if it is not taken. Returns whether there is such a call.
+/// Takes the content of a value, unless it has been taken. Returns whether there is such a call.
 fn push_taken(value: &mut Value<'_>, operation: Operation<'_>, out: &mut Out) -> bool {
     if value.is_taken() {
         out.push_str("taken");
@@ -47,7 +47,7 @@ fn push_taken(value: &mut Value<'_>, operation: Operation<'_>, out: &mut Out) ->
     operation.name == "take_string"
 }
 
-/// Makes a call on what `pointer_mut` lends, and adds its answer. Returns whether there is such a call.
+/// Makes a call on what `pointer_mut` returns, and prints the result. Returns whether there is such a call.
 fn push_lent<'t>(
     root: &mut Value<'t>,
     operation: Operation<'t>,
@@ -66,7 +66,7 @@ fn push_lent<'t>(
     true
 }
 
-/// Adds what the `Pointer` of a text names, if there is one.
+/// Prints the value that the `Pointer` of a text names, if the text is a pointer.
 fn push_at(alloc: Global, root: &Value<'_>, text: &str, out: &mut Out) {
     match Pointer::new(alloc, text) {
         Ok(Some(pointer)) => push_named(root.at(&pointer), out),
@@ -75,7 +75,7 @@ fn push_at(alloc: Global, root: &Value<'_>, text: &str, out: &mut Out) {
     }
 }
 
-/// Adds the answer of a call. Returns whether there is such a call.
+/// Prints the result of a call. Returns whether there is such a call.
 fn push_operation<'t>(
     alloc: Global,
     root: &mut Value<'t>,
@@ -104,7 +104,7 @@ fn push_operation<'t>(
     true
 }
 
-/// Adds the answers of the calls of words, and then the lines of the tree. Returns whether there are such calls.
+/// Prints the results of the calls, and then the lines of the tree. Returns whether there are such calls.
 pub fn push_writes<'t>(
     alloc: Global,
     words: &'t [String],

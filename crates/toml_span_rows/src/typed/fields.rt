@@ -1,4 +1,4 @@
-//! Calls on a helper over the root of a document.
+//! Calls on a helper for the root of a document.
 //!
 //! - `contains=NAME` and `take=NAME`.
 //! - `required=TYPE=NAME`, `required_s=TYPE=NAME`, `optional=TYPE=NAME`, `optional_s=TYPE=NAME`.
@@ -15,7 +15,7 @@ use toml_span::de_helpers::{TableHelper, Unfinished};
 use toml_span::value::{Key, Value};
 use toml_span::{Deserialize, Error, Spanned, Stop};
 
-/// Answers `fields`. Returns whether there are such calls.
+/// Prints the answer to `fields`. Returns whether there are such calls.
 pub fn push_fields<'de>(
     alloc: Global,
     calls: &'de [String],
@@ -31,7 +31,7 @@ pub fn push_fields<'de>(
     push_calls(&mut helper, calls, out) && push_last(helper, last.as_str(), root, out)
 }
 
-/// Opens a helper over the root of a document.
+/// Makes a helper for the root of a document.
 fn opened<'de>(alloc: Global, root: &mut Value<'de>) -> Option<TableHelper<'de>>
     ensures { IfSome result (λ helper. AllWhole (state_of helper)) }
 {
@@ -44,7 +44,7 @@ fn opened<'de>(alloc: Global, root: &mut Value<'de>) -> Option<TableHelper<'de>>
     }
 }
 
-/// Makes each call but the last. Returns whether there are such calls.
+/// Makes all calls except the last. Returns whether there are such calls.
 fn push_calls<'de>(helper: &mut TableHelper<'de>, calls: &'de [String], out: &mut Out) -> bool
     requires { AllWhole (state_of helper.old) }
 {
@@ -59,7 +59,7 @@ fn push_calls<'de>(helper: &mut TableHelper<'de>, calls: &'de [String], out: &mu
     true
 }
 
-/// Makes one call that leaves the helper open, and adds its answer. Returns whether there is such a call.
+/// Makes one call, and prints the result. Returns whether there is such a call.
 fn push_call<'de>(helper: &mut TableHelper<'de>, call: &'de str, out: &mut Out) -> bool
     requires { AllWhole (state_of helper.old) }
     ensures { AllWhole (state_of helper.new) }
@@ -75,7 +75,7 @@ fn push_call<'de>(helper: &mut TableHelper<'de>, call: &'de str, out: &mut Out) 
     true
 }
 
-/// Adds an entry that was taken, if there was one.
+/// Prints an entry that was taken, if there was one.
 fn push_entry(entry: Result<Option<(Key<'_>, Value<'_>)>, AllocError>, out: &mut Out) {
     match entry {
         Ok(Some((key, value))) => {
@@ -88,7 +88,7 @@ fn push_entry(entry: Result<Option<(Key<'_>, Value<'_>)>, AllocError>, out: &mut
     }
 }
 
-/// Reads a field as a type, both named, and adds the answer. Returns whether there are such a call and type.
+/// Reads a field as a type, and prints the result. Returns whether there are such a call and such a type.
 fn push_field<'de>(
     helper: &mut TableHelper<'de>,
     how: &str,
@@ -111,7 +111,7 @@ fn push_field<'de>(
     }
 }
 
-/// Reads a field as a type, and adds the answer. Returns whether there is such a call.
+/// Reads a field as `T`, and prints the result. Returns whether there is such a call.
 #[tactic(auto, using(toml_span_typed::proofs::Whole::found_whole))]
 fn push_as<'de, T: Deserialize<'de> + Debug>(
     helper: &mut TableHelper<'de>,
@@ -132,7 +132,7 @@ fn push_as<'de, T: Deserialize<'de> + Debug>(
     true
 }
 
-/// Adds what was read with its place.
+/// Prints what was read with its span.
 fn push_spanned<T: Debug + Drop>(read: Result<Spanned<T>, Stop<Error<'_>>>, out: &mut Out) {
     match read {
         Ok(found) => {
@@ -143,8 +143,8 @@ fn push_spanned<T: Debug + Drop>(read: Result<Spanned<T>, Stop<Error<'_>>>, out:
     }
 }
 
-/// Makes the last call, and adds the errors that it reports. Without memory the helper comes back, and the call is made
-/// again.
+/// Makes the last call, and prints the errors that it returns. If an allocation fails, makes it again with the helper
+/// that is returned.
 fn push_last<'de>(
     helper: TableHelper<'de>,
     call: &str,
@@ -162,7 +162,7 @@ fn push_last<'de>(
     true
 }
 
-/// Adds the errors of a last call. Returns the helper that comes back without memory.
+/// Prints the errors of the last call. Returns the helper if an allocation failed.
 fn push_ended<'de>(ended: Result<(), Unfinished<'de>>, out: &mut Out) -> Option<TableHelper<'de>> {
     match ended {
         Ok(()) => out.push_str("no error"),

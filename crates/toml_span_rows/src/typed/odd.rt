@@ -1,18 +1,18 @@
-//! Types of a caller that state nothing of what they read.
+//! Types that state nothing about their reads.
 use std::alloc::Global;
 use std::borrow::CowStr;
 use std::str::FromStr;
 use toml_span::de_helpers::TableHelper;
 use toml_span::{DeserError, Deserialize, Error, ErrorKind, Span, Stop, Value};
 
-/// Returns one error with a message of the caller.
+/// Returns one error with a message of its own.
 fn custom<'de>(message: &'de str, span: Span) -> DeserError<'de> {
     let kind = ErrorKind::Custom(CowStr::Borrowed(message));
     Error::from((kind, span)).into()
 }
 
-/// Leaves a boolean untouched and succeeds. Of a table it reads one entry, puts the others back and fails. It takes any
-/// other value and fails with two errors.
+/// Succeeds for a boolean, and leaves it as it is. For a table, reads one entry, puts the others back, and fails. For
+/// any other value, takes it and fails with two errors.
 #[derive(Debug, Drop)]
 pub struct Odd;
 

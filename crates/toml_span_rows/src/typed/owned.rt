@@ -1,6 +1,6 @@
-//! Types that own their text, and errors that outlive the text that is read.
+//! Types that own their text, and errors that outlive the text.
 //!
-//! - `load_file NAME`: the value read from a file of `data`, whose text is dropped: the listener, or the text of the
+//! - `load_file NAME`: the value read from a file in `data`, whose text is dropped: the listener, or the text of the
 //!   errors, and the number of reports.
 use crate::told::Out;
 use std::alloc::Global;
@@ -12,7 +12,7 @@ use toml_span_load::{LoadError, TextFile};
 #[derive(Debug, Drop)]
 pub struct Name(String);
 
-/// Reads a text as a name.
+/// Reads a name.
 fn name_of(alloc: Global, text: &str) -> Result<Name, Stop<&'static str>> {
     if text.is_empty() {
         return Err(Stop::Fault("a name is not empty"));
@@ -49,13 +49,13 @@ impl<'de> Deserialize<'de> for Listener {
     }
 }
 
-/// Reads the listener of a file.
+/// Reads the listener from a file.
 fn load(rt: &HostRuntime, name: &str) -> Result<Listener, LoadError> {
     let file = TextFile::open(rt, name)?;
     file.read::<Listener>(rt.alloc())
 }
 
-/// Answers `load_file`.
+/// Prints the answer to `load_file`.
 pub fn push_file(rt: &HostRuntime, name: &str, out: &mut Out) {
     match load(rt, name) {
         Ok(listener) => out.told(listener),

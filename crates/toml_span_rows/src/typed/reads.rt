@@ -1,4 +1,4 @@
-//! Reads as a type that a row names.
+//! Reads as the type that a row names.
 use crate::told::Out;
 use crate::trees::shown::push_owned;
 use crate::typed::odd::Odd;
@@ -11,8 +11,8 @@ use std::fmt::Debug;
 use toml_span::value::{DateText, FloatText, Value};
 use toml_span::{DeserError, Deserialize, Parsed, Spanned, Stop};
 
-/// Reads a value as a type, if the value is whole, and adds the answer. If memory runs out, reads it again, if it is
-/// still whole. Returns whether it was whole.
+/// Reads a value as a type, if nothing has been taken from it, and prints the result. If an allocation fails, reads it
+/// again under the same condition. Returns whether nothing had been taken.
 fn push_as<'de, T: Deserialize<'de> + Debug>(
     alloc: Global,
     value: &mut Value<'de>,
@@ -31,8 +31,8 @@ fn push_as<'de, T: Deserialize<'de> + Debug>(
     true
 }
 
-/// Reads a value as the type of a name, and adds the answer. Returns whether there is such a type, and the value was
-/// whole.
+/// Reads a value as the type with this name, and prints the result. Returns whether there is such a type, and nothing
+/// had been taken from the value.
 pub fn push_read<'de>(alloc: Global, name: &str, value: &mut Value<'de>, out: &mut Out) -> bool {
     match name {
         "u8" => push_as::<u8>(alloc, value, out),
@@ -56,7 +56,7 @@ pub fn push_read<'de>(alloc: Global, name: &str, value: &mut Value<'de>, out: &m
     }
 }
 
-/// The same for a type of a caller.
+/// Does the same as `push_read`, for the types that this crate defines.
 fn push_own<'de>(alloc: Global, name: &str, value: &mut Value<'de>, out: &mut Out) -> bool {
     match name {
         "Vec<Odd>" => push_as::<Vec<Odd>>(alloc, value, out),
@@ -72,7 +72,7 @@ fn push_own<'de>(alloc: Global, name: &str, value: &mut Value<'de>, out: &mut Ou
     }
 }
 
-/// Reads a value as a `CowStr`, if the value is whole, and adds the string and whether it has a text of its own.
+/// Reads a value as a `CowStr`, if nothing has been taken from it. Prints the string, and whether it is owned.
 fn push_cow(alloc: Global, value: &mut Value<'_>, out: &mut Out) -> bool {
     if !value.is_whole() {
         return false;
@@ -88,7 +88,7 @@ fn push_cow(alloc: Global, value: &mut Value<'_>, out: &mut Out) -> bool {
     true
 }
 
-/// Returns the errors of a read as a type, if it has any, and the value is whole.
+/// Returns the errors of a read as `T`, if there are any. Does not read a value from which something has been taken.
 fn errors_as<'de, T: Deserialize<'de>>(
     alloc: Global,
     value: &mut Value<'de>,
@@ -103,7 +103,8 @@ fn errors_as<'de, T: Deserialize<'de>>(
     }
 }
 
-/// Returns the errors of a read of the value at a place, as the type of a name, if there are such a type and place.
+/// Returns the errors of a read of the value at `place` as the type with this name. Returns `None` if there is no such
+/// type or place, or if there are no errors.
 pub fn errors_at<'de>(
     alloc: Global,
     name: &str,

@@ -1,4 +1,4 @@
-//! Types of a caller that are read from tables.
+//! Types that are read from tables.
 use std::alloc::Global;
 use std::borrow::CowStr;
 use toml_span::de_helpers::TableHelper;
@@ -27,7 +27,7 @@ impl<'de> Deserialize<'de> for Server<'de> {
     }
 }
 
-/// Fields with old names, a string with its bytes, and the keys of another struct.
+/// Fields with old names, a string with its span, and the keys of another struct.
 #[derive(Debug, Drop)]
 pub struct Upload {
     pub max_body: u64,
@@ -47,7 +47,7 @@ impl<'de> Deserialize<'de> for Upload {
     }
 }
 
-/// Fields that are an `Option`, what `FromStr` makes of strings, and an array of two. Other keys stay in the value.
+/// Fields that are an `Option`, strings read by `FromStr`, and an array of two. Other keys stay in the value.
 #[derive(Debug, Drop)]
 pub struct Holders {
     some: Option<u8>,
@@ -70,7 +70,7 @@ impl<'de> Deserialize<'de> for Holders {
     }
 }
 
-/// Two bounds, the lower one first.
+/// Two bounds. The lower one comes first.
 #[derive(Debug, Drop)]
 pub struct Range {
     pub low: u8,
@@ -89,7 +89,7 @@ impl<'de> Deserialize<'de> for Range {
     }
 }
 
-/// Returns the range of two bounds.
+/// Returns the range of two bounds, or the error that they are not in order.
 fn range_of<'s>(
     low: Option<u8>,
     high: Option<u8>,
@@ -103,7 +103,7 @@ fn range_of<'s>(
     Ok(Range { low, high })
 }
 
-/// Where something is written.
+/// Where to write something.
 #[derive(Debug, Drop)]
 pub enum Target {
     File { path: String, append: bool },
@@ -121,7 +121,7 @@ impl<'de> Deserialize<'de> for Target {
     }
 }
 
-/// A part of a whole.
+/// A number from 0 to 1.
 #[derive(Debug, Drop)]
 pub struct Ratio(f64);
 

@@ -1,6 +1,7 @@
 //! Types that warn.
 //!
-//! - `warned TYPE` reads the document: what `from_str_with_warnings` gives, and each warning, a line each.
+//! - `warned TYPE` reads the document with `from_str_with_warnings`, and prints the result and each warning, one per
+//!   line.
 use crate::told::Out;
 use std::alloc::Global;
 use toml_span::{
@@ -27,7 +28,7 @@ impl<'de> DeserializeWithWarnings<'de> for Limits {
     }
 }
 
-/// What is read of tables that warn, and has a deprecated name itself.
+/// Fields whose types warn, and one with a deprecated name.
 #[derive(Debug, Drop)]
 pub struct Service {
     pub level: u8,
@@ -51,7 +52,7 @@ impl<'de> DeserializeWithWarnings<'de> for Service {
     }
 }
 
-/// Answers `warned`.
+/// Prints the answer to `warned`. Returns whether there is such a type.
 pub fn push_warned(alloc: Global, name: &str, text: &str, out: &mut Out) -> bool {
     let mut warnings = Vec::new(alloc);
     match name {

@@ -1,9 +1,9 @@
-//! The README's first example: parse a text, point at a value, and show what is wrong.
+//! The first example in README.md: parses a text, looks up a value, and prints an error.
 use std::alloc::{AllocError, Global};
 use toml_span::parse;
 use toml_span_report::{Style, render_stop};
 
-/// Describes where the port of a server is, or what is wrong with the text.
+/// Returns a sentence that says where the port of a server is, or what is wrong with the text.
 pub fn describe_port(alloc: Global, text: &str) -> Result<String, AllocError> {
     match parse(alloc, text) {
         Ok(root) => match root.pointer("/server/port") {

@@ -1,4 +1,4 @@
--- What each step of a pointer lends.
+-- What the reference that is returned at each step of a pointer can change.
 use Rattle.std.specs.Prelude.{◌≡◌, ℕ, List, [], Some, Vec, ⊤}
 use Rattle.std.specs.Global.{Global}
 use Rattle.std.specs.BTreeMap.{BTreeMap}
@@ -66,7 +66,7 @@ lends_named s path r = LendsBy value_row value_row s r (λ n w. view n ≡ put_n
 abbrev pub lends_at : MutBor Value → List ℕ → MutBor Value → Fml
 lends_at s p r = LendsBy value_row value_row s r (λ n w. view n ≡ put_pointed p (view w) (view s.now))
 
--- the value has not been taken; it is an array; it is a table
+-- The content of the value has not been taken; and it is an array; and it is a table.
 abbrev pub IsHeld : Value → Type 0
 IsHeld v = (i : ValueInner) × (v.value ≡ Some i)
 

@@ -1,4 +1,4 @@
--- What a pointer names, one segment at a time.
+-- Which value a pointer names, segment by segment.
 use Rattle.std.specs.Prelude.{◌≡◌, ◌≤◌, ⊤, ℕ, ◌^◌, List, [], ◌∷◌, length, ◌<◌, Option, Some, None, Result, Ok, Err}
 use Rattle.std.specs.Prelude.{IfSome, option_map, option_and_then}
 use Rattle.toml_span_tree.specs.declared.value.Value.{Value}
@@ -7,25 +7,25 @@ use Rattle.toml_span_tree.specs.Value.{view, inner_of}
 use Rattle.toml_span_tree.specs.Path.{Step, at_step, node_at, set_element, set_at_step}
 use Rattle.toml_span_tree.specs.Pointer.{step_named, if_not_taken, path_named, segments, put_where_named}
 
--- r is the position, or None without a position that fits in 64 bits.
+-- r is the position, or None if there is none that fits into 64 bits.
 abbrev pub PositionIs : Option ℕ → Option ℕ → Type 0
 PositionIs (Some i) o = o ≡ Some i
 PositionIs None None = ⊤
 PositionIs None (Some i) = 2 ^ 64 ≤ i
 
--- the value that a segment names
+-- the value that a segment selects
 abbrev pub entry : List ℕ → Inner → Option Node
 entry segment i = option_and_then (λ s. option_map (λ e. e.1) (at_step s i)) (step_named segment i)
 
--- the same, unless it has been taken
+-- the same, unless its content has been taken
 abbrev pub untaken_entry : List ℕ → Node → Option Node
 untaken_entry segment n = option_and_then if_not_taken (entry segment (inner_of n))
 
--- the value that the segments name
+-- the value to which the segments lead
 abbrev pub value_named : List (List ℕ) → Node → Option Node
 value_named names n = option_and_then (λ path. node_at path n) (path_named names n)
 
--- n with w at the place that the segments name
+-- n with w at the place to which the segments lead
 abbrev pub put_named : List (List ℕ) → Node → Node → Node
 put_named names w n = put_where_named (path_named names n) w n
 
@@ -41,17 +41,17 @@ abbrev pub set_item : Option ℕ → Node → Items → Items
 set_item None w ns = ns
 set_item (Some i) w ns = set_element i w ns
 
-abbrev pub segments_behind : Option (List ℕ) → List (List ℕ)
-segments_behind None = []
-segments_behind (Some rest) = segments rest
+abbrev pub segments_after : Option (List ℕ) → List (List ℕ)
+segments_after None = []
+segments_after (Some rest) = segments rest
 
 -- The text is split at its first slash.
 pub record SplitAtSlash (path segment : List ℕ) (rest : Option (List ℕ)) : Type 0 where
-  pub parts : segments path ≡ segment ∷ segments_behind rest
+  pub parts : segments path ≡ segment ∷ segments_after rest
   pub shorter : IfSome rest (λ more. length more < length path)
 
--- The segments name a value below o, which was replaced: the old one is returned, and o has become `put_named` with the
--- new one. Or they name none: the new one is returned, and o is unchanged.
+-- The segments lead to a value below o, which was replaced: the old one is returned, and o is now `put_named` with the
+-- new one. Or they lead nowhere: the new value is returned, and o is unchanged.
 abbrev pub Exchanged : Result Value Value → Value → List (List ℕ) → Option Node → (Node → Type 0) → Type 0 → Type 0
 Exchanged (Ok old) new names o changed same =
     (n : Node) × (o ≡ Some n) × (value_named names n ≡ Some (view old)) × changed (put_named names (view new) n)

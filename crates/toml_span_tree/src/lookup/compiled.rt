@@ -13,19 +13,20 @@ use std::borrow::CowStr;
 use toml_span_lex::key::Key;
 use toml_span_lex::span::Span;
 
-// Toolchain: with a second lifetime for its text, `at` would be refused ("what is returned holds or points to a
-// reference at another lifetime"), so a `Pointer` owns its keys.
-/// A pointer split into its segments. It owns them and borrows neither from its text nor from a tree, so it can be
-/// created before the document is parsed. It works for all trees of documents with the same lifetime.
+// Toolchain: if a `Pointer` borrowed its text, which would be a second lifetime, the check would refuse `at` ("what is
+// returned holds or points to a reference at another lifetime"). So it owns its keys.
+/// A pointer that is split into segments once, for many look-ups. It owns the segments, so it can be made before the
+/// document is parsed. It works for all trees of documents with this lifetime.
 #[derive(Debug, Drop)]
 pub struct Pointer<'de> {
     names: Vec<Key<'de>>,
 }
 
 impl<'de> Pointer<'de> {
-    /// Parses a pointer. Returns `None` if the text is neither empty nor begins with `/`.
+    /// Splits a pointer into segments, and copies them. Returns `None` if the text is not a pointer, that is, if it is
+    /// not empty and does not begin with `/`.
     ///
-    /// Copies the segments. Fails if an allocation fails.
+    /// Fails only if an allocation fails.
     pub fn new(alloc: Global, pointer: &str) -> Result<Option<Self>, AllocError>
         ensures { IfOk result (λ made. option_map (λ p. names_in p.names) made ≡ pointer_segments pointer.now) }
     {
@@ -43,7 +44,8 @@ impl<'de> Pointer<'de> {
     }
 }
 
-/// Appends the segments of a text, each as a key that owns its name. Fails if an allocation fails.
+/// Appends each segment of the text as a key that owns its name. `path` is the text after the first `/`. Fails if an
+/// allocation fails.
 fn push_segments<'de>(
     alloc: Global,
     path: &str,
@@ -59,7 +61,7 @@ fn push_segments<'de>(
     }
 }
 
-/// Appends a key that owns its name. Fails if an allocation fails.
+/// Appends a key that owns a copy of the name. Fails if an allocation fails.
 fn push_name<'de>(alloc: Global, name: &str, names: &mut Vec<Key<'de>>) -> Result<(), AllocError>
     ensures { OnOk result (names_in names.new ≡ names_in names.old ++ name.now ∷ []) }
 {
@@ -70,6 +72,7 @@ fn push_name<'de>(alloc: Global, name: &str, names: &mut Vec<Key<'de>>) -> Resul
     Ok(())
 }
 
+/// Returns the value of the entry with this name, if the table has one.
 fn table_at<'v, 'de>(table: &'v Table<'de>, name: &Key<'de>) -> Option<&'v Value<'de>>
     ensures { option_map (λ v. view v.now) result ≡ get_member (name_in name.now) (members_view table.now.entries) }
 {
@@ -77,7 +80,8 @@ fn table_at<'v, 'de>(table: &'v Table<'de>, name: &Key<'de>) -> Option<&'v Value
 }
 
 impl<'de> ValueInner<'de> {
-    /// Returns the value that a name denotes here.
+    /// Returns the value that a name selects: an entry of a table, or the element of an array if the name is a decimal
+    /// position.
     fn entry_at(&self, name: &Key<'de>) -> Option<&Value<'de>>
         ensures { option_map (λ v. view v.now) result ≡ entry (name_in name.now) (inner_view self.now) }
     {
@@ -90,7 +94,7 @@ impl<'de> ValueInner<'de> {
 }
 
 impl<'de> Value<'de> {
-    /// Returns the value that a name denotes here, unless it has been taken.
+    /// Returns the value that a name selects in this value, unless its content has been taken.
     fn entry_at(&self, name: &Key<'de>) -> Option<&Self>
         ensures { option_map (λ v. view v.now) result ≡ untaken_entry (name_in name.now) (view self.now) }
     {
@@ -100,7 +104,7 @@ impl<'de> Value<'de> {
         }
     }
 
-    /// Returns the value that the names denote one by one, beginning here.
+    /// Returns the value that the names select, one step for each name, beginning at this value.
     fn found_at(&self, names: &[Key<'de>]) -> Option<&Self>
         ensures { option_map (λ v. view v.now) result ≡ value_named (map name_in names.now) (view self.now) }
     {
@@ -110,9 +114,9 @@ impl<'de> Value<'de> {
         }
     }
 
-    /// Returns the value that the pointer names, like `pointer` with the same text.
+    /// Returns the value that the pointer names, as `pointer` does with the same text.
     ///
-    /// In each table on the way it looks up the name in logarithmic time. Allocates nothing.
+    /// In each table on the way, the look-up takes logarithmic time. Allocates nothing.
     pub fn at(&self, pointer: &Pointer<'de>) -> Option<&Self>
         ensures { option_map (λ v. view v.now) result ≡ value_named (names_in pointer.now.names) (view self.now) }
     {

@@ -1,4 +1,4 @@
--- How far the read of an array has come.
+-- A read of an array in progress.
 use Rattle.std.specs.Prelude.{◌≡◌, ⊤, List, [], ◌∷◌, ◌++◌, Option, Some, None, Result, Ok, Err}
 use Rattle.toml_span_lex.specs.declared.stop.Stop.{Stop}
 use Rattle.toml_span_lex.specs.declared.stop.Stop.TheVariants as stop
@@ -8,20 +8,20 @@ use Rattle.toml_span_typed.specs.Errors.{Errors, all}
 use Rattle.toml_span_typed.specs.Reads.{EachReads, elements, errors}
 use Rattle.toml_span_typed.specs.Tuples.{IsReadAs}
 
--- the answer, if memory was there, is one that P allows
+-- If no allocation failed, P allows the result.
 abbrev pub Answered : {T : Type 0} → Result T (Stop Errors) → (Result T Errors → Type 0) → Type 0
 Answered (Ok x) P = P (Ok x)
 Answered (Err (stop.Fault faults)) P = P (Err faults)
 Answered (Err (stop.Memory error)) P = ⊤
 
--- the values were read, with these elements and these errors
+-- The values were read, and these are the elements and the errors.
 abbrev pub AreRead : {T : Type 0} → (Node → Result T Errors → Node → Type 0) → List Node → List T → List ErrorContent
     → Type 0
 AreRead reads values xs faults =
     (answers : List (Result _ Errors)) × EachReads reads values answers × (elements answers ≡ xs)
     × (errors answers ≡ faults)
 
--- one more value is read: its element is added to the elements, or its errors are added to the errors
+-- One more value was read: its element was added to the elements, or its errors to the errors.
 abbrev pub AddsRead : {T : Type 0} → (Node → Result T Errors → Node → Type 0) → Node → List T → List ErrorContent
     → List T
     → List ErrorContent → Type 0
@@ -29,7 +29,7 @@ AddsRead reads value xs faults ys more =
     (answer : Result _ Errors) × ((after : Node) × reads value answer after)
     × (ys ≡ xs ++ elements (answer ∷ [])) × (more ≡ faults ++ errors (answer ∷ []))
 
--- a value is read: its element is returned, or its errors are added to the others
+-- A value was read: its element is returned, or its errors were added to the errors.
 abbrev pub ReadsOrKeeps : {T : Type 0} → (Node → Result T Errors → Node → Type 0) → Node → List ErrorContent → Option T
     → List ErrorContent → Type 0
 ReadsOrKeeps reads value faults (Some x) more = IsReadAs reads value (Ok x) × (more ≡ faults)

@@ -1,4 +1,4 @@
--- How far the read of a table has come.
+-- A read of a table in progress.
 use Rattle.std.specs.Prelude.{◌≡◌, ℕ, List, [], ◌∷◌, ◌++◌, Result}
 use Rattle.toml_span_tree.specs.Error.{ErrorContent}
 use Rattle.toml_span_tree.specs.Node.{Node}
@@ -6,7 +6,7 @@ use Rattle.toml_span_typed.specs.Errors.{Errors}
 use Rattle.toml_span_typed.specs.Reads.{errors}
 use Rattle.toml_span_typed.specs.Maps.{holding_read}
 
--- one more value is read
+-- One more value was read.
 abbrev pub AddsEntry : {T : Type 0} → (Node → Result T Errors → Node → Type 0) → List ℕ → Node
     → List (List ℕ × T) → List ErrorContent → List (List ℕ × T) → List ErrorContent → Type 0
 AddsEntry reads name value entries faults more told =

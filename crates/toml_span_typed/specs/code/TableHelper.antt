@@ -1,4 +1,4 @@
--- How a helper reads what it moved out of its table, and keys with their spans, as it lists them.
+-- How a helper reads a value that it moved out of its table, and how it lists keys with their spans.
 use Rattle.std.specs.Prelude.{◌≡◌, ℕ, List, String, string_bytes, Result, Ok, Err}
 use Rattle.std.specs.declared.alloc.Global.{Global}
 use Rattle.toml_span_lex.specs.declared.span.Span.{Span}
@@ -10,7 +10,7 @@ use Rattle.toml_span_tree.specs.Node.{Node}
 use Rattle.toml_span_typed.specs.Errors.{Errors, all}
 use Rattle.toml_span_typed.specs.TableHelper.{State, keeping}
 
--- the element, or the last of the errors that are kept
+-- the element, or the last of the errors that were kept
 abbrev pub ReadsValue : {T : Type 0} → (Node → Result T Errors → Node → Type 0) → Node → State → Result T (Stop Error)
     → State → Type 0
 ReadsValue reads value before (Ok x) after = (left : Node) × reads value (Ok x) left × (after ≡ before)

@@ -4,7 +4,7 @@ use Rattle.std.specs.Borrow.{Bor}
 use Rattle.toml_span_tree.specs.declared.error.Error.{Error}
 use Rattle.toml_span_tree.specs.Error.{ErrorContent, content_of}
 
--- what each of them tells
+-- the result as plain data
 abbrev pub tag_told : Result (Bor (List ℕ)) Error → Result (List ℕ) ErrorContent
 tag_told (Ok tag) = Ok tag.now
 tag_told (Err error) = Err (content_of error)

@@ -1,4 +1,4 @@
--- How a value is read that warns.
+-- Reads of values that warn.
 use Rattle.std.specs.Prelude.{◌≡◌, ◌++◌, [], ◌∷◌, List, Option, Some, None, Result, Ok, Err}
 use Rattle.toml_span_tree.specs.Error.{ErrorContent}
 use Rattle.toml_span_tree.specs.Node.{Node}
@@ -6,7 +6,7 @@ use Rattle.toml_span_typed.specs.Errors.{Errors, all}
 use Rattle.toml_span_typed.specs.Reads.{elements, errors}
 use Rattle.toml_span_typed.specs.WithWarnings.{EachWithWarnings}
 
--- its element is returned, or its errors are added to the others
+-- A value was read: its element is returned, or its errors were added to the errors.
 abbrev pub ReadsOrKeeps : {T : Type 0}
     → (Node → Result T Errors → List ErrorContent → List ErrorContent → Type 0) → Node → List ErrorContent
     → Option T → List ErrorContent → List ErrorContent → List ErrorContent → Type 0
@@ -14,7 +14,7 @@ ReadsOrKeeps reads value faults (Some x) kept warnings more = reads value (Ok x)
 ReadsOrKeeps reads value faults None kept warnings more =
     (told : Errors) × reads value (Err told) warnings more × (kept ≡ faults ++ all told)
 
--- the values were read, with these elements and these errors
+-- The values were read, and these are the elements and the errors.
 abbrev pub AreReadWithWarnings : {T : Type 0}
     → (Node → Result T Errors → List ErrorContent → List ErrorContent → Type 0) → List Node → List T
     → List ErrorContent → List ErrorContent → List ErrorContent → Type 0
@@ -22,7 +22,7 @@ AreReadWithWarnings reads values xs faults warnings more =
     (answers : List (Result _ Errors)) × EachWithWarnings reads values answers warnings more
     × (elements answers ≡ xs) × (errors answers ≡ faults)
 
--- one more value is read: its element is added to the elements, or its errors are added to the errors
+-- One more value was read: its element was added to the elements, or its errors to the errors.
 abbrev pub AddsWithWarnings : {T : Type 0}
     → (Node → Result T Errors → List ErrorContent → List ErrorContent → Type 0) → Node → List T → List ErrorContent
     → List T → List ErrorContent → List ErrorContent → List ErrorContent → Type 0

@@ -1,4 +1,4 @@
-//! Strings that `FromStr` or a function reads, in the body of a `deserialize`.
+//! Reads of strings by `FromStr` or by a function, as the body of a `deserialize`.
 ghost use Rattle.std.specs.Fn.{FnOnceReturnsAt};
 ghost use Rattle.std.specs.Prelude.{◌≡◌, false};
 ghost use Rattle.toml_span_tree.specs.Value.{is_taken, view};
@@ -13,8 +13,8 @@ use std::str::FromStr;
 use toml_span_lex::stop::Stop;
 use toml_span_tree::Value;
 
-/// Returns what `FromStr` makes of a value's string, as `parse` does, with its error in a list: the body of a
-/// `deserialize`.
+/// Reads a value's string with `FromStr`, as `parse` does, but returns the error in a `DeserError`, as `deserialize`
+/// does.
 pub fn parsed<'de, T: FromStr<Err = E>, E: Display + Drop>(
     alloc: Global,
     value: &mut Value<'de>,
@@ -30,11 +30,12 @@ pub fn parsed<'de, T: FromStr<Err = E>, E: Display + Drop>(
     }
 }
 
-/// Applies a function to a value's string and returns its result. This is the body of a `deserialize` of a type that
-/// owns text, since `FromStr` has no allocator to copy it.
+/// Reads a value's string with a function. Use it as the body of `deserialize` for a type that owns text, because
+/// `FromStr` has no allocator to copy the text with.
 ///
-/// The value must not be taken before (`is_taken`), and is taken in every case. An error of the function becomes that of
-/// `parsed`, unless memory ran out. For another kind of value it is not called.
+/// Takes the value in every case. Callers must prove that it has not been taken already (`is_taken`). Fails with
+/// `Wanted`, which expects "a string", if the value is of another kind; the function is not called then. If the
+/// function fails with an error, fails with `Custom` as `parsed` does, and if it fails with `Stop::Memory`, with that.
 pub fn parse_with<'de, T: Drop, E: Display + Drop, F: FnOnce(&str) -> Result<T, Stop<E>> + Drop>(
     alloc: Global,
     value: &mut Value<'de>,

@@ -1,4 +1,4 @@
-//! A helper that reads a table field by field, and keeps the errors.
+//! A helper that reads a table field by field and collects the errors.
 ghost use Rattle.std.specs.Prelude.{◌≡◌, true, Some, None, IfOk, IfSome, is_some, option_map, map, string_bytes};
 ghost use Rattle.std.specs.Cow.{cow_str_bytes};
 ghost use Rattle.toml_span_tree.specs.Error.{content_of, missing_field};
@@ -24,24 +24,27 @@ use toml_span_lex::spanned::Spanned;
 use toml_span_lex::stop::Stop;
 use toml_span_tree::{Error, ErrorKind, Table, Value, ValueInner};
 
-/// Reads the entries of a table one after the other, and keeps the errors and the names that were asked for.
+/// Reads the entries of a table one by one.
+///
+/// It keeps the errors until the end, and it records the names that it was asked for: the error `UnexpectedKeys` lists
+/// them as the expected ones. A name is recorded even if the table has no such key.
 #[derive(Drop)]
 pub struct TableHelper<'de> {
-    /// The entries that were not asked for.
+    /// The entries that have not been read.
     pub table: Table<'de>,
-    /// The errors of the reads, in order.
+    /// The errors so far, in order.
     pub errors: Vec<Error<'de>>,
     asked: Vec<&'de str>,
     span: Span,
     alloc: Global,
 }
 
-/// Why the reads of a table failed.
+/// Why the read of a table failed.
 #[derive(Drop)]
 pub enum Unfinished<'de> {
-    /// The errors that were kept.
+    /// All errors that were kept.
     Faults(DeserError<'de>),
-    /// Memory ran out. The helper is as it was.
+    /// An allocation failed. This is the helper, unchanged.
     Memory(TableHelper<'de>),
 }
 
@@ -69,8 +72,9 @@ impl<'de> TableHelper<'de> {
     ghost use Rattle.toml_span_typed.specs.TableHelper.{state_of, unasked, unexpected_entries};
     ghost use Rattle.toml_span_typed.specs.code.TableHelper.{ReadsValue};
 
-    /// Returns a helper over the table that a value is. It must not be taken (`is_taken`), and is taken then. For a value
-    /// of another kind the error is `Wanted` "a table". Takes no memory.
+    /// Returns a helper for the table that `value` contains, and takes that table out. Callers must prove that it has
+    /// not been taken already (`is_taken`). If the value is of another kind, it is taken too, and the error is
+    /// `Wanted`, which expects "a table". Does not allocate.
     pub fn new(alloc: Global, value: &mut Value<'de>) -> Result<TableHelper<'de>, DeserError<'de>>
         requires { is_taken (view value.old) ≡ false }
         ensures answer { OpensTable (view value.old) (result_map state_of result) }
@@ -83,7 +87,7 @@ impl<'de> TableHelper<'de> {
         }
     }
 
-    /// Returns a helper over a table, whose span is given. Takes no memory.
+    /// Returns a helper for a table that spans `span`. Does not allocate.
     pub fn from_table(alloc: Global, table: Table<'de>, span: Span) -> TableHelper<'de>
         ensures { state_of result ≡ fresh (members_view table.entry.entries) span }
     {
@@ -96,14 +100,15 @@ impl<'de> TableHelper<'de> {
         }
     }
 
-    /// Returns whether the table has an entry of this name now. Records nothing.
+    /// Returns whether the table has an entry of this name that has not been read. Does not record the name.
     pub fn contains(&self, name: &'de str) -> bool
         ensures { result ≡ is_some (found name.now (state_of self.now)) }
     {
         self.table.contains_key(&Key::named(name))
     }
 
-    /// Records the name, and moves its entry out, if there is one. If memory runs out nothing has changed.
+    /// Records the name, and moves its entry out of the table, if there is one. If an allocation fails, nothing has
+    /// changed.
     #[tactic(auto, using(crate::proofs::Whole::without_whole))]
     pub fn take(&mut self, name: &'de str) -> Result<Option<(Key<'de>, Value<'de>)>, AllocError>
         ensures answer { Takes name.now (state_of self.old) result (state_of self.new) }
@@ -115,11 +120,11 @@ impl<'de> TableHelper<'de> {
         Ok(remove(&mut self.table, name))
     }
 
-    /// Records the name, moves its entry out and reads it.
+    /// Records the name, moves its entry out of the table, and reads the value.
     ///
-    /// Without an entry, keeps `MissingField` at the table's span, and returns it. If the read fails, keeps all its
-    /// errors, and returns the last one. If memory runs out nothing has changed, or the name is recorded, its entry gone,
-    /// and the errors are as before.
+    /// If there is no entry, keeps the error `MissingField` at the table's span, and returns a copy of it. If the read
+    /// fails, keeps all its errors, and returns a copy of the last one. If an allocation fails, no error is kept, but
+    /// the name may be recorded and its entry gone.
     pub fn required<T: Deserialize<'de>>(&mut self, name: &'de str) -> Result<T, Stop<Error<'de>>>
         requires { IfSome (found name.now (state_of self.old)) (λ value. IsTrue (is_whole value)) }
         ensures answer { Requires T.reads name.now (state_of self.old) result (state_of self.new) }
@@ -138,7 +143,7 @@ impl<'de> TableHelper<'de> {
         }
     }
 
-    /// Reads an entry as `required` does, with the span of the value.
+    /// Reads a field as `required` does, and returns it with the value's span.
     pub fn required_s<T: Deserialize<'de>>(
         &mut self,
         name: &'de str,
@@ -151,10 +156,10 @@ impl<'de> TableHelper<'de> {
         self.required(name)
     }
 
-    /// Records the name, moves its entry out, if there is one, and reads it.
+    /// Records the name, moves its entry out of the table, if there is one, and reads the value.
     ///
-    /// Returns None if the name is absent, and also if the read fails: its errors are kept. If memory runs out, nothing
-    /// has changed, or the name is recorded, its entry gone, and the errors are as before.
+    /// Returns `None` if there is no entry. Also returns `None` if the read fails, and keeps all its errors. If an
+    /// allocation fails, no error is kept, but the name may be recorded and its entry gone.
     pub fn optional<T: Deserialize<'de>>(&mut self, name: &'de str) -> Result<Option<T>, AllocError>
         requires { IfSome (found name.now (state_of self.old)) (λ value. IsTrue (is_whole value)) }
         ensures answer { Tries T.reads name.now (state_of self.old) result (state_of self.new) }
@@ -170,7 +175,7 @@ impl<'de> TableHelper<'de> {
         }
     }
 
-    /// Reads an entry as `optional` does, with the span of the value.
+    /// Reads a field as `optional` does, and returns it with the value's span.
     pub fn optional_s<T: Deserialize<'de>>(
         &mut self,
         name: &'de str,
@@ -183,11 +188,12 @@ impl<'de> TableHelper<'de> {
         self.optional(name)
     }
 
-    /// Ends the reads. Returns Ok exactly if no error is kept, otherwise all errors in order.
+    /// Ends the read. Returns `Ok` if no error was kept, otherwise all errors in order.
     ///
-    /// With an original value, puts the rest of the table back into it, also after errors; its span stays, and no memory
-    /// is taken. Without one, remaining keys add the error `UnexpectedKeys` at the table's span, with the keys in the
-    /// order of their names and the names that were asked for in order. If memory runs out, returns the helper as it was.
+    /// Given the original value, puts the entries that remain back into it, even if there are errors. Its span stays
+    /// the same, and nothing is allocated. Given `None`, entries that remain cause the error `UnexpectedKeys` at the
+    /// table's span, the last of all errors: it has the keys in the order of their names, and the recorded names in the
+    /// order of their requests. If an allocation fails, returns the helper unchanged.
     pub fn finalize(self, original: Option<&mut Value<'de>>) -> Result<(), Unfinished<'de>>
         ensures answer { Finalizes (state_of self.entry) original.entry result }
         ensures rest { Leaves (HoldsRest self.entry.table) original.entry original.exit }
@@ -198,7 +204,7 @@ impl<'de> TableHelper<'de> {
         }
     }
 
-    /// Ends the reads, and puts the rest of the table back into a value.
+    /// Ends the read, and puts the entries that remain back into the value. Fails with the errors that were kept.
     fn put_back(self, value: &mut Value<'de>) -> Result<(), Unfinished<'de>>
         ensures answer { EndsWithErrors (state_of self.entry).errors result }
         ensures rest { HoldsRest self.entry.table value.old value.new }
@@ -214,7 +220,8 @@ impl<'de> TableHelper<'de> {
         finish(errors)
     }
 
-    /// Ends the reads. Remaining keys are an error.
+    /// Ends the read, and reports the entries that remain. Fails with all errors, or returns the helper if an
+    /// allocation fails.
     fn refuse_rest(mut self) -> Result<(), Unfinished<'de>>
         ensures { Refuses (state_of self.entry) result }
     {
@@ -224,7 +231,7 @@ impl<'de> TableHelper<'de> {
         finish(self.errors)
     }
 
-    /// Keeps the error of the remaining keys, if there are any. If memory runs out nothing has changed.
+    /// Keeps the error `UnexpectedKeys` if entries remain. If an allocation fails, nothing has changed.
     fn keep_unasked(&mut self) -> Result<(), AllocError>
         ensures ok { OnOk result (state_of self.new ≡ keeping (unasked (state_of self.old)) (state_of self.old)) }
         ensures some { OnErr result (is_filled (state_of self.old).members ≡ true) }
@@ -237,7 +244,7 @@ impl<'de> TableHelper<'de> {
         self.keep(error)
     }
 
-    /// Returns the error of the remaining keys.
+    /// Returns the error `UnexpectedKeys` for the entries that remain. Fails if an allocation fails.
     fn unexpected_keys(&self) -> Result<Error<'de>, AllocError>
         ensures { IfOk result (λ e. content_of e ≡ unexpected_entries (state_of self.now)) }
     {
@@ -246,7 +253,8 @@ impl<'de> TableHelper<'de> {
         Ok(Error::from((ErrorKind::UnexpectedKeys { keys, expected }, self.span)))
     }
 
-    /// Reads a value. If that fails, keeps all its errors and returns the last one. If memory runs out, keeps none.
+    /// Reads a value. If that fails, keeps all its errors, and returns a copy of the last one. If an allocation fails,
+    /// keeps none.
     fn read_value<T: Deserialize<'de>>(
         &mut self,
         mut value: Value<'de>,
@@ -263,7 +271,7 @@ impl<'de> TableHelper<'de> {
         }
     }
 
-    /// Keeps one error.
+    /// Keeps one error. If an allocation fails, nothing has changed.
     fn keep(&mut self, error: Error<'de>) -> Result<(), AllocError>
         ensures ok { OnOk result (state_of self.new ≡ keeping (content_of error.entry ∷ []) (state_of self.old)) }
         ensures err { OnErr result (state_of self.new ≡ state_of self.old) }
@@ -272,7 +280,7 @@ impl<'de> TableHelper<'de> {
         Ok(())
     }
 
-    /// Keeps the errors of a read, and returns a copy of the last one. If memory runs out, keeps none.
+    /// Keeps all errors of a read, and returns a copy of the last one. If an allocation fails, keeps none.
     fn keep_all(&mut self, faults: DeserError<'de>) -> Result<Error<'de>, AllocError>
         ensures ok { IfOk result (λ e. (content_of e ≡ faults.entry.last)
             × (state_of self.new ≡ keeping (all faults.entry) (state_of self.old))) }
@@ -295,7 +303,7 @@ impl<'de> TableHelper<'de> {
     }
 }
 
-/// Moves the entry of a name out of a table.
+/// Moves the entry with this name out of the table, if there is one.
 fn remove<'de>(table: &mut Table<'de>, name: &'de str) -> Option<(Key<'de>, Value<'de>)>
     ensures rest { members_view table.new.entries ≡ without name.now (members_view table.old.entries) }
     ensures entry { option_map (λ e. (Some e.0.span, view e.1)) result
@@ -305,14 +313,14 @@ fn remove<'de>(table: &mut Table<'de>, name: &'de str) -> Option<(Key<'de>, Valu
     table.remove_entry(&Key::named(name))
 }
 
-/// Returns the error of a field that is not there, in the table at this span.
+/// Returns the error `MissingField` at `span`, that of the table.
 fn missing_field<'s>(name: &'s str, span: Span) -> Error<'s>
     ensures { content_of result ≡ record { kind = missing_field name.now; span = span; line_info = None } }
 {
     Error::from((ErrorKind::MissingField(name), span))
 }
 
-/// Ends the reads with these errors.
+/// Returns `Ok` if there are no errors, otherwise fails with them.
 fn finish<'de>(errors: Vec<Error<'de>>) -> Result<(), Unfinished<'de>>
     ensures { EndsWithErrors (map content_of errors.entry.items) result }
 {
@@ -322,7 +330,7 @@ fn finish<'de>(errors: Vec<Error<'de>>) -> Result<(), Unfinished<'de>>
     }
 }
 
-/// Returns the names of a table's keys, in order, with their spans.
+/// Returns the names and spans of a table's keys, in the order of the names. Fails if an allocation fails.
 fn key_names(alloc: Global, table: &Table) -> Result<Vec<(String, Span)>, AllocError>
     ensures { IfOk result (λ names. map key_text names.items ≡ remaining_keys (members_view table.now.entries)) }
 {
@@ -334,7 +342,7 @@ fn key_names(alloc: Global, table: &Table) -> Result<Vec<(String, Span)>, AllocE
     Ok(names)
 }
 
-/// Returns a copy of each text.
+/// Returns a list of copies of the texts. Fails if an allocation fails.
 fn copied_texts(alloc: Global, texts: &[&str]) -> Result<Vec<String>, AllocError>
     ensures { IfOk result (λ copies. map string_bytes copies.items ≡ map (λ text. text.now) texts.now) }
 {

@@ -13,7 +13,7 @@ use toml_span_lex::span::Span;
 use toml_span_lex::stop::Stop;
 use toml_span_tree::{Value, ValueInner};
 
-/// Returns the number nearest to a float's text, if that is finite.
+/// Returns the number nearest to a float's text, or `None` if that is not finite.
 fn double_of(text: &str) -> Option<f64>
     ensures { result ≡ finite_float binary64 text.now }
 {
@@ -25,7 +25,7 @@ fn double_of(text: &str) -> Option<f64>
     }
 }
 
-/// Returns the `f32` nearest to a float's text, or None if that is not finite.
+/// Returns the `f32` nearest to a float's text, or `None` if that is not finite.
 fn single_of(text: &str) -> Option<f32>
     ensures { result ≡ finite_float binary32 text.now }
 {
@@ -37,7 +37,7 @@ fn single_of(text: &str) -> Option<f32>
     }
 }
 
-/// Returns the number, or the error that the type of this name holds none that is near.
+/// Returns the number. If there is none, fails with `OutOfRange` at `span` for the type of this name.
 fn or_out_of_range<'s, T: Drop>(
     number: Option<T>,
     name: &'s str,
@@ -51,8 +51,8 @@ fn or_out_of_range<'s, T: Drop>(
     }
 }
 
-/// Reads the number nearest to a float. One that is not finite, such as `inf`, `nan` and `1e400`, is the error
-/// `OutOfRange`; `FloatText` reads it.
+/// Reads a float as the nearest number. If that is not finite, as for `inf`, `nan` and `1e400`, the error is
+/// `OutOfRange`. `FloatText` reads all floats.
 impl<'de> Deserialize<'de> for f64 {
     ghost reads = { Gives (read_number (codes "f64") binary64) };
 
@@ -70,7 +70,7 @@ impl<'de> Deserialize<'de> for f64 {
     }
 }
 
-/// Reads the same in single precision.
+/// Reads a float as the nearest number in single precision. If that is not finite, the error is `OutOfRange`.
 impl<'de> Deserialize<'de> for f32 {
     ghost reads = { Gives (read_number (codes "f32") binary32) };
 

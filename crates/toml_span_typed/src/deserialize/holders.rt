@@ -1,4 +1,4 @@
-//! Reads of values in a box or an `Option`, and of strings that `FromStr` converts.
+//! Reads of values into a box or an `Option`, and of strings by `FromStr`.
 ghost use Rattle.std.specs.Prelude.{◌⊎◌};
 ghost use Rattle.toml_span_typed.specs.Fields.{AsParsed, AsRead, AsSome};
 ghost use Rattle.toml_span_typed.specs.Reads.{Taken, result_map};
@@ -29,8 +29,8 @@ impl<'de, T: Deserialize<'de>> Deserialize<'de> for Box<T> {
     }
 }
 
-/// Reads the value as a T, and returns Some. The read of a table decides about a field that is absent: `read_table!` reads
-/// a field of the type `Option<T>` as None if its key is absent.
+/// Reads the value as a `T`, and returns `Some`. An absent key never gets here: `read_table!` returns `None` for a
+/// field of type `Option<T>` whose key is absent.
 impl<'de, T: Deserialize<'de>> Deserialize<'de> for Option<T> {
     ghost reads = { AsSome T.reads };
 
@@ -55,7 +55,7 @@ impl<'de> Deserialize<'de> for char {
     }
 }
 
-/// A string that `FromStr` converts: for a type that has no `Deserialize` of its own.
+/// A string read by `FromStr`, for a type that does not implement `Deserialize`.
 #[derive(Debug, Drop)]
 pub struct Parsed<T> {
     pub value: T,

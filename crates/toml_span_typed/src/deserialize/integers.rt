@@ -14,14 +14,15 @@ use toml_span_lex::span::Span;
 use toml_span_lex::stop::Stop;
 use toml_span_tree::{Error, ErrorKind, Value, ValueInner};
 
-/// Returns the error of an integer that the type of this name does not hold.
+/// Returns the error `OutOfRange` at `span` for the type of this name.
 pub(crate) fn out_of_range<'s>(name: &'s str, span: Span) -> DeserError<'s>
     ensures { result ≡ one (beyond_range name.now span) }
 {
     Error::from((ErrorKind::OutOfRange(name), span)).into()
 }
 
-/// Returns the integer, as the type of this name.
+/// Reads an integer as a type of this name. Takes the value in every case. Fails with `Wanted` if it is of another
+/// kind, and with `OutOfRange` if the type can't represent the integer.
 fn narrowed<'s, T: TryFrom<i64, Error = TryFromIntError> + Drop>(
     name: &'s str,
     value: &mut Value,

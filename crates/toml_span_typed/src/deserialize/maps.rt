@@ -1,4 +1,4 @@
-//! Reads of tables whose keys are not known beforehand.
+//! Reads of tables as maps, whose keys can be any names.
 ghost use Rattle.std.specs.Prelude.{◌≡◌, IsTrue, OnOk, map};
 ghost use Rattle.std.specs.Cow.{cow_str_bytes};
 ghost use Rattle.toml_span_tree.specs.Error.{content_of};
@@ -33,7 +33,7 @@ impl<'de, T: Deserialize<'de>> Deserialize<'de> for BTreeMap<String, T> {
     }
 }
 
-/// The same entries, each found by its name. In which order it gives them, no contract says.
+/// Reads the same entries as for a `BTreeMap`. No contract says in which order the map iterates over them.
 impl<'de, T: Deserialize<'de>> Deserialize<'de> for HashMap<String, T> {
     ghost reads = { hashed_reads T.reads };
 
@@ -48,7 +48,7 @@ impl<'de, T: Deserialize<'de>> Deserialize<'de> for HashMap<String, T> {
     }
 }
 
-/// Reads the value of each entry.
+/// Reads the value of each entry. Fails with the errors of all of them, or if an allocation fails.
 fn read_entries<'de, T: Deserialize<'de>>(
     alloc: Global,
     table: Table<'de>,
@@ -70,7 +70,7 @@ fn read_entries<'de, T: Deserialize<'de>>(
     }
 }
 
-/// Reads one more value.
+/// Reads the value of one entry, and adds it to `read`, or its errors to `faults`. Fails if an allocation fails.
 fn read_entry<'de, T: Deserialize<'de>>(
     alloc: Global,
     key: Key<'de>,
@@ -89,7 +89,7 @@ fn read_entry<'de, T: Deserialize<'de>>(
     }
 }
 
-/// Puts an element under a name.
+/// Inserts an element under a copy of the key's name. Fails if an allocation fails.
 #[tactic(auto, using(crate::proofs::Maps::shown_insert))]
 fn put<T: Drop>(
     alloc: Global,

@@ -17,14 +17,14 @@ use toml_span_lex::span::Span;
 use toml_span_lex::stop::Stop;
 use toml_span_tree::{Error, ErrorKind, Value};
 
-/// An integer from LOW to HIGH, both included: what `read_table!` reads for `range(LOW..=HIGH)`.
+/// An integer from `LOW` to `HIGH`, both included. `read_table!` reads a field with `range(LOW..=HIGH)` as this type.
 #[derive(Debug, Drop)]
 pub struct InRange<T, const LOW: i64, const HIGH: i64> {
     pub value: T,
 }
 
-/// Reads the integer as a T does. One that is less than LOW or greater than HIGH is the error `Marked`, of the code
-/// `out-of-range`, at the value, with the range and the integer in its message, even if T can't hold it.
+/// Reads an integer as a `T`. If it is not in the range, the error is `Marked` with the code `out-of-range`, at the
+/// value, even if `T` can't represent the integer. The message names the range and the integer.
 impl<
     'de,
     T: Deserialize<'de> + TryFrom<i64, Error = TryFromIntError>,
@@ -49,7 +49,8 @@ impl<
     }
 }
 
-/// Returns the error of a value that is an integer outside the range, or None.
+/// Returns the error of a value that is an integer outside the range, or `None` for any other value. Fails if an
+/// allocation fails.
 fn range_fault<'s>(
     alloc: Global,
     low: i64,
@@ -66,7 +67,7 @@ fn range_fault<'s>(
     }
 }
 
-/// Returns the error of an integer that is not in the range.
+/// Returns the error of the integer `found`, which is not in the range. Fails if an allocation fails.
 fn out_of_range<'s>(
     alloc: Global,
     low: i64,
@@ -85,7 +86,7 @@ fn out_of_range<'s>(
     Ok(Error::from((kind, span)))
 }
 
-/// Returns the message for an integer that is not in the range.
+/// Returns the message for the integer `found`, which is not in the range. Fails if an allocation fails.
 #[tactic(auto, unfolding(crate::specs::Ranges::range_message))]
 fn range_message(alloc: Global, low: i64, high: i64, found: i64) -> Result<String, AllocError>
     ensures { IfOk result (λ message. string_bytes message ≡ spec.range_message low high found) }
@@ -99,7 +100,7 @@ fn range_message(alloc: Global, low: i64, high: i64, found: i64) -> Result<Strin
     Ok(out)
 }
 
-/// Adds an integer in decimal digits.
+/// Appends an integer in decimal. Fails if an allocation fails.
 fn push_integer(number: i64, out: &mut String) -> Result<(), AllocError>
     ensures { OnOk result (string_bytes out.new ≡ string_bytes out.old ++ signed_decimal number) }
 {

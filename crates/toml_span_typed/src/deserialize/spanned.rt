@@ -1,4 +1,4 @@
-//! Reads of a value together with its span.
+//! Reads of a value with its span.
 ghost use Rattle.toml_span_typed.specs.Reads.{spanned};
 
 use crate::deser_error::DeserError;

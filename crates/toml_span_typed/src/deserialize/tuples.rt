@@ -1,4 +1,4 @@
-//! Reads of arrays of two elements, each as a type of its own.
+//! Reads of arrays of two elements with different types.
 ghost use Rattle.std.specs.Prelude.{◌≡◌, IfErr, IfOk, IsTrue};
 ghost use Rattle.toml_span_tree.specs.Value.{is_whole, view};
 ghost use Rattle.toml_span_typed.specs.Reads.{Taken};
@@ -13,8 +13,8 @@ use toml_span_lex::span::Span;
 use toml_span_lex::stop::Stop;
 use toml_span_tree::{Error, ErrorKind, Value, ValueInner};
 
-/// An array of two elements. Another number of them is the error `Custom` at the array's span, with the text
-/// `expected 2 elements, found` and their number; then none of them is read.
+/// Reads an array of two elements. For any other number of elements the error is `Custom` at the array's span, with the
+/// text `expected 2 elements, found` and the number; then no element is read.
 impl<'de, A: Deserialize<'de>, B: Deserialize<'de>> Deserialize<'de> for (A, B) {
     ghost reads = { pair_reads A.reads B.reads };
 
@@ -42,7 +42,8 @@ impl<'de, A: Deserialize<'de>, B: Deserialize<'de>> Deserialize<'de> for (A, B) 
     }
 }
 
-/// The elements of an array of two. The value is taken.
+/// Takes the value, and returns its two elements. Fails with `Wanted` if it is not an array, or with the error of
+/// `miscounted`.
 fn two<'de>(
     alloc: Global,
     value: &mut Value<'de>,
@@ -67,7 +68,8 @@ fn two<'de>(
     }
 }
 
-/// Returns the error of an array with another number of elements, or that memory ran out for its text.
+/// Returns the error for an array of `found` elements instead of `wanted`, or `Stop::Memory` if its text can't be
+/// allocated.
 fn miscounted<'s>(alloc: Global, wanted: usize, found: usize, span: Span) -> Stop<DeserError<'s>>
     ensures { TellsOne (other_length wanted found span) result }
 {

@@ -29,7 +29,7 @@ impl<'de, T: DeserializeWithWarnings<'de>> DeserializeWithWarnings<'de> for Vec<
     }
 }
 
-/// Reads each value.
+/// Reads each element. Fails with the errors of all of them, or if an allocation fails. Appends all warnings.
 fn read_all<'de, T: DeserializeWithWarnings<'de>>(
     alloc: Global,
     items: Vec<Value<'de>>,
@@ -53,7 +53,8 @@ fn read_all<'de, T: DeserializeWithWarnings<'de>>(
     }
 }
 
-/// Reads one more value.
+/// Reads one element, and appends it to `read`, or its errors to `faults`, and its warnings to `warnings`. Fails if an
+/// allocation fails.
 fn read_next<'de, T: DeserializeWithWarnings<'de>>(
     alloc: Global,
     item: Value<'de>,

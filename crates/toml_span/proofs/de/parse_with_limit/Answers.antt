@@ -1,33 +1,33 @@
 use Rattle.toml_span_lex.proofs.Common.{map}
-use Rattle.toml_span_read.specs.Data.{block}
-use Rattle.toml_span.proofs.Growth.{tree_borrows}
+use Rattle.toml_span_read.specs.Data.{parsed_section}
+use Rattle.toml_span.proofs.AssemblyLemmas.{tree_borrows}
 use Rattle.toml_span.proofs.Memory.{keeps-on, keeps-placed}
-use Rattle.toml_span.proofs.PlaceLemmas.{grown_inside}
+use Rattle.toml_span.proofs.PlaceLemmas.{assembly_inside}
 use Rattle.toml_span.proofs.Refusals.{answers-fault, whole-tree}
 use Rattle.toml_span.proofs.de.parse_with_limit.Goals as goal
 
 pub tree_of-requires : goal.tree_of-requires
-tree_of-requires c = let g = c.in-Ok.ensures.grown in record { inside = grown_inside c.args.s.now c.args.limit g.sections c.in-Ok.grown g.document g.grows }
+tree_of-requires c = let g = c.in-Ok.ensures.assembly in record { inside = assembly_inside c.args.s.now c.args.limit g.sections c.in-Ok.assembly g.document g.assembles }
 
 pub returns-in-Ok-clause-answers : goal.returns-in-Ok-clause-answers
-returns-in-Ok-clause-answers c = let g = c.in-Ok.ensures.grown in c.tree_of.ensures.answers (map block g.sections) c.args.limit g.document g.grows
+returns-in-Ok-clause-answers c = let g = c.in-Ok.ensures.assembly in c.tree_of.ensures.answers (map parsed_section g.sections) c.args.limit g.document g.assembles
 
 pub returns-in-Ok-clause-whole : goal.returns-in-Ok-clause-whole
 returns-in-Ok-clause-whole c =
-    let g = c.in-Ok.ensures.grown in
-    whole-tree c.args.s.now c.args.limit c.tree_of.result (c.tree_of.ensures.answers (map block g.sections) c.args.limit g.document g.grows)
+    let g = c.in-Ok.ensures.assembly in
+    whole-tree c.args.s.now c.args.limit c.tree_of.result (c.tree_of.ensures.answers (map parsed_section g.sections) c.args.limit g.document g.assembles)
 
 pub returns-in-Ok-clause-borrows : goal.returns-in-Ok-clause-borrows
 returns-in-Ok-clause-borrows c =
-    let g = c.in-Ok.ensures.grown in
-    tree_borrows (map block g.sections) c.args.s.now c.args.limit c.tree_of.result g.document (c.tree_of.ensures.borrows (map block g.sections) g.grows g.borrows)
+    let g = c.in-Ok.ensures.assembly in
+    tree_borrows (map parsed_section g.sections) c.args.s.now c.args.limit c.tree_of.result g.document (c.tree_of.ensures.borrows (map parsed_section g.sections) g.assembles g.borrows)
 
 pub returns-in-Err-Fault-clause-answers : goal.returns-in-Err-Fault-clause-answers
-returns-in-Err-Fault-clause-answers c = answers-fault c.args.s.now c.args.limit _ c.in-Err-Fault.fault _ c.in-Err-Fault.field-0-is c.in-Err-Fault.ensures.grown c.in-Err-Fault.ensures.placed c.error_of.ensures
+returns-in-Err-Fault-clause-answers c = answers-fault c.args.s.now c.args.limit _ c.in-Err-Fault.fault _ c.in-Err-Fault.field-0-is c.in-Err-Fault.ensures.assembly c.in-Err-Fault.ensures.placed c.error_of.ensures
 
 pub returns-in-Ok-clause-memory : goal.returns-in-Ok-clause-memory
 returns-in-Ok-clause-memory c =
-    let g = c.in-Ok.ensures.grown in
+    let g = c.in-Ok.ensures.assembly in
     keeps-placed g.sections c.args.s.now c.args.limit c.tree_of.result g.document (λ none. c.tree_of.ensures.bare (g.bare none))
 
 pub returns-in-Err-Memory-clause-memory : goal.returns-in-Err-Memory-clause-memory

@@ -1,7 +1,7 @@
 use Rattle.toml_span_lex.proofs.Common.{arith, inr, length}
-use Rattle.toml_span.specs.code.Machine.{clash_told}
+use Rattle.toml_span.specs.code.Machine.{named_clash}
 use Rattle.toml_span.proofs.PlaceLemmas.{clash_inside}
-use Rattle.toml_span.proofs.Refusals.{answers-tree, first-of-halt}
+use Rattle.toml_span.proofs.Refusals.{answers-tree, first-of-error}
 use Rattle.toml_span.proofs.de.tree_of.Goals as goal
 
 pub line_info-place-requires : goal.line_info-place-requires
@@ -11,20 +11,20 @@ line_info-place-requires c =
     rw c.into_inner-clash.ensures (omega (arith, inside.0, inside.1))
 
 pub returns-in-Ok-clause-answers : goal.returns-in-Ok-clause-answers
-returns-in-Ok-clause-answers c = λ bs limit given grows. answers-tree c.args.text.now limit bs _ given (c.in-Ok.ensures.assembles bs grows)
+returns-in-Ok-clause-answers c = λ bs limit given assembles. answers-tree c.args.text.now limit bs _ given (c.in-Ok.ensures.assembles bs assembles)
 
 pub returns-in-Err-Fault-clause-answers : goal.returns-in-Err-Fault-clause-answers
-returns-in-Err-Fault-clause-answers c = λ bs limit given grows.
+returns-in-Err-Fault-clause-answers c = λ bs limit given assembles.
     let n = length c.args.text.now in
     let place = c.line_info-place.result in
     let inside = clash_inside n _ _ c.in-Err-Fault.field-0-is (c.in-Err-Fault.ensures.placed n c.requires.inside) in inr (
       bs,
-      clash_told c.in-Err-Fault.clash,
-      (given, first-of-halt _ n _ _ c.in-Err-Fault.field-0-is (c.in-Err-Fault.ensures.assembles bs grows)),
+      named_clash c.in-Err-Fault.clash,
+      (given, first-of-error _ n _ _ c.in-Err-Fault.field-0-is (c.in-Err-Fault.ensures.assembles bs assembles)),
       record {
         line = place.0;
         column = place.1;
-        tells = rw c.into_inner-clash.ensures at c.into_error.ensures;
+        reports = rw c.into_inner-clash.ensures at c.into_error.ensures;
         within = omega (arith, inside.0, inside.1);
         forward = inside.0;
         place = rw c.into_inner-clash.ensures at c.line_info-place.ensures;

@@ -7,7 +7,7 @@ use Rattle.toml_span_tree.specs.declared.value.ValueInner.TheVariants.{Array, Ta
 use Rattle.toml_span_tree.specs.declared.value.ValueInner.TheVariants as inners
 use Rattle.toml_span_tree.specs.Path.{shape_of as tree_shape}
 use Rattle.toml_span_tree.proofs.Values.{inner_view-Array, inner_view-Table}
-use Rattle.toml_span_read.specs.Data.{view}
+use Rattle.toml_span_read.specs.Data.{parsed_value}
 use Rattle.toml_span_read.specs.declared.value.ValKind.{the_lemmas}
 use Rattle.toml_span_read.specs.Borrowed.{assignment_written, written}
 use Rattle.toml_span.proofs.Placed.{err-of}
@@ -56,12 +56,12 @@ array_of-returns-clause-scope t c = elements-none _ _ c.loop-element.array (nil_
 pub place_one-returns-clause-places : goal.place_one-returns-clause-places
 place_one-returns-clause-places t c =
     places-one c.args.pair c.as_slice.result.now c.args.node.now c.place_pair.new.node c.place_pair.result c.as_slice.ensures.value
-    (c.place_pair.ensures.places _ (view c.args.pair.value) refl c.value_of-value.ensures.value (val_span c.args.pair.value))
+    (c.place_pair.ensures.places _ (parsed_value c.args.pair.value) refl c.value_of-value.ensures.value (val_span c.args.pair.value))
 
 pub place_one-returns-then-is_empty-clause-places : goal.place_one-returns-then-is_empty-clause-places
 place_one-returns-then-is_empty-clause-places t c =
     places-one c.args.pair [] c.args.node.now c.assign.new.node c.assign.result (inner-none c.args.pair c.if-is_empty.ensures)
-    (c.assign.ensures.places (view c.args.pair.value) c.value_of-value.ensures.value (val_span c.args.pair.value))
+    (c.assign.ensures.places (parsed_value c.args.pair.value) c.value_of-value.ensures.value (val_span c.args.pair.value))
 
 pub place_pairs-loop-pair-init : goal.place_pairs-loop-pair-init
 place_pairs-loop-pair-init t c = record {

@@ -96,10 +96,10 @@ put_value-returns t c k m at fits =
     let own = own_entry k site.parent site.position name site.key_span (view value) inner in
     let (own_fits, held_fits) = fits-own document k m own (held_entries k inner) (fits-same document k m _ _ kept fits) in
     let first = c.begin_record-record.ensures.put m at.strings own_fits in
-    let behind = m + length (entry_strings document (begun site value)) in
+    let after = m + length (entry_strings document (begun site value)) in
     let next : c.saturating_add-counts.result ≡ suc k = omega (arith, at.nodes, held_fits.few, c.saturating_add-counts.ensures) in
-    let below = c.put_held.ensures k behind at.nodes (record { nodes = next; strings = first.count }) held_fits in
+    let below = c.put_held.ensures k after at.nodes (record { nodes = next; strings = first.count }) held_fits in
     let begins = c.begin_record-record.ensures.begins m at.strings own_fits in
     let made = ap (λ (r : Record). record r { next = c.put_held.new.counts.nodes }) begins
     ∙ ap (λ (n : ℕ). record (record_of document m (begun site value)) { next = n }) below.counts.nodes in
-    rw kept (puts-own document _ k m behind own (held_entries k inner) _ _ _ _ _ _ _ _ refl made first.bytes below c.put_record.ensures at.nodes)
+    rw kept (puts-own document _ k m after own (held_entries k inner) _ _ _ _ _ _ _ _ refl made first.bytes below c.put_record.ensures at.nodes)

@@ -1,6 +1,6 @@
 use Rattle.toml_span_lex.proofs.Common.{◌≡◌, map, take}
-use Rattle.toml_span_read.specs.Data.{key_value}
+use Rattle.toml_span_read.specs.Data.{parsed_assignment}
 use Rattle.toml_span_format.proofs.permuted.sorted.Given as goal
 
 abbrev pub invariant-loop-assignment : goal.invariant-loop-assignment
-invariant-loop-assignment l = map (λ n. key_value n.assignment.now) l.found.items ≡ map key_value (take l.assignment-index l.assignments)
+invariant-loop-assignment l = map (λ n. parsed_assignment n.assignment.now) l.found.items ≡ map parsed_assignment (take l.assignment-index l.assignments)

@@ -1,5 +1,5 @@
-use Rattle.toml_span_laws.proofs.AgainLaws.{blocks_again}
+use Rattle.toml_span_laws.proofs.AgainLaws.{parsed_sections_again}
 use Rattle.toml_span_laws.proofs.again.values_read_again.Goals as goal
 
 pub returns : goal.returns
-returns c = λ text limit blocks h. blocks_again blocks text limit h
+returns c = λ text limit sections h. parsed_sections_again sections text limit h

@@ -2,4 +2,4 @@ use Rattle.toml_span_laws.proofs.Order.{document-ascends}
 use Rattle.toml_span_laws.proofs.parse.claims_ascend.Goals as goal
 
 pub returns : goal.returns
-returns c = λ text limit blocks h. document-ascends blocks text limit h
+returns c = λ text limit sections h. document-ascends sections text limit h

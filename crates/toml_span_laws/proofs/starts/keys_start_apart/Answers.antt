@@ -2,4 +2,4 @@ use Rattle.toml_span_laws.proofs.AscendLaws.{document_keys_increase}
 use Rattle.toml_span_laws.proofs.starts.keys_start_apart.Goals as goal
 
 pub returns : goal.returns
-returns c = λ text limit blocks h. document_keys_increase blocks text limit h
+returns c = λ text limit sections h. document_keys_increase sections text limit h

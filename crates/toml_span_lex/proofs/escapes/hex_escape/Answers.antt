@@ -1,7 +1,7 @@
 use Rattle.toml_span_lex.proofs.Common.{arith, refl, ◌≡◌, ◌+◌, ◌<◌, get_or, length, add_assoc, false, true, nat_tests}
 use Rattle.toml_span_lex.specs.Escapes.{is_hex}
 use Rattle.toml_span_lex.proofs.Hex.{room, grows, hex_value_step, HexRun-more, hex_ascii, past_hex}
-use Rattle.toml_span_lex.proofs.Runs.{behind, char_fails}
+use Rattle.toml_span_lex.proofs.Runs.{after_ascii, char_fails}
 use Rattle.toml_span_lex.proofs.escapes.hex_escape.Goals as goal
 
 pub loop-k-init : goal.loop-k-init
@@ -9,7 +9,7 @@ loop-k-init c = record {
   run = record { within = omega arith; digits = λ k f g. absurd (omega arith) };
   value = refl;
   below = omega arith;
-  boundary = behind c.args.text.now c.args.at _ (omega arith) c.utf8.text c.requires.within c.requires.ascii;
+  boundary = after_ascii c.args.text.now c.args.at _ (omega arith) c.utf8.text c.requires.within c.requires.ascii;
 }
 
 pub overflow_mul-value : goal.overflow_mul-value
@@ -34,5 +34,5 @@ loop-k-preserved c =
       run = rw (add_assoc (c.args.at + 1) l.k 1) at (HexRun-more text _ _ l.invariant.run here is);
       value = hex_value_step text _ _ _ _ here l.invariant.value (cc (d.1, c.from.ensures));
       below = grows l.value c.in-Some.digit l.k l.invariant.below (omega (arith, d.0, d.1));
-      boundary = behind text ((c.args.at + 1) + l.k) _ (omega arith) c.utf8.text here (hex_ascii _ is);
+      boundary = after_ascii text ((c.args.at + 1) + l.k) _ (omega arith) c.utf8.text here (hex_ascii _ is);
     }

@@ -1,10 +1,10 @@
 use Rattle.toml_span_lex.proofs.Common.{arith, refl, rules, inl, inr, ◌≡◌, ◌<◌, false, get_or, length}
 use Rattle.toml_span_lex.specs.Bytes.{is_printed}
-use Rattle.toml_span_lex.proofs.Runs.{behind, neither_line, not_plain, unprinted_ascii}
+use Rattle.toml_span_lex.proofs.Runs.{after_ascii, neither_line, not_plain, unprinted_ascii}
 use Rattle.toml_span_lex.proofs.pieces.piece_at.Goals as goal
 
 pub returns-then-bytes-at-clause-boundary : goal.returns-then-bytes-at-clause-boundary
-returns-then-bytes-at-clause-boundary c = behind c.args.text.now c.args.at _ refl c.utf8.text (omega arith) (search rules)
+returns-then-bytes-at-clause-boundary c = after_ascii c.args.text.now c.args.at _ refl c.utf8.text (omega arith) (search rules)
 
 pub returns-in-None-clause-piece : goal.returns-in-None-clause-piece
 returns-in-None-clause-piece c =

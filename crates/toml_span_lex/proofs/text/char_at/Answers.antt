@@ -1,12 +1,12 @@
 use Rattle.toml_span_lex.proofs.Common.{refl, rules}
-use Rattle.toml_span_lex.proofs.Runs.{behind, behind_line, char_found, char_boundary}
+use Rattle.toml_span_lex.proofs.Runs.{after_ascii, after_line, char_found, char_boundary}
 use Rattle.toml_span_lex.proofs.text.char_at.Goals as goal
 
 pub returns-then-is_crlf-clause-boundary : goal.returns-then-is_crlf-clause-boundary
-returns-then-is_crlf-clause-boundary c = behind_line c.args.text.now c.args.at c.utf8.text (search rules)
+returns-then-is_crlf-clause-boundary c = after_line c.args.text.now c.args.at c.utf8.text (search rules)
 
 pub returns-then-byte-lt128-clause-boundary : goal.returns-then-byte-lt128-clause-boundary
-returns-then-byte-lt128-clause-boundary c = behind c.args.text.now c.args.at _ refl c.utf8.text c.requires.within (search rules)
+returns-then-byte-lt128-clause-boundary c = after_ascii c.args.text.now c.args.at _ refl c.utf8.text c.requires.within (search rules)
 
 pub returns-in-Some-clause-char : goal.returns-in-Some-clause-char
 returns-in-Some-clause-char c =

@@ -1,10 +1,10 @@
 use Rattle.toml_span_lex.proofs.Common.{refl, rules}
 use Rattle.toml_span_lex.specs.Bytes.{is_keylike}
-use Rattle.toml_span_lex.proofs.Runs.{behind_line, begins_none, neither, run_forward}
+use Rattle.toml_span_lex.proofs.Runs.{after_line, begins_none, neither, run_forward}
 use Rattle.toml_span_lex.proofs.tokenizer.other_at.Goals as goal
 
 pub returns-then-is_crlf-clause-boundary : goal.returns-then-is_crlf-clause-boundary
-returns-then-is_crlf-clause-boundary c = behind_line c.args.input.now c.args.at c.utf8.input (search rules)
+returns-then-is_crlf-clause-boundary c = after_line c.args.input.now c.args.at c.utf8.input (search rules)
 
 pub returns-then-is_keylike-clause-finds : goal.returns-then-is_keylike-clause-finds
 returns-then-is_keylike-clause-finds c =

@@ -1,7 +1,7 @@
 use Rattle.toml_span_lex.proofs.Common.{◌≡◌, ◌++◌, sym, ap, refl, ◌∙◌, cow_str_bytes}
 use Rattle.toml_span_tree.specs.Value.{view, inner_view, items_view, members_view}
 use Rattle.toml_span_lines.specs.Lines.{line, node_lines, held_lines, items_lines, members_lines, position_segment, key_segment}
-use Rattle.toml_span_lines.proofs.Fronts.{holds-all, holds-more, fails-behind, stops-behind, goes-on}
+use Rattle.toml_span_lines.proofs.Fronts.{holds-all, holds-more, fails-after, stops-after, goes-on}
 use Rattle.toml_span_lines.proofs.Walks.{node_lines-held, items_lines-next, members_lines-next, take-segment}
 use Rattle.toml_span_tree.proofs.Sizes.{items_size-next, members_size-next}
 use Rattle.toml_span_tree.proofs.Values.{inner_view-Array, inner_view-Table}
@@ -10,7 +10,7 @@ use Rattle.toml_span_lines.proofs.lines.+write_value.Goals as goal
 pub write_elements-returns-in_err-push_position-clause-out : goal.write_elements-returns-in_err-push_position-clause-out
 write_elements-returns-in_err-push_position-clause-out g t c =
     let out = c.loop-position.invariant.out in
-    stops-behind c.from_residual.result _ _ _ out.0 _ _ _ _ c.from_residual.ensures.1 out.1 c.loop-position.invariant.good out.2
+    stops-after c.from_residual.result _ _ _ out.0 _ _ _ _ c.from_residual.ensures.1 out.1 c.loop-position.invariant.good out.2
 
 pub write_elements-returns-in_err-write_value-clause-out : goal.write_elements-returns-in_err-write_value-clause-out
 write_elements-returns-in_err-write_value-clause-out g t c =
@@ -21,7 +21,7 @@ write_elements-returns-in_err-write_value-clause-out g t c =
     sym (c.in_ok-push_position.ensures ∙ ap (λ p. p ++ position_segment i) c.loop-position.invariant.path) in
     let out = c.loop-position.invariant.out in
     let piece = node_lines c.push_position.new.path.items (view element) in
-    fails-behind (Unit {0}) (Unit {0}) c.from_residual-in_err-write_value.result c.in_err-write_value.field-0.0 _ _ _ _ out.0 _ piece _ _ _ _ c.from_residual-in_err-write_value.ensures.1 out.1
+    fails-after (Unit {0}) (Unit {0}) c.from_residual-in_err-write_value.result c.in_err-write_value.field-0.0 _ _ _ _ out.0 _ piece _ _ _ _ c.from_residual-in_err-write_value.ensures.1 out.1
     c.in_err-write_value.ensures.out
     (items_lines-next path i c.args.elements.now element out.0 (out.0 ++ piece) _ c.loop-position-test.true (sym c.index-elements-position.is) out.2
     (ap (λ p. out.0 ++ node_lines p (view element)) (sym below)))
@@ -52,7 +52,7 @@ write_elements-loop-position-preserved g t c =
 pub write_entries-returns-in_err-push_key-clause-out : goal.write_entries-returns-in_err-push_key-clause-out
 write_entries-returns-in_err-push_key-clause-out g t c =
     let out = c.loop-key.invariant.out in
-    stops-behind c.from_residual.result _ _ _ out.0 _ _ _ _ c.from_residual.ensures.1 out.1 c.loop-key.invariant.good out.2
+    stops-after c.from_residual.result _ _ _ out.0 _ _ _ _ c.from_residual.ensures.1 out.1 c.loop-key.invariant.good out.2
 
 pub write_entries-returns-in_err-write_value-clause-out : goal.write_entries-returns-in_err-write_value-clause-out
 write_entries-returns-in_err-write_value-clause-out g t c =
@@ -65,7 +65,7 @@ write_entries-returns-in_err-write_value-clause-out g t c =
     ∙ ap (λ n. path ++ key_segment n) c.as_ref.ensures.value) in
     let out = c.loop-key.invariant.out in
     let piece = node_lines c.push_key.new.path.items (view value) in
-    fails-behind (Unit {0}) (Unit {0}) c.from_residual-in_err-write_value.result c.in_err-write_value.field-0.0 _ _ _ _ out.0 _ piece _ _ _ _ c.from_residual-in_err-write_value.ensures.1 out.1
+    fails-after (Unit {0}) (Unit {0}) c.from_residual-in_err-write_value.result c.in_err-write_value.field-0.0 _ _ _ _ out.0 _ piece _ _ _ _ c.from_residual-in_err-write_value.ensures.1 out.1
     c.in_err-write_value.ensures.out
     (members_lines-next path c.loop-key.key-iterator c.next.new.self key value out.0 (out.0 ++ piece) _ c.in-Some.ensures.steps out.2
     (ap (λ p. out.0 ++ node_lines p (view value)) (sym below)))
@@ -102,7 +102,7 @@ write_value-returns-in_err-write_line-clause-out g t c =
     let span = c.args.value.now.span in
     let i = inner_view c.as_ref-inner.result.now in
     let own = line c.as_slice.result.now c.type_str.result.now span.start span.end in
-    fails-behind (Unit {0}) (Unit {0}) c.from_residual.result c.in_err-write_line.field-0.0 _ _ _ _ held held own (held_lines path i) _ _ _ c.from_residual.ensures.1 (holds-all _ held) c.in_err-write_line.ensures
+    fails-after (Unit {0}) (Unit {0}) c.from_residual.result c.in_err-write_line.field-0.0 _ _ _ _ held held own (held_lines path i) _ _ _ c.from_residual.ensures.1 (holds-all _ held) c.in_err-write_line.ensures
     (node_lines-held (view c.args.value.now) i span path held _ _ _ c.as_ref-inner.ensures (sym c.is_taken.ensures ∙ c.if-is_taken.false) c.as_slice.ensures.value c.type_str.ensures refl)
 
 pub write_value-returns-in-Array-clause-out : goal.write_value-returns-in-Array-clause-out

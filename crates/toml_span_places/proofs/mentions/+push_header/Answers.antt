@@ -1,5 +1,5 @@
 use Rattle.toml_span_lex.proofs.Common.{◌∙◌, ap, map, sym}
-use Rattle.toml_span_read.specs.Data.{block}
+use Rattle.toml_span_read.specs.Data.{parsed_section}
 use Rattle.toml_span_tree.specs.Nodes.{step_of}
 use Rattle.toml_span_places.specs.Mentions.{latest, steps_of}
 use Rattle.toml_span_places.specs.code.Opened.{counts_of}
@@ -21,7 +21,7 @@ returns-clause-mentions t c =
     let e_is = c.in_ok-element.ensures ∙ ap (λ l. latest (counts_of c.args.opened.now (map step_of l))) c.as_slice-2.ensures.value in
     let here = c.in_ok-push-2.ensures ∙ rw (c.as_slice-3.ensures.value, c.by_header-details-2.ensures) in
     on_ok_same c.push_header.result _ _
-    (header_listed (counts_of c.args.opened.now) (block c.args.section.now) (steps_of c.args.path) _ _ _ c.args.parts.now c.key-item.result _ _ _ _
+    (header_listed (counts_of c.args.opened.now) (parsed_section c.args.section.now) (steps_of c.args.path) _ _ _ c.args.parts.now c.key-item.result _ _ _ _
     c.in-len1-up.len_at_least c.key-item.is (sym c.if-is_empty.ensures) c.in_ok-path_below.ensures e_is c.in_ok-inside.ensures here)
     c.push_header.ensures.mentions
 

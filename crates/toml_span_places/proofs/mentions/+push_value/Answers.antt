@@ -1,5 +1,5 @@
 use Rattle.toml_span_lex.proofs.Common.{◌≡◌, ◌∷◌, [], ◌++◌, ◌∙◌, map, sym}
-use Rattle.toml_span_read.specs.Data.{view}
+use Rattle.toml_span_read.specs.Data.{parsed_value}
 use Rattle.toml_span_tree.specs.Nodes.{step_of}
 use Rattle.toml_span_tree.specs.Path.{position}
 use Rattle.toml_span_places.specs.Mentions.{mentioned, value_mentions}
@@ -14,7 +14,7 @@ push_items-loop-position-preserved t c =
     let v = c.index-items-position.result in
     let here = sym c.index-items-position.is in
     let more : map mentioned c.push_value.new.out.items
-    ≡ map mentioned l.out.items ++ value_mentions (path ++ (position l.position ∷ [])) (view v) =
+    ≡ map mentioned l.out.items ++ value_mentions (path ++ (position l.position ∷ [])) (parsed_value v) =
     c.in_ok-push_value.ensures ∙ rw (c.as_slice.ensures.value, c.in_ok-element.ensures) in
     record {
       small = elements_small l.position vs v _ c.loop-position-test.true here l.invariant.small;

@@ -1,18 +1,18 @@
 use Rattle.toml_span_lex.proofs.Common.{◌≡◌, ◌≤◌, ◌++◌, suc, drop, map}
-use Rattle.toml_span_read.specs.Data.{view}
+use Rattle.toml_span_read.specs.Data.{parsed_value}
 use Rattle.toml_span_tree.specs.Nodes.{step_of}
 use Rattle.toml_span_places.specs.Mentions.{mentioned}
 use Rattle.toml_span_places.proofs.ValueSizes.{assigned_mentions, assigned_size, elements_mentions, elements_size, value_size}
 use Rattle.toml_span_places.proofs.mentions.+push_value.Given as goal
 
 abbrev pub decreases-push_value : goal.decreases-push_value
-decreases-push_value l = value_size (view l.value.now)
+decreases-push_value l = value_size (parsed_value l.value.now)
 
 abbrev pub decreases-push_items : goal.decreases-push_items
 decreases-push_items l = suc (elements_size l.items.now)
 
 abbrev pub decreases-push_pair : goal.decreases-push_pair
-decreases-push_pair l = suc (value_size (view l.pair.now.value))
+decreases-push_pair l = suc (value_size (parsed_value l.pair.now.value))
 
 abbrev pub decreases-push_pairs : goal.decreases-push_pairs
 decreases-push_pairs l = suc (assigned_size l.pairs.now)

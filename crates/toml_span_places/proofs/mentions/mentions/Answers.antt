@@ -1,5 +1,5 @@
 use Rattle.toml_span_lex.proofs.Common.{[], ◌++◌, ap, map, sym}
-use Rattle.toml_span_read.specs.Data.{block}
+use Rattle.toml_span_read.specs.Data.{parsed_section}
 use Rattle.toml_span.specs.Paths.{opened_by}
 use Rattle.toml_span_places.specs.Mentions.{mentioned, mentions_after}
 use Rattle.toml_span_places.proofs.SectionLemmas.{listed_section}
@@ -10,7 +10,7 @@ unfolding opened_by
 loop-section-init c = (
   [],
   c.new-opened.ensures,
-  ap (λ l. map mentioned l ++ mentions_after c.args.with_assignments [] (map block c.args.sections.now)) c.new-out.ensures.items,
+  ap (λ l. map mentioned l ++ mentions_after c.args.with_assignments [] (map parsed_section c.args.sections.now)) c.new-out.ensures.items,
 )
 
 pub loop-section-preserved : goal.loop-section-preserved

@@ -1,11 +1,11 @@
 use Rattle.toml_span_lex.proofs.Common.{rules, arith, ◌≡◌, ◌+◌, ◌∷◌, get_or, refl, ◌∙◌, slice_range}
 use Rattle.toml_span_read.proofs.NumberLemmas.{slice_cons, slice_ascii}
 use Rattle.toml_span_read.proofs.NumberReads.{float_on}
-use Rattle.toml_span_read.proofs.Places.{behind_byte}
+use Rattle.toml_span_read.proofs.Places.{after_byte}
 use Rattle.toml_span_read.proofs.numbers.float_literal.Goals as goal
 
 pub range-requires-clause-start_boundary : goal.range-requires-clause-start_boundary
-range-requires-clause-start_boundary c = λ _. behind_byte c.args.text.now c.args.at c.utf8.text (search rules) (search rules)
+range-requires-clause-start_boundary c = λ _. after_byte c.args.text.now c.args.at c.utf8.text (search rules) (search rules)
 
 pub range-requires-else-byte_at-eq43-clause-start_le_end : goal.range-requires-else-byte_at-eq43-clause-start_le_end
 range-requires-else-byte_at-eq43-clause-start_le_end c = omega (arith, float_on c.args.text.now c.args.at c.args.end c.requires.float)

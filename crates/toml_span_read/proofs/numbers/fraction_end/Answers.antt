@@ -1,6 +1,6 @@
 use Rattle.toml_span_lex.proofs.Common.{rules}
-use Rattle.toml_span_read.proofs.Places.{behind_byte}
+use Rattle.toml_span_read.proofs.Places.{after_byte}
 use Rattle.toml_span_read.proofs.numbers.fraction_end.Goals as goal
 
 pub run_end-requires : goal.run_end-requires
-run_end-requires c = behind_byte c.args.text.now c.args.first.end c.utf8.text (search rules) (search rules)
+run_end-requires c = after_byte c.args.text.now c.args.first.end c.utf8.text (search rules) (search rules)

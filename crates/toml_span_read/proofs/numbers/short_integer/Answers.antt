@@ -1,7 +1,7 @@
 use Rattle.toml_span_lex.proofs.Common.{rules, ◌≡◌, ◌<◌, ◌+◌, false, get_or, ◌==◌}
 use Rattle.toml_span_lex.specs.Bytes.{is_keylike}
 use Rattle.toml_span_tree.specs.Node.{integer}
-use Rattle.toml_span_read.specs.Data.{kind_view, scalar}
+use Rattle.toml_span_read.specs.Data.{parsed_kind, scalar}
 use Rattle.toml_span_read.proofs.NumberReads.{signed_sound}
 use Rattle.toml_span_read.proofs.ShortIntegers.{short_made, short_further}
 use Rattle.toml_span_read.proofs.numbers.short_integer.Goals as goal
@@ -18,7 +18,7 @@ returns-in-Some-clause-scalar c =
     let dot : (get_or text j 0 == 46) ≡ false = search rules in
     let colon : (get_or text j 0 == 58) ≡ false = search rules in
     let value = signed_sound false c.few_digits-value.result.0 c.in-Some.value (search rules) in
-    let made : kind_view c.integer_kind.result ≡ scalar (integer c.in-Some.value) = search rules in
+    let made : parsed_kind c.integer_kind.result ≡ scalar (integer c.in-Some.value) = search rules in
     short_made _ _ text i j _ made l c.few_digits-value.ensures.within c.few_digits-value.ensures.digits c.few_digits-value.ensures.value lead k dot colon value
 
 pub returns-in-Some-clause-further : goal.returns-in-Some-clause-further

@@ -23,7 +23,7 @@ returns-in-Ok-value-clause-pair c =
     omega (arith, parts_length c.in_ok-parts.parts.inner.items c.in_ok-parts.parts.last, c.len-depth.ensures) in
     let s = c.in-Ok.ensures.0 in
     let v = levels _ _ _ _ _ _ (rw u at c.in-Ok-value.ensures.value) in
-    inl (_, c.in_ok-parts.ensures.key, (s.at, s.before, inl (rw s.here refl, (c.in-Ok.from, s.behind, inl (value_found (c.in-Ok-value.value, c.in-Ok-value.end), v, rw c.assigned.ensures.key_value refl)))))
+    inl (_, c.in_ok-parts.ensures.key, (s.at, s.before, inl (rw s.here refl, (c.in-Ok.from, s.after, inl (value_found (c.in-Ok-value.value, c.in-Ok-value.end), v, rw c.assigned.ensures.parsed_assignment refl)))))
 
 pub returns-clause-pair : goal.returns-clause-pair
 returns-clause-pair c =
@@ -31,7 +31,7 @@ returns-clause-pair c =
     omega (arith, parts_length c.in_ok-parts.parts.inner.items c.in_ok-parts.parts.last, c.len-depth.ensures) in
     let s = c.in-Ok.ensures.0 in
     so_told _ _ c.in-Err-value.stop c.in-Err-value.ensures.value
-    (λ e h. inl (_, c.in_ok-parts.ensures.key, (s.at, s.before, inl (rw s.here refl, (c.in-Ok.from, s.behind, inr (e, levels _ _ _ _ _ _ (rw u at h), refl))))))
+    (λ e h. inl (_, c.in_ok-parts.ensures.key, (s.at, s.before, inl (rw s.here refl, (c.in-Ok.from, s.after, inr (e, levels _ _ _ _ _ _ (rw u at h), refl))))))
 
 pub returns-in-Ok-value-clause-borrows : goal.returns-in-Ok-value-clause-borrows
 returns-in-Ok-value-clause-borrows c = assignment_right c.args.text.now _ c.in_ok-parts.parts c.in-Ok-value.value c.assigned.ensures.written c.in_ok-parts.ensures.borrows c.in-Ok-value.ensures.borrows

@@ -1,9 +1,9 @@
 use Rattle.toml_span_lex.proofs.Common.{arith, rules, ℕ, Vec, Global, inl, inr, refl, Ok, Err}
 use Rattle.toml_span_read.specs.declared.value.Assignment.{Assignment}
 use Rattle.toml_span_read.specs.Borrowed.{IsWrittenRight, assignment_written}
-use Rattle.toml_span_read.specs.Data.{key_value}
+use Rattle.toml_span_read.specs.Data.{parsed_assignment}
 use Rattle.toml_span_read.specs.Read.{ends, goes_on, stops as stops_there}
-use Rattle.toml_span_read.specs.code.Values.{key_value_found}
+use Rattle.toml_span_read.specs.code.Values.{assignment_found}
 use Rattle.toml_span_read.proofs.FaultPlaces.{so_told}
 use Rattle.toml_span_read.proofs.BorrowLemmas.{joined_more}
 use Rattle.toml_span_read.proofs.CrossingPlaces.{assignment_spanned, crossing_placed}
@@ -34,18 +34,18 @@ pub returns-in-Err-next_line-clause-lines : goal.returns-in-Err-next_line-clause
 returns-in-Err-next_line-clause-lines c =
     let go = goes_further c.args.text.now c.lines.at (omega arith) (search rules) in
     so_told _ _ c.in-Err-next_line.stop c.in-Err-next_line.ensures.rest
-    (λ e h. c.lines.invariant.whole (Err e) (stops_there _ e (inr (go, inl (key_value_found c.in-Ok.read, c.in-Ok.ensures.pair, inr (e, h, refl))))))
+    (λ e h. c.lines.invariant.whole (Err e) (stops_there _ e (inr (go, inl (assignment_found c.in-Ok.read, c.in-Ok.ensures.pair, inr (e, h, refl))))))
 
 pub returns-in-Err-add_clear-clause-lines : goal.returns-in-Err-add_clear-clause-lines
 returns-in-Err-add_clear-clause-lines c =
     let go = goes_further c.args.text.now c.lines.at (omega arith) (search rules) in
     so_told _ _ c.in-Err-add_clear.stop c.in-Err-add_clear.ensures.adds (λ e h. c.lines.invariant.whole (Err e) (stops_there _ e
-    (inr (go, inl (key_value_found c.in-Ok.read, c.in-Ok.ensures.pair, inl (_, c.in-Ok-next_line.ensures.rest, inr (e, inr (e, h, refl), refl)))))))
+    (inr (go, inl (assignment_found c.in-Ok.read, c.in-Ok.ensures.pair, inl (_, c.in-Ok-next_line.ensures.rest, inr (e, inr (e, h, refl), refl)))))))
 
 pub returns-in-Err-add_clear-clause-read : goal.returns-in-Err-add_clear-clause-read
 returns-in-Err-add_clear-clause-read c =
     crossing_placed c.in-Err-add_clear.stop c.args.text.now c.lines.found.items c.add_clear.new.values.items c.in-Ok.read.0 c.in-Ok.read.1 c.in-Ok.ensures.advances.boundary.0
-    (assignment_spanned (key_value c.in-Ok.read.0) c.args.text.now c.args.limit c.lines.at c.in-Ok.read.1 c.in-Ok.ensures.pair) c.in-Err-add_clear.ensures.adds
+    (assignment_spanned (parsed_assignment c.in-Ok.read.0) c.args.text.now c.args.limit c.lines.at c.in-Ok.read.1 c.in-Ok.ensures.pair) c.in-Err-add_clear.ensures.adds
 
 pub lines-preserved : goal.lines-preserved
 lines-preserved c =
@@ -61,8 +61,8 @@ lines-preserved c =
       boundary = g.boundary;
       borrows = joined_more (IsWrittenRight c.args.text.now) assignment_written c.lines.found.items c.add_clear.new.values.items c.in-Ok.read.0 a.0 i.borrows v.borrows;
       knows = c.in_default.ensures.knows;
-      whole = rw (map_end key_value c.lines.found.items c.add_clear.new.values.items c.in-Ok.read.0 a.0)
-          (λ r more. i.whole r (goes_on _ _ r (inr (go, inl (key_value_found c.in-Ok.read, v.pair, inl (_, t.rest, inl (_, inl (a.1, refl), (_, g.run, refl)))))) more));
+      whole = rw (map_end parsed_assignment c.lines.found.items c.add_clear.new.values.items c.in-Ok.read.0 a.0)
+          (λ r more. i.whole r (goes_on _ _ r (inr (go, inl (assignment_found c.in-Ok.read, v.pair, inl (_, t.rest, inl (_, inl (a.1, refl), (_, g.run, refl)))))) more));
     }
 
 pub returns-clause-lines : goal.returns-clause-lines

@@ -13,4 +13,4 @@ pub returns-then-byte_at-ne93-2-clause-closes : goal.returns-then-byte_at-ne93-2
 returns-then-byte_at-ne93-2-clause-closes c =
     let a : c.args.array ≡ true = search rules in
     so_told _ _ c.wanted-then-byte_at-ne93-2.result c.wanted-then-byte_at-ne93-2.ensures.fault (λ e (s, stands, is). rw a
-    (_, c.blanks_end-close.ensures.run, inl (_, inl (same_byte _ _ (search rules), ap (λ n. Ok n) c.behind_byte-behind.ensures.value), inr (search rules, (s, stands, ap (λ y. Err y) is)))))
+    (_, c.blanks_end-close.ensures.run, inl (_, inl (same_byte _ _ (search rules), ap (λ n. Ok n) c.after_byte-after.ensures.value), inr (search rules, (s, stands, ap (λ y. Err y) is)))))

@@ -10,15 +10,15 @@ returns-in_err-header-clause-section c =
     rw (handed_on c.from_residual.result c.in_err-header.field-0.0 c.from_residual.ensures.1)
     (so_told _ _ c.in_err-header.field-0.0 c.in_err-header.ensures.header (λ e h. inr (e, h, refl)))
 
-pub returns-in_err-behind-clause-section : goal.returns-in_err-behind-clause-section
-returns-in_err-behind-clause-section c =
-    rw (handed_on c.from_residual-in_err-behind.result c.in_err-behind.field-0.0 c.from_residual-in_err-behind.ensures.1)
-    (so_told _ _ c.in_err-behind.field-0.0 c.in_err-behind.ensures.lines (λ e h. inl (_, c.in_ok-header.ensures.header, inr (e, h, refl))))
+pub returns-in_err-after-clause-section : goal.returns-in_err-after-clause-section
+returns-in_err-after-clause-section c =
+    rw (handed_on c.from_residual-in_err-after.result c.in_err-after.field-0.0 c.from_residual-in_err-after.ensures.1)
+    (so_told _ _ c.in_err-after.field-0.0 c.in_err-after.ensures.lines (λ e h. inl (_, c.in_ok-header.ensures.header, inr (e, h, refl))))
 
 pub returns-clause-reads : goal.returns-clause-reads
 returns-clause-reads c =
     let h = c.in_ok-header.ensures in
-    let r = c.in_ok-behind.ensures in (
+    let r = c.in_ok-after.ensures in (
       rw c.section_of.ensures.written (all_append (IsWrittenRight c.args.text.now) _ _ h.borrows r.borrows),
       record { on = omega (arith, h.reads.1.on, r.read.0); boundary = r.read.1 },
       (r.read.1, r.header),
@@ -26,4 +26,4 @@ returns-clause-reads c =
 
 pub returns-clause-section : goal.returns-clause-section
 returns-clause-section c =
-    inl (_, c.in_ok-header.ensures.header, inl (_, c.in_ok-behind.ensures.lines, rw (c.section_of.ensures.block, c.in_ok-header.ensures.reads.0) refl))
+    inl (_, c.in_ok-header.ensures.header, inl (_, c.in_ok-after.ensures.lines, rw (c.section_of.ensures.parsed_section, c.in_ok-header.ensures.reads.0) refl))

@@ -1,12 +1,12 @@
 use Rattle.toml_span_lex.proofs.Common.{arith, refl, ◌≡◌, ◌<◌, ℕ, length, map, Option, Vec, Global}
-use Rattle.toml_span_read.specs.Data.{block}
+use Rattle.toml_span_read.specs.Data.{parsed_section}
 use Rattle.toml_span_read.specs.code.Sections.{sections_found}
 use Rattle.toml_span_read.specs.declared.fault.Fault.{Fault}
 use Rattle.toml_span_read.specs.declared.section.Section.{Section}
 use Rattle.toml_span_read.proofs.BorrowLemmas as borrow
 use Rattle.toml_span_read.proofs.FaultPlaces.{so_told}
 use Rattle.toml_span_read.proofs.KeyLemmas.{handed_on}
-use Rattle.toml_span_read.proofs.LineRead.{blocks_end, section_on, document_read, document_stops, document_refused}
+use Rattle.toml_span_read.proofs.LineRead.{sections_end, section_on, document_read, document_stops, document_refused}
 use Rattle.toml_span_read.proofs.MemoryLemmas.{begun_on, keeps, keeps_same}
 use Rattle.toml_span_read.proofs.StepLemmas.{Begins, begins_with, first_begun, first_keeps}
 use Rattle.toml_span_read.proofs.sections.sections.Goals as goal
@@ -39,13 +39,13 @@ sections-preserved c =
       begun = begun_on c.args.text.now c.sections.at _ i.begun (omega (arith, read.reads.1.on));
       header = read.reads.2.1;
       borrows = borrow.sections_more c.args.text.now c.sections.found.items c.add-in-sections.new.items.items _ m i.borrows read.reads.0;
-      whole = rw (blocks_end c.sections.found.items c.add-in-sections.new.items.items _ m) (section_on c.args.text.now c.args.limit c.sections.at _ (map block c.sections.found.items) _ i.whole under read.section);
+      whole = rw (sections_end c.sections.found.items c.add-in-sections.new.items.items _ m) (section_on c.args.text.now c.args.limit c.sections.at _ (map parsed_section c.sections.found.items) _ i.whole under read.section);
     }
 
 pub returns-clause-document : goal.returns-clause-document
 returns-clause-document c =
     let e : c.sections.at ≡ length c.args.text.now = omega (arith, c.sections.invariant.boundary.0) in
-    document_read c.args.text.now c.args.limit c.sections.at (map block c.sections.found.items) c.sections.invariant.whole e
+    document_read c.args.text.now c.args.limit c.sections.at (map parsed_section c.sections.found.items) c.sections.invariant.whole e
 
 pub returns-in-Err-clause-memory : goal.returns-in-Err-clause-memory
 returns-in-Err-clause-memory c = first_keeps c.args.text.now c.args.limit c.in_ok-first.at c.in_ok-first.first _ c.in-Some.is c.in_ok-first.ensures.first
@@ -60,7 +60,7 @@ pub returns-in_err-section-clause-document : goal.returns-in_err-section-clause-
 returns-in_err-section-clause-document c =
     let under : c.sections.at < length c.args.text.now = omega arith in
     rw (handed_on c.from_residual-in_err-section.result c.in_err-section.field-0.0 c.from_residual-in_err-section.ensures.1)
-    (document_stops sections_found c.in_err-section.field-0.0 c.args.text.now c.args.limit c.sections.at (map block c.sections.found.items) c.sections.invariant.whole under c.in_err-section.ensures.section)
+    (document_stops sections_found c.in_err-section.field-0.0 c.args.text.now c.args.limit c.sections.at (map parsed_section c.sections.found.items) c.sections.invariant.whole under c.in_err-section.ensures.section)
 
 pub returns-in_err-section-clause-memory : goal.returns-in_err-section-clause-memory
 returns-in_err-section-clause-memory c = rw (handed_on c.from_residual-in_err-section.result c.in_err-section.field-0.0 c.from_residual-in_err-section.ensures.1) (keeps (Vec Section Global) Fault c.in_err-section.field-0.0 c.args.text.now c.sections.at c.sections.invariant.begun (omega arith))

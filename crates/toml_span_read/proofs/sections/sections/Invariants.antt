@@ -1,6 +1,6 @@
 use Rattle.toml_span_lex.proofs.Common.{◌≡◌, ◌-◌, ◌⊎◌, length, map, get_or, IsCharBoundary}
 use Rattle.toml_span_read.specs.Borrowed.{AreWrittenRight, sections_written}
-use Rattle.toml_span_read.specs.Data.{block}
+use Rattle.toml_span_read.specs.Data.{parsed_section}
 use Rattle.toml_span_read.proofs.LineRead.{DocumentFrom}
 use Rattle.toml_span_read.proofs.MemoryLemmas.{Begun}
 use Rattle.toml_span_read.proofs.sections.sections.Given as goal
@@ -12,7 +12,7 @@ invariant-sections l = record {
   begun : Begun l.text l.at;
   header : (l.at ≡ length l.text) ⊎ (get_or l.text l.at 0 ≡ 91);
   borrows : AreWrittenRight l.text (sections_written l.found.items);
-  whole : DocumentFrom l.text l.limit (map block l.found.items) l.at;
+  whole : DocumentFrom l.text l.limit (map parsed_section l.found.items) l.at;
 }
 
 abbrev pub decreases-sections : goal.decreases-sections

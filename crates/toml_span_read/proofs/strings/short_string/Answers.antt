@@ -1,13 +1,13 @@
 use Rattle.toml_span_lex.proofs.Common.{rules, ◌≡◌, ◌<◌, ◌+◌, get_or, ap, Global}
 use Rattle.std.specs.declared.borrow.CowStr.TheVariants as cow
-use Rattle.toml_span_read.proofs.ShortStrings.{short_read, behind_quote}
+use Rattle.toml_span_read.proofs.ShortStrings.{short_read, after_quote}
 use Rattle.toml_span_read.proofs.strings.short_string.Goals as goal
 
 pub plain_end-end-requires-clause-boundary : goal.plain_end-end-requires-clause-boundary
-plain_end-end-requires-clause-boundary c = behind_quote c.args.text.now c.args.at c.utf8.text c.requires.quote
+plain_end-end-requires-clause-boundary c = after_quote c.args.text.now c.args.at c.utf8.text c.requires.quote
 
 pub range-requires-clause-start_boundary : goal.range-requires-clause-start_boundary
-range-requires-clause-start_boundary c = λ some. behind_quote c.args.text.now c.args.at c.utf8.text c.requires.quote
+range-requires-clause-start_boundary c = λ some. after_quote c.args.text.now c.args.at c.utf8.text c.requires.quote
 
 pub returns-clause-string : goal.returns-clause-string
 returns-clause-string c =

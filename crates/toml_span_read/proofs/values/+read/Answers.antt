@@ -1,8 +1,8 @@
 use Rattle.toml_span_lex.proofs.Common.{arith, inl, inr, or_left, Ok, Err, rules, refl, ap, ◌≡◌, ◌+◌, ◌-◌, length, get_or, true}
-use Rattle.toml_span_read.specs.Data.{parts, view, key_value}
+use Rattle.toml_span_read.specs.Data.{parts, parsed_value, parsed_assignment}
 use Rattle.toml_span_read.specs.Read as read
 use Rattle.toml_span_read.specs.Read.{ends, goes_on, stops as stops_there}
-use Rattle.toml_span_read.specs.code.Values.{value_found, key_value_found}
+use Rattle.toml_span_read.specs.code.Values.{value_found, assignment_found}
 use Rattle.toml_span_read.specs.Faults.{opens_nested}
 use Rattle.toml_span_read.specs.Borrowed.{IsWrittenRight, written, assignment_written}
 use Rattle.toml_span_read.proofs.BorrowLemmas.{joined_more, assignment_right}
@@ -34,12 +34,12 @@ pub array-items-preserved : goal.array-items-preserved
 array-items-preserved t c =
     let v = c.in-Ok.ensures in
     let s = c.in-Comma.ensures in
-    let more = map_end view c.items.items.items c.add.new.items.items c.in-Ok.found.0 c.in_default.ensures in
+    let more = map_end parsed_value c.items.items.items c.add.new.items.items c.in-Ok.found.0 c.in_default.ensures in
     record {
       forward = omega (arith, v.advances.on, s.1.on, c.items.invariant.forward);
       boundary = s.1.boundary;
       borrows = joined_more (IsWrittenRight c.args.text.now) written c.items.items.items c.add.new.items.items c.in-Ok.found.0 c.in_default.ensures c.items.invariant.borrows v.borrows;
-      from = rw more (λ r rest. c.items.invariant.from r (goes_on _ _ r (inr (search rules, inl (value_found c.in-Ok.found, v.value, (s.0.at, s.0.before, inl (rw s.0.here refl, (_, s.0.behind, refl)))))) rest));
+      from = rw more (λ r rest. c.items.invariant.from r (goes_on _ _ r (inr (search rules, inl (value_found c.in-Ok.found, v.value, (s.0.at, s.0.before, inl (rw s.0.here refl, (_, s.0.after, refl)))))) rest));
     }
 
 pub array-returns-in-Err-clause-value : goal.array-returns-in-Err-clause-value
@@ -53,9 +53,9 @@ array-returns-in-Closed-clause-borrows t c =
 
 pub array-returns-in-Closed-clause-value : goal.array-returns-in-Closed-clause-value
 array-returns-in-Closed-clause-value t c =
-    let more = map_end view c.items.items.items c.add.new.items.items c.in-Ok.found.0 c.in_default.ensures in
+    let more = map_end parsed_value c.items.items.items c.add.new.items.items c.in-Ok.found.0 c.in_default.ensures in
     let s = c.in-Closed.ensures.0 in
-    rw (c.array_of-in-Closed.ensures.view, more)
+    rw (c.array_of-in-Closed.ensures.parsed_value, more)
     (c.items.invariant.from (Ok (read.array_end _ _)) (ends _ _ (inr (search rules, inl (value_found c.in-Ok.found, c.in-Ok.ensures.value, (s.at, s.before, inr (rw s.here refl, inl (rw s.here refl, rw s.ends refl))))))))
 
 pub array-returns-in-Neither-clause-value : goal.array-returns-in-Neither-clause-value
@@ -66,7 +66,7 @@ array-returns-in-Neither-clause-value t c =
 
 pub array-returns-then-byte_at-eq93-clause-value : goal.array-returns-then-byte_at-eq93-clause-value
 array-returns-then-byte_at-eq93-clause-value t c =
-    rw (c.array_of.ensures.view, c.behind_byte-close.ensures.value) (c.items.invariant.from (Ok (read.array_end _ _)) (ends _ _ (inl (search rules, refl))))
+    rw (c.array_of.ensures.parsed_value, c.after_byte-close.ensures.value) (c.items.invariant.from (Ok (read.array_end _ _)) (ends _ _ (inl (search rules, refl))))
 
 -- ---- inline tables
 
@@ -87,13 +87,13 @@ inline_table-pairs-preserved t c =
     let v = c.in-Ok.ensures in
     let a = c.in_default.ensures.adds in
     let s = c.in-Comma.ensures in
-    let more = map_end key_value c.pairs.pairs.items c.add_clear.new.values.items c.in-Ok.found.0 a.0 in
+    let more = map_end parsed_assignment c.pairs.pairs.items c.add_clear.new.values.items c.in-Ok.found.0 a.0 in
     record {
       forward = omega (arith, v.advances.on, s.1.on, c.pairs.invariant.forward);
       boundary = s.1.boundary;
       borrows = joined_more (IsWrittenRight c.args.text.now) assignment_written c.pairs.pairs.items c.add_clear.new.values.items c.in-Ok.found.0 a.0 c.pairs.invariant.borrows v.borrows;
       knows = c.in_default.ensures.knows;
-      from = rw more (λ r rest. c.pairs.invariant.from r (goes_on _ _ r (inr (search rules, inl (key_value_found c.in-Ok.found, v.pair, inl (_, inl (a.1, refl), (s.0.at, s.0.before, inl (rw s.0.here refl, (_, s.0.behind, refl))))))) rest));
+      from = rw more (λ r rest. c.pairs.invariant.from r (goes_on _ _ r (inr (search rules, inl (assignment_found c.in-Ok.found, v.pair, inl (_, inl (a.1, refl), (s.0.at, s.0.before, inl (rw s.0.here refl, (_, s.0.after, refl))))))) rest));
     }
 
 pub inline_table-returns-in-Err-clause-value : goal.inline_table-returns-in-Err-clause-value
@@ -103,12 +103,12 @@ inline_table-returns-in-Err-clause-value t c =
 pub inline_table-returns-in-Err-add_clear-clause-advances : goal.inline_table-returns-in-Err-add_clear-clause-advances
 inline_table-returns-in-Err-add_clear-clause-advances t c =
     crossing_placed c.in-Err-add_clear.stop c.args.text.now c.pairs.pairs.items c.add_clear.new.values.items c.in-Ok.found.0 c.in-Ok.found.1 c.in-Ok.ensures.advances.boundary.0
-    (pair_spanned (key_value c.in-Ok.found.0) c.args.text.now c.args.limit c.args.depth c.pairs.next c.in-Ok.found.1 (omega arith) c.in-Ok.ensures.pair) c.in-Err-add_clear.ensures.adds
+    (pair_spanned (parsed_assignment c.in-Ok.found.0) c.args.text.now c.args.limit c.args.depth c.pairs.next c.in-Ok.found.1 (omega arith) c.in-Ok.ensures.pair) c.in-Err-add_clear.ensures.adds
 
 pub inline_table-returns-in-Err-add_clear-clause-value : goal.inline_table-returns-in-Err-add_clear-clause-value
 inline_table-returns-in-Err-add_clear-clause-value t c =
     so_told _ _ c.in-Err-add_clear.stop c.in-Err-add_clear.ensures.adds
-    (λ e h. c.pairs.invariant.from (Err e) (stops_there _ e (inr (search rules, inl (key_value_found c.in-Ok.found, c.in-Ok.ensures.pair, inr (e, inr (e, h, refl), refl))))))
+    (λ e h. c.pairs.invariant.from (Err e) (stops_there _ e (inr (search rules, inl (assignment_found c.in-Ok.found, c.in-Ok.ensures.pair, inr (e, inr (e, h, refl), refl))))))
 
 pub inline_table-returns-in-Closed-clause-borrows : goal.inline_table-returns-in-Closed-clause-borrows
 inline_table-returns-in-Closed-clause-borrows t c =
@@ -118,11 +118,11 @@ inline_table-returns-in-Closed-clause-borrows t c =
 pub inline_table-returns-in-Closed-clause-value : goal.inline_table-returns-in-Closed-clause-value
 inline_table-returns-in-Closed-clause-value t c =
     let a = c.in_default.ensures.adds in
-    let more = map_end key_value c.pairs.pairs.items c.add_clear.new.values.items c.in-Ok.found.0 a.0 in
+    let more = map_end parsed_assignment c.pairs.pairs.items c.add_clear.new.values.items c.in-Ok.found.0 a.0 in
     let s = c.in-Closed.ensures.0 in
-    rw (c.inline_of-in-Closed.ensures.view, more)
+    rw (c.inline_of-in-Closed.ensures.parsed_value, more)
     (c.pairs.invariant.from (Ok (read.table_end _ _)) (ends _ _
-    (inr (search rules, inl (key_value_found c.in-Ok.found, c.in-Ok.ensures.pair, inl (_, inl (a.1, refl), (s.at, s.before, inr (rw s.here refl, inl (rw s.here refl, rw s.ends refl)))))))))
+    (inr (search rules, inl (assignment_found c.in-Ok.found, c.in-Ok.ensures.pair, inl (_, inl (a.1, refl), (s.at, s.before, inr (rw s.here refl, inl (rw s.here refl, rw s.ends refl)))))))))
 
 pub inline_table-returns-in-Neither-clause-value : goal.inline_table-returns-in-Neither-clause-value
 inline_table-returns-in-Neither-clause-value t c =
@@ -130,7 +130,7 @@ inline_table-returns-in-Neither-clause-value t c =
     so_told _ _ c.wanted.result c.wanted.ensures.fault (λ e (s, stands, is). c.pairs.invariant.from (Err e) (stops_there _ e (inr (
       search rules,
       inl (
-        key_value_found c.in-Ok.found,
+        assignment_found c.in-Ok.found,
         c.in-Ok.ensures.pair,
         inl (_, inl (c.in_default.ensures.adds.1, refl), (c.in-Neither.here, n.before, inr (n.no_comma, inr (n.no_bracket, (s, stands, ap (λ y. Err y) is))))),
       ),
@@ -138,7 +138,7 @@ inline_table-returns-in-Neither-clause-value t c =
 
 pub inline_table-returns-then-byte_at-eq125-clause-value : goal.inline_table-returns-then-byte_at-eq125-clause-value
 inline_table-returns-then-byte_at-eq125-clause-value t c =
-    rw (c.inline_of.ensures.view, c.behind_byte-close.ensures.value) (c.pairs.invariant.from (Ok (read.table_end _ _)) (ends _ _ (inl (search rules, refl))))
+    rw (c.inline_of.ensures.parsed_value, c.after_byte-close.ensures.value) (c.pairs.invariant.from (Ok (read.table_end _ _)) (ends _ _ (inl (search rules, refl))))
 
 -- ---- pairs
 
@@ -167,8 +167,8 @@ pair-returns-in-Ok-value-clause-pair t c =
           rw s.here refl,
           (
             c.in-Ok.from,
-            s.behind,
-            inl (value_found (c.in-Ok-value.value, c.in-Ok-value.end), levels _ _ _ _ _ _ (rw u at c.in-Ok-value.ensures.value), rw c.assigned.ensures.key_value refl),
+            s.after,
+            inl (value_found (c.in-Ok-value.value, c.in-Ok-value.end), levels _ _ _ _ _ _ (rw u at c.in-Ok-value.ensures.value), rw c.assigned.ensures.parsed_assignment refl),
           ),
         ),
       ),
@@ -180,7 +180,7 @@ pair-returns-clause-pair t c =
     omega (arith, parts_length c.in_ok-parts.parts.inner.items c.in_ok-parts.parts.last, c.len.ensures) in
     let s = c.in-Ok.ensures.0 in
     so_told _ _ c.in-Err-value.stop c.in-Err-value.ensures.value
-    (λ e h. inl (_, c.in_ok-parts.ensures.key, (s.at, s.before, inl (rw s.here refl, (c.in-Ok.from, s.behind, inr (e, levels _ _ _ _ _ _ (rw u at h), refl))))))
+    (λ e h. inl (_, c.in_ok-parts.ensures.key, (s.at, s.before, inl (rw s.here refl, (c.in-Ok.from, s.after, inr (e, levels _ _ _ _ _ _ (rw u at h), refl))))))
 
 pub pair-returns-in-Ok-value-clause-borrows : goal.pair-returns-in-Ok-value-clause-borrows
 pair-returns-in-Ok-value-clause-borrows t c = assignment_right c.args.text.now _ c.in_ok-parts.parts c.in-Ok-value.value c.assigned.ensures.written c.in_ok-parts.ensures.borrows c.in-Ok-value.ensures.borrows

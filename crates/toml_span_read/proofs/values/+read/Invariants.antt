@@ -1,5 +1,5 @@
 use Rattle.toml_span_lex.proofs.Common.{◌<◌, ◌+◌, ◌-◌, ◌*◌, length, map, IsCharBoundary}
-use Rattle.toml_span_read.specs.Data.{view, key_value}
+use Rattle.toml_span_read.specs.Data.{parsed_value, parsed_assignment}
 use Rattle.toml_span_read.specs.Borrowed.{AreWrittenRight, joined, written, assignments_written}
 use Rattle.toml_span_read.specs.code.Earlier.{Knows}
 use Rattle.toml_span_read.proofs.ValueRead.{ArrayFrom, TableFrom}
@@ -23,7 +23,7 @@ invariant-array-items l = record {
   forward : l.at < l.next;
   boundary : IsCharBoundary l.text l.next;
   borrows : AreWrittenRight l.text (joined (map written l.items.items));
-  from : ArrayFrom l.text l.limit l.depth l.at (map view l.items.items) l.next;
+  from : ArrayFrom l.text l.limit l.depth l.at (map parsed_value l.items.items) l.next;
 }
 
 abbrev pub decreases-array-items : goal.decreases-array-items
@@ -34,8 +34,8 @@ invariant-inline_table-pairs l = record {
   forward : l.at < l.next;
   boundary : IsCharBoundary l.text l.next;
   borrows : AreWrittenRight l.text (assignments_written l.pairs.items);
-  knows : Knows l.earlier (map key_value l.pairs.items);
-  from : TableFrom l.text l.limit l.depth l.at (map key_value l.pairs.items) l.next;
+  knows : Knows l.earlier (map parsed_assignment l.pairs.items);
+  from : TableFrom l.text l.limit l.depth l.at (map parsed_assignment l.pairs.items) l.next;
 }
 
 abbrev pub decreases-inline_table-pairs : goal.decreases-inline_table-pairs

@@ -23,7 +23,7 @@ returns-in_err-kind-clause-value c =
 pub returns-clause-value : goal.returns-clause-value
 returns-clause-value c =
     let (s, is, h) = c.in_ok-kind.ensures.scalar in
-    rw (c.scalar_of.ensures.view, is) (bare_value c.args.text.now c.args.limit c.args.depth c.args.at _ (omega arith) (search rules) (inl ((s, c.in_ok-kind.end), h, refl)))
+    rw (c.scalar_of.ensures.parsed_value, is) (bare_value c.args.text.now c.args.limit c.args.depth c.args.at _ (omega arith) (search rules) (inl ((s, c.in_ok-kind.end), h, refl)))
 
 pub returns-clause-borrows : goal.returns-clause-borrows
 returns-clause-borrows c =

@@ -20,4 +20,4 @@ pub returns-clause-value : goal.returns-clause-value
 returns-clause-value c =
     let p = quote_plain (get_or c.args.text.now c.args.at 0) c.requires.quote in
     let there = string_there c.args.text.now c.args.at c.in_ok-token.token c.in_ok-token.ensures.string in
-    rw c.string_of.ensures.view (plain_value c.args.text.now c.args.limit c.args.depth c.args.at _ (omega arith) p.0 p.1 there)
+    rw c.string_of.ensures.parsed_value (plain_value c.args.text.now c.args.limit c.args.depth c.args.at _ (omega arith) p.0 p.1 there)

@@ -1,5 +1,5 @@
 use Rattle.toml_span_lex.proofs.Common.{◌≡◌, arith, nat_tests, IsCharBoundary-start, common_steps}
-use Rattle.toml_span_report.proofs.PlaceLemmas.{line_start-step, line_start-zero, behind_feed}
+use Rattle.toml_span_report.proofs.PlaceLemmas.{line_start-step, line_start-zero, after_feed}
 use Rattle.toml_span_report.proofs.places.line_start.Goals as goal
 
 pub loop-start-preserved : goal.loop-start-preserved
@@ -9,7 +9,7 @@ pub returns-else-bytes-start-ne10-clause-value : goal.returns-else-bytes-start-n
 returns-else-bytes-start-ne10-clause-value c = grind (arith, nat_tests, common_steps, line_start-step)
 
 pub returns-else-bytes-start-ne10-clause-boundary : goal.returns-else-bytes-start-ne10-clause-boundary
-returns-else-bytes-start-ne10-clause-boundary c = grind (arith, nat_tests, common_steps, behind_feed)
+returns-else-bytes-start-ne10-clause-boundary c = grind (arith, nat_tests, common_steps, after_feed)
 
 pub returns-after-loop-start-clause-value : goal.returns-after-loop-start-clause-value
 returns-after-loop-start-clause-value c =

@@ -16,8 +16,8 @@ use Rattle.toml_span_tree.specs.contracts.pointer.step_to as g
 use Rattle.toml_span_tree.proofs.pointer.step_to.Met as g-thm
 use Rattle.toml_span_tree.specs.contracts.pointer.is_last as e
 use Rattle.toml_span_tree.proofs.pointer.is_last.Met as e-thm
-use Rattle.toml_span_tree.specs.contracts.pointer.behind as h
-use Rattle.toml_span_tree.proofs.pointer.behind.Met as h-thm
+use Rattle.toml_span_tree.specs.contracts.pointer.after as h
+use Rattle.toml_span_tree.proofs.pointer.after.Met as h-thm
 use Rattle.toml_span_tree.specs.contracts.pointer.at_path as f
 use Rattle.toml_span_tree.proofs.pointer.+at_path.Code as code
 
@@ -75,7 +75,7 @@ unfolding tables_of
     skips ! $ exec ! 𝓣.C 𝓣.Λ En (after 5 fn.body) (at_ret En Post) $
     let Hh = triple_of 𝓛 h.signature (h.spec 𝓛 𝓜.mem 𝓡.returns) in
     move ! (4 ∷ 0 ∷ []) $ hands1 ! (id⊢ 𝓤 _) (Hh.pre zd) (id⊢ 𝓤 _) $
-    calls_at ! (framed 𝓤 𝓛.H 𝓜 𝓣) Hh (h-thm.met 𝓤 𝓛 𝓜 𝓡 (code.calls-toml_span_tree::pointer::behind 𝓡.env wired)) zd (and_then ! (get ! refl) (no_more !)) (λ v₃.
+    calls_at ! (framed 𝓤 𝓛.H 𝓜 𝓣) Hh (h-thm.met 𝓤 𝓛 𝓜 𝓡 (code.calls-toml_span_tree::pointer::after 𝓡.env wired)) zd (and_then ! (get ! refl) (no_more !)) (λ v₃.
     gives ! tt B v₃ one (lasts h.ended zd.0.0 zd.0.3) (λ s. raw (fact 𝓤 (0 < length more → (segments s.now ≡ more) × (length s.now < length path.now)))) (id⊢ 𝓤 _) (λ rest. heard ! _ (λ goes_on.
     text ! κ' rest v₃ (λ is₃ vis₃. lands_as ! vis₃ refl (tt, (tt, (record { fits = is₃.0.0.1.0 }, tt))) $
     -- [the rest; the token of κ'; κ; the child's reference; what is lent of the value]

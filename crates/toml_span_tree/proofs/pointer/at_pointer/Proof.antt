@@ -9,8 +9,8 @@ use Rattle.toml_span_tree.proofs.pointer.at_pointer.Statement.{statement}
 use Rattle.toml_span_tree.proofs.Texts.{row, stayed, goes, stored, tells, twice, text}
 use Rattle.toml_span_tree.specs.contracts.pointer.is_end as e
 use Rattle.toml_span_tree.proofs.pointer.is_end.Met as e-thm
-use Rattle.toml_span_tree.specs.contracts.pointer.behind_slash as h
-use Rattle.toml_span_tree.proofs.pointer.behind_slash.Met as h-thm
+use Rattle.toml_span_tree.specs.contracts.pointer.after_slash as h
+use Rattle.toml_span_tree.proofs.pointer.after_slash.Met as h-thm
 use Rattle.toml_span_tree.specs.contracts.pointer.at_path as g
 use Rattle.toml_span_tree.proofs.pointer.at_path.Met as g-thm
 use Rattle.toml_span_tree.specs.contracts.pointer.at_pointer as f
@@ -48,7 +48,7 @@ at_pointer_spec 𝓤 𝓛 𝓜 𝓡 wired =
     skips ! $ exec ! 𝓣.C 𝓣.Λ En (after 2 fn.body) (at_ret En Post) $
     let Hh = triple_of 𝓛 h.signature (h.spec 𝓛 𝓜.mem 𝓡.returns) in
     move ! (2 ∷ 0 ∷ []) $ hands1 ! (id⊢ 𝓤 _) (Hh.pre zd) (id⊢ 𝓤 _) $
-    calls_at ! (framed 𝓤 𝓛.H 𝓜 𝓣) Hh (h-thm.met 𝓤 𝓛 𝓜 𝓡 (code.calls-toml_span_tree::pointer::behind_slash 𝓡.env wired)) zd (and_then ! (get ! refl) (no_more !)) (λ v₃.
+    calls_at ! (framed 𝓤 𝓛.H 𝓜 𝓣) Hh (h-thm.met 𝓤 𝓛 𝓜 𝓡 (code.calls-toml_span_tree::pointer::after_slash 𝓡.env wired)) zd (and_then ! (get ! refl) (no_more !)) (λ v₃.
     gives ! tt B v₃ one (lasts h.ended zd.0.0 zd.0.3) (λ s. raw (fact 𝓤 ((p : List ℕ) → path.now ≡ 47 ∷ p → s.now ≡ p))) (id⊢ 𝓤 _) (λ rest. heard ! _ (λ goes_on.
     text ! κ' rest v₃ (λ is₃ vis₃. lands_as ! vis₃ refl (tt, (tt, (record { fits = is₃.0.0.1.0 }, tt))) $
     let leads : path.now ≡ 47 ∷ rest.now = slash.1 ∙ ap (λ (p : List ℕ). 47 ∷ p) (sym (goes_on slash.0 slash.1)) in

@@ -16,11 +16,11 @@ use toml_span_lex::span::Span;
 use toml_span_tree::{Error, ErrorKind, Value};
 
 impl<'de> TableHelper<'de> {
-    /// Reads a field as `read` does, under its name or else under an old one.
+    /// Reads a field as `read` does, under its name or, if that is absent, under an old name. Records both names,
+    /// `name` first.
     ///
-    /// If both names are there, reads the value of `name`, and keeps the error `DuplicateKey` at the later of the two
-    /// keys. Records both names, `old` after `name`. If memory runs out, nothing has changed, or names are recorded and
-    /// their entries gone, and at most the error `DuplicateKey` is new.
+    /// If both names are present, reads the value of `name`, and keeps the error `DuplicateKey` at the later of the two
+    /// keys. If an allocation fails, at most this error is kept, but the names may be recorded and their entries gone.
     pub fn read_either<T: Deserialize<'de>>(
         &mut self,
         name: &'de str,
@@ -35,7 +35,8 @@ impl<'de> TableHelper<'de> {
         self.read_or_miss(name, value)
     }
 
-    /// Reads a field as `read_optional` does, under its name or else under an old one, as in `read_either`.
+    /// Reads a field as `read_optional` does, under its name or, if that is absent, under an old name, as `read_either`
+    /// does.
     pub fn read_optional_either<T: Deserialize<'de>>(
         &mut self,
         name: &'de str,
@@ -50,11 +51,11 @@ impl<'de> TableHelper<'de> {
         self.read_if_there(value)
     }
 
-    /// Reads a field as `read_either` does, whose old name is deprecated: it is not recorded, so the error of unknown
-    /// keys doesn't list it as expected. If it is there, appends the warning `Deprecated`, at its key, to a list, even
-    /// if the read fails.
+    /// Reads a field as `read_either` does, and warns if the old name is present: appends the warning `Deprecated`, at
+    /// the span of that key, to `warnings`, even if the read fails. Only `name` is recorded, so the error of unknown
+    /// keys does not list the old name as expected.
     ///
-    /// If memory runs out, the errors are as in `read_either`, and at most this warning is new.
+    /// If an allocation fails, at most the error of `read_either` is kept, and the warning may have been appended.
     pub fn read_deprecated<T: Deserialize<'de>>(
         &mut self,
         name: &'de str,
@@ -72,7 +73,7 @@ impl<'de> TableHelper<'de> {
         self.read_or_miss(name, value)
     }
 
-    /// Reads a field as `read_optional_either` does, with the warning of `read_deprecated`.
+    /// Reads a field as `read_optional_either` does, and warns as `read_deprecated` does.
     pub fn read_optional_deprecated<T: Deserialize<'de>>(
         &mut self,
         name: &'de str,
@@ -90,7 +91,8 @@ impl<'de> TableHelper<'de> {
         self.read_if_there(value)
     }
 
-    /// Reads a value that was moved out. Without one, keeps the error of the missing field.
+    /// Reads a value that was moved out of the table. If there is none, keeps the error `MissingField` and returns
+    /// `None`.
     fn read_or_miss<T: Deserialize<'de>>(
         &mut self,
         name: &'de str,
@@ -113,7 +115,7 @@ impl<'de> TableHelper<'de> {
         }
     }
 
-    /// Reads a value that was moved out, if there is one.
+    /// Reads a value that was moved out of the table. Returns `None` if there is none.
     fn read_if_there<T: Deserialize<'de>>(
         &mut self,
         value: Option<Value<'de>>,
@@ -132,7 +134,8 @@ impl<'de> TableHelper<'de> {
         }
     }
 
-    /// Records both names and moves their entries out. Returns the value of the name, or else of the old one.
+    /// Records both names, and moves their entries out. Returns the value of `name` or, if that is absent, of `old`. If
+    /// both are present, keeps the error `DuplicateKey`.
     fn take_either(
         &mut self,
         name: &'de str,
@@ -152,8 +155,8 @@ impl<'de> TableHelper<'de> {
         self.choose(name, newer, old, older)
     }
 
-    /// Records the name and moves the entries of both names out. Returns the value of the name, or else of the old one,
-    /// with the warning that this one is deprecated.
+    /// Records `name`, and moves the entries of both names out. Returns the value of `name` or, if that is absent, of
+    /// `old`, and appends a warning if `old` is present. If both are present, keeps the error `DuplicateKey`.
     fn take_deprecated(
         &mut self,
         name: &'de str,
@@ -179,8 +182,8 @@ impl<'de> TableHelper<'de> {
         Ok(value)
     }
 
-    /// Returns the value of the name, or else of the old one, from what was moved out. If both are there, keeps the
-    /// error `DuplicateKey` at the later key.
+    /// Returns the value of `newer` or, if there is none, of `older`: these are the entries of the two names, each with
+    /// the span of its key. If both are there, keeps the error `DuplicateKey` at the later key.
     fn choose(
         &mut self,
         name: &str,
@@ -210,7 +213,7 @@ impl<'de> TableHelper<'de> {
         }
     }
 
-    /// Records the name, and moves its entry out: the span of its key, and its value.
+    /// Records the name, and moves its entry out of the table. Returns the span of the key and the value.
     #[tactic(auto, using(crate::proofs::Whole::placed_whole))]
     pub(super) fn take_placed(
         &mut self,
@@ -233,7 +236,8 @@ impl<'de> TableHelper<'de> {
         }
     }
 
-    /// Moves the entry of a name out without recording the name: the span of its key, and its value.
+    /// Moves the entry with this name out of the table, without recording the name. Returns the span of the key and the
+    /// value.
     #[tactic(auto, using(crate::proofs::Whole::placed_whole, crate::proofs::Whole::without_whole))]
     fn pass(&mut self, name: &'de str) -> Option<(Span, Value<'de>)>
         requires { AllWhole (state_of self.old) }
@@ -253,7 +257,7 @@ impl<'de> TableHelper<'de> {
     }
 }
 
-/// Returns the span of the key that was moved out, if any.
+/// Returns the span of the key of an entry, if there is an entry.
 fn place_of(entry: &Option<(Span, Value)>) -> Option<Span>
     ensures { option_map (λ span. Some span) result ≡ option_map (λ e. e.0) (option_map entry_of entry.now) }
 {
@@ -263,7 +267,8 @@ fn place_of(entry: &Option<(Span, Value)>) -> Option<Span>
     }
 }
 
-/// Returns the error of a field under two names, at the later key.
+/// Returns the error `DuplicateKey` for a field that is present under both of its names, at the later key. Fails if an
+/// allocation fails.
 fn told_twice<'s>(
     alloc: Global,
     name: &str,
@@ -280,7 +285,7 @@ fn told_twice<'s>(
     }
 }
 
-/// Returns the error of a key that is there a second time.
+/// Returns the error `DuplicateKey` at `span`, with `first` as the earlier key. Fails if an allocation fails.
 fn told_again<'s>(
     alloc: Global,
     name: &str,
@@ -293,8 +298,8 @@ fn told_again<'s>(
     Ok(Error::from((ErrorKind::DuplicateKey { key, first }, span)))
 }
 
-/// Appends the warning that an old name is deprecated, at its key, if it is there. If memory runs out the list is as
-/// before.
+/// Appends the warning that an old name is deprecated, at the span of its key. Without a span, appends nothing. If an
+/// allocation fails, the list is unchanged.
 fn warn<'s>(
     warnings: &mut Vec<Error<'s>>,
     name: &'s str,

@@ -1,4 +1,4 @@
-//! Reads of fields whose errors the helper keeps.
+//! Reads of fields that leave all errors to the helper.
 ghost use Rattle.std.specs.Prelude.{◌≡◌, ◌+◌, ◌≤◌, IfOk, IfSome, IsTrue, OnErr, OnOk};
 ghost use Rattle.toml_span_tree.specs.Value.{is_whole};
 ghost use Rattle.toml_span_typed.specs.Fields.{Asks, Finishes, FinishesInto, Keeps, RequiresAll, kept, lacking};
@@ -12,11 +12,11 @@ use toml_span_lex::stop::Stop;
 use toml_span_tree::Value;
 
 impl<'de> TableHelper<'de> {
-    /// Records the name, moves its entry out and reads it. The helper keeps all errors.
+    /// Reads the field of this name: records the name, moves its entry out of the table, and reads the value.
     ///
-    /// Returns None without an entry, with the error `MissingField` at the table's span, and if the read fails. So if
-    /// `finish` returns Ok, each field was read. If memory runs out nothing has changed, or the name is recorded, its
-    /// entry gone, and the errors are as before.
+    /// Returns `None` if there is no entry, after keeping the error `MissingField` at the table's span. Also returns
+    /// `None` if the read fails, after keeping all its errors. So if `finish` returns `Ok`, no call returned `None`. If
+    /// an allocation fails, no error is kept, but the name may be recorded and its entry gone.
     #[tactic(auto, using(crate::proofs::Whole::found_whole))]
     pub fn read<T: Deserialize<'de>>(&mut self, name: &'de str) -> Result<Option<T>, AllocError>
         requires { AllWhole (state_of self.old) }
@@ -27,7 +27,7 @@ impl<'de> TableHelper<'de> {
         self.ask(name)
     }
 
-    /// Reads an entry as `required` does, with its error in a list, so that a `?` ends a `deserialize` that needs it.
+    /// Reads a field as `required` does. The error is in a `DeserError`, so that `deserialize` can pass it on with `?`.
     #[tactic(auto, using(crate::proofs::Whole::found_whole))]
     pub fn require<T: Deserialize<'de>>(
         &mut self,
@@ -43,7 +43,7 @@ impl<'de> TableHelper<'de> {
         }
     }
 
-    /// Reads an entry as `optional` does, of a helper whose entries are whole.
+    /// Reads a field as `optional` does. Callers must prove that nothing has been taken from the remaining entries.
     #[tactic(auto, using(crate::proofs::Whole::found_whole))]
     pub fn read_optional<T: Deserialize<'de>>(
         &mut self,
@@ -57,8 +57,8 @@ impl<'de> TableHelper<'de> {
         self.optional(name)
     }
 
-    /// Returns the result of a read that the caller made by itself, such as that of an entry that it took. If it failed,
-    /// keeps its errors and returns None. If memory runs out the errors are as before.
+    /// Returns the result of a read that the caller made itself, for example of an entry from `take`. If it failed,
+    /// keeps its errors, and returns `None`. If an allocation fails, no error is kept.
     pub fn kept<T: Drop>(
         &mut self,
         read: Result<T, Stop<DeserError<'de>>>,
@@ -78,8 +78,8 @@ impl<'de> TableHelper<'de> {
         }
     }
 
-    /// Ends the reads, as `finalize(None)` does. Returns Ok exactly if no error was kept and no key remains, or else all
-    /// errors, with that of the remaining keys last. Only that one needs memory.
+    /// Ends the read, as `finalize(None)` does. Returns `Ok` if no error was kept and no entry remains, otherwise all
+    /// errors, that of the remaining keys last. Only that error needs an allocation.
     pub fn finish(self) -> Result<(), Stop<DeserError<'de>>>
         ensures answer { Finishes (state_of self.entry) result }
         ensures none { OnOk result (kept (state_of self.entry) ≡ 0) }
@@ -88,8 +88,8 @@ impl<'de> TableHelper<'de> {
         Ok(())
     }
 
-    /// Ends the reads, as `finalize(Some(value))` does: puts the remaining keys back into the value. Returns Ok exactly if
-    /// no error was kept, or else all errors. Takes no memory.
+    /// Ends the read, as `finalize(Some(value))` does: puts the entries that remain back into `value`. Returns `Ok` if
+    /// no error was kept, otherwise all errors. Does not allocate.
     pub fn finish_into(self, value: &mut Value<'de>) -> Result<(), Stop<DeserError<'de>>>
         ensures answer { FinishesInto (state_of self.entry) result }
         ensures none { OnOk result (kept (state_of self.entry) ≡ 0) }
@@ -99,7 +99,8 @@ impl<'de> TableHelper<'de> {
         Ok(())
     }
 
-    /// Records the name, moves its entry out and reads it. The helper keeps all errors.
+    /// Records the name, moves its entry out of the table, and reads the value. Keeps all errors, and returns `None`
+    /// after one.
     fn ask<T: Deserialize<'de>>(&mut self, name: &'de str) -> Result<Option<T>, AllocError>
         requires { IfSome (found name.now (state_of self.old)) (λ value. IsTrue (is_whole value)) }
         ensures answer { Asks T.reads name.now (state_of self.old) result (state_of self.new) }

@@ -1,4 +1,4 @@
-//! Names that may be in a list only once.
+//! Names that must not be repeated in a list.
 ghost use Rattle.std.specs.Prelude.{◌≡◌, ◌≤◌, ◌++◌, [], IfOk, OnErr, OnOk, map};
 ghost use Rattle.toml_span_tree.specs.Error.{content_of};
 ghost use Rattle.toml_span_typed.specs.Fields.{kept};
@@ -23,8 +23,8 @@ impl<'de> TableHelper<'de> {
         Vec::new(self.alloc)
     }
 
-    /// Keeps an error for each name that is earlier in the list too: `Marked`, of the code `duplicate-name`, at the name,
-    /// with the place of the latest earlier one. If memory runs out the errors are as before.
+    /// Keeps an error for each name that occurs earlier in the list: `Marked` with the code `duplicate-name`, at the
+    /// name, which also marks the previous occurrence. If an allocation fails, no error is kept.
     pub fn keep_repeated(&mut self, names: &[&Spanned<String>]) -> Result<(), AllocError>
         ensures ok { OnOk result (state_of self.new
             ≡ keeping (spec.repeated (map (λ name. named name.now) names.now)) (state_of self.old)) }
@@ -37,7 +37,7 @@ impl<'de> TableHelper<'de> {
     }
 }
 
-/// Returns the errors of the names that are earlier in the list too, in order.
+/// Returns an error for each name that occurs earlier in the list, in order. Fails if an allocation fails.
 fn repeated<'s>(alloc: Global, names: &[&Spanned<String>]) -> Result<Vec<Error<'s>>, AllocError>
     ensures { IfOk result (λ errors. map content_of errors.items
         ≡ spec.repeated (map (λ name. named name.now) names.now)) }
@@ -53,7 +53,8 @@ fn repeated<'s>(alloc: Global, names: &[&Spanned<String>]) -> Result<Vec<Error<'
     Ok(errors)
 }
 
-/// Adds the error of a name, if it has an earlier place.
+/// Appends the error of a name that occurs at `span` and, before that, at `before`. Appends nothing if `before` is
+/// `None`. Fails if an allocation fails.
 fn push_repeated<'s>(
     alloc: Global,
     name: &str,
@@ -62,7 +63,7 @@ fn push_repeated<'s>(
     errors: &mut Vec<Error<'s>>,
 ) -> Result<(), AllocError>
     ensures { OnOk result (map content_of errors.new.items
-        ≡ map content_of errors.old.items ++ spec.told (name.now, span) before) }
+        ≡ map content_of errors.old.items ++ spec.duplicate_errors (name.now, span) before) }
 {
     if let Some(before) = before {
         errors.push(told_again(alloc, name, span, before)?)?;
@@ -70,7 +71,7 @@ fn push_repeated<'s>(
     Ok(())
 }
 
-/// Returns the error of a name that has an earlier place.
+/// Returns the error of a name that occurs at `span` and, before that, at `before`. Fails if an allocation fails.
 fn told_again<'s>(
     alloc: Global,
     name: &str,

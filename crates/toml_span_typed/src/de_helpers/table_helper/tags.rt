@@ -1,4 +1,4 @@
-//! Reads of names, such as the tag of an enum, and of the other entries of its table.
+//! Reads of an enum's tag, and of the entries beside it.
 ghost use Rattle.std.specs.Prelude.{◌≡◌, ◌+◌, ◌≤◌, IfOk, OnErr, Result, false, map, option_map};
 ghost use Rattle.toml_span_tree.specs.Error.{content_of};
 ghost use Rattle.toml_span_tree.specs.Value.{is_taken, view};
@@ -7,7 +7,7 @@ ghost use Rattle.toml_span_typed.specs.Fields.{kept, lacking};
 ghost use Rattle.toml_span_typed.specs.Rests.{ReadsRest, emptied, remaining};
 ghost use Rattle.toml_span_typed.specs.TableHelper.{AllWhole, Starved, missing, state_of};
 ghost use Rattle.toml_span_typed.specs.Reads.{Taken};
-ghost use Rattle.toml_span_typed.specs.Tags.{IsNameOf, IsUnexpected, among, asked_tag, keeping_tag, or_else, read_tag};
+ghost use Rattle.toml_span_typed.specs.Tags.{IsNameOf, IsUnexpected, among, asked_tag, keeping_tag, first_or, read_tag};
 ghost use Rattle.toml_span_typed.specs.code.Tags.{tag_told};
 
 use crate::de_helpers::table_helper::{TableHelper, missing_field};
@@ -19,12 +19,12 @@ use toml_span_lex::stop::Stop;
 use toml_span_tree::{Error, ErrorKind, Table, Value, ValueInner};
 
 impl<'de> TableHelper<'de> {
-    /// Records the name, moves its entry out, and returns the tag that its string equals.
+    /// Reads the field of this name, whose string must be one of `tags`, and returns that tag: records the name, and
+    /// moves its entry out of the table.
     ///
-    /// Returns None and keeps an error in three cases: `MissingField` at the table's span if the entry is absent;
-    /// `Wanted` at the value's span if it is not a string; and `UnexpectedValue` there if the string is not one of the
-    /// tags. If memory runs out, nothing has changed, or the name is recorded, its entry gone, and the errors are as
-    /// before.
+    /// Returns `None`, and keeps an error, in three cases: `MissingField` at the table's span if there is no entry;
+    /// `Wanted` at the value's span if it is not a string; and `UnexpectedValue` at the value's span if the string is
+    /// not one of the tags. If an allocation fails, no error is kept, but the name may be recorded and its entry gone.
     pub fn read_tag(
         &mut self,
         name: &'de str,
@@ -44,7 +44,7 @@ impl<'de> TableHelper<'de> {
         self.keep_tag(tag)
     }
 
-    /// Keeps the error of a tag, if it has one.
+    /// Returns the tag, or keeps the error and returns `None`. Fails if an allocation fails.
     fn keep_tag(
         &mut self,
         tag: Result<&'de str, Error<'de>>,
@@ -64,10 +64,10 @@ impl<'de> TableHelper<'de> {
         }
     }
 
-    /// Ends the reads of a table whose tag was not read. Returns the errors that were kept or, without any, that this
-    /// field is missing. Does not report the remaining keys. Takes no memory.
+    /// Ends the read of a table whose tag could not be read. Returns the errors that were kept or, if there are none,
+    /// `MissingField` for `name`. Does not report the entries that remain. Does not allocate.
     pub fn untagged(self, name: &'de str) -> DeserError<'de>
-        ensures { all result ≡ or_else (missing name.now (state_of self.entry)) (state_of self.entry).errors }
+        ensures { all result ≡ first_or (missing name.now (state_of self.entry)) (state_of self.entry).errors }
     {
         match DeserError::from_list(self.errors) {
             Some(errors) => errors,
@@ -75,8 +75,8 @@ impl<'de> TableHelper<'de> {
         }
     }
 
-    /// Reads the remaining entries as a table of another type, at the same span; then none remain. If the read fails,
-    /// keeps its errors and returns None. If memory runs out the errors are as before.
+    /// Reads all entries that remain as a table of type `T`, with the same span. If the read fails, keeps its errors,
+    /// and returns `None`. If an allocation fails, no error is kept.
     pub fn read_rest<T: Deserialize<'de>>(&mut self) -> Result<Option<T>, AllocError>
         requires { AllWhole (state_of self.old) }
         ensures answer { IfOk result (λ rest. ReadsRest T.reads (state_of self.old) rest (state_of self.new)) }
@@ -88,7 +88,7 @@ impl<'de> TableHelper<'de> {
         read_or_keep(self.alloc, rest, &mut self.errors)
     }
 
-    /// Moves the remaining entries out, as a table.
+    /// Moves the entries that remain out, as a table with the same span.
     fn take_rest(&mut self) -> Value<'de>
         ensures rest { view result ≡ remaining (state_of self.old) }
         ensures state { state_of self.new ≡ emptied (state_of self.old) }
@@ -99,11 +99,11 @@ impl<'de> TableHelper<'de> {
     }
 }
 
-/// Returns the name that the value's string equals. `read_name!` calls this.
+/// Reads a string that must be one of `names`, and returns that name. `read_name!` calls this. Takes the value in every
+/// case.
 ///
-/// If the value is not a string, the error is `Wanted`. If the string is not one of the names, it is
-/// `UnexpectedValue`, which lists the names and is the only case that needs memory. Both are at the value's span. Takes
-/// the value in every case.
+/// Fails with `Wanted` if the value is not a string, and with `UnexpectedValue`, which lists the names, if the string
+/// is not one of them. Both are at the value's span. Only the second needs an allocation.
 pub fn name_of<'de>(
     alloc: Global,
     value: &mut Value<'de>,
@@ -119,7 +119,8 @@ pub fn name_of<'de>(
     }
 }
 
-/// Returns the tag that the string equals, or the error for a string that equals none. Takes the value in every case.
+/// Returns the tag that equals the value's string, or the error if there is none. Takes the value in every case. Fails
+/// if an allocation fails.
 fn tag_of<'de>(
     alloc: Global,
     value: &mut Value<'de>,
@@ -145,7 +146,7 @@ fn tag_of<'de>(
     Ok(Err(Error::from((kind, span))))
 }
 
-/// Returns the first of these tags that is this text.
+/// Returns the first of the tags that equals the text.
 fn tag_among<'t>(text: &str, tags: &'t [&'t str]) -> Option<&'t str>
     ensures { option_map (λ tag. tag.now) result ≡ among text.now (map (λ t. t.now) tags.now) }
 {

@@ -11,7 +11,7 @@ use std::alloc::AllocError;
 use toml_span_tree::Error;
 
 impl<'de> TableHelper<'de> {
-    /// Returns an empty list, for the warnings of one table.
+    /// Returns an empty list for the warnings of a table.
     #[doc(hidden)]
     pub fn no_warnings(&self) -> Vec<Error<'de>>
         ensures { result.items ≡ [] }
@@ -19,8 +19,8 @@ impl<'de> TableHelper<'de> {
         Vec::new(self.alloc)
     }
 
-    /// Reads a field as `read` does, of a type that warns. Appends its warnings to a list, even if the read fails or
-    /// memory runs out.
+    /// Reads a field as `read` does, for a type that warns. Appends the warnings of the read to `warnings`, even if the
+    /// read or an allocation fails.
     pub fn read_with_warnings<T: DeserializeWithWarnings<'de>>(
         &mut self,
         name: &'de str,
@@ -42,7 +42,8 @@ impl<'de> TableHelper<'de> {
         }
     }
 
-    /// Reads a field as `read_optional` does, of a type that warns, as in `read_with_warnings`.
+    /// Reads a field as `read_optional` does, for a type that warns, and appends the warnings as `read_with_warnings`
+    /// does.
     pub fn read_optional_with_warnings<T: DeserializeWithWarnings<'de>>(
         &mut self,
         name: &'de str,

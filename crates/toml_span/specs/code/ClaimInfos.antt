@@ -1,0 +1,72 @@
+-- What a branch of the tree under construction keeps of its claims.
+use Rattle.std.specs.Box.{box_value}
+use Rattle.std.specs.Global.{Box}
+use Rattle.toml_span.specs.declared.claims.Clash as code
+use Rattle.std.specs.Prelude.{◌≡◌, ⊤, ℕ, Bool, nat_eq, if◌then◌else◌, List, [], ◌∷◌, ◌++◌, Option, Some, None}
+use Rattle.std.specs.Prelude.{string_bytes}
+use Rattle.std.specs.List.{list_any}
+use Rattle.toml_span_read.specs.Places.{IsInside}
+use Rattle.toml_span.specs.declared.claims.ClaimKind.{ClaimKind}
+use Rattle.toml_span.specs.declared.claims.ClaimKind.TheVariants.{Passed, StandardTable, ArrayOfTables, TableElement}
+use Rattle.toml_span.specs.declared.claims.ClaimKind.TheVariants.{Dotted, Assigned}
+use Rattle.toml_span.specs.declared.claims.ClaimInfo.{ClaimInfo}
+use Rattle.toml_span.specs.declared.claims.ClashInfo.{ClashInfo}
+use Rattle.toml_span_lex.specs.declared.stop.Stop.{Stop}
+use Rattle.toml_span_lex.specs.declared.stop.Stop.TheVariants.{Memory, Fault}
+use Rattle.toml_span.specs.Flat.{by_header}
+use Rattle.toml_span.specs.Clashes.{clash_info_between, first_some}
+
+abbrev pub kind_number : ClaimKind → ℕ
+kind_number Passed = 0
+kind_number StandardTable = 1
+kind_number ArrayOfTables = 2
+kind_number TableElement = 3
+kind_number Dotted = 4
+kind_number Assigned = 5
+
+abbrev pub same_kind : ClaimKind → ClaimKind → Bool
+same_kind a b = nat_eq (kind_number a) (kind_number b)
+
+-- whether one of the claims has this kind
+abbrev pub has_kind : List ClaimInfo → ClaimKind → Bool
+has_kind infos kind = list_any (λ info. same_kind info.kind kind) infos
+
+-- the claims with one more, unless one of its kind is there already
+abbrev pub remember : List ClaimInfo → ClaimInfo → List ClaimInfo
+remember infos info = if has_kind infos info.kind then infos else infos ++ info ∷ []
+
+-- the clash of a claim with the first of these claims that it clashes with
+abbrev pub earliest_clash_info : List ClaimInfo → ClaimInfo → Option ClashInfo
+earliest_clash_info [] later = None
+earliest_clash_info (earlier ∷ infos) later =
+    first_some (clash_info_between earlier later) (earliest_clash_info infos later)
+
+-- why a section could not be placed: a clash, or a failed allocation
+abbrev pub PlaceError : Type 0
+PlaceError = Stop (Box code.Clash)
+
+-- a clash over this name
+abbrev pub IsClashOver : code.Clash → ClashInfo → List ℕ → Type 0
+IsClashOver c m name = (c.info ≡ m) × (string_bytes c.name ≡ name)
+
+-- the `PlaceError` of a clash over this name, or a failed allocation
+abbrev pub IsErrorOver : PlaceError → ClashInfo → List ℕ → Type 0
+IsErrorOver (Fault c) m name = IsClashOver (box_value c) m name
+IsErrorOver (Memory e) m name = ⊤
+
+abbrev pub first_by_header : List ClaimInfo → Option ClaimInfo
+first_by_header [] = None
+first_by_header (info ∷ infos) = if by_header info.kind then Some info else first_by_header infos
+
+abbrev pub first : List ClaimInfo → Option ClaimInfo
+first [] = None
+first (info ∷ infos) = Some info
+
+-- the claim that determines a branch: that of the first header or, if there is none, the first claim
+abbrev pub deciding : List ClaimInfo → Option ClaimInfo
+deciding infos = first_some (first_by_header infos) (first infos)
+
+-- If this is a clash, its span is inside the first n bytes.
+abbrev pub IsPlaceErrorInside : ℕ → PlaceError → Type 0
+IsPlaceErrorInside n (Memory e) = ⊤
+IsPlaceErrorInside n (Fault c) = IsInside n (box_value c).info.span

@@ -1,0 +1,8 @@
+use Rattle.toml_span_edit.proofs.Steps.{if_ok}
+use Rattle.toml_span_edit.proofs.texts.text_without.Goals as goal
+
+pub returns : goal.returns
+returns c =
+    let comments = c.comments_from.ensures in
+    if_ok _ _ (λ new kept. (c.in_ok-span.span, c.comments_from.result, c.in_ok-span.ensures, comments.on, comments.comments, kept))
+    c.if_around.result c.if_around.ensures

@@ -1,0 +1,218 @@
+-- Which bytes of a text an edit keeps.
+use Rattle.std.specs.Prelude.{◌≡◌, ⊤, ℕ, zero, suc, ◌≤◌, ◌+◌, ◌-◌, ◌⊎◌, Bool, true, false, not, ◌==◌, ◌&&◌, ◌||◌, nat_le, nat_lt}
+use Rattle.std.specs.Prelude.{List, [], ◌∷◌, ◌++◌, take, drop, map, slice_index, slice_range, if◌then◌else◌, Option, Some}
+use Rattle.std.specs.Prelude.{None, Ok, unwrap_or, option_map}
+use Rattle.std.specs.List.{list_all, list_any}
+use Rattle.toml_span_lex.specs.Bytes.{is_blank, hash, line_feed, left_brace, left_bracket}
+use Rattle.toml_span_lex.specs.declared.span.Span.{Span}
+use Rattle.toml_span_tree.specs.Node.{Node, node, Inner, array, table, Items, no_items, item, Members, no_members}
+use Rattle.toml_span_tree.specs.Node.{member, entry_at}
+use Rattle.toml_span_tree.specs.Value.{inner_of, span_of}
+use Rattle.toml_span_read.specs.Data.{ParsedSection, depth_limit}
+use Rattle.toml_span_read.specs.Read.{document}
+use Rattle.toml_span_places.specs.Keys.{KeyMention, document_keys}
+use Rattle.toml_span_places.specs.Lines.{after_line}
+use Rattle.toml_span_places.specs.Literals.{literal_span}
+use Rattle.toml_span_places.specs.Replace.{Edit as Replacement, replaced}
+use Rattle.toml_span_places.specs.Sections.{SectionMention, document_sections}
+use Rattle.toml_span_edit.specs.Made.{child}
+use Rattle.toml_span_edit.specs.Paths.{Path, Splits, found, names_first, names_steps}
+use Rattle.toml_span_edit.specs.declared.edits.Change.{Change}
+use Rattle.toml_span_edit.specs.declared.edits.Change.TheVariants as changes
+
+-- ---- a value written over another one
+
+-- The value's text replaces the literal of what the path names. All other bytes are the same.
+abbrev pub IsWrittenOver : List ℕ → Path → Node → List ℕ → List ℕ → Type 0
+IsWrittenOver value path n text new =
+    (w : Node) × (found path n ≡ Some w) × (replaced text ((literal_span text w, value) ∷ []) ≡ Some new)
+
+-- ---- a key that is renamed
+
+-- the keys at the path, with their quotes
+abbrev pub keys_at : Path → List KeyMention → List Span
+keys_at path [] = []
+keys_at path (m ∷ ms) = if names_steps path m.path then m.whole ∷ keys_at path ms else keys_at path ms
+
+-- One text replaces each key at the path. All other bytes are the same.
+abbrev pub AreKeysReplaced : Path → List ℕ → List ℕ → Type 0
+AreKeysReplaced path text new =
+    (sections : List ParsedSection) × (key : List ℕ) × document text depth_limit (Ok sections)
+    × (replaced text (map (λ span. (span, key)) (keys_at path (document_keys text sections))) ≡ Some new)
+
+-- ---- what is inserted
+
+-- spaces, tabs and line ends
+abbrev pub is_space : ℕ → Bool
+is_space c = is_blank c || (c == line_feed || c == 13)
+
+abbrev pub replaces_space : List ℕ → Replacement → Bool
+replaces_space text e = list_all is_space (slice_range text e.0.start e.0.end)
+
+-- Texts are inserted, or replace only spaces, tabs and line ends. All other bytes are still there, in order.
+abbrev pub IsInserted : List ℕ → List ℕ → Type 0
+IsInserted text new =
+    (es : List Replacement) × (list_all (replaces_space text) es ≡ true) × (replaced text es ≡ Some new)
+
+-- ---- what is removed
+
+-- the bytes before the span and after it are the same
+abbrev pub KeepsAround : List ℕ → Span → List ℕ → Type 0
+KeepsAround text span new = (between : List ℕ) × (new ≡ take span.start text ++ (between ++ drop span.end text))
+
+-- the smallest span around two
+abbrev pub hull : Span → Span → Span
+hull a b = record {
+  start = if nat_le a.start b.start then a.start else b.start;
+  end = if nat_le a.end b.end then b.end else a.end;
+}
+
+-- the smallest span around the literals of a value and of all values in it, and their keys
+abbrev mutual
+  pub reach : List ℕ → Node → Span
+  reach text (node i span) = inner_reach text (literal_span text (node i span)) i
+
+  pub inner_reach : List ℕ → Span → Inner → Span
+  inner_reach text s (array ns) = items_reach text s ns
+  inner_reach text s (table ms) = members_reach text s ms
+  inner_reach text s _ = s
+
+  pub items_reach : List ℕ → Span → Items → Span
+  items_reach text s no_items = s
+  items_reach text s (item n ns) = items_reach text (hull s (reach text n)) ns
+
+  pub members_reach : List ℕ → Span → Members → Span
+  members_reach text s no_members = s
+  members_reach text s (member name key n ms) = members_reach text (hull s (hull key (reach text n))) ms
+
+-- the entry or the element that a segment names, with the span of its key
+abbrev pub named : List ℕ → Inner → Option (Option Span × Node)
+named segment (table ms) = entry_at segment ms
+named segment i = option_map (λ m. (None, m)) (child segment i)
+
+abbrev pub with_key : Option Span → Span → Span
+with_key None s = s
+with_key (Some key) s = hull key s
+
+-- where the line of an offset starts
+abbrev pub line_start : List ℕ → ℕ → ℕ
+line_start text zero = zero
+line_start text (suc n) = if slice_index text n == line_feed then suc n else line_start text n
+
+-- where the lines of what ends at an offset end
+abbrev pub lines_end : List ℕ → ℕ → ℕ
+lines_end text zero = zero
+lines_end text (suc n) = if slice_index text n == line_feed then suc n else after_line text (suc n)
+
+abbrev pub lines_around : List ℕ → Span → Span
+lines_around text s = record { start = line_start text s.start; end = lines_end text s.end }
+
+-- whether a literal of this kind begins with this byte
+abbrev pub opens : Inner → ℕ → Bool
+opens (array ns) c = c == left_bracket
+opens (table ms) c = c == left_brace
+opens _ c = false
+
+-- whether the value is written in brackets or braces, with this span in them
+abbrev pub encloses : List ℕ → Node → Span → Bool
+encloses text n s =
+    nat_lt (span_of n).start s.start
+    && (nat_lt s.end (span_of n).end && opens (inner_of n) (slice_index text (span_of n).start))
+
+-- what is in these brackets or braces, if the span is, or else in others around them
+abbrev pub held_in : List ℕ → Node → Span → Option Span → Option Span
+held_in text n s outer =
+    if encloses text n s then Some (record { start = (span_of n).start + 1; end = (span_of n).end - 1 }) else outer
+
+abbrev pub room_at : List ℕ → Path → (Option Span → Node → Option Span) → Node → Option Span
+    → Option (Option Span × Node) → Option Span
+room_at text path deeper n outer None = None
+room_at text [] deeper n outer (Some (key, m)) =
+    Some (unwrap_or (held_in text n (with_key key (reach text m)) outer) (lines_around text (with_key key (reach text m))))
+room_at text (segment ∷ path) deeper n outer (Some (key, m)) =
+    deeper (held_in text n (with_key key (reach text m)) outer) m
+
+-- Where what the path names is written: what is in the innermost brackets or braces around it, or else its lines, from
+-- the first to the last. `outer` is what is in those around this value.
+abbrev pub room : List ℕ → Path → Option Span → Node → Option Span
+room text [] outer n = None
+room text (segment ∷ path) outer n = room_at text path (room text path) n outer (named segment (inner_of n))
+
+-- the span around this one and the lines of all sections of the table at the path, and of tables in it
+abbrev pub with_sections : List ℕ → Path → Span → List SectionMention → Span
+with_sections text path s [] = s
+with_sections text path s (m ∷ ms) =
+    with_sections text path (if names_first path m.path then hull s (lines_around text (hull m.header m.body)) else s) ms
+
+-- The span is around all that is written of what the path names: the brackets or braces that hold it, or its lines.
+abbrev pub IsAround : Path → Node → List ℕ → Span → Type 0
+IsAround path n text s =
+    (sections : List ParsedSection) × (inner : Span) × document text depth_limit (Ok sections)
+    × (room text path None n ≡ Some inner) × (s ≡ with_sections text path inner (document_sections text sections))
+
+-- the bytes before and after what is written of what the path names are the same
+abbrev pub IsCut : Path → Node → List ℕ → List ℕ → Type 0
+IsCut path n text new = (s : Span) × IsAround path n text s × KeepsAround text s new
+
+-- whether there are only comments on lines of their own, and blanks; in a comment, or before one
+abbrev pub only_comments : Bool → List ℕ → Bool
+only_comments within [] = true
+only_comments true (c ∷ cs) = only_comments (not (c == line_feed)) cs
+only_comments false (c ∷ cs) =
+    if is_blank c then only_comments false cs else c == hash && only_comments true cs
+
+-- the same, with comments directly above it
+abbrev pub IsCutWithComments : Path → Node → List ℕ → List ℕ → Type 0
+IsCutWithComments path n text new =
+    (s : Span) × (above : ℕ) × IsAround path n text s
+    × (above ≤ s.start) × (only_comments false (slice_range text above s.start) ≡ true)
+    × KeepsAround text (record { start = above; end = s.end }) new
+
+-- it is removed, and something is inserted elsewhere
+abbrev pub IsCutThenInserted : Path → Node → List ℕ → List ℕ → Type 0
+IsCutThenInserted path n text new = (mid : List ℕ) × IsCut path n text mid × IsInserted mid new
+
+-- It is removed. Or the array is, of which it is the only element, and an empty one is inserted.
+abbrev pub IsRemoved : Path → Node → List ℕ → List ℕ → Type 0
+IsRemoved path n text new =
+    IsCut path n text new
+    ⊎ ((front : Path) × (name : List ℕ) × Splits path front name × IsCutThenInserted front n text new)
+
+-- ---- tables that are moved
+
+-- a header's bracket, and blanks
+abbrev pub is_opening : ℕ → Bool
+is_opening c = is_blank c || c == left_bracket
+
+-- Only blanks and brackets are before the span on its line, at least one bracket among them, and no line ends in it.
+abbrev pub is_header_part : List ℕ → Replacement → Bool
+is_header_part text e =
+    let before = slice_range text (line_start text e.0.start) e.0.start in
+    list_all is_opening before && (list_any (λ c. c == left_bracket) before
+    && not (list_any (λ c. c == line_feed) (slice_range text e.0.start e.0.end)))
+
+-- only parts of lines that begin with a bracket are replaced
+abbrev pub AreHeadersReplaced : List ℕ → List ℕ → Type 0
+AreHeadersReplaced text new =
+    (es : List Replacement) × (list_all (is_header_part text) es ≡ true) × (replaced text es ≡ Some new)
+
+-- It is removed with the comments directly above it, and inserted elsewhere; or the headers of a table are replaced.
+abbrev pub IsMovedText : Path → Node → List ℕ → List ℕ → Type 0
+IsMovedText path n text new =
+    ((mid : List ℕ) × IsCutWithComments path n text mid × IsInserted mid new) ⊎ AreHeadersReplaced text new
+
+-- ---- changes
+
+-- which bytes a change at a path keeps, in a text with this tree
+abbrev pub Keeps : Change → Path → Node → List ℕ → List ℕ → Type 0
+Keeps (changes.Set v) path n text new = IsWrittenOver v.now path n text new
+Keeps (changes.Replace v) path n text new =
+    IsWrittenOver v.now path n text new ⊎ IsCutThenInserted path n text new
+Keeps (changes.SetOrAdd v) path n text new = IsWrittenOver v.now path n text new ⊎ IsInserted text new
+Keeps (changes.Rename name) path n text new = AreKeysReplaced path text new
+Keeps changes.Remove path n text new = IsRemoved path n text new
+Keeps (changes.Add v) path n text new = IsInserted text new
+Keeps changes.AddTable path n text new = IsInserted text new
+Keeps (changes.Append v) path n text new = IsInserted text new
+Keeps (changes.Insert v) path n text new = IsInserted text new
+Keeps (changes.MoveTo target) path n text new = IsMovedText path n text new

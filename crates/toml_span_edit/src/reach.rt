@@ -1,0 +1,226 @@
+//! Where a value of a tree is written.
+ghost use Rattle.std.specs.Prelude.{◌≡◌, IfOk, Ok, map, option_map};
+ghost use Rattle.toml_span_read.specs.Data.{depth_limit, parsed_section};
+ghost use Rattle.toml_span_read.specs.Read.{document as read};
+ghost use Rattle.toml_span_tree.specs.Node.{entry_at};
+ghost use Rattle.toml_span_tree.specs.Value.{inner_of, inner_view, items_view, members_view, view};
+ghost use Rattle.toml_span_places.specs.Lines.{after_line};
+ghost use Rattle.toml_span_places.specs.Sections.{section_mention};
+ghost use Rattle.toml_span_edit.specs.Kept as spec;
+
+use crate::document::Document;
+use crate::made::child;
+use crate::paths::names_first;
+use crate::reason::Reason;
+use toml_span::value::{Table, Value, ValueInner};
+use toml_span::{Span, Stop};
+use toml_span_places::{SectionPlace, literal_span, section_places};
+use toml_span_read::gaps::byte_at;
+
+/// The smallest span around two.
+fn hull(one: Span, other: Span) -> Span
+    ensures { result ≡ spec.hull one other }
+{
+    Span {
+        start: if one.start <= other.start {
+            one.start
+        } else {
+            other.start
+        },
+        end: if one.end <= other.end {
+            other.end
+        } else {
+            one.end
+        },
+    }
+}
+
+/// The smallest span around the literals of a value and of all values in it, and their keys.
+#[cycle(reach)]
+fn reach(text: &str, value: &Value<'_>) -> Span
+    ensures { result ≡ spec.reach text.now (view value.now) }
+{
+    let own = literal_span(text, value);
+    if value.is_taken() {
+        return own;
+    }
+    match value.as_ref() {
+        ValueInner::Array(array) => items_reach(text, own, array.as_slice()),
+        ValueInner::Table(table) => entries_reach(text, own, table),
+        _ => own,
+    }
+}
+
+/// The same of these elements and a span.
+#[cycle(reach)]
+fn items_reach(text: &str, own: Span, items: &[Value<'_>]) -> Span
+    ensures { result ≡ spec.items_reach text.now own (items_view items.now) }
+{
+    let mut span = own;
+    for item in items {
+        span = hull(span, reach(text, item));
+    }
+    span
+}
+
+/// The same of these entries and a span.
+#[cycle(reach)]
+fn entries_reach(text: &str, own: Span, table: &Table<'_>) -> Span
+    ensures { result ≡ spec.members_reach text.now own (members_view table.now.entries) }
+{
+    let mut span = own;
+    for (key, value) in table.iter() {
+        span = hull(span, hull(key.span, reach(text, value)));
+    }
+    span
+}
+
+/// The entry with a name, with the span of its key.
+fn entry<'v, 'de>(table: &'v Table<'de>, name: &str) -> Option<(Option<Span>, &'v Value<'de>)>
+    ensures { option_map (λ e. (e.0, view e.1.now)) result ≡ entry_at name.now (members_view table.now.entries) }
+{
+    for (key, value) in table.iter() {
+        if name == key.name.as_str() {
+            return Some((Some(key.span), value));
+        }
+    }
+    None
+}
+
+/// The entry or the element that a segment names, with the span of its key.
+fn named<'v, 'de>(value: &'v Value<'de>, segment: &str) -> Option<(Option<Span>, &'v Value<'de>)>
+    ensures { option_map (λ e. (e.0, view e.1.now)) result ≡ spec.named segment.now (inner_of (view value.now)) }
+{
+    if let Some(table) = value.as_table() {
+        return entry(table, segment);
+    }
+    match child(value, segment) {
+        Some(below) => Some((None, below)),
+        None => None,
+    }
+}
+
+/// The span of a key and its value, or of a value without a key.
+fn with_key(key: Option<Span>, span: Span) -> Span
+    ensures { result ≡ spec.with_key key span }
+{
+    match key {
+        Some(key) => hull(key, span),
+        None => span,
+    }
+}
+
+/// Where the line of an offset starts.
+pub(crate) fn line_start(text: &str, at: usize) -> usize
+    ensures { result ≡ spec.line_start text.now at }
+{
+    let mut start = at;
+    while start > 0 && byte_at(text, start - 1) != b'\n' {
+        start -= 1;
+    }
+    start
+}
+
+/// The offset after the next line feed at or after an offset, or the end of the text.
+fn after_line(text: &str, from: usize) -> usize
+    ensures { result ≡ after_line text.now from }
+{
+    let bytes = text.as_bytes();
+    for at in from..bytes.len() {
+        if bytes[at] == b'\n' {
+            return at + 1;
+        }
+    }
+    bytes.len().max(from)
+}
+
+/// Where the lines of what ends at an offset end.
+fn lines_end(text: &str, end: usize) -> usize
+    ensures { result ≡ spec.lines_end text.now end }
+{
+    if end == 0 || byte_at(text, end - 1) == b'\n' {
+        return end;
+    }
+    after_line(text, end)
+}
+
+/// The lines of a span.
+fn lines_around(text: &str, span: Span) -> Span
+    ensures { result ≡ spec.lines_around text.now span }
+{
+    Span {
+        start: line_start(text, span.start),
+        end: lines_end(text, span.end),
+    }
+}
+
+/// Whether a literal of this kind begins with a byte.
+fn opens(value: &Value<'_>, byte: u8) -> bool
+    ensures { result ≡ spec.opens (inner_of (view value.now)) byte }
+{
+    if value.as_array().is_some() {
+        return byte == b'[';
+    }
+    value.as_table().is_some() && byte == b'{'
+}
+
+/// What is in these brackets or braces, if a span is in them, or else what is in others around them.
+fn held_in(text: &str, value: &Value<'_>, span: Span, outer: Option<Span>) -> Option<Span>
+    ensures { result ≡ spec.held_in text.now (view value.now) span outer }
+{
+    let Span { start, end } = value.span;
+    if start < span.start && span.end < end && opens(value, byte_at(text, start)) {
+        let (start, end) = (start + 1, end - 1);
+        return Some(Span { start, end });
+    }
+    outer
+}
+
+/// Where what a path names is written: what is in the innermost brackets or braces around it, or else its lines, from
+/// the first to the last. `outer` is what is in those around the value.
+fn room(text: &str, path: &[&str], outer: Option<Span>, value: &Value<'_>) -> Option<Span>
+    ensures { result ≡ spec.room text.now (map (λ s. s.now) path.now) outer (view value.now) }
+{
+    let [segment, rest @ ..] = path else {
+        return None;
+    };
+    let (key, below) = named(value, *segment)?;
+    let span = with_key(key, reach(text, below));
+    let held = held_in(text, value, span, outer);
+    if rest.is_empty() {
+        return Some(held.unwrap_or(lines_around(text, span)));
+    }
+    room(text, rest, held, below)
+}
+
+/// The span around one and the lines of all these sections that are of the table at a path, or of tables in it.
+fn with_sections(text: &str, path: &[&str], span: Span, places: &[SectionPlace<'_>]) -> Span
+    ensures { result ≡ spec.with_sections text.now (map (λ s. s.now) path.now) span
+        (map section_mention places.now) }
+{
+    let mut around = span;
+    for place in places {
+        if names_first(path, place.path.as_slice()) {
+            around = hull(around, lines_around(text, hull(place.header, place.body)));
+        }
+    }
+    around
+}
+
+/// The span around all that is written of what a path names: what is in the brackets or braces that hold it, or its
+/// lines.
+pub(crate) fn around(
+    document: Document<'_, '_>,
+    path: &[&str],
+    value: &Value<'_>,
+) -> Result<Span, Stop<Reason>>
+    requires { read document.text.now depth_limit (Ok (map parsed_section document.sections.now)) }
+    ensures { IfOk result (λ span. spec.IsAround (map (λ s. s.now) path.now) (view value.now)
+        document.entry.text.now span) }
+{
+    let Some(inner) = room(document.text, path, None, value) else {
+        return Err(Stop::Fault(Reason::Nothing));
+    };
+    let places = section_places(document.alloc, document.text, document.sections)?;
+    Ok(with_sections(document.text, path, inner, places.as_slice()))
+}

@@ -1,0 +1,67 @@
+-- Where what a fault reports ends.
+use Rattle.std.specs.Prelude.{◌≡◌, ℕ, ◌+◌, ◌<◌, ◌≤◌, ◌⊎◌, Bool, true, false, if◌then◌else◌, List, length}
+use Rattle.toml_span_lex.specs.declared.span.Span.{Span}
+use Rattle.toml_span_lex.specs.Bytes.{is_blank, MaximalRun}
+use Rattle.toml_span_lex.specs.Text.{CharAt}
+use Rattle.toml_span_lex.specs.Tokens.{Lexeme, IsLexeme}
+use Rattle.toml_span_read.specs.Dates.{is_date_byte}
+use Rattle.toml_span_read.specs.Gaps.{Tail}
+use Rattle.toml_span_read.specs.declared.fault.Fault.{Fault}
+use Rattle.toml_span_read.specs.declared.fault.FoundToken.{FoundToken}
+use Rattle.toml_span_read.specs.declared.fault.FoundToken.TheVariants as found_tokens
+use Rattle.toml_span_read.specs.declared.fault.FaultKind.{FaultKind}
+use Rattle.toml_span_read.specs.declared.fault.FaultKind.TheVariants as kinds
+
+-- A token is at i..j, or the text ends at i, and j is i.
+abbrev pub TokenTo : List ℕ → ℕ → ℕ → Type 0
+TokenTo text i j = ((span : Span) × (l : Lexeme) × IsLexeme text i j span l) ⊎ ((i ≡ length text) × (j ≡ i))
+
+-- What a fault of this kind with the span s reports ends at j:
+-- the token, where another one was expected, or the string that is no key;
+-- for a fault in a string the character, or the spaces and tabs after a backslash, or the digits of the escape;
+-- for a number all letters, digits, dashes, underscores, colons, dots and plus signs;
+-- the end of the text, where it ends too early;
+-- beyond the limit the string or the key, or the first byte of another value;
+-- for a key through a value the end of its line, or in braces that of its value, whose last quotes are after its span.
+abbrev pub ReportsTo : FaultKind → List ℕ → Span → ℕ → Type 0
+ReportsTo (kinds.Wanted expected found) text s j = TokenTo text s.start j
+ReportsTo kinds.MultilineStringKey text s j = TokenTo text s.start j
+ReportsTo kinds.UnexpectedEof text s j = j ≡ length text
+ReportsTo kinds.UnterminatedString text s j = j ≡ length text
+ReportsTo (kinds.Unexpected c) text s j = CharAt text s.start c j
+ReportsTo (kinds.InvalidCharInString c) text s j = CharAt text s.start c j
+ReportsTo (kinds.InvalidHexEscape c) text s j = CharAt text s.start c j
+ReportsTo (kinds.InvalidEscape c) text s j =
+    CharAt text s.start c j ⊎ ((s.start < j) × MaximalRun is_blank text s.start j)
+ReportsTo (kinds.InvalidEscapeValue value) text s j = j ≡ s.end + 1
+ReportsTo kinds.InvalidNumber text s j = MaximalRun is_date_byte text s.start j
+ReportsTo kinds.InvalidDatetime text s j = j ≡ s.end
+ReportsTo kinds.UnquotedString text s j = j ≡ s.end
+ReportsTo kinds.ExceededDepthLimit text s j = TokenTo text s.start j ⊎ ((s.end ≤ j) × (j ≤ s.end + 1))
+ReportsTo (kinds.DottedKeyInvalidType first) text s j =
+    (m : ℕ) × (s.end ≤ m) × (m ≤ s.end + 3) × ((j ≡ m) ⊎ Tail text m j)
+
+-- the same for a fault
+abbrev pub EndsReported : List ℕ → Fault → ℕ → Type 0
+EndsReported text fault j = ReportsTo fault.kind text fault.span j
+
+-- whether what was found is one byte, or a line end
+abbrev pub is_whole : FoundToken → Bool
+is_whole found_tokens.EndOfText = false
+is_whole found_tokens.Whitespace = false
+is_whole found_tokens.Comment = false
+is_whole found_tokens.Keylike = false
+is_whole found_tokens.OneLineString = false
+is_whole found_tokens.MultilineString = false
+is_whole found = true
+
+-- How many bytes after that end decide a fault of this kind: none after a token that is whole in itself; two after a
+-- number, a date, an invalid escape, a key through a value, and beyond the limit; otherwise one.
+abbrev pub ahead : FaultKind → ℕ
+ahead (kinds.Wanted expected found) = if is_whole found then 0 else 1
+ahead kinds.InvalidNumber = 2
+ahead kinds.InvalidDatetime = 2
+ahead (kinds.InvalidEscape c) = 2
+ahead kinds.ExceededDepthLimit = 2
+ahead (kinds.DottedKeyInvalidType first) = 2
+ahead kind = 1

@@ -1,0 +1,5 @@
+use Rattle.toml_span_lex.proofs.Common.{length}
+use Rattle.toml_span_places.proofs.dotted.+value_at.Given as goal
+
+abbrev pub decreases-value_at : goal.decreases-value_at
+decreases-value_at l = length l.path.now

@@ -1,0 +1,347 @@
+//! Paths as text: pointers, and dotted keys with positions in brackets.
+ghost use Rattle.std.specs.Prelude.{◌≡◌, ◌<◌, ◌++◌, IfOk, OnOk, length, map, option_and_then, option_map, slice_index};
+ghost use Rattle.std.specs.Char.{is_ascii_digit};
+ghost use Rattle.std.specs.Cow.{cow_str_bytes};
+ghost use Rattle.std.specs.List.{list_all};
+ghost use Rattle.std.specs.Str.{IsCharBoundary};
+ghost use Rattle.toml_span_lex.specs.Bytes.{left_bracket};
+ghost use Rattle.toml_span_lex.specs.Strings.{IsQuote};
+ghost use Rattle.toml_span_lex.specs.declared.stop.Stop.TheVariants.{Fault};
+ghost use Rattle.toml_span_tree.specs.Node.{get_item, get_member};
+ghost use Rattle.toml_span_tree.specs.Pointer.{position_of, segments};
+ghost use Rattle.toml_span_tree.specs.Value.{inner_view, items_view, members_view, view};
+ghost use Rattle.toml_span_tree.specs.code.Pointer.{PositionIs, SplitAtSlash, entry, untaken_entry};
+ghost use Rattle.toml_span_places.specs.Dotted as spec;
+ghost use Rattle.toml_span_places.specs.Dotted.{IsDotted, IsPath, Reads};
+ghost use Rattle.toml_span_places.specs.code.Dotted.{KeyGives, PositionGives, StepGives, StringGives};
+
+use std::alloc::{AllocError, Global};
+use std::borrow::CowStr;
+use thiserror::Error;
+use toml_span_lex::bytes::{is_keylike, keylike_end};
+use toml_span_lex::stop::Stop;
+use toml_span_lex::strings::string_at;
+use toml_span_lex::tokens::{self, Token};
+use toml_span_read::gaps::{byte_at, dot};
+use toml_span_tree::{Array, Table, Value, ValueInner};
+
+/// What is wrong with a path that does not begin with a slash.
+#[derive(Clone, Copy, Debug, PartialEq, Eq, Error)]
+pub enum PathFault {
+    #[error("expected a key")]
+    Key,
+    #[error("this key is not closed")]
+    Open,
+    #[error("this key can't be read")]
+    Quoted,
+    #[error("expected a position in brackets, such as `[0]`")]
+    Position,
+    #[error("expected `.` or `[`")]
+    Step,
+}
+
+/// Why a path can't be read.
+#[derive(Clone, Copy, Debug, PartialEq, Eq, Error)]
+#[error("{fault}")]
+pub struct PathError {
+    /// The offset in the path, in bytes.
+    pub at: usize,
+    pub fault: PathFault,
+}
+
+/// Returns the error for an offset.
+fn stop(at: usize, fault: PathFault) -> Stop<PathError>
+    ensures { result ≡ Fault (spec.error at fault) }
+{
+    Stop::Fault(PathError { at, fault })
+}
+
+/// Returns the error for a string that begins at `at` and is read up to `end`.
+fn string_error(at: usize, end: usize, error: tokens::Error) -> Stop<PathError>
+    ensures { result ≡ Fault (spec.string_error at end error) }
+{
+    match error {
+        tokens::Error::UnterminatedString(_) => stop(at, PathFault::Open),
+        _ => stop(end, PathFault::Quoted),
+    }
+}
+
+/// Reads the string at an offset. Returns its content, whether it has three quotes on each side, and the offset after
+/// it.
+fn string_read<'p>(
+    alloc: Global,
+    path: &'p str,
+    at: usize,
+) -> Result<(CowStr<'p>, bool, usize), Stop<PathError>>
+    requires within { at < length path.now }
+    requires quote { IsQuote (slice_index path.now at) }
+    ensures { StringGives path.now at result }
+{
+    match string_at(alloc, path, at) {
+        Ok((_, token, end)) => match token {
+            Token::String {
+                src: _,
+                val,
+                multiline,
+            } => Ok((val, multiline, end)),
+            _ => unreachable!(),
+        },
+        Err(Stop::Fault((error, end))) => Err(string_error(at, end, error)),
+        Err(Stop::Memory(error)) => Err(Stop::Memory(error)),
+    }
+}
+
+/// Reads the key in quotes at an offset. Returns its name and the offset after it.
+///
+/// `quoted-key = basic-string / literal-string` (TOML 1.1, Keys)
+fn quoted_at<'p>(
+    alloc: Global,
+    path: &'p str,
+    at: usize,
+) -> Result<(CowStr<'p>, usize), Stop<PathError>>
+    requires within { at < length path.now }
+    requires quote { IsQuote (slice_index path.now at) }
+    ensures { KeyGives path.now at result }
+{
+    let (name, is_multiline, end) = string_read(alloc, path, at)?;
+    if is_multiline {
+        Err(stop(at, PathFault::Quoted))
+    } else {
+        Ok((name, end))
+    }
+}
+
+/// Reads the key at an offset. Returns its name and the offset after it.
+///
+/// `simple-key = quoted-key / unquoted-key` (TOML 1.1, Keys)
+#[tactic(auto, using(toml_span_read::proofs::Places::run_some))]
+fn key_at<'p>(
+    alloc: Global,
+    path: &'p str,
+    at: usize,
+) -> Result<(CowStr<'p>, usize), Stop<PathError>>
+    requires { IsCharBoundary path.now at }
+    ensures { KeyGives path.now at result }
+{
+    let byte = byte_at(path, at);
+    if is_keylike(byte) {
+        let end = keylike_end(path, at);
+        Ok((CowStr::Borrowed(&path[at..end]), end))
+    } else if byte == b'"' || byte == b'\'' {
+        quoted_at(alloc, path, at)
+    } else {
+        Err(stop(at, PathFault::Key))
+    }
+}
+
+fn is_digit(byte: u8) -> bool
+    ensures { result ≡ is_ascii_digit byte }
+{
+    byte.is_ascii_digit()
+}
+
+fn are_digits(bytes: &[u8]) -> bool
+    ensures { result ≡ list_all is_ascii_digit bytes.now }
+{
+    bytes.iter().all(|byte| is_digit(*byte))
+}
+
+/// Returns whether a run of bare key bytes is a position: digits without a leading zero.
+fn is_position(run: &str) -> bool
+    ensures { result ≡ spec.is_position run.now }
+{
+    are_digits(run.as_bytes()) && (run.len() == 1 || byte_at(run, 0) != b'0')
+}
+
+/// Returns whether a run of bare key bytes is a position, and a bracket closes after it.
+fn is_closed(path: &str, digits: &str, end: usize) -> bool
+    ensures { result ≡ spec.is_closed path.now digits.now end }
+{
+    is_position(digits) && byte_at(path, end) == b']'
+}
+
+/// Reads the position after the bracket at an offset. Returns its digits and the offset after its closing bracket.
+#[tactic(auto, using(toml_span_read::proofs::Places::run_some))]
+fn opened_at<'p>(path: &'p str, at: usize) -> Result<(CowStr<'p>, usize), Stop<PathError>>
+    requires { slice_index path.now at ≡ left_bracket }
+    ensures { PositionGives path.now at result }
+{
+    let from = at + 1;
+    if !is_keylike(byte_at(path, from)) {
+        return Err(stop(from, PathFault::Position));
+    }
+    let end = keylike_end(path, from);
+    let digits = &path[from..end];
+    if is_closed(path, digits, end) {
+        Ok((CowStr::Borrowed(digits), end + 1))
+    } else {
+        Err(stop(from, PathFault::Position))
+    }
+}
+
+/// Reads the position in brackets at an offset. Returns its digits and the offset after it.
+fn position_at<'p>(path: &'p str, at: usize) -> Result<(CowStr<'p>, usize), Stop<PathError>>
+    ensures { PositionGives path.now at result }
+{
+    if byte_at(path, at) == b'[' {
+        opened_at(path, at)
+    } else {
+        Err(stop(at, PathFault::Step))
+    }
+}
+
+/// Reads the step at an offset: a dot and a key, or a position in brackets. Returns its segment and the offset after
+/// it.
+fn step_at<'p>(
+    alloc: Global,
+    path: &'p str,
+    at: usize,
+) -> Result<(CowStr<'p>, usize), Stop<PathError>>
+    requires { IsCharBoundary path.now at }
+    ensures { StepGives path.now at result }
+{
+    match dot(path, at) {
+        Some(next) => key_at(alloc, path, next),
+        None => position_at(path, at),
+    }
+}
+
+/// Reads a dotted key with positions.
+#[tactic(auto, using(crate::proofs::DottedLemmas::after_first, crate::proofs::DottedLemmas::after_more))]
+fn dotted<'p>(alloc: Global, path: &'p str) -> Result<Vec<CowStr<'p>>, Stop<PathError>>
+    ensures { Reads (IsDotted path.now) result }
+{
+    let (first, mut at) = key_at(alloc, path, 0)?;
+    let mut parts = vec![in alloc; first]?;
+    'steps: while at < path.len() {
+        let (part, end) = step_at(alloc, path, at)?;
+        parts.push(part)?;
+        at = end;
+    }
+    Ok(parts)
+}
+
+/// Returns the first segment, and what is after its slash, if it has one.
+fn cut<'p>(path: &'p str) -> (&'p str, Option<&'p str>)
+    ensures { SplitAtSlash path.now result.0.now (option_map (λ rest. rest.now) result.1) }
+{
+    match path.split_once('/') {
+        Some((segment, rest)) => (segment, Some(rest)),
+        None => (path, None),
+    }
+}
+
+/// Adds the segments of a path between its slashes.
+fn push_segments<'p>(path: &'p str, parts: &mut Vec<CowStr<'p>>) -> Result<(), AllocError>
+    ensures { OnOk result (map cow_str_bytes parts.new.items
+        ≡ map cow_str_bytes parts.old.items ++ segments path.now) }
+{
+    let (segment, rest) = cut(path);
+    parts.push(CowStr::Borrowed(segment))?;
+    match rest {
+        Some(rest) => push_segments(rest, parts),
+        None => Ok(()),
+    }
+}
+
+/// Returns the segments of a path: names of keys, and positions of elements in decimal digits.
+///
+/// An empty path, or one that begins with a slash, is a pointer such as `/a/0`. Any other is a dotted key with positions
+/// in brackets, such as `a."b/c"[0]`. The error is the first place that can't be read, or out of memory. A pointer can
+/// always be read.
+pub fn path_segments<'p>(alloc: Global, path: &'p str) -> Result<Vec<CowStr<'p>>, Stop<PathError>>
+    ensures { Reads (IsPath path.now) result }
+{
+    let mut parts = Vec::new(alloc);
+    if path.is_empty() {
+        return Ok(parts);
+    }
+    match path.strip_prefix('/') {
+        Some(rest) => {
+            push_segments(rest, &mut parts)?;
+            Ok(parts)
+        }
+        None => dotted(alloc, path),
+    }
+}
+
+/// Returns the position that a segment spells. `None` also if it is past every list.
+fn position(segment: &str) -> Option<usize>
+    ensures { PositionIs result (position_of segment.now) }
+{
+    let bytes = segment.as_bytes();
+    if bytes.is_empty() || bytes[0] == b'+' {
+        return None;
+    }
+    if bytes[0] == b'0' && bytes.len() > 1 {
+        return None;
+    }
+    segment.parse::<usize>().ok()
+}
+
+/// Returns the element that a segment names.
+fn array_entry<'v, 'de>(array: &'v Array<'de>, segment: &str) -> Option<&'v Value<'de>>
+    ensures { option_map (λ v. view v.now) result
+        ≡ option_and_then (λ i. get_item i (items_view array.now.items)) (position_of segment.now) }
+{
+    array.get(position(segment)?)
+}
+
+/// Returns the value under a name.
+fn entry_named<'v, 'de>(table: &'v Table<'de>, name: &str) -> Option<&'v Value<'de>>
+    ensures { option_map (λ v. view v.now) result ≡ get_member name.now (members_view table.now.entries) }
+{
+    for (key, value) in table.iter() {
+        if name == key.name.as_str() {
+            return Some(value);
+        }
+    }
+    None
+}
+
+/// Returns what a segment names in an array or a table.
+fn entry_of<'v, 'de>(inner: &'v ValueInner<'de>, segment: &str) -> Option<&'v Value<'de>>
+    ensures { option_map (λ v. view v.now) result ≡ entry segment.now (inner_view inner.now) }
+{
+    match inner {
+        ValueInner::Table(table) => entry_named(table, segment),
+        ValueInner::Array(array) => array_entry(array, segment),
+        _ => None,
+    }
+}
+
+/// Returns what a segment names below a value, unless it is taken.
+fn child_of<'v, 'de>(value: &'v Value<'de>, segment: &str) -> Option<&'v Value<'de>>
+    ensures { option_map (λ v. view v.now) result ≡ untaken_entry segment.now (view value.now) }
+{
+    if value.is_taken() {
+        return None;
+    }
+    let child = entry_of(value.as_ref(), segment)?;
+    if child.is_taken() { None } else { Some(child) }
+}
+
+/// Returns the value at a path below a value, given as its segments (see `path_segments`): in a table the name of a
+/// key, in an array a position. In each table on the way it goes through the entries.
+pub fn value_at<'v, 'de>(value: &'v Value<'de>, path: &[CowStr<'_>]) -> Option<&'v Value<'de>>
+    ensures { option_map (λ v. view v.now) result ≡ spec.named (map cow_str_bytes path.now) (view value.now) }
+{
+    let [segment, rest @ ..] = path else {
+        return Some(value);
+    };
+    value_at(child_of(value, segment.as_ref())?, rest)
+}
+
+/// Returns the segments as `Edits` of `toml_span_edit` takes them.
+pub fn segment_names<'s>(
+    alloc: Global,
+    segments: &'s [CowStr<'_>],
+) -> Result<Vec<&'s str>, AllocError>
+    ensures { IfOk result (λ names. map (λ name. name.now) names.items ≡ map cow_str_bytes segments.now) }
+{
+    let mut names = Vec::new(alloc);
+    for segment in segments {
+        names.push(segment.as_ref())?;
+    }
+    Ok(names)
+}
