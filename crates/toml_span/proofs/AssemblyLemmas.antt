@@ -26,7 +26,7 @@ use Rattle.toml_span.specs.code.ClaimInfos.{PlaceError}
 use Rattle.toml_span.specs.declared.branch.Branch.{Branch}
 use Rattle.toml_span.specs.Claims.{claims, Claims, followed, assignments_claims, section_claims, claims_after, header_info}
 use Rattle.toml_span.specs.Clashes.{first_clash}
-use Rattle.toml_span.specs.code.Machine.{named_clash, no_cells, clash_met, put_all}
+use Rattle.toml_span.specs.code.Machine.{named_clash, no_cells, clash_found, put_all}
 use Rattle.toml_span.specs.Ordered.{HoldsOrdered}
 use Rattle.toml_span.specs.code.Placing.{AreSections, Assembles, ShowsBelow, Places, place_shown}
 use Rattle.toml_span.specs.code.Tree.{cells, IsFresh, IsScope, counts}
@@ -54,7 +54,7 @@ unfolding opened_by
 remaining-first all rest root same headers fresh = record {
   earlier = [];
   headers = rw same headers;
-  telling = rw (cells-fresh root fresh, same) refl;
+  clash = rw (cells-fresh root fresh, same) refl;
   putting = rw (cells-fresh root fresh, same) refl;
   counting = counts-fresh root fresh;
   scope = scope-fresh root fresh;
@@ -84,7 +84,7 @@ remaining-next all old new b root w steps inv placed =
     record {
       earlier = b ∷ inv.earlier;
       headers = headers.1;
-      telling = grind (arith, nat_tests, common_steps, next-claims, reported-followed, inv.telling);
+      clash = grind (arith, nat_tests, common_steps, next-claims, reported-followed, inv.clash);
       putting = grind (arith, nat_tests, common_steps, next-claims, put_all-followed, inv.putting);
       counting = h.1.1;
       scope = h.1.2.0;
@@ -96,7 +96,7 @@ assembles-err all old new length b root w q (stops.Memory m) steps inv same plac
 assembles-err all old new length b root w q (stops.Fault c) steps inv same placed =
     let headers : AreSections (b ∷ new) = subst AreSections steps inv.headers in
     let h = placed-is b inv.earlier root w (Err (stops.Fault c)) inv.counting headers.0 placed inv.scope in
-    grind (arith, nat_tests, common_steps, first-met, next-claims, reported-followed, inv.telling)
+    grind (arith, nat_tests, common_steps, first-met, next-claims, reported-followed, inv.clash)
 
 -- the tree shows what the root keeps, which is the flat document
 shows-flat : (length : ℕ) (cs : Claims) (t : BTreeMap Key Value) (root : Branch) → cells root ≡ put_all no_cells cs → ShowsBelow (inner_view (table_inner t)) (cells root)
@@ -112,11 +112,11 @@ root-put all root inv = grind (arith, nat_tests, common_steps, inv.putting)
 pub assembles-ok : (all rest : List ParsedSection) (length : ℕ) (t : BTreeMap Key Value) (root : Branch) (v : Value) → rest ≡ [] → Remaining all rest root
     → (IsScope root → ShowsBelow (inner_view (table_inner t)) (cells root) × HoldsOrdered (inner_view (table_inner t)) × StaysRight root (table_held t.entries)) → view v ≡ node (inner_view (table_inner t)) (record { start = 0; end = length })
     → Assembles all length (Ok v)
-unfolding claims_after clash_met put_all
+unfolding claims_after clash_found put_all
 assembles-ok all [] length t root v done inv finished is =
     let below = finished inv.scope in
     let put = root-put all root inv in
-    let reported : first_clash (claims all) ≡ None = grind (arith, nat_tests, common_steps, first-met, inv.telling) in
+    let reported : first_clash (claims all) ≡ None = grind (arith, nat_tests, common_steps, first-met, inv.clash) in
     (reported, rw is (shows-flat length (claims all) t root put below.0), rw is (below.1))
 assembles-ok all (b ∷ rest) length t root v done inv finished is = cc
 

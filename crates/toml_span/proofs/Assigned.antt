@@ -16,7 +16,7 @@ use Rattle.toml_span.specs.declared.branch.Branch.TheOpen.{Branch-F}
 use Rattle.toml_span.specs.Paths.{same_path, same_step}
 use Rattle.toml_span.specs.Claims.{claimed, assigned, pair_info, value_claims}
 use Rattle.toml_span.specs.Clashes.{first_some}
-use Rattle.toml_span.specs.code.Machine.{Cell, CellMap, no_cells, change, with_claim, OkOrClash, earliest_clash, clash_met, show_all, put_all, graft}
+use Rattle.toml_span.specs.code.Machine.{Cell, CellMap, no_cells, change, with_claim, OkOrClash, earliest_clash, clash_found, show_all, put_all, graft}
 use Rattle.toml_span.specs.code.Placing.{Places, IsFinished, ValueGives}
 use Rattle.toml_span.specs.code.Relative.{pair_at}
 use Rattle.toml_span.specs.code.Tree.{is_named, child_in, infos, entries, child, closed, closed_in, closed_cell, child_infos, item, cells, cell_at, counts, value_cell, value_shows, IsScope}
@@ -98,11 +98,11 @@ value-cells k x v h = fun_ext at ∙ sym (put_all-value (change no_cells [] (wit
 -- ---- a value of a new name
 
 -- its clashes are those inside the value
-reported-free : (n : Branch) (k : Key) (v : Read) → child (simple_key k).name n ≡ None → closed (simple_key k).name n ≡ None → clash_met (cells n) (pair_at [] (simple_key k) v) ≡ clash_met no_cells (value_claims v [])
-unfolding clash_met pair_at
+reported-free : (n : Branch) (k : Key) (v : Read) → child (simple_key k).name n ≡ None → closed (simple_key k).name n ≡ None → clash_found (cells n) (pair_at [] (simple_key k) v) ≡ clash_found no_cells (value_claims v [])
+unfolding clash_found pair_at
 reported-free n k v missing free =
     let name = (simple_key k).name in
-    let own = λ (f : CellMap). clash_met (change f [] (with_claim (assigned [] (simple_key k) v))) (value_claims v []) in
+    let own = λ (f : CellMap). clash_found (change f [] (with_claim (assigned [] (simple_key k) v))) (value_claims v []) in
     reported-under (key name) (cells n) (claimed (assigned [] (simple_key k) v) (value_claims v []))
     ∙ ap (λ f. first_some (earliest_clash (f []).infos (value_info k v) name) (own (λ q. cells n (key name ∷ q)))) (cells-at n (key name) None missing ∙ ap closed_cell free)
     ∙ reported-value (change (λ q. cells n (key name ∷ q)) [] (with_claim (assigned [] (simple_key k) v))) v []

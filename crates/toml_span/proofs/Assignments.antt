@@ -17,7 +17,7 @@ use Rattle.toml_span_lex.specs.declared.stop.Stop.TheVariants.{Memory, Fault}
 use Rattle.toml_span.specs.declared.branch.Branch.{Branch}
 use Rattle.toml_span.specs.declared.branch.Branch.TheViews.{out-Branch}
 use Rattle.toml_span.specs.Claims.{Claims, no_claims, followed, assignment_claims, assignments_claims}
-use Rattle.toml_span.specs.code.Machine.{CellMap, key_spans, no_cells, show_all, put_all, clash_met}
+use Rattle.toml_span.specs.code.Machine.{CellMap, key_spans, no_cells, show_all, put_all, clash_found}
 use Rattle.toml_span.specs.code.Placing.{Places, ScopeGives, ShowsBelow, ShowsPlain, Finishes, place_shown}
 use Rattle.toml_span.specs.code.Relative.{pair_at}
 use Rattle.toml_span.specs.Borrowed.{strings_and_keys, AreBorrowedRight}
@@ -60,7 +60,7 @@ abbrev pub Placing : Branch → List Assignment → Branch → List Assignment �
 Placing n rest first all = Remains n (assignments_claims (map parsed_assignment rest) []) first (assignments_claims (map parsed_assignment all) [])
 
 pub remains-first : (n : Branch) (rest all : List Assignment) → rest ≡ all → Placing n rest n all
-unfolding clash_met put_all followed
+unfolding clash_found put_all followed
 remains-first n rest all same = record { done = no_claims; split = ap (λ es. assignments_claims (map parsed_assignment es) []) (sym same); placed = λ scope. (refl, (refl, refl, (scope, refl))) }
 
 placed-then : (first n w : Branch) (r : Result (Unit {0}) PlaceError) (xs ys : Claims) → Places first n (Ok tt) xs (counts first) → Places n w r ys (counts n) → Places first w r (followed xs ys) (counts first)

@@ -11,7 +11,7 @@ use Rattle.toml_span.specs.Paths.{same_path}
 use Rattle.toml_span.specs.Claims.{Claims, no_claims, claimed, followed, table_claim}
 use Rattle.toml_span.specs.Flat.{by_header}
 use Rattle.toml_span.specs.code.ClaimInfos.{PlaceError, first, first_by_header, has_kind, remember, same_kind}
-use Rattle.toml_span.specs.code.Machine.{Decided, OkOrClash, change, decide, earliest_clash, put_all, clash_met, with_claim}
+use Rattle.toml_span.specs.code.Machine.{Decided, OkOrClash, change, decide, earliest_clash, put_all, clash_found, with_claim}
 use Rattle.toml_span.specs.code.Placing.{Reaches}
 use Rattle.toml_span.specs.code.Tree.{infos, entries, own_cell, cells, cell_at, counts, count_at, by_info, by_infos, is_array_kind, is_entry_kind, NoArray, NoEntry, IsNamed, IsEntry, IsScope}
 use Rattle.toml_span_read.proofs.BorrowLemmas.{all_append}
@@ -138,7 +138,7 @@ scope-marked m old new other h before =
 
 pub reaches-claim : (A B : Branch → Type 0) (k : SimpleKey) (m : ClaimInfo) (old new : Branch) → earliest_clash (infos old) m k.name ≡ None → Marked m old new → (A old → B new)
     → Reaches A B old new (Ok tt) (claimed (table_claim [] k m) no_claims) (counts old)
-unfolding clash_met put_all cell_at
+unfolding clash_found put_all cell_at
 reaches-claim A B k m old new free h after = grind (arith, nat_tests, common_steps, cells-marked, counts-marked)
 
 -- before further claims
@@ -151,5 +151,5 @@ reaches-claimed A B C k m old mid new r cs d free h after more =
 -- the claim clashes
 pub reaches-claim-err : (A C : Branch → Type 0) (k : SimpleKey) (m : ClaimInfo) (old new : Branch) (q : Result (Unit {0}) PlaceError) (e : PlaceError) (P : Unit {0} → Type 0) (cs : Claims) (d : Path → ℕ)
     → q ≡ Err e → OkOrClash (Err e) (earliest_clash (infos old) m k.name) P → Reaches A C old new q (claimed (table_claim [] k m) cs) d
-unfolding clash_met cell_at
+unfolding clash_found cell_at
 reaches-claim-err A C k m old new q e P cs d same h = grind (arith, nat_tests, common_steps)

@@ -5,7 +5,7 @@ use Rattle.toml_span_tree.specs.Path.{Path, Step}
 use Rattle.toml_span.specs.Paths.{same_step, same_path}
 use Rattle.toml_span.specs.Claims.{Claims, no_claims, claimed, scope, followed}
 use Rattle.toml_span.specs.Clashes.{first_some}
-use Rattle.toml_span.specs.code.Machine.{Cell, CellMap, no_cells, change, with_claim, with_inner, show_all, put_all, clash_met, graft}
+use Rattle.toml_span.specs.code.Machine.{Cell, CellMap, no_cells, change, with_claim, with_inner, show_all, put_all, clash_found, graft}
 use Rattle.toml_span.specs.code.Relative.{step_down, under}
 
 pub fun_ext : {A B : Type 0} {f g : A → B} → ((x : A) → f x ≡ g x) → f ≡ g
@@ -83,14 +83,14 @@ put_all-under s st (claimed c cs) =
 put_all-under s st (scope inner cs) =
     ap (λ f. put_all f (under s cs)) (show_all-under s st inner) ∙ more-under put_all s st (show_all (λ q. st (s ∷ q)) inner) cs (λ f. put_all-under s f cs)
 
-pub reported-under : (s : Step) (st : CellMap) (cs : Claims) → clash_met st (under s cs) ≡ clash_met (λ q. st (s ∷ q)) cs
-unfolding clash_met under
+pub reported-under : (s : Step) (st : CellMap) (cs : Claims) → clash_found st (under s cs) ≡ clash_found (λ q. st (s ∷ q)) cs
+unfolding clash_found under
 reported-under s st no_claims = refl
 reported-under s st (claimed c cs) = grind (arith, nat_tests, common_steps, sub-change-under, reported-under s (change st (s ∷ c.path) (with_claim c)) cs)
 reported-under s st (scope inner cs) =
-    ap (λ o. first_some o (clash_met (show_all st (under s inner)) (under s cs))) (reported-under s no_cells inner)
-    ∙ ap (first_some (clash_met no_cells inner))
-    (reported-under s (show_all st (under s inner)) cs ∙ ap (λ f. clash_met f cs) (ap (λ f q. f (s ∷ q)) (show_all-under s st inner) ∙ sub-graft s st (show_all (λ q. st (s ∷ q)) inner)))
+    ap (λ o. first_some o (clash_found (show_all st (under s inner)) (under s cs))) (reported-under s no_cells inner)
+    ∙ ap (first_some (clash_found no_cells inner))
+    (reported-under s (show_all st (under s inner)) cs ∙ ap (λ f. clash_found f cs) (ap (λ f q. f (s ∷ q)) (show_all-under s st inner) ∙ sub-graft s st (show_all (λ q. st (s ∷ q)) inner)))
 
 pub under-followed : (s : Step) (xs ys : Claims) → under s (followed xs ys) ≡ followed (under s xs) (under s ys)
 unfolding under followed
@@ -130,8 +130,8 @@ or_else-assoc x y z = grind (arith, nat_tests, common_steps)
 pub or_else-none : {A : Type 0} (x : Option A) → first_some x None ≡ x
 or_else-none x = grind (arith, nat_tests, common_steps)
 
-pub reported-followed : (st : CellMap) (xs ys : Claims) → clash_met st (followed xs ys) ≡ first_some (clash_met st xs) (clash_met (put_all st xs) ys)
-unfolding clash_met put_all followed
+pub reported-followed : (st : CellMap) (xs ys : Claims) → clash_found st (followed xs ys) ≡ first_some (clash_found st xs) (clash_found (put_all st xs) ys)
+unfolding clash_found put_all followed
 reported-followed st no_claims ys = refl
 reported-followed st (claimed c cs) ys = grind (arith, nat_tests, common_steps, or_else-assoc, reported-followed (change st c.path (with_claim c)) cs ys)
 reported-followed st (scope inner cs) ys = grind (arith, nat_tests, common_steps, or_else-assoc, reported-followed (show_all st inner) cs ys)

@@ -6,7 +6,7 @@ use Rattle.toml_span.specs.declared.claims.ClashInfo.{ClashInfo}
 use Rattle.toml_span.specs.Claims.{Claim, Claims, no_claims, claimed, scope}
 use Rattle.toml_span.specs.Clashes.{NamedClash, with_name, clash_info, clash_info_between, first_some, clash, clash_among, clash_after, first_clash}
 use Rattle.toml_span.specs.code.ClaimInfos.{earliest_clash_info, same_kind, remember}
-use Rattle.toml_span.specs.code.Machine.{CellMap, no_cells, change, with_claim, show_all, earliest_clash, clash_met}
+use Rattle.toml_span.specs.code.Machine.{CellMap, no_cells, change, with_claim, show_all, earliest_clash, clash_found}
 use Rattle.toml_span.proofs.Claimed.{remember-cases, same_kind-eq}
 use Rattle.toml_span.proofs.Grafts.{or_else-assoc, or_else-none}
 use Rattle.toml_span.proofs.Shown.{show_all-infos}
@@ -61,12 +61,12 @@ keeps-inner st earlier inner keeps later = ap (λ l. earliest_clash l later.info
 
 -- ---- the clash that is found is the first one
 
-met-after : (st : CellMap) (earlier : List Claim) (cs : Claims) → Keeps st earlier → clash_met st cs ≡ clash_after earlier cs
-unfolding clash_met clash_after
+met-after : (st : CellMap) (earlier : List Claim) (cs : Claims) → Keeps st earlier → clash_found st cs ≡ clash_after earlier cs
+unfolding clash_found clash_after
 met-after st earlier no_claims keeps = refl
 met-after st earlier (claimed c cs) keeps = let rest = met-after (change st c.path (with_claim c)) (earlier ++ (c ∷ [])) cs (keeps-claim st earlier c keeps) in grind (arith, nat_tests, common_steps, keeps c)
 met-after st earlier (scope inner cs) keeps =
     rw (met-after no_cells [] inner keeps-nothing) (ap (first_some (clash_after [] inner)) (met-after (show_all st inner) earlier cs (keeps-inner st earlier inner keeps)))
 
-pub first-met : (cs : Claims) → first_clash cs ≡ clash_met no_cells cs
+pub first-met : (cs : Claims) → first_clash cs ≡ clash_found no_cells cs
 first-met cs = sym (met-after no_cells [] cs keeps-nothing)

@@ -23,7 +23,7 @@ use Rattle.toml_span.specs.Claims.{Claims, no_claims, claimed, scope, followed, 
 use Rattle.toml_span.specs.Clashes.{NamedClash, clash_kind, clash_info, with_name}
 use Rattle.toml_span.specs.Flat.{by_header}
 use Rattle.toml_span.specs.code.Assembling.{IsAssemblyOf, AssemblesTo, IsAssemblyInside}
-use Rattle.toml_span.specs.code.Machine.{CellMap, change, clash_met, no_cells, show_all, with_claim}
+use Rattle.toml_span.specs.code.Machine.{CellMap, change, clash_found, no_cells, show_all, with_claim}
 use Rattle.toml_span.specs.code.ClaimInfos.{PlaceError, IsPlaceErrorInside, earliest_clash_info}
 use Rattle.toml_span.proofs.EachClaim.{either-one}
 use Rattle.toml_span.proofs.Judged.{first-met}
@@ -63,13 +63,13 @@ named_inside n name o h = grind (arith, nat_tests, common_steps)
 abbrev Reported : ℕ → Claims → Type 0
 Reported n no_claims = ⊤
 Reported n (claimed c cs) = IsInfoInside n c.info × Reported n cs
-Reported n (scope inner cs) = IfSome (clash_met no_cells inner) (In n) × Reported n cs
+Reported n (scope inner cs) = IfSome (clash_found no_cells inner) (In n) × Reported n cs
 
-reported_inside : (n : ℕ) (st : CellMap) (cs : Claims) → Reported n cs → IfSome (clash_met st cs) (In n)
-unfolding clash_met
+reported_inside : (n : ℕ) (st : CellMap) (cs : Claims) → Reported n cs → IfSome (clash_found st cs) (In n)
+unfolding clash_found
 reported_inside n st no_claims h = tt
 reported_inside n st (claimed c cs) h = grind (arith, nat_tests, common_steps, either-one, named_inside, earliest_clash_info_inside, reported_inside n (change st c.path (with_claim c)) cs)
-reported_inside n st (scope inner cs) h = either-one (In n) (clash_met no_cells inner) (clash_met (show_all st inner) cs) h.0 (reported_inside n (show_all st inner) cs h.1)
+reported_inside n st (scope inner cs) h = either-one (In n) (clash_found no_cells inner) (clash_found (show_all st inner) cs) h.0 (reported_inside n (show_all st inner) cs h.1)
 
 followed_reported : (n : ℕ) (xs ys : Claims) → Reported n xs → Reported n ys → Reported n (followed xs ys)
 unfolding followed
@@ -98,7 +98,7 @@ mutual
 
   items_reported : (n : ℕ) (vs : ParsedItems) → ItemKeysInside n vs → IfSome (first_in vs) (In n)
   items_reported n no_items h = tt
-  items_reported n (item v vs) h = either-one (In n) (clash_met no_cells (value_claims v [])) (first_in vs) (reported_inside n no_cells (value_claims v []) (value_reported n v [] h.0)) (items_reported n vs h.1)
+  items_reported n (item v vs) h = either-one (In n) (clash_found no_cells (value_claims v [])) (first_in vs) (reported_inside n no_cells (value_claims v []) (value_reported n v [] h.0)) (items_reported n vs h.1)
 
   pairs_reported : (n : ℕ) (ps : ParsedPairs) (p : Path) → PairKeysInside n ps → Reported n (pair_claims ps p)
   pairs_reported n no_pairs p h = tt

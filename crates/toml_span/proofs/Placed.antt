@@ -15,7 +15,7 @@ use Rattle.toml_span.specs.declared.branch.Branch.TheViews.{roll-Branch, out-Bra
 use Rattle.toml_span_read.proofs.EarlierTree.{key_cmp}
 use Rattle.toml_span.specs.Claims.{Claim, Claims, claimed, followed, pair_info}
 use Rattle.toml_span.specs.Clashes.{NamedClash, clash_kind, with_name}
-use Rattle.toml_span.specs.code.Machine.{OkOrClash, earliest_clash, clash_met, put_all, graft}
+use Rattle.toml_span.specs.code.Machine.{OkOrClash, earliest_clash, clash_found, put_all, graft}
 use Rattle.toml_span.specs.code.Placing.{Reaches, Places, Passes}
 use Rattle.toml_span.specs.code.Relative.{under}
 use Rattle.toml_span.specs.Paths.{same_step}
@@ -53,10 +53,10 @@ pub reaches-below : (A B C D : Branch → Type 0) (s : Step) (n new x w : Branch
 reaches-below A B C D s n new x w (Ok u) cs c d at start set h before =
     let g = h (start before) in
     let now = set before g.1.2 in (
-      reported-under s (cells n) cs ∙ ap (λ f. clash_met f cs) at ∙ g.0,
+      reported-under s (cells n) cs ∙ ap (λ f. clash_found f cs) at ∙ g.0,
       (now.0 ∙ ap (graft s (cells n)) (g.1.0 ∙ ap (λ f. put_all f cs) (sym at)) ∙ sym (put_all-under s (cells n) cs), now.1 g.1.1, now.2),
     )
-reaches-below A B C D s n new x w (Err (Fault t)) cs c d at start set h before = reported-under s (cells n) cs ∙ ap (λ f. clash_met f cs) at ∙ h (start before)
+reaches-below A B C D s n new x w (Err (Fault t)) cs c d at start set h before = reported-under s (cells n) cs ∙ ap (λ f. clash_found f cs) at ∙ h (start before)
 reaches-below A B C D s n new x w (Err (Memory e)) cs c d at start set h before = tt
 
 -- after an error nothing is stated about the branch and its entries
@@ -130,7 +130,7 @@ places-below n new x w k r cs c start sets h =
 
 pub places-refused : (n new : Branch) (k : List ℕ) (r : Result (Unit {0}) PlaceError) (c : Claim) (cs : Claims) (P : Unit {0} → Type 0) (d : Path → ℕ)
     → c.path ≡ [] → (IsScope n → OnOk r ⊥ × OkOrClash r (earliest_clash (cells n (key k ∷ [])).infos c.info c.name) P) → Places n new r (under (key k) (claimed c cs)) d
-unfolding clash_met
+unfolding clash_found
 places-refused n new k (Ok u) c cs P d here h before = absurd (h before).0
 places-refused n new k (Err (Fault t)) c cs P d here h before = grind (arith, nat_tests, common_steps, reported-under)
 places-refused n new k (Err (Memory e)) c cs P d here h before = tt

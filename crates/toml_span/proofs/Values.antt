@@ -21,7 +21,7 @@ use Rattle.toml_span.specs.Paths.{same_step, same_path}
 use Rattle.toml_span_lex.specs.declared.span.Span.{Span}
 use Rattle.toml_span.specs.Claims.{Claim, Claims, no_claims, claimed, scope, followed, parsed_inner, value_claims, inner_claims, item_claims, assignments_claims, element, value_shape}
 use Rattle.toml_span.specs.Clashes.{first_some, NamedClash}
-use Rattle.toml_span.specs.code.Machine.{Cell, CellMap, no_cells, no_cell, change, with_claim, with_inner, show_all, put_all, clash_met, graft}
+use Rattle.toml_span.specs.code.Machine.{Cell, CellMap, no_cells, no_cell, change, with_claim, with_inner, show_all, put_all, clash_found, graft}
 use Rattle.toml_span.specs.Ordered.{HoldsOrdered, AreOrdered}
 use Rattle.toml_span.specs.code.Placing.{IsFinished, ValueGives, ShowsPlain, ScopeGives}
 use Rattle.toml_span.specs.code.Relative.{under}
@@ -58,8 +58,8 @@ show_all-local f g (scope inner cs) p same = grind (arith, nat_tests, common_ste
 
 -- ---- a value is a scope, or has no claims
 
-pub reported-value : (st : CellMap) (v : Read) (p : Path) → clash_met st (value_claims v p) ≡ clash_met no_cells (value_claims v p)
-unfolding clash_met value_claims inner_claims
+pub reported-value : (st : CellMap) (v : Read) (p : Path) → clash_found st (value_claims v p) ≡ clash_found no_cells (value_claims v p)
+unfolding clash_found value_claims inner_claims
 reported-value st (parsed (scalar s) span) p = refl
 reported-value st (parsed (array vs) span) p = refl
 reported-value st (parsed (inline ps) span) p = refl
@@ -113,25 +113,25 @@ apart i l h = ne_eqb i l (λ same. absurd (omega (arith, same)))
 
 unfoldable pub first_in : ParsedItems → Option NamedClash
 first_in no_items = None
-first_in (item v vs) = first_some (clash_met no_cells (value_claims v [])) (first_in vs)
+first_in (item v vs) = first_some (clash_found no_cells (value_claims v [])) (first_in vs)
 
-reported-items : (vs : ParsedItems) (i : ℕ) (st : CellMap) → ((l : ℕ) → i ≤ l → (st (position l ∷ [])).infos ≡ []) → clash_met st (item_claims vs i []) ≡ first_in vs
-unfolding clash_met item_claims first_in graft
+reported-items : (vs : ParsedItems) (i : ℕ) (st : CellMap) → ((l : ℕ) → i ≤ l → (st (position l ∷ [])).infos ≡ []) → clash_found st (item_claims vs i []) ≡ first_in vs
+unfolding clash_found item_claims first_in graft
 reported-items no_items i st none = refl
 reported-items (item v vs) i st none =
     let rest = item_claims vs (suc i) [] in
     let below = λ (q : Path). st (position i ∷ q) in
     let next = put_all st (under (position i) (own v)) in
-    let here : clash_met below (own v) ≡ clash_met no_cells (value_claims v []) = rw (none i (omega arith)) (reported-value (change below [] (with_claim (element [] v))) v []) in
-    ap (clash_met st) (item-under v vs i) ∙ reported-followed st (under (position i) (own v)) rest
-    ∙ ap (λ o. first_some o (clash_met next rest)) (reported-under (position i) st (own v) ∙ here)
-    ∙ ap (first_some (clash_met no_cells (value_claims v []))) (reported-items vs (suc i) next
+    let here : clash_found below (own v) ≡ clash_found no_cells (value_claims v []) = rw (none i (omega arith)) (reported-value (change below [] (with_claim (element [] v))) v []) in
+    ap (clash_found st) (item-under v vs i) ∙ reported-followed st (under (position i) (own v)) rest
+    ∙ ap (λ o. first_some o (clash_found next rest)) (reported-under (position i) st (own v) ∙ here)
+    ∙ ap (first_some (clash_found no_cells (value_claims v []))) (reported-items vs (suc i) next
     (λ l past. ap (λ f. (f (position l ∷ [])).infos) (put_all-under (position i) st (own v)) ∙ rw (apart i l (omega arith)) (none l (omega arith))))
 
 -- at any path
-pub reported-array : (vs : ParsedItems) (p : Path) → clash_met no_cells (item_claims vs 0 p) ≡ first_in vs
+pub reported-array : (vs : ParsedItems) (p : Path) → clash_found no_cells (item_claims vs 0 p) ≡ first_in vs
 reported-array vs [] = reported-items vs 0 no_cells (λ l past. refl)
-reported-array vs (s ∷ p) = ap (clash_met no_cells) (item_claims-under vs 0 s p) ∙ reported-under s no_cells (item_claims vs 0 p) ∙ reported-array vs p
+reported-array vs (s ∷ p) = ap (clash_found no_cells) (item_claims-under vs 0 s p) ∙ reported-under s no_cells (item_claims vs 0 p) ∙ reported-array vs p
 
 reported-finished : (vs : List Val) (xs : List Value) → AllZip IsMade vs xs → first_in (onto (map view_read vs) no_items) ≡ None
 unfolding first_in
@@ -141,7 +141,7 @@ reported-finished ns ms h = absurd h
 
 -- the first clash in an element after them
 reported-element : (vs : List Val) (xs : List Value) (v : Val) (more : List Val) (t : NamedClash) → AllZip IsMade vs xs
-    → clash_met no_cells (value_claims (view_read v) []) ≡ Some t → first_in (onto (map view_read (vs ++ (v ∷ more))) no_items) ≡ Some t
+    → clash_found no_cells (value_claims (view_read v) []) ≡ Some t → first_in (onto (map view_read (vs ++ (v ∷ more))) no_items) ≡ Some t
 unfolding first_in
 reported-element [] [] v more t h is = rw is
 reported-element (w ∷ vs) (x ∷ xs) v more t h is = rw (h.0.0) (reported-element vs xs v more t h.1 is)
@@ -207,7 +207,7 @@ elements-none rest all xs none inv = grind (arith, nat_tests, common_steps, appe
 -- ---- what was read, by kind
 
 value-gives : (v : Val) (k : ParsedInner) (i : tree.Inner) (x : Value) → parsed_kind v.kind ≡ k → view x ≡ tree.node i v.span → tree_shape i ≡ value_shape k
-    → clash_met no_cells (inner_claims k []) ≡ None → ShowsPlain i (show_all no_cells (inner_claims k [])) → HoldsOrdered i → ValueGives (Ok x) (view_read v)
+    → clash_found no_cells (inner_claims k []) ≡ None → ShowsPlain i (show_all no_cells (inner_claims k [])) → HoldsOrdered i → ValueGives (Ok x) (view_read v)
 unfolding value_claims
 value-gives v k i x kind seen shape clear shows ordered = grind (arith, nat_tests, common_steps, view_is)
 
@@ -216,7 +216,7 @@ scalar-shows x v1 p = grind (arith, nat_tests, common_steps)
 
 pub scalar-gives : (v : Val) (inner i : ValueInner) (kind : ValKind) (x : Value) (s : Scalar) → v.kind ≡ kind → inner ≡ i → parsed_kind kind ≡ scalar s → inner_view i ≡ tree.scalar s → view x ≡ tree.node (inner_view inner) v.span
     → ValueGives (Ok x) (view_read v)
-unfolding clash_met show_all inner_claims
+unfolding clash_found show_all inner_claims
 scalar-gives v inner i kind x s is made read seen shown =
     value-gives v (scalar s) (tree.scalar s) x (ap parsed_kind is ∙ read) (shown ∙ ap (λ i. tree.node (inner_view i) v.span) made ∙ ap (λ i. tree.node i v.span) seen) refl refl (scalar-shows s) tt
 
@@ -238,14 +238,14 @@ inline-reads v ps is = (ap parsed_kind is ∙ kind_view-Inline ps, ap (λ cs. sc
 
 pub scope-gives : (v : Val) (k : ParsedInner) (cs : Claims) (inner i : ValueInner) (x : Value) → ReadsScope v k cs → inner ≡ i
     → view x ≡ tree.node (inner_view inner) v.span → tree_shape (inner_view i) ≡ value_shape k
-    → (clash_met no_cells cs ≡ None) × (ShowsPlain (inner_view i) (show_all no_cells cs) × HoldsOrdered (inner_view i)) → ValueGives (Ok x) (view_read v)
-unfolding clash_met show_all
+    → (clash_found no_cells cs ≡ None) × (ShowsPlain (inner_view i) (show_all no_cells cs) × HoldsOrdered (inner_view i)) → ValueGives (Ok x) (view_read v)
+unfolding clash_found show_all
 scope-gives v k cs inner i x reads is seen shape whole =
-    value-gives v k (inner_view i) x reads.0 (seen ∙ ap (λ i. tree.node (inner_view i) v.span) is) shape (ap (clash_met no_cells) reads.1 ∙ or_else-none (clash_met no_cells cs) ∙ whole.0)
+    value-gives v k (inner_view i) x reads.0 (seen ∙ ap (λ i. tree.node (inner_view i) v.span) is) shape (ap (clash_found no_cells) reads.1 ∙ or_else-none (clash_found no_cells cs) ∙ whole.0)
     (λ s p. whole.1.0 s p ∙ ap (λ f. (f (s ∷ p)).shown) (ap (show_all no_cells) (sym reads.1))) whole.1.1
 
 pub scope-err : {A : Type 0} (v : Val) (k : ParsedInner) (cs : Claims) (seen : A → tree.Inner) (q : Result Value PlaceError) (e : PlaceError) → ReadsScope v k cs → q ≡ Err e
     → ScopeGives (Err e) seen cs → ValueGives q (view_read v)
-unfolding value_claims clash_met
+unfolding value_claims clash_found
 scope-err v k cs seen q (Fault c) reads same gives = grind (arith, nat_tests, common_steps, or_else-none, view_is)
 scope-err v k cs seen q (Memory e) reads same gives = rw same tt

@@ -2,7 +2,7 @@
 use Rattle.toml_span_lex.proofs.Common.{◌≡◌, ◌≤◌, ◌<◌, ℕ, ◌+◌, ◌-◌, false, List, length, drop, get_or, sym, arith, subst, slice_range, length-drop, IsUtf8, IsCharBoundary, get_or-take, bytes_eq-Decides, IsCharBoundary-start, IsCharBoundary-from_take, IsCharBoundary-from_rest, IsUtf8-drop, nat_tests, common_steps}
 use Rattle.std.proofs.lemmas.List.{get_or-drop}
 use Rattle.toml_span_read.proofs.NumberLemmas.{range_length}
-use Rattle.toml_span_c.specs.Records.{stands}
+use Rattle.toml_span_c.specs.Records.{is_written_at}
 use Rattle.toml_span_lex.specs.declared.span.Span.{Span}
 
 -- a text that occurs in another begins and ends at a character boundary, unless it is empty
@@ -20,5 +20,5 @@ cut-around d t i j whole part forward inside some is =
 
 -- where there is no character boundary, only an empty text can occur
 pub uncut-differs : (d t : List ℕ) (span : Span) → IsUtf8 d → IsUtf8 t → (span.start ≡ span.end → length d < span.end)
-    → (span.start ≤ span.end → IsCharBoundary d span.start → ¬ IsCharBoundary d span.end) → stands d span t ≡ false
+    → (span.start ≤ span.end → IsCharBoundary d span.start → ¬ IsCharBoundary d span.end) → is_written_at d span t ≡ false
 uncut-differs d t span whole part apart uncut = grind (arith, nat_tests, common_steps, cut-around d t, range_length d, bytes_eq-Decides (slice_range d span.start span.end) t)

@@ -139,8 +139,8 @@ tree_entries n = node_entries 0 NONE 0 None no_span n
 -- ---- texts
 
 -- whether the document has this text at the span
-abbrev pub stands : List ℕ → Span → List ℕ → Bool
-stands document span s =
+abbrev pub is_written_at : List ℕ → Span → List ℕ → Bool
+is_written_at document span s =
     nat_le span.start span.end && nat_le span.end (length document)
     && bytes_eq (slice_range document span.start span.end) s
 
@@ -148,14 +148,14 @@ stands document span s =
 abbrev pub place_of : List ℕ → ℕ → Span → Option (List ℕ) → Text
 place_of document after span None = record { source = 0; at = 0; length = 0 }
 place_of document after span (Some s) =
-    if stands document span s
+    if is_written_at document span s
     then record { source = 0; at = span.start; length = length s }
     else record { source = 1; at = after; length = length s }
 
 -- what the string array has of a text
 abbrev pub aside : List ℕ → Span → Option (List ℕ) → List ℕ
 aside document span None = []
-aside document span (Some s) = if stands document span s then [] else s
+aside document span (Some s) = if is_written_at document span s then [] else s
 
 abbrev pub key_aside : List ℕ → Entry → List ℕ
 key_aside document e = aside document e.key_span e.name

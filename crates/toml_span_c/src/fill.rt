@@ -23,8 +23,8 @@ pub(crate) struct Site<'a> {
 }
 
 /// Returns whether the document has this text at the span.
-fn stands(document: &str, span: Span, text: &str) -> bool
-    ensures { result ≡ spec.stands document.now span text.now }
+fn is_written_at(document: &str, span: Span, text: &str) -> bool
+    ensures { result ≡ spec.is_written_at document.now span text.now }
 {
     match document.get(span.start..span.end) {
         Some(there) => there == text,
@@ -78,7 +78,7 @@ fn put_text(
             length: 0,
         };
     };
-    if stands(document, span, text) {
+    if is_written_at(document, span, text) {
         return Text {
             source: 0,
             at: span.start,

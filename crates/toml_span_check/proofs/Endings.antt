@@ -7,49 +7,49 @@ use Rattle.toml_span_lines.specs.declared.held.Unwritten.{Unwritten}
 use Rattle.toml_span_lines.specs.declared.held.Unwritten.TheVariants.{Failed, Memory}
 use Rattle.toml_span_check.specs.declared.answer.Task.{Task}
 use Rattle.toml_span_check.specs.declared.faults.Format.{Format}
-use Rattle.toml_span_check.specs.Run.{Asked, Begins, Runs, Told}
-use Rattle.toml_span_check.specs.code.Telling.{EndsQuiet, TellsAll}
-use Rattle.toml_span_check.proofs.Statuses.{told-small, neither-failed}
-use Rattle.toml_span_check.proofs.Tellings.{tells-first, written-after}
+use Rattle.toml_span_check.specs.Run.{Asked, Begins, Runs, IsOutput}
+use Rattle.toml_span_check.specs.code.Collected.{EndsQuiet, CollectsAll}
+use Rattle.toml_span_check.proofs.Statuses.{stdout-small, neither-failed}
+use Rattle.toml_span_check.proofs.Collecting.{prints-first, written-after}
 
 -- without memory
-pub ends-empty : (format : Format) (task : Task) (pointer : List ℕ) (excludes names : List (List ℕ)) (watched : Bool) (old new : Option Asked) (told told' : Option (List ℕ)) (untold : Bool) (warned : Option (List ℕ)) (unwarned : Bool) (e : Unwritten) →
-    TellsAll format task pointer excludes names watched (Err e) old new told told' untold → e ≡ Memory → unwarned ≡ false → Runs format task pointer excludes names watched false old new told told' untold warned warned unwarned 4
-ends-empty format task pointer excludes names watched old new told told' untold warned unwarned e t is fine = grind (arith, nat_tests, common_steps)
+pub ends-empty : (format : Format) (task : Task) (pointer : List ℕ) (excludes names : List (List ℕ)) (watched : Bool) (old new : Option Asked) (stdout stdout' : Option (List ℕ)) (out_failed : Bool) (stderr : Option (List ℕ)) (err_failed : Bool) (e : Unwritten) →
+    CollectsAll format task pointer excludes names watched (Err e) old new stdout stdout' out_failed → e ≡ Memory → err_failed ≡ false → Runs format task pointer excludes names watched false old new stdout stdout' out_failed stderr stderr err_failed 4
+ends-empty format task pointer excludes names watched old new stdout stdout' out_failed stderr err_failed e t is fine = grind (arith, nat_tests, common_steps)
 
 -- standard output can't be written
-pub ends-cut : (format : Format) (task : Task) (pointer : List ℕ) (excludes names : List (List ℕ)) (watched : Bool) (old new : Option Asked) (told told' : Option (List ℕ)) (untold : Bool) (warned : Option (List ℕ)) (unwarned : Bool) →
-    untold ≡ true → Begins format task pointer excludes names false old new told told' → unwarned ≡ false → Runs format task pointer excludes names watched false old new told told' untold warned warned unwarned 3
-ends-cut format task pointer excludes names watched old new told told' untold warned unwarned bad begins fine = grind (arith, nat_tests, common_steps)
+pub ends-cut : (format : Format) (task : Task) (pointer : List ℕ) (excludes names : List (List ℕ)) (watched : Bool) (old new : Option Asked) (stdout stdout' : Option (List ℕ)) (out_failed : Bool) (stderr : Option (List ℕ)) (err_failed : Bool) →
+    out_failed ≡ true → Begins format task pointer excludes names false old new stdout stdout' → err_failed ≡ false → Runs format task pointer excludes names watched false old new stdout stdout' out_failed stderr stderr err_failed 3
+ends-cut format task pointer excludes names watched old new stdout stdout' out_failed stderr err_failed bad begins fine = grind (arith, nat_tests, common_steps)
 
-pub ends-failed : (format : Format) (task : Task) (pointer : List ℕ) (excludes names : List (List ℕ)) (watched : Bool) (old new : Option Asked) (told told' : Option (List ℕ)) (untold : Bool) (warned : Option (List ℕ)) (unwarned : Bool) (e : Unwritten) →
-    TellsAll format task pointer excludes names watched (Err e) old new told told' untold → e ≡ Failed → unwarned ≡ false → Runs format task pointer excludes names watched false old new told told' untold warned warned unwarned 3
-ends-failed format task pointer excludes names watched old new told told' untold warned unwarned e t is fine = grind (arith, nat_tests, common_steps)
+pub ends-failed : (format : Format) (task : Task) (pointer : List ℕ) (excludes names : List (List ℕ)) (watched : Bool) (old new : Option Asked) (stdout stdout' : Option (List ℕ)) (out_failed : Bool) (stderr : Option (List ℕ)) (err_failed : Bool) (e : Unwritten) →
+    CollectsAll format task pointer excludes names watched (Err e) old new stdout stdout' out_failed → e ≡ Failed → err_failed ≡ false → Runs format task pointer excludes names watched false old new stdout stdout' out_failed stderr stderr err_failed 3
+ends-failed format task pointer excludes names watched old new stdout stdout' out_failed stderr err_failed e t is fine = grind (arith, nat_tests, common_steps)
 
 -- all reports are held at the end, and only a part of them is written
-pub begins-all : (format : Format) (task : Task) (pointer : List ℕ) (excludes names : List (List ℕ)) (watched : Bool) (old new : Option Asked) (told mid told' : Option (List ℕ)) (out errors held : List ℕ) (status : ℕ) →
-    Told format task pointer excludes names watched false old new out errors status → HoldsRest told mid out held → HasWritten mid told' held → Begins format task pointer excludes names false old new told told'
-begins-all format task pointer excludes names watched old new told mid told' out errors held status t h w =
-    let all = subst (λ (text : List ℕ). HasWritten told told' text) (h.2 ∙ t.shown) (written-after told mid told' out held held h w) in
-    let first = tells-first format task pointer t.files [] t.files t.mid new told told' (t.all, t.complaints, status, t.wrong) (sym (append-nil t.files)) (inr refl) t.tells all in
-    record { aloud = refl; files = t.files; mid = t.mid; found = t.found; tells = first }
+pub begins-all : (format : Format) (task : Task) (pointer : List ℕ) (excludes names : List (List ℕ)) (watched : Bool) (old new : Option Asked) (stdout mid stdout' : Option (List ℕ)) (out errors held : List ℕ) (status : ℕ) →
+    IsOutput format task pointer excludes names watched false old new out errors status → HoldsRest stdout mid out held → HasWritten mid stdout' held → Begins format task pointer excludes names false old new stdout stdout'
+begins-all format task pointer excludes names watched old new stdout mid stdout' out errors held status t h w =
+    let all = subst (λ (text : List ℕ). HasWritten stdout stdout' text) (h.2 ∙ t.shown) (written-after stdout mid stdout' out held held h w) in
+    let first = prints-first format task pointer t.files [] t.files t.mid new stdout stdout' (t.all, t.complaints, status, t.wrong) (sym (append-nil t.files)) (inr refl) t.prints all in
+    record { aloud = refl; files = t.files; mid = t.mid; found = t.found; prints = first }
 
 appends-all : (a b c : Option (List ℕ)) (out held : List ℕ) → HoldsRest a b out held → Appends b c held → Appends a c out
 appends-all a b c out held h w = subst (λ (text : List ℕ). Appends a c text) h.2 (Appends-trans a b c h.0 held h.1 w)
 
 -- standard error can't be written
-pub ends-unwarned : (format : Format) (task : Task) (pointer : List ℕ) (excludes names : List (List ℕ)) (watched : Bool) (old new : Option Asked) (told mid told' : Option (List ℕ)) (untold : Bool) (warned warned' : Option (List ℕ)) (unwarned : Bool) (out errors held : List ℕ) (status : ℕ) →
-    Told format task pointer excludes names watched false old new out errors status → HoldsRest told mid out held → Appends mid told' held → untold ≡ false → HasWritten warned warned' errors → unwarned ≡ true →
-    Runs format task pointer excludes names watched false old new told told' untold warned warned' unwarned 3
-ends-unwarned format task pointer excludes names watched old new told mid told' untold warned warned' unwarned out errors held status t h w fine cut bad = grind (arith, nat_tests, common_steps)
+pub ends-err_failed : (format : Format) (task : Task) (pointer : List ℕ) (excludes names : List (List ℕ)) (watched : Bool) (old new : Option Asked) (stdout mid stdout' : Option (List ℕ)) (out_failed : Bool) (stderr stderr' : Option (List ℕ)) (err_failed : Bool) (out errors held : List ℕ) (status : ℕ) →
+    IsOutput format task pointer excludes names watched false old new out errors status → HoldsRest stdout mid out held → Appends mid stdout' held → out_failed ≡ false → HasWritten stderr stderr' errors → err_failed ≡ true →
+    Runs format task pointer excludes names watched false old new stdout stdout' out_failed stderr stderr' err_failed 3
+ends-err_failed format task pointer excludes names watched old new stdout mid stdout' out_failed stderr stderr' err_failed out errors held status t h w fine cut bad = grind (arith, nat_tests, common_steps)
 
 -- all is written
-pub ends-told : (format : Format) (task : Task) (pointer : List ℕ) (excludes names : List (List ℕ)) (watched : Bool) (old new : Option Asked) (told mid told' : Option (List ℕ)) (untold : Bool) (warned warned' : Option (List ℕ)) (unwarned : Bool) (out errors held : List ℕ) (status : ℕ) →
-    Told format task pointer excludes names watched false old new out errors status → HoldsRest told mid out held → Appends mid told' held → untold ≡ false → Appends warned warned' errors → unwarned ≡ false →
-    Runs format task pointer excludes names watched false old new told told' untold warned warned' unwarned status
-ends-told format task pointer excludes names watched old new told mid told' untold warned warned' unwarned out errors held status t h w fine said good = grind (arith, nat_tests, common_steps, appends-all, neither-failed, told-small)
+pub ends-stdout : (format : Format) (task : Task) (pointer : List ℕ) (excludes names : List (List ℕ)) (watched : Bool) (old new : Option Asked) (stdout mid stdout' : Option (List ℕ)) (out_failed : Bool) (stderr stderr' : Option (List ℕ)) (err_failed : Bool) (out errors held : List ℕ) (status : ℕ) →
+    IsOutput format task pointer excludes names watched false old new out errors status → HoldsRest stdout mid out held → Appends mid stdout' held → out_failed ≡ false → Appends stderr stderr' errors → err_failed ≡ false →
+    Runs format task pointer excludes names watched false old new stdout stdout' out_failed stderr stderr' err_failed status
+ends-stdout format task pointer excludes names watched old new stdout mid stdout' out_failed stderr stderr' err_failed out errors held status t h w fine said good = grind (arith, nat_tests, common_steps, appends-all, neither-failed, stdout-small)
 
 -- nothing is to be written
-pub ends-quiet : (format : Format) (task : Task) (pointer : List ℕ) (excludes names : List (List ℕ)) (watched : Bool) (old new : Option Asked) (told : Option (List ℕ)) (untold : Bool) (warned : Option (List ℕ)) (unwarned : Bool) (status : ℕ) →
-    EndsQuiet format task pointer excludes names watched old new status → untold ≡ false → unwarned ≡ false → Runs format task pointer excludes names watched true old new told told untold warned warned unwarned status
-ends-quiet format task pointer excludes names watched old new told untold warned unwarned status h fine good = grind (arith, nat_tests, common_steps, neither-failed, told-small)
+pub ends-quiet : (format : Format) (task : Task) (pointer : List ℕ) (excludes names : List (List ℕ)) (watched : Bool) (old new : Option Asked) (stdout : Option (List ℕ)) (out_failed : Bool) (stderr : Option (List ℕ)) (err_failed : Bool) (status : ℕ) →
+    EndsQuiet format task pointer excludes names watched old new status → out_failed ≡ false → err_failed ≡ false → Runs format task pointer excludes names watched true old new stdout stdout out_failed stderr stderr err_failed status
+ends-quiet format task pointer excludes names watched old new stdout out_failed stderr err_failed status h fine good = grind (arith, nat_tests, common_steps, neither-failed, stdout-small)

@@ -24,8 +24,8 @@ refused text (stops.Memory e) error answers is = grind (arith, nat_tests, common
 
 -- what is found in a text is one more error of it
 adds_error : (text : List ℕ) (error : Error) (made : ErrorAt) (p q : Progress) → IsRefusal text depth_limit (stops.Fault error) → IsErrorOf text error made → Adds (report_content made.report) made.place p q → AddsError text p q
-adds_error text error made p q refusal told adds =
-    (error, refusal, (report_content made.report, told.0, subst (λ (place : ℕ). Adds (report_content made.report) place p q) told.1 adds))
+adds_error text error made p q refusal stdout adds =
+    (error, refusal, (report_content made.report, stdout.0, subst (λ (place : ℕ). Adds (report_content made.report) place p q) stdout.1 adds))
 
 empty : (text : List ℕ) (report : ReportContent) (place : ℕ) (p q : Progress) → p.places ≡ [] → p.reports ≡ [] → p.kept ≡ text → Adds report place p q → Adds report place (nothing text) q
 empty text report place p q none nor is adds =
@@ -34,8 +34,8 @@ empty text report place p q none nor is adds =
     subst (λ (x : List ℕ). Adds report place (record { places = []; reports = []; kept = x }) q) is b
 
 pub finds_first : (text : List ℕ) (error : Error) (made : ErrorAt) (p q : Progress) → IsRefusal text depth_limit (stops.Fault error) → IsErrorOf text error made → p.places ≡ [] → p.reports ≡ [] → p.kept ≡ text → Adds (report_content made.report) made.place p q → Finds text q
-finds_first text error made p q refusal told none nor is adds =
-    first q (adds_error text error made (nothing text) q refusal told (empty text (report_content made.report) made.place p q none nor is adds))
+finds_first text error made p q refusal stdout none nor is adds =
+    first q (adds_error text error made (nothing text) q refusal stdout (empty text (report_content made.report) made.place p q none nor is adds))
 
 pub finds_reading : (text bytes copy : List ℕ) (field : Option ErrorAt) (made : ErrorAt) (p q : Progress) → Finds text p → IsBlanked text bytes → copy ≡ bytes → Judges copy field → field ≡ Some made → Adds (report_content made.report) made.place p q → Finds text q
 finds_reading text bytes copy field made p q found blanked same judged is adds =

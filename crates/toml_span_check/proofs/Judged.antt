@@ -6,7 +6,7 @@ use Rattle.toml_span_lines.specs.declared.held.Unwritten.TheVariants.{Memory}
 use Rattle.toml_span_lines.proofs.Fronts.{front-written}
 use Rattle.toml_span_check.specs.Answer.{IsAnswer}
 use Rattle.toml_span_check.specs.Run.{counted, status_of}
-use Rattle.toml_span_check.specs.code.Telling.{Begun, BegunOne, TellsBytes, TellsOne, TextsOf}
+use Rattle.toml_span_check.specs.code.Collected.{Begun, BegunOne, CollectsBytes, CollectsOne, TextsOf}
 use Rattle.toml_span_check.specs.declared.answer.Form.{Form}
 use Rattle.toml_span_check.specs.declared.answer.Task.{Task}
 use Rattle.toml_span_check.specs.declared.answer.Task.TheVariants.{Show}
@@ -18,7 +18,7 @@ with-one r text h = grind (arith, nat_tests, common_steps)
 
 -- a document that is shown
 pub shows-bytes : (format : Format) (task : Task) (pointer name bytes : List ℕ) (form : Form) (answer : ℕ × List ℕ) (r : Result ℕ Unwritten) (a b : Option (List ℕ)) (failed : Bool) (held kept : List ℕ) →
-    task ≡ Show form → IsAnswer format task pointer name bytes answer → IfOk r (λ s. s ≡ answer.0) → Streams r a b failed (held ++ answer.1) kept → TellsBytes format task pointer name bytes r a b failed held kept
+    task ≡ Show form → IsAnswer format task pointer name bytes answer → IfOk r (λ s. s ≡ answer.0) → Streams r a b failed (held ++ answer.1) kept → CollectsBytes format task pointer name bytes r a b failed held kept
 shows-bytes format task pointer name bytes form answer r a b failed held kept shows is same st = grind (arith, nat_tests, common_steps)
 
 begun-one : (format : Format) (task : Task) (pointer name bytes : List ℕ) (a b : Option (List ℕ)) (t : TextsOf) → Begun format task pointer name bytes a b t.0 → BegunOne format task pointer name (Ok bytes) a b t
@@ -27,22 +27,22 @@ begun-one format task pointer name bytes a b t begun =
     (begun.0, ((t.0 ++ answer.1, t.1, max t.2 (status_of answer.0), counted t.3 answer.0), (answer, begun.1.1, refl, refl, refl, refl), begun.1.2))
 
 stops-bytes : (format : Format) (task : Task) (pointer name bytes : List ℕ) (a b : Option (List ℕ)) (failed : Bool) (t u : TextsOf) (kept : List ℕ) (e : Unwritten) →
-    TellsBytes format task pointer name bytes (Err e) a b failed t.0 kept → TellsOne format task pointer name (Ok bytes) (Err e) a b failed t u
-stops-bytes format task pointer name bytes a b failed t u kept e told = grind (arith, nat_tests, common_steps, begun-one format task pointer name bytes a b t)
+    CollectsBytes format task pointer name bytes (Err e) a b failed t.0 kept → CollectsOne format task pointer name (Ok bytes) (Err e) a b failed t u
+stops-bytes format task pointer name bytes a b failed t u kept e stdout = grind (arith, nat_tests, common_steps, begun-one format task pointer name bytes a b t)
 
 -- its report does not end
 pub stops-one : (format : Format) (task : Task) (pointer name bytes looked : List ℕ) (reading : Result (List ℕ) (List ℕ)) (a b : Option (List ℕ)) (failed : Bool) (t u : TextsOf) (kept : List ℕ) (e : Unwritten) (r : Result (Unit {0}) Unwritten) →
-    reading ≡ Ok bytes → looked ≡ bytes → TellsBytes format task pointer name looked (Err e) a b failed t.0 kept → IsErrAnd r (λ y. y ≡ e) → TellsOne format task pointer name reading r a b failed t u
-stops-one format task pointer name bytes looked reading a b failed t u kept e r read is told err = grind (arith, nat_tests, common_steps, stops-bytes)
+    reading ≡ Ok bytes → looked ≡ bytes → CollectsBytes format task pointer name looked (Err e) a b failed t.0 kept → IsErrAnd r (λ y. y ≡ e) → CollectsOne format task pointer name reading r a b failed t u
+stops-one format task pointer name bytes looked reading a b failed t u kept e r read is stdout err = grind (arith, nat_tests, common_steps, stops-bytes)
 
 counts-not : (format : Format) (task : Task) (pointer name bytes : List ℕ) (count : ℕ) (a b : Option (List ℕ)) (failed : Bool) (t u : TextsOf) (kept : List ℕ) →
-    TellsBytes format task pointer name bytes (Ok count) a b failed t.0 kept → TellsOne format task pointer name (Ok bytes) (Err Memory) a b failed t u
-counts-not format task pointer name bytes count a b failed t u kept (good, inl same, told) = (good, inl same)
-counts-not format task pointer name bytes count a b failed t u kept (good, inr shows, told) =
-    (good, inr (shows, ((t.0 ++ told.0, t.1, max t.2 (status_of count), counted t.3 count), ((count, told.0), told.1, refl, refl, refl, refl), front-written a b (t.0 ++ told.0) kept told.2.0)))
+    CollectsBytes format task pointer name bytes (Ok count) a b failed t.0 kept → CollectsOne format task pointer name (Ok bytes) (Err Memory) a b failed t u
+counts-not format task pointer name bytes count a b failed t u kept (good, inl same, stdout) = (good, inl same)
+counts-not format task pointer name bytes count a b failed t u kept (good, inr shows, stdout) =
+    (good, inr (shows, ((t.0 ++ stdout.0, t.1, max t.2 (status_of count), counted t.3 count), ((count, stdout.0), stdout.1, refl, refl, refl, refl), front-written a b (t.0 ++ stdout.0) kept stdout.2.0)))
 
 -- it is not counted
 pub stops-count : (format : Format) (task : Task) (pointer name bytes looked : List ℕ) (reading : Result (List ℕ) (List ℕ)) (count : ℕ) (a b : Option (List ℕ)) (failed : Bool) (t u : TextsOf) (kept : List ℕ) (r : Result (Unit {0}) Unwritten) →
-    reading ≡ Ok bytes → looked ≡ bytes → TellsBytes format task pointer name looked (Ok count) a b failed t.0 kept → IsErrAnd r (λ y. y ≡ Memory) → TellsOne format task pointer name reading r a b failed t u
-stops-count format task pointer name bytes looked reading count a b failed t u kept r read is told err =
+    reading ≡ Ok bytes → looked ≡ bytes → CollectsBytes format task pointer name looked (Ok count) a b failed t.0 kept → IsErrAnd r (λ y. y ≡ Memory) → CollectsOne format task pointer name reading r a b failed t u
+stops-count format task pointer name bytes looked reading count a b failed t u kept r read is stdout err =
     grind (arith, nat_tests, common_steps, counts-not format task pointer name bytes count a b failed t u kept)

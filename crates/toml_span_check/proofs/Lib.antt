@@ -5,4 +5,4 @@ pub mod Fixings
 pub mod Judged
 pub mod Pieces
 pub mod Statuses
-pub mod Tellings
+pub mod Collecting

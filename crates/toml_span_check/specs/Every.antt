@@ -8,7 +8,7 @@ use Rattle.toml_span_tree.specs.declared.value.Value.{Value}
 use Rattle.toml_span_tree.specs.Error.{content_of}
 use Rattle.toml_span_read.specs.Data.{depth_limit}
 use Rattle.toml_span.specs.Parsing.{IsTree, IsRefusal}
-use Rattle.toml_span_report.specs.Errors.{TellsError}
+use Rattle.toml_span_report.specs.Errors.{ReportsError}
 use Rattle.toml_span_report.specs.Report.{ReportContent, bare}
 use Rattle.toml_span_report.specs.declared.report.Severity.TheVariants as severity
 
@@ -52,7 +52,7 @@ pub record Adds (report : ReportContent) (place : ℕ) (old new : Progress) : Ty
 abbrev pub AddsError : List ℕ → Progress → Progress → Type 0
 AddsError text old new =
     (error : Error) × IsRefusal text depth_limit (Fault error)
-    × ((report : ReportContent) × TellsError severity.Error text (content_of error) report
+    × ((report : ReportContent) × ReportsError severity.Error text (content_of error) report
     × Adds report error.span.start old new)
 
 -- The first error is that of `parse`. Each further one is what `parse` returns for the text with spaces up to an

@@ -9,7 +9,7 @@ use Rattle.toml_span_tree.specs.declared.value.Value.{Value}
 use Rattle.toml_span_tree.specs.Error.{ErrorContent, content_of}
 use Rattle.toml_span.specs.Parsing.{IsTree, IsRefusal}
 use Rattle.toml_span_places.specs.Replace.{Edit, edited, first_fault}
-use Rattle.toml_span_report.specs.Errors.{TellsError}
+use Rattle.toml_span_report.specs.Errors.{ReportsError}
 use Rattle.toml_span_report.specs.Report.{Repair, ReportContent}
 use Rattle.toml_span_report.specs.declared.report.Severity.TheVariants as severity
 
@@ -49,7 +49,7 @@ Repairs text repairs None =
 -- the source with this error fixed by the replacements of its report, or None if that is not possible
 abbrev pub FixesError : List ℕ → ErrorContent → Option (List ℕ) → Type 0
 FixesError text error new =
-    (report : ReportContent) × TellsError severity.Error text error report × Repairs text report.replacements new
+    (report : ReportContent) × ReportsError severity.Error text error report × Repairs text report.replacements new
 
 -- the source with its first error fixed, or None if it is valid or that is not possible
 abbrev pub NextFix : List ℕ → Option (List ℕ) → Type 0

@@ -65,13 +65,13 @@ abbrev pub region : List ℕ → Span → List ℕ
 region text span = lines (line_column text span.start) (line_column text (marked_end text span))
 
 -- the lines and columns of the first primary label
-abbrev pub place_told : List ℕ → List Place → List ℕ
-place_told text [] = []
-place_told text (label ∷ labels) = if label.primary then region text label.span else place_told text labels
+abbrev pub primary_region : List ℕ → List Place → List ℕ
+primary_region text [] = []
+primary_region text (label ∷ labels) = if label.primary then region text label.span else primary_region text labels
 
 -- ---- the line
 
 abbrev pub github : ReportContent → List ℕ → List ℕ → List ℕ
 github r name text =
-    command_of r.severity ++ codes " file=" ++ property name ++ place_told text r.labels ++ codes ",title="
+    command_of r.severity ++ codes " file=" ++ property name ++ primary_region text r.labels ++ codes ",title="
     ++ property r.code ++ codes "::" ++ message r.message ++ codes "\n"

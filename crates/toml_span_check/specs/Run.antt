@@ -99,12 +99,12 @@ pub data Gathered (format : Format) (task : Task) (pointer : List ℕ)
       (errors ++ complaint (shown_word name) reason) 2 (counted wrong 1)
 
 -- The files with these names were read in order, and this is the output for them.
-pub record Tells (format : Format) (task : Task) (pointer : List ℕ) (names : List (List ℕ))
+pub record Collects (format : Format) (task : Task) (pointer : List ℕ) (names : List (List ℕ))
     (old new : Option Asked) (out errors : List ℕ) (status : ℕ) (wrong : Tally) : Type 0 where
   pub readings : List Reading
   pub asked : map (λ r. r.0) readings ≡ names
   pub logged : Logs old new readings
-  pub told : Gathered format task pointer readings out errors status wrong
+  pub gathered : Gathered format task pointer readings out errors status wrong
 
 -- the last line of a check that prints text: `3 errors in 2 of 5 files` or, without errors and on a terminal, `5 files
 -- checked`
@@ -126,19 +126,19 @@ summary _ _ is_watched files wrong = []
 
 -- the output for all files: for a check in the format SARIF, the document around the results
 abbrev pub together : Format → List ℕ → List ℕ
-together Sarif told = document told
-together _ told = told
+together Sarif stdout = document stdout
+together _ stdout = stdout
 
 abbrev pub whole : Format → Task → List ℕ → List ℕ
-whole format (Show form) told = told
-whole format (Check version) told = together format told
+whole format (Show form) stdout = stdout
+whole format (Check version) stdout = together format stdout
 
 -- what is written, which is nothing in a quiet run
 abbrev pub said : Bool → List ℕ → List ℕ
 said is_quiet text = if is_quiet then [] else text
 
 -- The output of a run, which is empty if it is quiet.
-pub record Told (format : Format) (task : Task) (pointer : List ℕ) (excludes names : List (List ℕ))
+pub record IsOutput (format : Format) (task : Task) (pointer : List ℕ) (excludes names : List (List ℕ))
     (is_watched is_quiet : Bool)
     (old new : Option Asked) (out errors : List ℕ) (status : ℕ) : Type 0 where
   pub files : List (List ℕ)
@@ -147,17 +147,17 @@ pub record Told (format : Format) (task : Task) (pointer : List ℕ) (excludes n
   pub all : List ℕ
   pub complaints : List ℕ
   pub wrong : Tally
-  pub tells : Tells format task pointer files mid new all complaints status wrong
+  pub prints : Collects format task pointer files mid new all complaints status wrong
   pub shown : out ≡ said is_quiet (whole format task all)
-  pub warned : errors ≡ said is_quiet (complaints ++ summary format task is_watched (length files) wrong)
+  pub stderr : errors ≡ said is_quiet (complaints ++ summary format task is_watched (length files) wrong)
 
 -- the task is to print documents
 abbrev pub Shows : Task → Type 0
 Shows task = (form : Form) × (task ≡ Show form)
 
 -- The first files were read, or all of them if the task is to check, and a prefix of the output for them was written.
-pub record TellsFirst (format : Format) (task : Task) (pointer : List ℕ) (files : List (List ℕ))
-    (old new : Option Asked) (told told' : Option (List ℕ)) : Type 0 where
+pub record CollectsFirst (format : Format) (task : Task) (pointer : List ℕ) (files : List (List ℕ))
+    (old new : Option Asked) (stdout stdout' : Option (List ℕ)) : Type 0 where
   pub first : List (List ℕ)
   pub rest : List (List ℕ)
   pub parts : files ≡ first ++ rest
@@ -166,37 +166,39 @@ pub record TellsFirst (format : Format) (task : Task) (pointer : List ℕ) (file
   pub complaints : List ℕ
   pub status : ℕ
   pub wrong : Tally
-  pub tells : Tells format task pointer first old new out complaints status wrong
-  pub written : HasWritten told told' (whole format task out)
+  pub prints : Collects format task pointer first old new out complaints status wrong
+  pub written : HasWritten stdout stdout' (whole format task out)
 
 -- the same for a run, which is not quiet
 pub record Begins (format : Format) (task : Task) (pointer : List ℕ) (excludes names : List (List ℕ)) (is_quiet : Bool)
-    (old new : Option Asked) (told told' : Option (List ℕ)) : Type 0 where
+    (old new : Option Asked) (stdout stdout' : Option (List ℕ)) : Type 0 where
   pub aloud : is_quiet ≡ false
   pub files : List (List ℕ)
   pub mid : Option Asked
   pub found : FindsAll excludes names old mid files
-  pub tells : TellsFirst format task pointer files mid new told told'
+  pub prints : CollectsFirst format task pointer files mid new stdout stdout'
 
 -- A run: standard output before and after, and whether a write to it failed; the same for standard error; and the exit
 -- status.
 pub record Runs (format : Format) (task : Task) (pointer : List ℕ) (excludes names : List (List ℕ))
     (is_watched is_quiet : Bool)
-    (old new : Option Asked) (told told' : Option (List ℕ)) (untold : Bool) (warned warned' : Option (List ℕ))
-    (unwarned : Bool) (status : ℕ) : Type 0 where
+    (old new : Option Asked) (stdout stdout' : Option (List ℕ)) (out_failed : Bool) (stderr stderr' : Option (List ℕ))
+    (err_failed : Bool) (status : ℕ) : Type 0 where
   -- the status is 3 if and only if a write failed
-  pub failed : (status ≡ 3) ↔ IsTrue (untold || unwarned)
+  pub failed : (status ≡ 3) ↔ IsTrue (out_failed || err_failed)
   -- with status 4 nothing has been written or, if documents are printed, a prefix of the output for the first files
-  pub silent : status ≡ 4 → Keeps warned warned' × (Keeps told told'
-      ⊎ (Shows task × ((last : Option Asked) × Begins format task pointer excludes names is_quiet old last told told')))
+  pub silent : status ≡ 4 → Keeps stderr stderr' × (Keeps stdout stdout'
+      ⊎ (Shows task × ((last : Option Asked)
+        × Begins format task pointer excludes names is_quiet old last stdout stdout')))
   -- the same after a failed write to standard output
-  pub cut : untold ≡ true → Keeps warned warned' × Begins format task pointer excludes names is_quiet old new told told'
+  pub cut : out_failed ≡ true → Keeps stderr stderr'
+      × Begins format task pointer excludes names is_quiet old new stdout stdout'
   -- before a failed write to standard error, all of standard output has been written
-  pub warns : unwarned ≡ true → (out errors : List ℕ) × (answered : ℕ)
-      × Told format task pointer excludes names is_watched is_quiet old new out errors answered × Appends told told' out
-      × HasWritten warned warned' errors
+  pub warns : err_failed ≡ true → (out errors : List ℕ) × (answered : ℕ)
+      × IsOutput format task pointer excludes names is_watched is_quiet old new out errors answered
+      × Appends stdout stdout' out × HasWritten stderr stderr' errors
   -- otherwise all files have been read, and the output has been written
-  pub tells : ¬ (status ≡ 3) → ¬ (status ≡ 4) → (out errors : List ℕ)
-      × Told format task pointer excludes names is_watched is_quiet old new out errors status × Appends told told' out
-      × Appends warned warned' errors
+  pub written : ¬ (status ≡ 3) → ¬ (status ≡ 4) → (out errors : List ℕ)
+      × IsOutput format task pointer excludes names is_watched is_quiet old new out errors status
+      × Appends stdout stdout' out × Appends stderr stderr' errors
   pub known : status ≤ 4

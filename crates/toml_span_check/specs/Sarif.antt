@@ -75,10 +75,10 @@ unfoldable pub file_alone : List ℕ → List ℕ
 file_alone name = codes "{\"physicalLocation\":" ++ artifact name ++ codes "}}"
 
 -- the location of the first primary label or, without one, of the file
-abbrev pub place_told : List ℕ → List ℕ → List Place → List ℕ
-place_told name text [] = file_alone name
-place_told name text (label ∷ labels) =
-    if label.primary then location name text label else place_told name text labels
+abbrev pub primary_location : List ℕ → List ℕ → List Place → List ℕ
+primary_location name text [] = file_alone name
+primary_location name text (label ∷ labels) =
+    if label.primary then location name text label else primary_location name text labels
 
 -- the location of a secondary label, after a comma
 abbrev pub other : List ℕ → List ℕ → Place → List ℕ
@@ -93,7 +93,7 @@ related name text labels = listed (flat_map (other name text) labels)
 
 unfoldable pub places : List ℕ → List ℕ → List Place → List ℕ
 places name text labels =
-    codes ",\"locations\":[" ++ place_told name text labels ++ codes "],\"relatedLocations\":["
+    codes ",\"locations\":[" ++ primary_location name text labels ++ codes "],\"relatedLocations\":["
     ++ related name text labels ++ codes "]"
 
 -- ---- fixes

@@ -1,4 +1,4 @@
 -- How the functions share the work. Nothing else in `specs/` cites it.
 pub mod Every
 pub mod Judged
-pub mod Telling
+pub mod Collected

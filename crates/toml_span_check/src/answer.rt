@@ -177,9 +177,9 @@ fn judge_text<'t>(
         },
         Err(stop) => {
             let error = stop.fault()?;
-            let told = errors_text(alloc, format, &error, name, text);
+            let stdout = errors_text(alloc, format, &error, name, text);
             drop(error);
-            let (count, out) = told?;
+            let (count, out) = stdout?;
             Ok(Judged::Text(count, out))
         }
     }

@@ -146,7 +146,7 @@ fn push_region(out: &mut String, text: &str, span: Span) -> Result<(), AllocErro
 /// Appends the lines and columns of the first primary label, if there is one. Fails if an allocation fails.
 fn push_place(out: &mut String, text: &str, labels: &[Label<()>]) -> Result<(), AllocError>
     ensures { OnOk result (string_bytes out.new ≡ string_bytes out.old
-        ++ spec.place_told text.now (map label_content labels.now)) }
+        ++ spec.primary_region text.now (map label_content labels.now)) }
 {
     for label in labels {
         if label.primary {

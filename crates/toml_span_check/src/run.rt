@@ -2,7 +2,7 @@
 ghost use Rattle.std.specs.Prelude.{◌≡◌, ◌+◌, ◌++◌, IfOk, OnOk, false, map, string_bytes};
 ghost use Rattle.toml_span_check.specs.Run as spec;
 ghost use Rattle.toml_span_check.specs.Run.{FindsAll, Runs, complaint};
-ghost use Rattle.toml_span_check.specs.code.Telling.{EndsQuiet, TellsAll, TellsBytes, TellsFiles, TellsOne};
+ghost use Rattle.toml_span_check.specs.code.Collected.{EndsQuiet, CollectsAll, CollectsBytes, CollectsFiles, CollectsOne};
 
 use crate::answer::{Judged, Task, judge};
 use crate::document::show;
@@ -29,7 +29,7 @@ struct Tally {
 
 /// The output of a check, as far as it has not been written.
 #[derive(Drop)]
-struct Telling {
+struct Collected {
     /// What remains to be written to standard output.
     held: Vec<u8>,
     /// What to write to standard error: a line for each file that can't be read.
@@ -48,7 +48,7 @@ fn sum_of(count: usize, more: usize) -> Result<usize, AllocError>
     }
 }
 
-impl Telling {
+impl Collected {
     /// Counts the errors of a file. Fails if a sum does not fit.
     fn count(&mut self, errors: usize) -> Result<(), AllocError>
         ensures { OnOk result (self.new ≡ record self.old { wrong = spec.counted self.old.wrong errors }) }
@@ -81,7 +81,7 @@ pub fn push_complaint(out: &mut String, name: &str, reason: &str) -> Result<(), 
 
 /// Answers the bytes of a file: writes the document to print, or appends the reports of errors to `held`. Returns the
 /// number of errors. Fails if a write or an allocation fails.
-fn tell_bytes<O: Sink>(
+fn collect_bytes<O: Sink>(
     alloc: Global,
     format: Format,
     task: Task,
@@ -92,7 +92,7 @@ fn tell_bytes<O: Sink>(
     out: &mut O,
 ) -> Result<usize, Unwritten>
     requires { O.failed out.old ≡ false }
-    ensures { TellsBytes format task pointer.now name.now bytes.now result
+    ensures { CollectsBytes format task pointer.now name.now bytes.now result
         (O.contents out.old) (O.contents out.new) (O.failed out.new) held.old.items held.new.items }
 {
     match judge(alloc, format, task, name, bytes)? {
@@ -107,26 +107,26 @@ fn tell_bytes<O: Sink>(
 }
 
 /// Answers one file, which may be unreadable, and counts its errors. Fails if a write or an allocation fails.
-fn tell_one<O: Sink>(
+fn collect_one<O: Sink>(
     alloc: Global,
     format: Format,
     task: Task,
     pointer: &str,
     name: &str,
     reading: Result<Vec<u8>, String>,
-    telling: &mut Telling,
+    collected: &mut Collected,
     out: &mut O,
 ) -> Result<(), Unwritten>
     requires { O.failed out.old ≡ false }
-    ensures { TellsOne format task pointer.now name.now (spec.read_of reading) result
+    ensures { CollectsOne format task pointer.now name.now (spec.read_of reading) result
         (O.contents out.old) (O.contents out.new) (O.failed out.new)
-        (telling.old.held.items, string_bytes telling.old.errors, telling.old.status, telling.old.wrong)
-        (telling.new.held.items, string_bytes telling.new.errors, telling.new.status, telling.new.wrong) }
+        (collected.old.held.items, string_bytes collected.old.errors, collected.old.status, collected.old.wrong)
+        (collected.new.held.items, string_bytes collected.new.errors, collected.new.status, collected.new.wrong) }
 {
     match reading {
         Ok(bytes) => {
-            let held = &mut telling.held;
-            let found = tell_bytes(
+            let held = &mut collected.held;
+            let found = collect_bytes(
                 alloc,
                 format,
                 task,
@@ -136,14 +136,14 @@ fn tell_one<O: Sink>(
                 held,
                 out,
             )?;
-            telling.status = telling.status.max(status_of(found));
-            telling.count(found)?;
+            collected.status = collected.status.max(status_of(found));
+            collected.count(found)?;
         }
         Err(reason) => {
             let name = shown_word(alloc, name)?;
-            push_complaint(&mut telling.errors, name.as_str(), reason.as_str())?;
-            telling.status = 2;
-            telling.count(1)?;
+            push_complaint(&mut collected.errors, name.as_str(), reason.as_str())?;
+            collected.status = 2;
+            collected.count(1)?;
         }
     }
     Ok(())
@@ -169,7 +169,7 @@ fn find_all<I: Inputs>(
 }
 
 /// Reads the files in order, and answers each. Fails if a write or an allocation fails.
-fn tell<I: Inputs, O: Sink>(
+fn collect<I: Inputs, O: Sink>(
     alloc: Global,
     format: Format,
     task: Task,
@@ -177,12 +177,12 @@ fn tell<I: Inputs, O: Sink>(
     names: &[String],
     inputs: &mut I,
     out: &mut O,
-) -> Result<Telling, Unwritten>
+) -> Result<Collected, Unwritten>
     requires { O.failed out.old ≡ false }
-    ensures { TellsFiles format task pointer.now (map (λ name. string_bytes name) names.now) result
+    ensures { CollectsFiles format task pointer.now (map (λ name. string_bytes name) names.now) result
         (I.log inputs.old) (I.log inputs.new) (O.contents out.old) (O.contents out.new) (O.failed out.new) }
 {
-    let mut telling = Telling {
+    let mut collected = Collected {
         held: Vec::new(alloc),
         errors: String::new(alloc),
         status: 0,
@@ -194,18 +194,18 @@ fn tell<I: Inputs, O: Sink>(
     for name in names {
         let name = name.as_str();
         let reading = inputs.read(alloc, name)?;
-        tell_one(
+        collect_one(
             alloc,
             format,
             task,
             pointer,
             name,
             reading,
-            &mut telling,
+            &mut collected,
             out,
         )?;
     }
-    Ok(telling)
+    Ok(collected)
 }
 
 /// Appends a number and a noun, such as `1 file` or `2 files`. Fails if an allocation fails.
@@ -263,18 +263,18 @@ fn push_summary(
 }
 
 /// Completes the output for all files: in SARIF, the document around the results. Fails if an allocation fails.
-fn whole(alloc: Global, format: Format, task: Task, told: Vec<u8>) -> Result<Vec<u8>, AllocError>
-    ensures { IfOk result (λ out. out.items ≡ spec.whole format task told.items) }
+fn whole(alloc: Global, format: Format, task: Task, stdout: Vec<u8>) -> Result<Vec<u8>, AllocError>
+    ensures { IfOk result (λ out. out.items ≡ spec.whole format task stdout.items) }
 {
     match (format, task) {
-        (Format::Sarif, Task::Check(_)) => document(alloc, told.as_slice()),
-        _ => Ok(told),
+        (Format::Sarif, Task::Check(_)) => document(alloc, stdout.as_slice()),
+        _ => Ok(stdout),
     }
 }
 
 /// Reads the files that the arguments stand for, and answers each, with a summary at the end. Fails if a write or an
 /// allocation fails.
-fn tell_all<I: Inputs, O: Sink>(
+fn collect_all<I: Inputs, O: Sink>(
     alloc: Global,
     format: Format,
     task: Task,
@@ -284,25 +284,25 @@ fn tell_all<I: Inputs, O: Sink>(
     is_watched: bool,
     inputs: &mut I,
     out: &mut O,
-) -> Result<Telling, Unwritten>
+) -> Result<Collected, Unwritten>
     requires { O.failed out.old ≡ false }
-    ensures { TellsAll format task pointer.now (map (λ pattern. pattern.now) excludes.now)
+    ensures { CollectsAll format task pointer.now (map (λ pattern. pattern.now) excludes.now)
         (map (λ name. name.now) names.now) is_watched result
         (I.log inputs.old) (I.log inputs.new) (O.contents out.old) (O.contents out.new) (O.failed out.new) }
 {
     let found = find_all(alloc, excludes, names, inputs)?;
     let files = found.as_slice();
-    let mut telling = tell(alloc, format, task, pointer, files, inputs, out)?;
-    telling.held = whole(alloc, format, task, telling.held)?;
+    let mut collected = collect(alloc, format, task, pointer, files, inputs, out)?;
+    collected.held = whole(alloc, format, task, collected.held)?;
     push_summary(
-        &mut telling.errors,
+        &mut collected.errors,
         format,
         task,
         is_watched,
         files.len(),
-        telling.wrong,
+        collected.wrong,
     )?;
-    Ok(telling)
+    Ok(collected)
 }
 
 /// Reads the files that the arguments stand for, answers each, and writes the output. Returns the exit status: 0
@@ -327,15 +327,17 @@ fn run_aloud<I: Inputs, O: Sink, E: Sink>(
         (O.contents out.old) (O.contents out.new) (O.failed out.new)
         (E.contents errors.old) (E.contents errors.new) (E.failed errors.new) result }
 {
-    let telling = match tell_all(
+    let collected = match collect_all(
         alloc, format, task, pointer, excludes, names, is_watched, inputs, out,
     ) {
-        Ok(telling) => telling,
+        Ok(collected) => collected,
         Err(Unwritten::Memory) => return 4,
         Err(Unwritten::Failed) => return 3,
     };
-    if write_bytes(out, telling.held.as_slice()) && write_bytes(errors, telling.errors.as_bytes()) {
-        telling.status
+    if write_bytes(out, collected.held.as_slice())
+        && write_bytes(errors, collected.errors.as_bytes())
+    {
+        collected.status
     } else {
         3
     }
@@ -357,7 +359,7 @@ fn run_quiet<I: Inputs>(
         (I.log inputs.old) (I.log inputs.new) result }
 {
     let mut nowhere = Tracked::new(sink());
-    match tell_all(
+    match collect_all(
         alloc,
         format,
         task,
@@ -368,7 +370,7 @@ fn run_quiet<I: Inputs>(
         inputs,
         &mut nowhere,
     ) {
-        Ok(telling) => telling.status,
+        Ok(collected) => collected.status,
         Err(_) => 4,
     }
 }

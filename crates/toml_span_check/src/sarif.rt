@@ -201,7 +201,7 @@ fn push_place(
     labels: &[Label<()>],
 ) -> Result<(), AllocError>
     ensures { OnOk result (string_bytes out.new ≡ string_bytes out.old
-        ++ spec.place_told name.now text.now (map label_content labels.now)) }
+        ++ spec.primary_location name.now text.now (map label_content labels.now)) }
 {
     for label in labels {
         if label.primary {

@@ -18,14 +18,16 @@ AsksForFixing words is_terminal =
 -- a file can't be written, or can't be written itself (status 3), no file is checked.
 abbrev pub ChecksFixed : List (List ℕ) → Bool → Bool → Option (List ℕ) → Option (List ℕ) → Bool → Option (List ℕ)
     → Option (List ℕ) → Bool → ℕ → Type 0
-ChecksFixed words is_terminal is_watched told told' untold warned warned' unwarned status =
-    (line : List ℕ) × (mid : Option (List ℕ)) × HasWritten warned mid line
-    × (Starts readers.Check words is_terminal is_watched None None told told' untold mid warned' unwarned status
-    ⊎ ((status ≡ 3) × Keeps told told' × (mid ≡ warned')))
+ChecksFixed words is_terminal is_watched stdout stdout' out_failed stderr stderr' err_failed status =
+    (line : List ℕ) × (mid : Option (List ℕ)) × HasWritten stderr mid line
+    × (Starts readers.Check words is_terminal is_watched None None stdout stdout' out_failed mid stderr' err_failed
+      status
+    ⊎ ((status ≡ 3) × Keeps stdout stdout' × (mid ≡ stderr')))
 
 abbrev pub Checks : List (List ℕ) → Bool → Bool → Option (List ℕ) → Option (List ℕ) → Bool → Option (List ℕ)
     → Option (List ℕ) → Bool → ℕ → Type 0
-Checks words is_terminal is_watched told told' untold warned warned' unwarned status =
-    Starts readers.Check words is_terminal is_watched None None told told' untold warned warned' unwarned status
+Checks words is_terminal is_watched stdout stdout' out_failed stderr stderr' err_failed status =
+    Starts readers.Check words is_terminal is_watched None None stdout stdout' out_failed stderr stderr' err_failed
+      status
     ⊎ (AsksForFixing words is_terminal
-    × ChecksFixed words is_terminal is_watched told told' untold warned warned' unwarned status)
+    × ChecksFixed words is_terminal is_watched stdout stdout' out_failed stderr stderr' err_failed status)

@@ -32,38 +32,41 @@ request_of word exists =
 -- after, and whether a write to it failed; the same for standard error; and the status, which is at most 4.
 abbrev pub Performs : Command → List (List ℕ) → Bool → Bool → Option (List ℕ) → Option (List ℕ) → Bool → Option (List ℕ)
     → Option (List ℕ) → Bool → ℕ → Type 0
-Performs commands.Check words is_coloured is_watched told told' untold warned warned' unwarned status =
-    Checks words is_coloured is_watched told told' untold warned warned' unwarned status
-Performs commands.Get words is_coloured is_watched told told' untold warned warned' unwarned status =
-    Starts readers.Get words is_coloured is_watched None None told told' untold warned warned' unwarned status
-Performs commands.Show words is_coloured is_watched told told' untold warned warned' unwarned status =
-    Shows words told told' untold warned warned' unwarned status
-Performs command words is_coloured is_watched told told' untold warned warned' unwarned status = status ≤ 4
+Performs commands.Check words is_coloured is_watched stdout stdout' out_failed stderr stderr' err_failed status =
+    Checks words is_coloured is_watched stdout stdout' out_failed stderr stderr' err_failed status
+Performs commands.Get words is_coloured is_watched stdout stdout' out_failed stderr stderr' err_failed status =
+    Starts readers.Get words is_coloured is_watched None None stdout stdout' out_failed stderr stderr' err_failed status
+Performs commands.Show words is_coloured is_watched stdout stdout' out_failed stderr stderr' err_failed status =
+    Shows words stdout stdout' out_failed stderr stderr' err_failed status
+Performs command words is_coloured is_watched stdout stdout' out_failed stderr stderr' err_failed status = status ≤ 4
 
 -- How a request is carried out. A command gets the words after the program's name, a check of files gets all words.
 abbrev pub Answers : Request → List (List ℕ) → Bool → Bool → Option (List ℕ) → Option (List ℕ) → Bool → Option (List ℕ)
     → Option (List ℕ) → Bool → ℕ → Type 0
-Answers (requests.Command command) words is_coloured is_watched told told' untold warned warned' unwarned status =
-    Performs command (drop 1 words) is_coloured is_watched told told' untold warned warned' unwarned status
-Answers requests.Files words is_coloured is_watched told told' untold warned warned' unwarned status =
-    Performs commands.Check words is_coloured is_watched told told' untold warned warned' unwarned status
-Answers requests.Help words is_coloured is_watched told told' untold warned warned' unwarned status =
-    Says told told' untold HELP.now 0 status × Keeps warned warned'
-Answers requests.Version words is_coloured is_watched told told' untold warned warned' unwarned status =
-    Says told told' untold VERSION.now 0 status × Keeps warned warned'
-Answers requests.Unknown words is_coloured is_watched told told' untold warned warned' unwarned status =
-    Keeps told told' × Warns warned warned' unwarned 2 status
+Answers (requests.Command c) words is_coloured is_watched stdout stdout' out_failed stderr stderr' err_failed status =
+    Performs c (drop 1 words) is_coloured is_watched stdout stdout' out_failed stderr stderr' err_failed status
+Answers requests.Files words is_coloured is_watched stdout stdout' out_failed stderr stderr' err_failed status =
+    Performs commands.Check words is_coloured is_watched stdout stdout' out_failed stderr stderr' err_failed status
+Answers requests.Help words is_coloured is_watched stdout stdout' out_failed stderr stderr' err_failed status =
+    Says stdout stdout' out_failed HELP.now 0 status × Keeps stderr stderr'
+Answers requests.Version words is_coloured is_watched stdout stdout' out_failed stderr stderr' err_failed status =
+    Says stdout stdout' out_failed VERSION.now 0 status × Keeps stderr stderr'
+Answers requests.Unknown words is_coloured is_watched stdout stdout' out_failed stderr stderr' err_failed status =
+    Keeps stdout stdout' × Warns stderr stderr' err_failed 2 status
 
 -- how the first argument is carried out, or none
 abbrev pub AnswersFirst : Option (List ℕ) → List (List ℕ) → Bool → Bool → Option (List ℕ) → Option (List ℕ) → Bool
     → Option (List ℕ) → Option (List ℕ) → Bool → ℕ → Type 0
-AnswersFirst None words is_coloured is_watched told told' untold warned warned' unwarned status =
-    Keeps told told' × Says warned warned' unwarned HELP.now 2 status
-AnswersFirst (Some word) words is_coloured is_watched told told' untold warned warned' unwarned status =
-    (exists : Bool) × Answers (request_of word exists) words is_coloured is_watched told told' untold warned warned' unwarned status
+AnswersFirst None words is_coloured is_watched stdout stdout' out_failed stderr stderr' err_failed status =
+    Keeps stdout stdout' × Says stderr stderr' err_failed HELP.now 2 status
+AnswersFirst (Some word) words is_coloured is_watched stdout stdout' out_failed stderr stderr' err_failed status =
+    (exists : Bool)
+    × Answers (request_of word exists) words is_coloured is_watched stdout stdout' out_failed stderr stderr' err_failed
+      status
 
 -- How the command line is carried out. Its first word is the program's name.
 abbrev pub Dispatches : List (List ℕ) → Bool → Bool → Option (List ℕ) → Option (List ℕ) → Bool → Option (List ℕ)
     → Option (List ℕ) → Bool → ℕ → Type 0
-Dispatches words is_coloured is_watched told told' untold warned warned' unwarned status =
-    AnswersFirst (slice_get words 1) words is_coloured is_watched told told' untold warned warned' unwarned status
+Dispatches words is_coloured is_watched stdout stdout' out_failed stderr stderr' err_failed status =
+    AnswersFirst (slice_get words 1) words is_coloured is_watched stdout stdout' out_failed stderr stderr' err_failed
+      status

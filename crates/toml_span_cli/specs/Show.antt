@@ -10,28 +10,29 @@ use Rattle.toml_span_lines.specs.Run.{Runs}
 use Rattle.toml_span_read.specs.Data.{depth_limit}
 
 -- The file with this name can't be read, for this reason.
-pub record SaysUnread (name reason : List ℕ) (warned warned' : Option (List ℕ)) (unwarned : Bool) (status : ℕ)
+pub record SaysUnread (name reason : List ℕ) (stderr stderr' : Option (List ℕ)) (err_failed : Bool) (status : ℕ)
     : Type 0 where
-  pub says : Says warned warned' unwarned (complaint (shown_word name) reason) 2 status
+  pub says : Says stderr stderr' err_failed (complaint (shown_word name) reason) 2 status
 
 -- The lines that `toml_span_lines` prints for the bytes of a file; or it can't be read, which is status 2.
-pub record ShowsFile (name : List ℕ) (told told' : Option (List ℕ)) (untold : Bool) (warned warned' : Option (List ℕ))
-    (unwarned : Bool) (status : ℕ) : Type 0 where
+pub record ShowsFile (name : List ℕ) (stdout stdout' : Option (List ℕ)) (out_failed : Bool)
+    (stderr stderr' : Option (List ℕ)) (err_failed : Bool) (status : ℕ) : Type 0 where
   pub shows : ((bytes : List ℕ) × (left : Option (List ℕ)) × (unread : Bool)
-      × Runs depth_limit (Some bytes) left unread told told' untold status × Keeps warned warned')
-      ⊎ (Keeps told told' × ((reason : List ℕ) × SaysUnread name reason warned warned' unwarned status))
+      × Runs depth_limit (Some bytes) left unread stdout stdout' out_failed status × Keeps stderr stderr')
+      ⊎ (Keeps stdout stdout' × ((reason : List ℕ) × SaysUnread name reason stderr stderr' err_failed status))
 
 -- the help, if the argument asks for it, otherwise the file with this name
 abbrev pub ShowsWord : Bool → List ℕ → Option (List ℕ) → Option (List ℕ) → Bool → Option (List ℕ) → Option (List ℕ)
     → Bool → ℕ → Type 0
-ShowsWord true word told told' untold warned warned' unwarned status =
-    Says told told' untold SHOW.now 0 status × Keeps warned warned'
-ShowsWord false word told told' untold warned warned' unwarned status =
-    ShowsFile word told told' untold warned warned' unwarned status
+ShowsWord true word stdout stdout' out_failed stderr stderr' err_failed status =
+    Says stdout stdout' out_failed SHOW.now 0 status × Keeps stderr stderr'
+ShowsWord false word stdout stdout' out_failed stderr stderr' err_failed status =
+    ShowsFile word stdout stdout' out_failed stderr stderr' err_failed status
 
 -- `show FILE`. The first of the words is the command's name; the status is 2 for another number of arguments.
 abbrev pub Shows : List (List ℕ) → Option (List ℕ) → Option (List ℕ) → Bool → Option (List ℕ) → Option (List ℕ) → Bool
     → ℕ → Type 0
-Shows (command ∷ word ∷ []) told told' untold warned warned' unwarned status =
-    ShowsWord (is_help word) word told told' untold warned warned' unwarned status
-Shows words told told' untold warned warned' unwarned status = Keeps told told' × Warns warned warned' unwarned 2 status
+Shows (command ∷ word ∷ []) stdout stdout' out_failed stderr stderr' err_failed status =
+    ShowsWord (is_help word) word stdout stdout' out_failed stderr stderr' err_failed status
+Shows words stdout stdout' out_failed stderr stderr' err_failed status =
+    Keeps stdout stdout' × Warns stderr stderr' err_failed 2 status

@@ -20,25 +20,25 @@ help_of readers.Get = GET.now
 
 -- What is printed for an error of this kind: the help or the version, if the words ask for it, otherwise what is wrong
 -- with them. Nothing is printed if an allocation fails.
-abbrev pub Refuses : Reader → ErrorKind → Option (List ℕ) → Option (List ℕ) → Bool → Option (List ℕ) → Option (List ℕ) → Bool → ℕ
-    → Type 0
-Refuses reader kind told told' untold warned warned' unwarned status =
-    ((kind ≡ DisplayHelp) × Says told told' untold (help_of reader) 0 status × Keeps warned warned')
-    ⊎ ((kind ≡ DisplayVersion) × Says told told' untold VERSION.now 0 status × Keeps warned warned')
-    ⊎ ((kind ≢ DisplayHelp) × (kind ≢ DisplayVersion) × Keeps told told'
-    × ((message : List ℕ) × Says warned warned' unwarned (visible_lines message) 2 status))
-    ⊎ ((status ≡ 4) × Keeps told told' × Keeps warned warned')
+abbrev pub Refuses : Reader → ErrorKind → Option (List ℕ) → Option (List ℕ) → Bool → Option (List ℕ) → Option (List ℕ) → Bool
+    → ℕ → Type 0
+Refuses reader kind stdout stdout' out_failed stderr stderr' err_failed status =
+    ((kind ≡ DisplayHelp) × Says stdout stdout' out_failed (help_of reader) 0 status × Keeps stderr stderr')
+    ⊎ ((kind ≡ DisplayVersion) × Says stdout stdout' out_failed VERSION.now 0 status × Keeps stderr stderr')
+    ⊎ ((kind ≢ DisplayHelp) × (kind ≢ DisplayVersion) × Keeps stdout stdout'
+    × ((message : List ℕ) × Says stderr stderr' err_failed (visible_lines message) 2 status))
+    ⊎ ((status ≡ 4) × Keeps stdout stdout' × Keeps stderr stderr')
 
 -- A command with these words. If they are right, it runs on the files that they name. Otherwise no file is read. If an
 -- allocation fails, the status is 4.
 abbrev pub Starts : Reader → List (List ℕ) → Bool → Bool → Option Asked → Option Asked
     → Option (List ℕ) → Option (List ℕ) → Bool → Option (List ℕ) → Option (List ℕ) → Bool → ℕ → Type 0
-Starts reader words is_terminal is_watched old new told told' untold warned warned' unwarned status =
+Starts reader words is_terminal is_watched old new stdout stdout' out_failed stderr stderr' err_failed status =
     ((format : Format) × (task : Task) × (pointer : List ℕ) × (excludes names : List (List ℕ))
     × (is_quiet is_fixing : Bool)
     × (faults reader words is_terminal ≡ [])
     × Asks reader words is_terminal format task pointer excludes names is_quiet is_fixing
-    × Runs format task pointer excludes names is_watched is_quiet old new told told' untold warned warned' unwarned
-    status)
+    × Runs format task pointer excludes names is_watched is_quiet old new stdout stdout' out_failed stderr stderr'
+      err_failed status)
     ⊎ ((kind : ErrorKind) × ((kind ≡ OutOfMemory) ⊎ IsAmong kind (faults reader words is_terminal)) × (new ≡ old)
-    × Refuses reader kind told told' untold warned warned' unwarned status)
+    × Refuses reader kind stdout stdout' out_failed stderr stderr' err_failed status)

@@ -17,7 +17,7 @@ use toml_span_read::{Assignment, Section, Val, ValKind};
 
 /// Where an entry of a table can be written.
 #[derive(Clone, Copy)]
-enum Door<'s, 'de> {
+enum InsertionPoint<'s, 'de> {
     /// Before the first header: at the end of the lines there, or at the start of the text.
     Top,
     /// On a line of its own, after the lines of the table's section.
@@ -40,26 +40,28 @@ pub(crate) fn names_array(mentions: &[Mention<'_, '_>]) -> bool {
 }
 
 /// Returns where an entry can be written in the table that has these mentions, or `None` if they are not of a table.
-fn door_of<'s, 'de>(mentions: &[Mention<'s, 'de>]) -> Option<Door<'s, 'de>> {
-    let mut door = None;
+fn insertion_point<'s, 'de>(mentions: &[Mention<'s, 'de>]) -> Option<InsertionPoint<'s, 'de>> {
+    let mut target = None;
     if names_array(mentions) {
         return None;
     }
     for mention in mentions {
-        door = match (*mention, door) {
-            (Mention::Own(section), _) => Some(Door::Body(section)),
-            (_, Some(Door::Body(section))) => Some(Door::Body(section)),
+        target = match (*mention, target) {
+            (Mention::Own(section), _) => Some(InsertionPoint::Body(section)),
+            (_, Some(InsertionPoint::Body(section))) => Some(InsertionPoint::Body(section)),
             (Mention::Dotted(assignment, index, home), _) => {
-                Some(Door::Dotted(assignment, index, home))
+                Some(InsertionPoint::Dotted(assignment, index, home))
             }
-            (Mention::Below(section, index), None) => Some(Door::Header(section, index)),
-            (_, door) => door,
+            (Mention::Below(section, index), None) => Some(InsertionPoint::Header(section, index)),
+            (_, target) => target,
         };
     }
     match written(mentions) {
-        Some(value) if matches!(&value.kind, ValKind::Inline(_)) => Some(Door::Braces(value)),
+        Some(value) if matches!(&value.kind, ValKind::Inline(_)) => Some(InsertionPoint::Braces(
+            value,
+        )),
         Some(_) => None,
-        None => door,
+        None => target,
     }
 }
 
@@ -121,17 +123,17 @@ fn body_indent<'s>(text: &'s str, section: &Section<'_>) -> &'s str {
     }
 }
 
-/// Inserts an entry at a door of its table. Fails if an allocation fails.
+/// Inserts an entry at a point of its table. Fails if an allocation fails.
 fn put_entry(
     document: Document<'_, '_>,
-    door: Door<'_, '_>,
+    target: InsertionPoint<'_, '_>,
     entry: &str,
     plan: &mut Plan,
 ) -> Result<(), AllocError> {
     let (alloc, text, end) = (document.alloc, document.text, line_end(document.text));
-    match door {
-        Door::Top => put_at_top(document, entry, plan),
-        Door::Body(section) => {
+    match target {
+        InsertionPoint::Top => put_at_top(document, entry, plan),
+        InsertionPoint::Body(section) => {
             let front = body_indent(text, section);
             let lines = format!(in alloc; "{front}{entry}{end}")?;
             put_lines(
@@ -141,12 +143,19 @@ fn put_entry(
                 plan,
             )
         }
-        Door::Dotted(assignment, index, home) => {
+        InsertionPoint::Dotted(assignment, index, home) => {
             let key = document.dotted_text(assignment, index);
             put_sibling(document, assignment, home, key, entry, plan)
         }
-        Door::Braces(list) => put_item(alloc, text, list, count_of(list), bare(entry), plan),
-        Door::Header(section, index) => {
+        InsertionPoint::Braces(list) => put_item(
+            alloc,
+            text,
+            list,
+            count_of(list),
+            bare(entry),
+            plan,
+        ),
+        InsertionPoint::Header(section, index) => {
             let header = document.header_text(section, index);
             let start = line_start(text, section.header_span.start);
             let lines = format!(in alloc; "[{header}]{end}{entry}{end}{end}")?;
@@ -205,27 +214,29 @@ pub(crate) fn dotted(document: Document<'_, '_>, parts: &[&str]) -> Result<Strin
 }
 
 /// Returns where an entry of the root can be written.
-fn root_door<'s, 'de>(mentions: &[Mention<'s, 'de>]) -> Door<'s, 'de> {
+fn root_insertion_point<'s, 'de>(mentions: &[Mention<'s, 'de>]) -> InsertionPoint<'s, 'de> {
     let Some(first) = mentions.first() else {
-        return Door::Top;
+        return InsertionPoint::Top;
     };
     match *first {
-        Mention::Own(section) if section.header.as_slice().is_empty() => Door::Body(section),
-        _ => Door::Top,
+        Mention::Own(section) if section.header.as_slice().is_empty() => InsertionPoint::Body(
+            section,
+        ),
+        _ => InsertionPoint::Top,
     }
 }
 
 /// Returns where an entry of the table at a path can be written. The table must exist.
-fn table_door<'s, 'de>(
+fn table_insertion_point<'s, 'de>(
     document: Document<'s, 'de>,
     path: &[&str],
-) -> Result<Door<'s, 'de>, Stop<Reason>> {
+) -> Result<InsertionPoint<'s, 'de>, Stop<Reason>> {
     let mentions = document.mentions(path)?;
     if path.is_empty() {
-        return Ok(root_door(mentions.as_slice()));
+        return Ok(root_insertion_point(mentions.as_slice()));
     }
-    match door_of(mentions.as_slice()) {
-        Some(door) => Ok(door),
+    match insertion_point(mentions.as_slice()) {
+        Some(target) => Ok(target),
         None if mentions.is_empty() => Err(Stop::Fault(Reason::Nothing)),
         None => Err(Stop::Fault(Reason::NoTable)),
     }
@@ -242,13 +253,13 @@ pub(crate) fn add(
     let [front @ .., name] = path else {
         return Err(Stop::Fault(Reason::There));
     };
-    let door = table_door(document, front)?;
+    let target = table_insertion_point(document, front)?;
     if !document.mentions(path)?.is_empty() {
         return Err(Stop::Fault(Reason::There));
     }
     let key = key_text(document.alloc, *name)?;
     let entry = format!(in document.alloc; "{key} = {value}")?;
-    put_entry(document, door, entry.as_str(), plan)?;
+    put_entry(document, target, entry.as_str(), plan)?;
     Ok(())
 }
 
@@ -316,19 +327,19 @@ fn entry_text(
     format!(in document.alloc; "{above}{front}{key} = {value}{note}")
 }
 
-/// Returns the blanks with which to begin a line at a door.
-fn door_indent<'s>(text: &'s str, door: Door<'_, '_>) -> &'s str {
-    match door {
-        Door::Body(section) => body_indent(text, section),
+/// Returns the blanks with which to begin a line at a point.
+fn indent_there<'s>(text: &'s str, target: InsertionPoint<'_, '_>) -> &'s str {
+    match target {
+        InsertionPoint::Body(section) => body_indent(text, section),
         _ => "",
     }
 }
 
-/// Returns whether an entry at this door can have comments.
-fn takes_comments(door: Door<'_, '_>) -> bool {
-    match door {
-        Door::Top | Door::Body(_) | Door::Header(_, _) => true,
-        Door::Dotted(_, _, _) | Door::Braces(_) => false,
+/// Returns whether an entry at this point can have comments.
+fn takes_comments(target: InsertionPoint<'_, '_>) -> bool {
+    match target {
+        InsertionPoint::Top | InsertionPoint::Body(_) | InsertionPoint::Header(_, _) => true,
+        InsertionPoint::Dotted(_, _, _) | InsertionPoint::Braces(_) => false,
     }
 }
 
@@ -355,17 +366,17 @@ pub(crate) fn add_lines(
         put_section(document, at, lines.as_str(), plan)?;
         return Ok(());
     }
-    let door = table_door(document, table)?;
+    let target = table_insertion_point(document, table)?;
     let key = dotted(document, missing)?;
-    let entry = if takes_comments(door) {
-        let front = door_indent(document.text, door);
+    let entry = if takes_comments(target) {
+        let front = indent_there(document.text, target);
         let front = if moved.above.is_empty() { "" } else { front };
         entry_text(document, key.as_str(), moved, front)?
     } else {
         let value = moved.value;
         format!(in document.alloc; "{key} = {value}")?
     };
-    put_entry(document, door, entry.as_str(), plan)?;
+    put_entry(document, target, entry.as_str(), plan)?;
     Ok(())
 }
 

@@ -40,9 +40,9 @@ fn tree<'t>(alloc: Global, text: &'t str) -> Result<Result<Value<'t>, String>, A
         Ok(root) => Ok(Ok(root)),
         Err(stop) => {
             let fault = stop.fault()?;
-            let told = fault_text(alloc, &fault);
+            let reason = fault_text(alloc, &fault);
             drop(fault);
-            Ok(Err(told?))
+            Ok(Err(reason?))
         }
     }
 }

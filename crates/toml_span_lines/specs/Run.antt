@@ -56,7 +56,7 @@ pub record Runs (limit : ℕ) (left left' : Option (List ℕ)) (unread : Bool) (
 pub record WritesOut (old new : Option (List ℕ)) (text : List ℕ) (failed : Bool) (all : Bool) : Type 0 where
   pub written : HasWritten old new text
   pub whole : all ≡ true → Appends old new text
-  pub told : failed ≡ not all
+  pub reported : failed ≡ not all
 
 -- Reading stopped, since a read or an allocation failed.
 abbrev pub HasCut : Option (List ℕ) → Option (List ℕ) → Bool → Cut → Type 0

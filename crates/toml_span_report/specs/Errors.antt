@@ -67,8 +67,8 @@ report_of severity span kind = record {
   replacements = [];
 }
 
-abbrev pub TellsKind : Severity → List ℕ → ErrorContent → ReportContent → Type 0
-TellsKind severity text error report =
+abbrev pub ReportsKind : Severity → List ℕ → ErrorContent → ReportContent → Type 0
+ReportsKind severity text error report =
     (span : Span) × IsMarked text error.kind error.span span × (report ≡ report_of severity span error.kind)
 
 -- the report of an error that a recognized mistake caused
@@ -87,25 +87,25 @@ mistaken severity kind f = record {
 }
 
 -- the report of an error: that of the mistake, if one is recognized
-abbrev pub TellsFinding : Severity → List ℕ → ErrorContent → Option FindingContent → ReportContent → Type 0
-TellsFinding severity text error (Some f) report = report ≡ mistaken severity error.kind f
-TellsFinding severity text error None report = TellsKind severity text error report
+abbrev pub ReportsFinding : Severity → List ℕ → ErrorContent → Option FindingContent → ReportContent → Type 0
+ReportsFinding severity text error (Some f) report = report ≡ mistaken severity error.kind f
+ReportsFinding severity text error None report = ReportsKind severity text error report
 
-abbrev pub TellsError : Severity → List ℕ → ErrorContent → ReportContent → Type 0
-TellsError severity text error report =
-    TellsFinding severity text error (mistake_of error.kind text error.span) report
+abbrev pub ReportsError : Severity → List ℕ → ErrorContent → ReportContent → Type 0
+ReportsError severity text error report =
+    ReportsFinding severity text error (mistake_of error.kind text error.span) report
 
 -- the text of an error: that of its report
 abbrev pub IsReport : Style → List ℕ → List ℕ → ErrorContent → List ℕ → Type 0
 IsReport style name text error out =
-    (report : ReportContent) × TellsError severities.Error text error report
+    (report : ReportContent) × ReportsError severities.Error text error report
     × (out ≡ report_text style report name text)
 
 -- The reports of these errors follow those before them.
 abbrev pub AddsReports : Severity → List ℕ → List ErrorContent → List ReportContent → List ReportContent → Type 0
 AddsReports severity text [] before after = after ≡ before
 AddsReports severity text (error ∷ errors) before after =
-    (report : ReportContent) × TellsError severity text error report
+    (report : ReportContent) × ReportsError severity text error report
     × AddsReports severity text errors (before ++ report ∷ []) after
 
 -- the text of errors: that of their reports

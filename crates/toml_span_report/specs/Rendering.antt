@@ -69,9 +69,9 @@ abbrev pub main_part : List MarkedLine → Option MarkedLine
 main_part parts = line_or (first_primary parts) (first_of parts)
 
 -- `:line:column`, both counted from 1
-abbrev pub place_told : Option MarkedLine → List ℕ
-place_told None = []
-place_told (Some p) = codes ":" ++ decimal p.number ++ codes ":" ++ decimal p.column
+abbrev pub line_and_column : Option MarkedLine → List ℕ
+line_and_column None = []
+line_and_column (Some p) = codes ":" ++ decimal p.number ++ codes ":" ++ decimal p.column
 
 -- the number of columns of the highest line number
 abbrev pub greatest : List MarkedLine → ℕ
@@ -147,7 +147,7 @@ abbrev pub front : Style → ReportContent → List ℕ → List MarkedLine → 
 front style r name parts =
     headline style r
     ++ painted style Blue (replicate (width_of parts) 32 ++ codes "--> ") ++ shortened name
-    ++ place_told (main_part parts) ++ codes "\n"
+    ++ line_and_column (main_part parts) ++ codes "\n"
 
 -- The whole text: these, the source lines with marks and messages, and notes and help, if there are any.
 abbrev pub drawn_report : Style → ReportContent → List ℕ → List MarkedLine → List ℕ
@@ -175,7 +175,7 @@ unlike_command name = if starts_with nat_eq (trim_start name) (codes "::") then 
 -- one line: `name:line:column: code: message`, with `warning: ` or `note: ` before the code
 abbrev pub brief : ReportContent → List ℕ → List MarkedLine → List ℕ
 brief r name parts =
-    unlike_command name ++ shortened name ++ place_told (main_part parts) ++ codes ": " ++ grade r.severity
+    unlike_command name ++ shortened name ++ line_and_column (main_part parts) ++ codes ": " ++ grade r.severity
     ++ before (codes ": ") (shortened r.code) ++ shortened r.message ++ codes "\n"
 
 abbrev pub report_line : ReportContent → List ℕ → List ℕ → List ℕ

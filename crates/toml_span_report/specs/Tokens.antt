@@ -35,21 +35,21 @@ is_at_token _ span = false
 -- For a missing field of the root, the span is the whole text, and its start is marked. For a table with a header, it
 -- is the section, and the header is marked up to the end of its line. For an inline table, its braces are marked.
 unfoldable pub table_mark : List ℕ → Span → Span
-table_mark text told =
-    let at = place text told.start in
-    if told.start == 0 && told.end == length text then record { start = told.start; end = 0 }
-    else if slice_index text at == 91 then record { start = told.start; end = min told.end (line_end text at) }
-    else told
+table_mark text reported =
+    let at = place text reported.start in
+    if reported.start == 0 && reported.end == length text then record { start = reported.start; end = 0 }
+    else if slice_index text at == 91 then record { start = reported.start; end = min reported.end (line_end text at) }
+    else reported
 
 abbrev pub own_mark : List ℕ → Kind → Span → Span
-own_mark text (missing_field field) told = table_mark text told
-own_mark text _ told = told
+own_mark text (missing_field field) reported = table_mark text reported
+own_mark text _ reported = reported
 
 abbrev pub IsMarkedWhere : List ℕ → Kind → Bool → Span → Span → Type 0
-IsMarkedWhere text kind true told span =
-    (span.start ≡ told.start) × MarksToken text (place text told.start) span.end
-IsMarkedWhere text kind false told span = span ≡ own_mark text kind told
+IsMarkedWhere text kind true reported span =
+    (span.start ≡ reported.start) × MarksToken text (place text reported.start) span.end
+IsMarkedWhere text kind false reported span = span ≡ own_mark text kind reported
 
 -- What is marked for an error: the token at its place, the header or braces of a table, or its span.
 abbrev pub IsMarked : List ℕ → Kind → Span → Span → Type 0
-IsMarked text kind told span = IsMarkedWhere text kind (is_at_token kind told) told span
+IsMarked text kind reported span = IsMarkedWhere text kind (is_at_token kind reported) reported span

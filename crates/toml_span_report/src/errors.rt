@@ -5,7 +5,7 @@ ghost use Rattle.toml_span_tree.specs.Diagnostic.{label_content, labels_of};
 ghost use Rattle.toml_span_tree.specs.Error.{content_of, kind_of};
 ghost use Rattle.toml_span_typed.specs.Errors.{all};
 ghost use Rattle.toml_span_report.specs.Errors as spec;
-ghost use Rattle.toml_span_report.specs.Errors.{AddsReports, AreReports, AreShown, IsReport, TellsError};
+ghost use Rattle.toml_span_report.specs.Errors.{AddsReports, AreReports, AreShown, IsReport, ReportsError};
 ghost use Rattle.toml_span_report.specs.Help.{range_help};
 ghost use Rattle.toml_span_report.specs.Finding.{finding_content};
 ghost use Rattle.toml_span_report.specs.Report.{report_content};
@@ -162,13 +162,13 @@ fn mistaken(
 }
 
 /// Makes the report of an error without a recognized mistake. Fails if an allocation fails.
-fn told(
+fn unrecognized(
     alloc: Global,
     severity: Severity,
     error: &Error<'_>,
     text: &str,
 ) -> Result<Report, AllocError>
-    ensures { IfOk result (λ made. spec.TellsKind severity text.now (content_of error.now) (report_content made)) }
+    ensures { IfOk result (λ made. spec.ReportsKind severity text.now (content_of error.now) (report_content made)) }
 {
     let span = marked_span(alloc, &error.kind, error.span, text)?;
     Ok(Report {
@@ -189,11 +189,11 @@ fn report_of(
     error: &Error<'_>,
     text: &str,
 ) -> Result<Report, AllocError>
-    ensures { IfOk result (λ made. TellsError severity text.now (content_of error.now) (report_content made)) }
+    ensures { IfOk result (λ made. ReportsError severity text.now (content_of error.now) (report_content made)) }
 {
     match mistake_of(&error.kind, text, error.span) {
         Some(finding) => mistaken(alloc, severity, error, finding),
-        None => told(alloc, severity, error, text),
+        None => unrecognized(alloc, severity, error, text),
     }
 }
 
@@ -212,7 +212,7 @@ impl Report {
     ///
     /// Fails only if an allocation fails.
     pub fn from_error(alloc: Global, error: &Error<'_>, text: &str) -> Result<Report, AllocError>
-        ensures { IfOk result (λ made. TellsError severities.Error text.now (content_of error.now)
+        ensures { IfOk result (λ made. ReportsError severities.Error text.now (content_of error.now)
             (report_content made)) }
     {
         report_of(alloc, Severity::Error, error, text)
@@ -220,7 +220,7 @@ impl Report {
 
     /// Makes the same report as `from_error`, but as a warning, for a program that continues in spite of the error.
     pub fn from_warning(alloc: Global, error: &Error<'_>, text: &str) -> Result<Report, AllocError>
-        ensures { IfOk result (λ made. TellsError severities.Warning text.now (content_of error.now)
+        ensures { IfOk result (λ made. ReportsError severities.Warning text.now (content_of error.now)
             (report_content made)) }
     {
         report_of(alloc, Severity::Warning, error, text)

@@ -36,7 +36,7 @@ fn push_dots(out: &mut String, is_cut: bool) -> Result<(), AllocError>
 
 /// Appends the printed form of a text, cut after 1,000 bytes. Fails if an allocation fails.
 #[tactic(auto, unfolding(crate::specs::Rendering::shortened))]
-fn push_told(out: &mut String, text: &str) -> Result<(), AllocError>
+fn push_shortened(out: &mut String, text: &str) -> Result<(), AllocError>
     ensures { OnOk result (string_bytes out.new ≡ string_bytes out.old ++ spec.shortened text.now) }
 {
     let end = place(text, 1000);
@@ -45,11 +45,11 @@ fn push_told(out: &mut String, text: &str) -> Result<(), AllocError>
 }
 
 /// Returns the printed form of a text, cut after 1,000 bytes. Fails if an allocation fails.
-fn told(alloc: Global, text: &str) -> Result<String, AllocError>
+fn shortened(alloc: Global, text: &str) -> Result<String, AllocError>
     ensures { IfOk result (λ out. string_bytes out ≡ spec.shortened text.now) }
 {
     let mut out = String::new(alloc);
-    push_told(&mut out, text)?;
+    push_shortened(&mut out, text)?;
     Ok(out)
 }
 
@@ -97,11 +97,11 @@ fn push_headline(
     ensures { OnOk result (string_bytes out.new ≡ string_bytes out.old
         ++ spec.headline style (report_content report.now)) }
 {
-    let code = told(alloc, report.code.as_str())?;
+    let code = shortened(alloc, report.code.as_str())?;
     let mut front = String::from_str(alloc, word(report.severity))?;
     push_in_brackets(&mut front, code.as_str())?;
     push_painted(out, style, ink_of(report.severity), front.as_str())?;
-    let message = told(alloc, report.message.as_str())?;
+    let message = shortened(alloc, report.message.as_str())?;
     let mut back = String::new(alloc);
     push_after(&mut back, ": ", message.as_str())?;
     push_painted(out, style, Ink::Bold, back.as_str())?;
@@ -123,7 +123,7 @@ pub(crate) fn main_strip<'a>(strips: &[Strip<'a>]) -> Option<Strip<'a>>
 /// Appends the line and the column of a strip, if there is one. Fails if an allocation fails.
 fn push_place(out: &mut String, strip: Option<Strip<'_>>) -> Result<(), AllocError>
     ensures { OnOk result (string_bytes out.new ≡ string_bytes out.old
-        ++ spec.place_told (option_map marked_line_of strip.entry)) }
+        ++ spec.line_and_column (option_map marked_line_of strip.entry)) }
 {
     let Some(strip) = strip else {
         return Ok(());
@@ -216,7 +216,7 @@ fn push_marks_line(frame: Frame, out: &mut String, strip: &Strip<'_>) -> Result<
     out.push_str(" ")?;
     let mut marks = String::new(frame.alloc);
     push_marks(frame.alloc, &mut marks, strip)?;
-    let message = told(frame.alloc, strip.message)?;
+    let message = shortened(frame.alloc, strip.message)?;
     push_after(&mut marks, " ", message.as_str())?;
     push_painted(
         out,
@@ -288,7 +288,7 @@ fn front(
     push_times(&mut arrow, frame.width, ' ')?;
     arrow.push_str("--> ")?;
     push_painted(&mut out, frame.style, Ink::Blue, arrow.as_str())?;
-    push_told(&mut out, name)?;
+    push_shortened(&mut out, name)?;
     push_place(&mut out, main_strip(strips))?;
     out.push_str("\n")?;
     Ok(out)
@@ -304,7 +304,7 @@ fn push_remark(frame: Frame, out: &mut String, title: &str, text: &str) -> Resul
     left.push_str(" = ")?;
     push_painted(out, frame.style, Ink::Blue, left.as_str())?;
     push_painted(out, frame.style, Ink::Bold, title)?;
-    push_told(out, text)?;
+    push_shortened(out, text)?;
     out.push_str("\n")
 }
 
@@ -468,13 +468,13 @@ fn brief(
         ≡ spec.brief (report_content report.now) name.now (map marked_line_of strips.now)) }
 {
     let mut out = String::from_str(alloc, unlike_command(name))?;
-    push_told(&mut out, name)?;
+    push_shortened(&mut out, name)?;
     push_place(&mut out, main_strip(strips))?;
     out.push_str(": ")?;
     out.push_str(grade(report.severity))?;
-    let code = told(alloc, report.code.as_str())?;
+    let code = shortened(alloc, report.code.as_str())?;
     push_before(&mut out, ": ", code.as_str())?;
-    push_told(&mut out, report.message.as_str())?;
+    push_shortened(&mut out, report.message.as_str())?;
     out.push_str("\n")?;
     Ok(out)
 }

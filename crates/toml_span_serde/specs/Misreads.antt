@@ -65,14 +65,14 @@ kind_ahead table_ends = kind.Map
 kind_ahead (key s) = kind.Str
 
 -- the text of a string or key, and nothing for any other piece
-abbrev pub told_text : Content → List ℕ
-told_text (value (tree.text s)) = s
-told_text (key s) = s
-told_text c = []
+abbrev pub piece_text : Content → List ℕ
+piece_text (value (tree.text s)) = s
+piece_text (key s) = s
+piece_text c = []
 
-abbrev pub told_text_in : Option Piece → List ℕ
-told_text_in None = []
-told_text_in (Some p) = told_text p.content
+abbrev pub piece_text_in : Option Piece → List ℕ
+piece_text_in None = []
+piece_text_in (Some p) = piece_text p.content
 
 -- an array or a table begins
 abbrev pub IsOpening : Content → Type 0

@@ -3,7 +3,7 @@ use Rattle.std.specs.Prelude.{◌≡◌, ℕ, List, ◌++◌, Option, None, Some
 use Rattle.toml_span_lex.specs.declared.stop.Stop.{Stop}
 use Rattle.toml_span_lex.specs.declared.stop.Stop.TheVariants as stop
 use Rattle.toml_span_tree.specs.Error.{content_of}
-use Rattle.toml_span_report.specs.Errors.{IsReport, TellsError}
+use Rattle.toml_span_report.specs.Errors.{IsReport, ReportsError}
 use Rattle.toml_span_report.specs.Rendering.{report_text}
 use Rattle.toml_span_report.specs.Report.{ReportContent, with_help}
 use Rattle.toml_span_report.specs.declared.colours.Style.{Style}
@@ -21,7 +21,7 @@ with_meant (Some name) report = with_help report (codes "did you mean `" ++ name
 -- the text of the report of a misfit
 abbrev pub IsMisfitText : Style → Misfit → List ℕ → List ℕ → List ℕ → Type 0
 IsMisfitText style m name text out =
-    (report : ReportContent) × TellsError severities.Error text (content_of_misfit m) report
+    (report : ReportContent) × ReportsError severities.Error text (content_of_misfit m) report
     × (out ≡ report_text style (with_meant (meant_by m.reason) report) name text)
 
 -- A failed allocation has no text.

@@ -32,16 +32,16 @@ abbrev mutual
       (path ++ (key name ∷ []), span) ∷ (spots (path ++ (key name ∷ [])) n ++ members_spots path ms)
 
 -- the piece that is reported: if there was no next one, the first, which is the root
-abbrev pub told_piece : Node → ℕ → ℕ
-told_piece root at = if nat_lt at (length (pieces root)) then at else 0
+abbrev pub reported_piece : Node → ℕ → ℕ
+reported_piece root at = if nat_lt at (length (pieces root)) then at else 0
 
 -- The misfit has the reason of the reader's error, and the path and span of its piece.
 abbrev pub IsOf : Node → Misread → Misfit → Type 0
 IsOf root m misfit = (misfit.reason ≡ m.reason)
-    × (slice_get (spots [] root) (told_piece root m.at) ≡ Some (path_of misfit.path.items, misfit.span))
+    × (slice_get (spots [] root) (reported_piece root m.at) ≡ Some (path_of misfit.path.items, misfit.span))
 
 -- A failed allocation is passed on. It may also occur here.
-abbrev pub IsTold : Node → Stop Misread → Stop Misfit → Type 0
-IsTold root (stop.Memory e) told = told ≡ stop.Memory e
-IsTold root (stop.Fault m) (stop.Memory e) = ⊤
-IsTold root (stop.Fault m) (stop.Fault misfit) = IsOf root m misfit
+abbrev pub IsStopOf : Node → Stop Misread → Stop Misfit → Type 0
+IsStopOf root (stop.Memory e) stopped = stopped ≡ stop.Memory e
+IsStopOf root (stop.Fault m) (stop.Memory e) = ⊤
+IsStopOf root (stop.Fault m) (stop.Fault misfit) = IsOf root m misfit

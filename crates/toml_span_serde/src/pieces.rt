@@ -5,7 +5,7 @@ ghost use Rattle.toml_span.specs.code.Placing.{NamesAscend};
 ghost use Rattle.toml_span_tree.specs.Node.{Node};
 ghost use Rattle.toml_span_tree.specs.Order.{entry_of};
 ghost use Rattle.toml_span_tree.specs.Value.{items_view, members_view, view};
-ghost use Rattle.toml_span_serde.specs.Misreads.{IsOpening, found_of, kind_ahead, refusal, told_text};
+ghost use Rattle.toml_span_serde.specs.Misreads.{IsOpening, found_of, kind_ahead, refusal, piece_text};
 ghost use Rattle.toml_span_serde.specs.Pieces.{Piece as Laid, array_begins, items_pieces, members_pieces, piece};
 ghost use Rattle.toml_span_serde.specs.Pieces.{pieces, table_begins};
 ghost use Rattle.toml_span_serde.specs.Tasks.{all_pieces, by_start, depth_after, piece_content, piece_of, task_pieces};
@@ -100,7 +100,7 @@ impl<'v> Content<'v> {
 
     /// Returns the text of a string or a key, otherwise an empty text.
     pub(crate) fn text(&self) -> &'v str
-        ensures { result.now ≡ told_text (piece_content self.now) }
+        ensures { result.now ≡ piece_text (piece_content self.now) }
     {
         match self {
             Content::Text(text) | Content::Key(text) => *text,

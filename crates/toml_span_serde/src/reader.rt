@@ -14,7 +14,7 @@ ghost use Rattle.toml_span_serde.specs.Misreads.{IsKeyOrEnd, IsMemory, IsMisread
 ghost use Rattle.toml_span_serde.specs.Misreads.{IsNotOneCharacter, IsOpening, IsOther, IsOtherIn, IsUnreadable};
 ghost use Rattle.toml_span_serde.specs.Misreads.{Lists, Misses, MissesOr, RunsOut, Says, UnlessMemory, fields};
 ghost use Rattle.toml_span_serde.specs.Misreads.{found_of, held, held_by, is_unknown, kept, kind_ahead, length_reason};
-ghost use Rattle.toml_span_serde.specs.Misreads.{refusal_in, told_text_in, tries_back_at, twice, twin, twin_after};
+ghost use Rattle.toml_span_serde.specs.Misreads.{refusal_in, piece_text_in, tries_back_at, twice, twin, twin_after};
 ghost use Rattle.toml_span_serde.specs.Misreads.{variant_names, variant_place, variants};
 ghost use Rattle.toml_span_serde.specs.Pieces.{Piece as Laid, array_begins, pieces, table_begins, value};
 ghost use Rattle.toml_span_serde.specs.Reads.{IsText, Picks, Reads, Sees, TakesPiece};
@@ -139,8 +139,8 @@ impl<'p, 'v> Reader<'p, 'v> {
 
     /// Returns copies of the text of a piece, and of the names. Fails if an allocation fails.
     fn named(&self, at: usize, names: &[String]) -> Result<(String, Vec<String>), AllocError>
-        ensures { IfOk result (λ told. (string_bytes told.0 ≡ told_text_in (slice_get (laid self.now) at))
-            × (map string_bytes told.1.items ≡ map string_bytes names.now)) }
+        ensures { IfOk result (λ error. (string_bytes error.0 ≡ piece_text_in (slice_get (laid self.now) at))
+            × (map string_bytes error.1.items ≡ map string_bytes names.now)) }
     {
         let name = String::from_str(self.alloc, self.text_at(at))?;
         Ok((name, copied(self.alloc, names)?))
@@ -233,7 +233,7 @@ impl<'p, 'v> Reader<'p, 'v> {
 
     /// Returns to the piece that was looked at last, and records that this kind was expected. Returns the error for it.
     fn wanted(&mut self, expected: Expected, found: Content<'_>) -> Stop<Misread>
-        ensures told { IsMisread (λ why. why ≡ is.Wanted expected (found_of (piece_content found.entry)))
+        ensures reported { IsMisread (λ why. why ≡ is.Wanted expected (found_of (piece_content found.entry)))
             self.old.at result }
         ensures stays { (self.new.next ≡ self.old.at) × (self.new.pieces ≡ self.old.pieces) }
         ensures notes { (self.new.at ≡ self.old.at) × (self.new.variant ≡ self.old.variant)
@@ -271,7 +271,7 @@ impl<'p, 'v> Reader<'p, 'v> {
 
     /// Returns the text of the string or key at a position, or an empty text if there is another piece.
     fn text_at(&self, at: usize) -> &'v str
-        ensures { result.now ≡ told_text_in (slice_get (laid self.now) at) }
+        ensures { result.now ≡ piece_text_in (slice_get (laid self.now) at) }
     {
         match self.pieces.get(at) {
             Some(piece) => piece.content.text(),
@@ -658,7 +658,7 @@ impl Format for Reader<'_, '_> {
     }
 
     fn unknown_key(&self) -> Stop<Misread>
-        ensures { IsMisread (Lists is.UnknownField (told_text_in (slice_get (laid self.now) self.now.at))
+        ensures { IsMisread (Lists is.UnknownField (piece_text_in (slice_get (laid self.now) self.now.at))
             (fields self.now)) self.now.at result }
     {
         match self.named(self.at, self.fields.as_slice()) {
@@ -674,7 +674,7 @@ impl Format for Reader<'_, '_> {
     /// the reader keeps the position of the tag and these names.
     fn unknown_variant(&self) -> Stop<Misread>
         ensures { IsMisread (Lists is.UnknownVariant
-            (told_text_in (slice_get (laid self.now) (variant_place self.now))) (variant_names self.now))
+            (piece_text_in (slice_get (laid self.now) (variant_place self.now))) (variant_names self.now))
             (variant_place self.now) result }
     {
         let at = self.variant_place();

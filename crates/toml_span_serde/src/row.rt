@@ -7,7 +7,7 @@ ghost use Rattle.toml_span_serde.specs.Ahead.{ahead, pieces_in};
 ghost use Rattle.toml_span_serde.specs.Misfits.{IsAt, Names, path_of};
 ghost use Rattle.toml_span_serde.specs.Pieces.{pieces};
 ghost use Rattle.toml_span_serde.specs.TextOrder.{in_text_order};
-ghost use Rattle.toml_span_serde.specs.Stops.{IsOf, IsTold, spots};
+ghost use Rattle.toml_span_serde.specs.Stops.{IsOf, IsStopOf, spots};
 
 use crate::misfit::{Misfit, Reason};
 use crate::path::path_to;
@@ -46,7 +46,7 @@ impl<'v> Row<'v> {
     /// its value. If there was no next piece, the misfit is at the root. Passes a failed allocation on.
     pub fn stopped(&self, alloc: Global, stop: Stop<Misread>) -> Stop<Misfit>
         ensures place { (n : Node) → pieces_in self.now ≡ pieces n → HasOneEach n → IsAt n result }
-        ensures told { (n : Node) → pieces_in self.now ≡ pieces n → IsTold n stop result }
+        ensures reported { (n : Node) → pieces_in self.now ≡ pieces n → IsStopOf n stop result }
     {
         match stop {
             Stop::Memory(e) => Stop::Memory(e),
@@ -62,7 +62,7 @@ impl<'v> Row<'v> {
     fn placed(&self, alloc: Global, misread: Misread) -> Result<Misfit, AllocError>
         ensures place { IfOk result (λ m. (n : Node) → pieces_in self.now ≡ pieces n → HasOneEach n
             → Names (path_of m.path.items) m.span n) }
-        ensures told { IfOk result (λ m. (n : Node) → pieces_in self.now ≡ pieces n → IsOf n misread m) }
+        ensures reported { IfOk result (λ m. (n : Node) → pieces_in self.now ≡ pieces n → IsOf n misread m) }
     {
         if misread.at < self.pieces.len() {
             return self.misfit_at(alloc, misread.reason, misread.at);
@@ -78,7 +78,7 @@ impl<'v> Row<'v> {
         requires { at < length self.now.pieces.items }
         ensures place { IfOk result (λ m. (n : Node) → pieces_in self.now ≡ pieces n → HasOneEach n
             → Names (path_of m.path.items) m.span n) }
-        ensures told { IfOk result (λ m. (n : Node) → pieces_in self.now ≡ pieces n → (m.reason ≡ reason)
+        ensures reported { IfOk result (λ m. (n : Node) → pieces_in self.now ≡ pieces n → (m.reason ≡ reason)
             × (slice_get (spots [] n) at ≡ Some (path_of m.path.items, m.span))) }
     {
         let pieces = self.pieces.as_slice();

@@ -10,7 +10,7 @@ use Rattle.toml_span_tree.specs.Error.{duplicate_table, duplicate_key, redefine_
 use Rattle.toml_span_tree.specs.Error.{dotted_key_invalid_type, unexpected_keys, unquoted_string, missing_field}
 use Rattle.toml_span_tree.specs.Error.{deprecated, unexpected_value, marked}
 use Rattle.toml_span_tree.specs.Listed.{listed, quoted}
-use Rattle.toml_span_tree.specs.Message.{told_char}
+use Rattle.toml_span_tree.specs.Message.{char_text}
 
 -- a label as plain data
 pub record LabelContent (F : Type 0) : Type 0 where
@@ -46,11 +46,11 @@ message_of _ = []
 -- the text of the label at the error's own span
 abbrev pub label_text_of : Kind → List ℕ
 label_text_of exceeded_depth_limit = codes "too deeply nested"
-label_text_of (invalid_char_in_string c) = codes "invalid character '" ++ told_char c ++ codes "' in string"
-label_text_of (invalid_escape c) = codes "invalid escape character '" ++ told_char c ++ codes "' in string"
-label_text_of (invalid_hex_escape c) = codes "invalid hex escape '" ++ told_char c ++ codes "'"
+label_text_of (invalid_char_in_string c) = codes "invalid character '" ++ char_text c ++ codes "' in string"
+label_text_of (invalid_escape c) = codes "invalid escape character '" ++ char_text c ++ codes "' in string"
+label_text_of (invalid_hex_escape c) = codes "invalid hex escape '" ++ char_text c ++ codes "'"
 label_text_of (invalid_escape_value value) = codes "invalid escape value"
-label_text_of (unexpected c) = codes "unexpected character '" ++ told_char c ++ codes "'"
+label_text_of (unexpected c) = codes "unexpected character '" ++ char_text c ++ codes "'"
 label_text_of unterminated_string = codes "eof reached before string terminator"
 label_text_of invalid_number = codes "unable to parse number"
 label_text_of invalid_datetime = codes "unable to parse datetime"

@@ -39,8 +39,8 @@ code_of (unexpected_value expected value) = codes "unexpected-value"
 code_of (marked code message places) = code
 
 -- a character in a message
-abbrev pub told_char : ℕ → List ℕ
-told_char c = if is_whitespace c then escaped_char c else encode_utf8 c
+abbrev pub char_text : ℕ → List ℕ
+char_text c = if is_whitespace c then escaped_char c else encode_utf8 c
 
 abbrev pub deprecated_text : List ℕ → List ℕ → List ℕ
 deprecated_text old new =
@@ -58,11 +58,11 @@ unexpected_value_text expected = codes "expected '" ++ listed quoted expected ++
 abbrev pub display_text : Kind → List ℕ
 display_text unexpected_eof = codes "unexpected eof encountered"
 display_text exceeded_depth_limit = codes "input exceeds the maximum allowed nesting depth"
-display_text (invalid_char_in_string c) = codes "invalid character in string: `" ++ told_char c ++ codes "`"
-display_text (invalid_escape c) = codes "invalid escape character in string: `" ++ told_char c ++ codes "`"
-display_text (invalid_hex_escape c) = codes "invalid hex escape character in string: `" ++ told_char c ++ codes "`"
+display_text (invalid_char_in_string c) = codes "invalid character in string: `" ++ char_text c ++ codes "`"
+display_text (invalid_escape c) = codes "invalid escape character in string: `" ++ char_text c ++ codes "`"
+display_text (invalid_hex_escape c) = codes "invalid hex escape character in string: `" ++ char_text c ++ codes "`"
 display_text (invalid_escape_value value) = codes "invalid escape value: `" ++ decimal value ++ codes "`"
-display_text (unexpected c) = codes "unexpected character found: `" ++ told_char c ++ codes "`"
+display_text (unexpected c) = codes "unexpected character found: `" ++ char_text c ++ codes "`"
 display_text unterminated_string = codes "unterminated string"
 display_text invalid_number = codes "invalid number"
 display_text invalid_datetime = codes "invalid datetime"

@@ -1,7 +1,7 @@
 //! Errors as diagnostics: a message and labeled spans, for an editor or a terminal.
 ghost use Rattle.std.specs.Prelude.{◌≡◌, [], ◌∷◌, ◌++◌, IfOk, map, string_bytes};
 ghost use Rattle.toml_span_tree.specs.Error.{kind_of, marked_keys};
-ghost use Rattle.toml_span_tree.specs.Message.{code_of, told_char};
+ghost use Rattle.toml_span_tree.specs.Message.{code_of, char_text};
 ghost use Rattle.toml_span_tree.specs.Diagnostic.{label_text_of, labels_of, label_content, message_of, primary};
 ghost use Rattle.toml_span_tree.specs.Diagnostic.{secondary, unexpected_keys_message};
 
@@ -109,7 +109,7 @@ impl ErrorKind<'_> {
 
 /// Returns `before`, the character and `after` as one string. Fails if an allocation fails.
 fn around(alloc: Global, before: &str, c: char, after: &str) -> Result<String, AllocError>
-    ensures { IfOk result (λ text. string_bytes text ≡ before.now ++ told_char c ++ after.now) }
+    ensures { IfOk result (λ text. string_bytes text ≡ before.now ++ char_text c ++ after.now) }
 {
     let c = Shown(c);
     format!(in alloc; "{before}{c}{after}")

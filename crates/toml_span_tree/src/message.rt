@@ -2,7 +2,7 @@
 ghost use Rattle.std.specs.Prelude.{◌≡◌, ◌++◌, codes, map, Some, string_bytes};
 ghost use Rattle.std.specs.Fmt.{WritesOnOk};
 ghost use Rattle.toml_span_tree.specs.Error.{kind_of, marked_keys};
-ghost use Rattle.toml_span_tree.specs.Message.{code_of, deprecated_text, told_char, display_text};
+ghost use Rattle.toml_span_tree.specs.Message.{code_of, deprecated_text, char_text, display_text};
 ghost use Rattle.toml_span_tree.specs.Message.{unexpected_keys_text, unexpected_value_text};
 
 use crate::error::{Error, ErrorKind};
@@ -58,7 +58,7 @@ impl Display for ErrorKind<'_> {
 pub(crate) struct Shown(pub(crate) char);
 
 impl Display for Shown {
-    ghost output = { λ shown. Some (told_char shown.0) };
+    ghost output = { λ shown. Some (char_text shown.0) };
 
     fn fmt<W: Write>(&self, f: &mut Formatter<W>) -> fmt::Result {
         let c = self.0;
@@ -71,7 +71,7 @@ impl Display for Shown {
 
 /// Writes a text that ends with a backtick, the character, and a backtick.
 fn with_char<W: Write>(f: &mut Formatter<W>, text: &str, c: char) -> fmt::Result
-    ensures { WritesOnOk W.write_str_gives f.old result (text.now ++ told_char c ++ codes "`") f.new }
+    ensures { WritesOnOk W.write_str_gives f.old result (text.now ++ char_text c ++ codes "`") f.new }
 {
     let c = Shown(c);
     write!(f, "{text}{c}`")

@@ -10,20 +10,20 @@ use Rattle.toml_span_tree.specs.Value.{items_view}
 use Rattle.toml_span_typed.specs.Errors.{Errors, all, one}
 use Rattle.toml_span_typed.specs.code.Arrays.{ReadsOrKeeps}
 use Rattle.toml_span_typed.specs.Reads.{Answers, Taken, errors, nodes_of}
-use Rattle.toml_span_typed.specs.Tuples.{IsReadAs, JoinsTwo, RefusesLength, TellsOne, holds_two, other_length, pair_reads}
+use Rattle.toml_span_typed.specs.Tuples.{IsReadAs, JoinsTwo, RefusesLength, StopsWith, holds_two, other_length, pair_reads}
 
 count-of : (es : List Value) → length (nodes_of (items_view es)) ≡ length es
 count-of [] = refl
 count-of (e ∷ es) = ap suc (count-of es)
 
 -- the error for an array of another length
-pub told_count : (n : ℕ) (es : List Value) (found : ℕ) (v : Node) (span : Span) (s : Stop Errors)
-    → v ≡ node (array (items_view es)) span → found ≡ length es → found ≢ n → TellsOne (other_length n found span) s
+pub refused_count : (n : ℕ) (es : List Value) (found : ℕ) (v : Node) (span : Span) (s : Stop Errors)
+    → v ≡ node (array (items_view es)) span → found ≡ length es → found ≢ n → StopsWith (other_length n found span) s
     → RefusesLength n v s
-told_count n es found v span (stop.Fault faults) is count other told =
+refused_count n es found v span (stop.Fault faults) is count other refused =
     subst (λ w. RefusesLength n w (stop.Fault faults)) (sym is)
-    (subst (λ k. (k ≢ n) × (faults ≡ one (other_length n k span))) (count ∙ sym (count-of es)) (other, told))
-told_count n es found v span (stop.Memory e) is count other told = tt
+    (subst (λ k. (k ≢ n) × (faults ≡ one (other_length n k span))) (count ∙ sym (count-of es)) (other, refused))
+refused_count n es found v span (stop.Memory e) is count other refused = tt
 
 -- what is refused as no array of two elements is not read as one
 pub two_refused : {A B : Type 0} (reads-a : Node → Result A Errors → Node → Type 0) (reads-b : Node → Result B Errors → Node → Type 0)
@@ -55,8 +55,8 @@ pub pair_failed : {A B : Type 0} (reads-a : Node → Result A Errors → Node �
     → v ≡ holds_two a b span → Taken v w → none ≡ [] → ReadsOrKeeps reads-a a none x first → ReadsOrKeeps reads-b b first y both
     → both ≡ all faults → pair_reads reads-a reads-b v (Err faults) w
 pair_failed reads-a reads-b v w a b span x y none first both faults holds gone bare ra rb is =
-    let (r, read-r, told-r) = kept_answer reads-a a x none first ra in
-    let (s, read-s, told-s) = kept_answer reads-b b y first both rb in
-    let joined = sym (told-s ∙ ap (λ fs. fs ++ errors (s ∷ [])) (told-r ∙ ap (λ fs. fs ++ errors (r ∷ [])) bare)) ∙ is in
+    let (r, read-r, refused-r) = kept_answer reads-a a x none first ra in
+    let (s, read-s, refused-s) = kept_answer reads-b b y first both rb in
+    let joined = sym (refused-s ∙ ap (λ fs. fs ++ errors (s ∷ [])) (refused-r ∙ ap (λ fs. fs ++ errors (r ∷ [])) bare)) ∙ is in
     subst (λ u. Taken u w → pair_reads reads-a reads-b u (Err faults) w) (sym holds)
     (λ left. (r, s, read-r, read-s, joined_errors r s faults joined, left)) gone

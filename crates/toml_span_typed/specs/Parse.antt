@@ -9,8 +9,8 @@ use Rattle.toml_span_tree.specs.Node.{Node}
 use Rattle.toml_span_tree.specs.Value.{inner_of, wrong_kind, span_of, text_in}
 
 -- The error at the span has a message that ends in the text of the error of `FromStr`, if its type says what that is.
-abbrev pub TellsRefusal : Option (List ℕ) → Span → ErrorContent → Type 0
-TellsRefusal shown span fault =
+abbrev pub ReportsRefusal : Option (List ℕ) → Span → ErrorContent → Type 0
+ReportsRefusal shown span fault =
     (text : List ℕ) × (fault ≡ record {
       kind = custom (codes "failed to parse string: " ++ text);
       span = span;
@@ -26,6 +26,6 @@ Parses gives output value (Ok parsed) =
 Parses gives output value (Err (stop.Fault error)) = MatchOption (text_in (inner_of value))
     (content_of error ≡ wrong_kind (codes "a string") value)
     (λ text. (refusal : _) × gives text (Err refusal)
-    × TellsRefusal (output refusal) (span_of value) (content_of error))
+    × ReportsRefusal (output refusal) (span_of value) (content_of error))
 Parses gives output value (Err (stop.Memory error)) =
     (text : List ℕ) × (text_in (inner_of value) ≡ Some text) × ((refusal : _) × gives text (Err refusal))

@@ -34,9 +34,9 @@ RefusesLength n value (stop.Fault faults) = Miscounts n value faults
 RefusesLength n value (stop.Memory error) = ⊤
 
 -- this error as the only one, or a failed allocation
-abbrev pub TellsOne : ErrorContent → Stop Errors → Type 0
-TellsOne fault (stop.Fault faults) = faults ≡ one fault
-TellsOne fault (stop.Memory error) = ⊤
+abbrev pub StopsWith : ErrorContent → Stop Errors → Type 0
+StopsWith fault (stop.Fault faults) = faults ≡ one fault
+StopsWith fault (stop.Memory error) = ⊤
 
 -- The read of the type allows this result for the value.
 abbrev pub IsReadAs : {T : Type 0} → (Node → Result T Errors → Node → Type 0) → Node → Result T Errors → Type 0

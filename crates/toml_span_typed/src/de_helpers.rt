@@ -5,7 +5,7 @@ ghost use Rattle.toml_span_tree.specs.Error.{content_of};
 ghost use Rattle.toml_span_tree.specs.Node.{node};
 ghost use Rattle.toml_span_tree.specs.Value.{inner_view, is_taken, wrong_kind, view};
 ghost use Rattle.toml_span_typed.specs.Errors.{one};
-ghost use Rattle.toml_span_typed.specs.Parse.{Parses, TellsRefusal};
+ghost use Rattle.toml_span_typed.specs.Parse.{Parses, ReportsRefusal};
 ghost use Rattle.toml_span_typed.specs.Reads.{Taken};
 
 mod strings;
@@ -79,7 +79,7 @@ fn unparsed<'s, E: Display + Drop>(
     refusal: E,
     span: Span,
 ) -> Result<Error<'s>, AllocError>
-    ensures { IfOk result (λ error. TellsRefusal (E.output refusal) span (content_of error)) }
+    ensures { IfOk result (λ error. ReportsRefusal (E.output refusal) span (content_of error)) }
 {
     let shown = refusal.to_string(alloc)?;
     let message = format!(in alloc; "failed to parse string: {shown}")?;

@@ -53,7 +53,7 @@ pub(crate) fn read_or_keep<'de, T: Deserialize<'de>>(
     requires { IsTrue (is_whole (view value)) }
     ensures ok { IfOk result (λ element. ReadsOrKeeps T.reads (view value.entry) (map content_of faults.old.items)
         element (map content_of faults.new.items)) }
-    ensures told { IfOk result (λ element. length (map content_of faults.old.items) + lacking element
+    ensures recorded { IfOk result (λ element. length (map content_of faults.old.items) + lacking element
         ≤ length (map content_of faults.new.items)) }
     ensures err { OnErr result (faults.new.items ≡ faults.old.items) }
 {

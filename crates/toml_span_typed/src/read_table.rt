@@ -37,8 +37,8 @@ macro_rules! read_table {
     }};
     ($alloc:expr, $value:expr, $warnings:ident, $table:ident { $($fields:tt)* }) => {{
         let mut helper = $crate::de_helpers::TableHelper::new($alloc, $value)?;
-        let mut told = helper.no_warnings();
-        $crate::read_table!(@fields [helper, $value, [told $warnings], [$table]] [] $($fields)*)
+        let mut gathered = helper.no_warnings();
+        $crate::read_table!(@fields [helper, $value, [gathered $warnings], [$table]] [] $($fields)*)
     }};
 
     // each field: its name, the form of its type, whether it occurs in the form, its key, and its options
@@ -100,22 +100,22 @@ macro_rules! read_table {
     (@key $field:ident $key:literal) => { $key };
 
     (@append []) => { () };
-    (@append [$told:ident $warnings:ident]) => { $warnings.append(&mut $told)? };
+    (@append [$gathered:ident $warnings:ident]) => { $warnings.append(&mut $gathered)? };
 
     // a required field, and an optional one
     (@one [$helper:ident, $warnings:tt, $field:ident], $ty:ty, [$key:expr]) => { $helper.read::<$ty>($key)? };
     (@one [$helper:ident, $warnings:tt, $field:ident], $ty:ty, [$key:expr, $old:expr]) => {
         $helper.read_either::<$ty>($key, $old)?
     };
-    (@one [$helper:ident, [$told:ident $warnings:ident], $field:ident], $ty:ty, [$key:expr, $old:expr, deprecated]) => {
-        $helper.read_deprecated::<$ty>($key, $old, &mut $told)?
+    (@one [$helper:ident, [$gathered:ident $warnings:ident], $field:ident], $ty:ty, [$key:expr, $old:expr, deprecated]) => {
+        $helper.read_deprecated::<$ty>($key, $old, &mut $gathered)?
     };
     (@some [$helper:ident, $warnings:tt, $field:ident], $ty:ty, [$key:expr]) => { $helper.read_optional::<$ty>($key)? };
     (@some [$helper:ident, $warnings:tt, $field:ident], $ty:ty, [$key:expr, $old:expr]) => {
         $helper.read_optional_either::<$ty>($key, $old)?
     };
-    (@some [$helper:ident, [$told:ident $warnings:ident], $field:ident], $ty:ty, [$key:expr, $old:expr, deprecated]) => {
-        $helper.read_optional_deprecated::<$ty>($key, $old, &mut $told)?
+    (@some [$helper:ident, [$gathered:ident $warnings:ident], $field:ident], $ty:ty, [$key:expr, $old:expr, deprecated]) => {
+        $helper.read_optional_deprecated::<$ty>($key, $old, &mut $gathered)?
     };
     (@one [$helper:ident, [], $field:ident], $ty:ty, [$key:expr, $old:expr, deprecated]) => {
         $crate::read_table!(@silent $field deprecated)
@@ -150,8 +150,8 @@ macro_rules! read_table {
         $crate::read_table!(@words $read [] [Spanned<$ty>] $keys $($words)*)
     };
     (@words $read:tt [option] [$ty:ty] $keys:tt) => { $crate::read_table!(@some $read, $ty, $keys) };
-    (@words [$helper:ident, [$told:ident $warnings:ident], $field:ident] [option] [$ty:ty] [$key:expr] with_warnings,) => {
-        $helper.read_optional_with_warnings::<$ty>($key, &mut $told)?
+    (@words [$helper:ident, [$gathered:ident $warnings:ident], $field:ident] [option] [$ty:ty] [$key:expr] with_warnings,) => {
+        $helper.read_optional_with_warnings::<$ty>($key, &mut $gathered)?
     };
     (@words $read:tt [option] [$ty:ty] $keys:tt $($words:tt)*) => {
         $crate::read_table!(@words $read [] [Option<$ty>] $keys $($words)*)
@@ -165,8 +165,8 @@ macro_rules! read_table {
             None => $default,
         }
     };
-    (@words [$helper:ident, [$told:ident $warnings:ident], $field:ident] [] [$ty:ty] [$key:expr] with_warnings,) => {
-        $helper.read_with_warnings::<$ty>($key, &mut $told)?
+    (@words [$helper:ident, [$gathered:ident $warnings:ident], $field:ident] [] [$ty:ty] [$key:expr] with_warnings,) => {
+        $helper.read_with_warnings::<$ty>($key, &mut $gathered)?
     };
     (@words [$helper:ident, $warnings:tt, $field:ident] [] [$ty:ty] $keys:tt unique($name:ident),) => {{
         let list = $crate::read_table!(@one [$helper, $warnings, $field], $ty, $keys);

@@ -25,8 +25,8 @@ macro_rules! read_tagged {
     }};
     ($alloc:expr, $value:expr, $warnings:ident, $name:literal, { $($arms:tt)* }) => {{
         let mut helper = $crate::de_helpers::TableHelper::new($alloc, $value)?;
-        let mut told = helper.no_warnings();
-        $crate::read_tagged!(@arms [helper, $value, [told $warnings], $name] $($arms)*)
+        let mut gathered = helper.no_warnings();
+        $crate::read_tagged!(@arms [helper, $value, [gathered $warnings], $name] $($arms)*)
     }};
 
     (@arms [$helper:ident, $value:expr, $warnings:tt, $name:literal]

@@ -50,7 +50,7 @@ pub(crate) fn read_or_keep<'de, T: DeserializeWithWarnings<'de>>(
     ensures ok { IfOk result (λ element. ReadsOrKeeps T.reads (view value.entry) (map content_of faults.old.items)
         element (map content_of faults.new.items) (map content_of warnings.old.items)
         (map content_of warnings.new.items)) }
-    ensures told { IfOk result (λ element. length (map content_of faults.old.items) + lacking element
+    ensures recorded { IfOk result (λ element. length (map content_of faults.old.items) + lacking element
         ≤ length (map content_of faults.new.items)) }
     ensures err { OnErr result (faults.new.items ≡ faults.old.items) }
     ensures kept { Extends (map content_of warnings.old.items) (map content_of warnings.new.items) }

@@ -15,7 +15,7 @@ use Rattle.toml_span.specs.Claims.{assignments_claims, header_info, claims_after
 use Rattle.toml_span.specs.code.Placing.{Places, AreSections}
 use Rattle.toml_span.specs.code.Relative.{section_at, counts_after}
 use Rattle.toml_span.specs.code.Tree.{counts, cells, IsScope}
-use Rattle.toml_span.specs.code.Machine.{no_cells, clash_met, put_all, named_clash}
+use Rattle.toml_span.specs.code.Machine.{no_cells, clash_found, put_all, named_clash}
 use Rattle.toml_span.specs.Paths.{elements_added, opened_by}
 use Rattle.toml_span.specs.declared.claims.Clash.{Clash}
 use Rattle.toml_span.specs.Clashes.{first_clash}
@@ -34,7 +34,7 @@ PlacesAtRoot b root new r =
 pub record Remaining (all rest : List ParsedSection) (root : Branch) : Type 0 where
   pub earlier : List ParsedSection
   pub headers : AreSections rest
-  pub telling : clash_met (cells root) (claims_after earlier rest) ≡ clash_met no_cells (claims all)
+  pub clash : clash_found (cells root) (claims_after earlier rest) ≡ clash_found no_cells (claims all)
   pub putting : put_all (cells root) (claims_after earlier rest) ≡ put_all no_cells (claims all)
   pub counting : counts root ≡ elements_added (opened_by earlier)
   pub scope : IsScope root

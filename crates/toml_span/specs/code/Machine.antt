@@ -78,11 +78,11 @@ abbrev pub earliest_clash : List ClaimInfo → ClaimInfo → List ℕ → Option
 earliest_clash infos info name = option_map (with_name name) (earliest_clash_info infos info)
 
 -- The first clash that is found. A scope inside begins without claims.
-unfoldable pub clash_met : CellMap → Claims → Option NamedClash
-clash_met st no_claims = None
-clash_met st (claimed c cs) =
-    first_some (earliest_clash (st c.path).infos c.info c.name) (clash_met (change st c.path (with_claim c)) cs)
-clash_met st (scope inner cs) = first_some (clash_met no_cells inner) (clash_met (show_all st inner) cs)
+unfoldable pub clash_found : CellMap → Claims → Option NamedClash
+clash_found st no_claims = None
+clash_found st (claimed c cs) =
+    first_some (earliest_clash (st c.path).infos c.info c.name) (clash_found (change st c.path (with_claim c)) cs)
+clash_found st (scope inner cs) = first_some (clash_found no_cells inner) (clash_found (show_all st inner) cs)
 
 -- the clash that a `PlaceError` reports
 abbrev pub named_clash : Box code.Clash → NamedClash

@@ -22,7 +22,7 @@ use Rattle.toml_span_read.specs.declared.value.Assignment.{Assignment}
 use Rattle.toml_span.specs.declared.branch.Branch.{Branch}
 use Rattle.toml_span.specs.Claims.{Claims, value_claims, value_shape, parsed_inner, shape_claimed, claims}
 use Rattle.toml_span.specs.Claims.{part_info, assignments_claims}
-use Rattle.toml_span.specs.code.Machine.{OkOrClash, clash_met, put_all, no_cells, show_all, Cell, CellMap, named_clash}
+use Rattle.toml_span.specs.code.Machine.{OkOrClash, clash_found, put_all, no_cells, show_all, Cell, CellMap, named_clash}
 use Rattle.toml_span.specs.code.Relative.{counts_after, counts_after_through, passing, section_at, through}
 use Rattle.toml_span.specs.code.Relative.{through_pair}
 use Rattle.toml_span.specs.code.Tree.{entries, cells, counts, infos, IsScope, IsChild, IsHeld, Sound, value_shows}
@@ -46,7 +46,7 @@ abbrev pub Reaches : (Branch → Type 0) → (Branch → Type 0) → Branch → 
     → (Path → ℕ) → Type 0
 Reaches Before After old new r cs entries =
     Before old
-    → OkOrClash r (clash_met (cells old) cs)
+    → OkOrClash r (clash_found (cells old) cs)
     (λ _. (cells new ≡ put_all (cells old) cs) × (counts new ≡ entries) × After new)
 
 -- the same for a table, whose own claims stay the same
@@ -114,7 +114,7 @@ IsFinished v x =
 
 -- The result is the finished value, or the first clash in it.
 abbrev pub ValueGives : Result Value PlaceError → Read → Type 0
-ValueGives r v = OkOrClash r (clash_met no_cells (value_claims v [])) (IsFinished v)
+ValueGives r v = OkOrClash r (clash_found no_cells (value_claims v [])) (IsFinished v)
 
 -- the place in a cell
 abbrev pub place_shown : Cell → Option Place
@@ -135,7 +135,7 @@ ShowsPlain i st =
 -- the result for the scope of an inline table or array
 abbrev pub ScopeGives : {A : Type 0} → Result A PlaceError → (A → tree.Inner) → Claims → Type 0
 ScopeGives r seen cs =
-    OkOrClash r (clash_met no_cells cs) (λ x. ShowsPlain (seen x) (show_all no_cells cs) × HoldsOrdered (seen x))
+    OkOrClash r (clash_found no_cells cs) (λ x. ShowsPlain (seen x) (show_all no_cells cs) × HoldsOrdered (seen x))
 
 -- ---- finishing
 

@@ -6,7 +6,7 @@ use Rattle.toml_span_tree.specs.declared.value.Value.{Value}
 use Rattle.toml_span_tree.specs.Error.{content_of}
 use Rattle.toml_span_read.specs.Data.{depth_limit}
 use Rattle.toml_span.specs.Parsing.{IsTree, IsRefusal}
-use Rattle.toml_span_report.specs.Errors.{TellsError}
+use Rattle.toml_span_report.specs.Errors.{ReportsError}
 use Rattle.toml_span_report.specs.Report.{report_content}
 use Rattle.toml_span_report.specs.declared.report.Severity.TheVariants as severity
 use Rattle.toml_span_check.specs.Every.{Progress}
@@ -23,7 +23,7 @@ progress f = record {
 -- the report of this error, and its offset
 abbrev pub IsErrorOf : List ℕ → Error → ErrorAt → Type 0
 IsErrorOf text error made =
-    TellsError severity.Error text (content_of error) (report_content made.report)
+    ReportsError severity.Error text (content_of error) (report_content made.report)
     × (made.place ≡ error.span.start)
 
 -- the error of a text, or None if there is none

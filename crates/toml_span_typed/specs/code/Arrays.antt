@@ -34,4 +34,4 @@ abbrev pub ReadsOrKeeps : {T : Type 0} → (Node → Result T Errors → Node �
     → List ErrorContent → Type 0
 ReadsOrKeeps reads value faults (Some x) more = IsReadAs reads value (Ok x) × (more ≡ faults)
 ReadsOrKeeps reads value faults None more =
-    (told : Errors) × IsReadAs reads value (Err told) × (more ≡ faults ++ all told)
+    (refused : Errors) × IsReadAs reads value (Err refused) × (more ≡ faults ++ all refused)

@@ -9,6 +9,6 @@ use Rattle.toml_span_typed.specs.Maps.{holding_read}
 -- One more value was read.
 abbrev pub AddsEntry : {T : Type 0} → (Node → Result T Errors → Node → Type 0) → List ℕ → Node
     → List (List ℕ × T) → List ErrorContent → List (List ℕ × T) → List ErrorContent → Type 0
-AddsEntry reads name value entries faults more told =
+AddsEntry reads name value entries faults more refused =
     (answer : Result _ Errors) × ((after : Node) × reads value answer after)
-    × (more ≡ holding_read entries (name ∷ []) (answer ∷ [])) × (told ≡ faults ++ errors (answer ∷ []))
+    × (more ≡ holding_read entries (name ∷ []) (answer ∷ [])) × (refused ≡ faults ++ errors (answer ∷ []))

@@ -5,6 +5,6 @@ use Rattle.toml_span_tree.specs.declared.error.Error.{Error}
 use Rattle.toml_span_tree.specs.Error.{ErrorContent, content_of}
 
 -- the result as plain data
-abbrev pub tag_told : Result (Bor (List ℕ)) Error → Result (List ℕ) ErrorContent
-tag_told (Ok tag) = Ok tag.now
-tag_told (Err error) = Err (content_of error)
+abbrev pub tag_result : Result (Bor (List ℕ)) Error → Result (List ℕ) ErrorContent
+tag_result (Ok tag) = Ok tag.now
+tag_result (Err error) = Err (content_of error)

@@ -12,7 +12,7 @@ abbrev pub ReadsOrKeeps : {T : Type 0}
     → Option T → List ErrorContent → List ErrorContent → List ErrorContent → Type 0
 ReadsOrKeeps reads value faults (Some x) kept warnings more = reads value (Ok x) warnings more × (kept ≡ faults)
 ReadsOrKeeps reads value faults None kept warnings more =
-    (told : Errors) × reads value (Err told) warnings more × (kept ≡ faults ++ all told)
+    (refused : Errors) × reads value (Err refused) warnings more × (kept ≡ faults ++ all refused)
 
 -- The values were read, and these are the elements and the errors.
 abbrev pub AreReadWithWarnings : {T : Type 0}
@@ -26,6 +26,6 @@ AreReadWithWarnings reads values xs faults warnings more =
 abbrev pub AddsWithWarnings : {T : Type 0}
     → (Node → Result T Errors → List ErrorContent → List ErrorContent → Type 0) → Node → List T → List ErrorContent
     → List T → List ErrorContent → List ErrorContent → List ErrorContent → Type 0
-AddsWithWarnings reads value xs faults ys told warnings more =
+AddsWithWarnings reads value xs faults ys refused warnings more =
     (answer : Result _ Errors) × reads value answer warnings more
-    × (ys ≡ xs ++ elements (answer ∷ [])) × (told ≡ faults ++ errors (answer ∷ []))
+    × (ys ≡ xs ++ elements (answer ∷ [])) × (refused ≡ faults ++ errors (answer ∷ []))

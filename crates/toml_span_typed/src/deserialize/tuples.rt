@@ -2,7 +2,7 @@
 ghost use Rattle.std.specs.Prelude.{◌≡◌, IfErr, IfOk, IsTrue};
 ghost use Rattle.toml_span_tree.specs.Value.{is_whole, view};
 ghost use Rattle.toml_span_typed.specs.Reads.{Taken};
-ghost use Rattle.toml_span_typed.specs.Tuples.{RefusesLength, TellsOne, holds_two, other_length, pair_reads};
+ghost use Rattle.toml_span_typed.specs.Tuples.{RefusesLength, StopsWith, holds_two, other_length, pair_reads};
 
 use crate::de_helpers::refused;
 use crate::deser_error::DeserError;
@@ -71,7 +71,7 @@ fn two<'de>(
 /// Returns the error for an array of `found` elements instead of `wanted`, or `Stop::Memory` if its text can't be
 /// allocated.
 fn miscounted<'s>(alloc: Global, wanted: usize, found: usize, span: Span) -> Stop<DeserError<'s>>
-    ensures { TellsOne (other_length wanted found span) result }
+    ensures { StopsWith (other_length wanted found span) result }
 {
     match format!(in alloc; "expected {wanted} elements, found {found}") {
         Ok(text) => {

@@ -1,5 +1,5 @@
 use Rattle.toml_span_lex.proofs.Common.{ap, map, string_bytes, map-append, arith, nat_tests, common_steps}
-use Rattle.toml_span_check.proofs.Tellings.{finds-none, finds-more, names-more}
+use Rattle.toml_span_check.proofs.Collecting.{finds-none, finds-more, names-more}
 use Rattle.toml_span_check.proofs.run.find_all.Goals as goal
 
 pub loop-name-init : goal.loop-name-init

@@ -1,5 +1,5 @@
 use Rattle.toml_span_lex.proofs.Common.{◌∙◌, ap, not}
-use Rattle.toml_span_check.proofs.Endings.{begins-all, ends-cut, ends-empty, ends-failed, ends-told, ends-unwarned}
+use Rattle.toml_span_check.proofs.Endings.{begins-all, ends-cut, ends-empty, ends-failed, ends-stdout, ends-err_failed}
 use Rattle.toml_span_check.proofs.run.run_aloud.Goals as goal
 use Rattle.toml_span_check.proofs.run.run_aloud.Goals.{else-write_bytes-via-then-write_bytes+else-write_bytes-2, else-write_bytes-via-else-write_bytes}
 
@@ -12,25 +12,25 @@ returns-in-Err-Failed g c = ends-failed _ _ _ _ _ _ _ _ _ _ _ _ _ c.in-Err-Faile
 pub returns-then-write_bytes-2 : goal.returns-then-write_bytes-2
 returns-then-write_bytes-2 g c =
     let t = c.in-Ok.ensures in
-    let unwarned = c.write_bytes-then-write_bytes.ensures.told ∙ ap not c.if-write_bytes-2.true in
-    let untold = c.write_bytes.ensures.told ∙ ap not c.if-write_bytes.true in
-    let warned = c.write_bytes-then-write_bytes.ensures.whole c.if-write_bytes-2.true in
+    let err_failed = c.write_bytes-then-write_bytes.ensures.reported ∙ ap not c.if-write_bytes-2.true in
+    let out_failed = c.write_bytes.ensures.reported ∙ ap not c.if-write_bytes.true in
+    let stderr = c.write_bytes-then-write_bytes.ensures.whole c.if-write_bytes-2.true in
     let written = c.write_bytes.ensures.whole c.if-write_bytes.true in
-    ends-told c.args.format c.args.task c.args.pointer.now _ _ _ _ _ _ _ _ _ _ _ _ t.2.0 _ _ _ t.2.1 t.2.2 (rw c.as_slice.ensures.value at written) untold (rw c.as_bytes.ensures.value at warned) unwarned
+    ends-stdout c.args.format c.args.task c.args.pointer.now _ _ _ _ _ _ _ _ _ _ _ _ t.2.0 _ _ _ t.2.1 t.2.2 (rw c.as_slice.ensures.value at written) out_failed (rw c.as_bytes.ensures.value at stderr) err_failed
 
 pub returns : goal.returns
 returns g c =
     let t = c.in-Ok.ensures in
     elim c.else-write_bytes.branch [
       | else-write_bytes-via-then-write_bytes+else-write_bytes-2 w ↦
-          let warned = w.write_bytes-then-write_bytes.ensures.written in
-          let failed = w.write_bytes-then-write_bytes.ensures.told ∙ ap not w.if-write_bytes-2.false in
+          let stderr = w.write_bytes-then-write_bytes.ensures.written in
+          let failed = w.write_bytes-then-write_bytes.ensures.reported ∙ ap not w.if-write_bytes-2.false in
           let written = c.write_bytes.ensures.whole w.if-write_bytes.true in
-          let fine = c.write_bytes.ensures.told ∙ ap not w.if-write_bytes.true in
-          rw w.errors-is (ends-unwarned c.args.format c.args.task c.args.pointer.now _ _ _ _ _ _ _ _ _ _ _ _ t.2.0 _ _ _ t.2.1 t.2.2 (rw c.as_slice.ensures.value at written) fine (rw w.as_bytes.ensures.value at warned) failed)
+          let fine = c.write_bytes.ensures.reported ∙ ap not w.if-write_bytes.true in
+          rw w.errors-is (ends-err_failed c.args.format c.args.task c.args.pointer.now _ _ _ _ _ _ _ _ _ _ _ _ t.2.0 _ _ _ t.2.1 t.2.2 (rw c.as_slice.ensures.value at written) fine (rw w.as_bytes.ensures.value at stderr) failed)
       | else-write_bytes-via-else-write_bytes w ↦
           let written = c.write_bytes.ensures.written in
-          let failed = c.write_bytes.ensures.told ∙ ap not w.if-write_bytes.false in
+          let failed = c.write_bytes.ensures.reported ∙ ap not w.if-write_bytes.false in
           rw w.errors-is (ends-cut c.args.format c.args.task c.args.pointer.now _ _ _ _ _ _ _ _ _ _ failed
           (begins-all c.args.format c.args.task c.args.pointer.now _ _ _ _ _ _ _ _ t.2.0 _ _ _ t.2.1 t.2.2 (rw c.as_slice.ensures.value at written)) c.requires.errors)
     ]

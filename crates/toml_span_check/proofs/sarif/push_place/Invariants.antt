@@ -1,10 +1,10 @@
 use Rattle.toml_span_lex.proofs.Common.{◌≡◌, drop, map, string_bytes}
 use Rattle.toml_span_tree.specs.Diagnostic.{label_content}
-use Rattle.toml_span_check.specs.Sarif.{place_told}
+use Rattle.toml_span_check.specs.Sarif.{primary_location}
 use Rattle.toml_span_check.proofs.sarif.push_place.Given as goal
 
 abbrev pub invariant-loop-label : goal.invariant-loop-label
 invariant-loop-label l = record {
   same : string_bytes l.out ≡ string_bytes l.fn.out;
-  rest : place_told l.name l.text (map label_content (drop l.label-index l.labels)) ≡ place_told l.name l.text (map label_content l.labels);
+  rest : primary_location l.name l.text (map label_content (drop l.label-index l.labels)) ≡ primary_location l.name l.text (map label_content l.labels);
 }

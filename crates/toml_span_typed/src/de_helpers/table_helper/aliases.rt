@@ -28,7 +28,7 @@ impl<'de> TableHelper<'de> {
     ) -> Result<Option<T>, AllocError>
         requires { AllWhole (state_of self.old) }
         ensures answer { AsksEither T.reads name.now old.now (state_of self.old) result (state_of self.new) }
-        ensures told { IfOk result (λ field. kept (state_of self.old) + lacking field ≤ kept (state_of self.new)) }
+        ensures recorded { IfOk result (λ field. kept (state_of self.old) + lacking field ≤ kept (state_of self.new)) }
         ensures whole { AllWhole (state_of self.new) }
     {
         let value = self.take_either(name, old)?;
@@ -44,7 +44,7 @@ impl<'de> TableHelper<'de> {
     ) -> Result<Option<T>, AllocError>
         requires { AllWhole (state_of self.old) }
         ensures answer { TriesEither T.reads name.now old.now (state_of self.old) result (state_of self.new) }
-        ensures told { OnOk result (kept (state_of self.old) ≤ kept (state_of self.new)) }
+        ensures recorded { OnOk result (kept (state_of self.old) ≤ kept (state_of self.new)) }
         ensures whole { AllWhole (state_of self.new) }
     {
         let value = self.take_either(name, old)?;
@@ -66,7 +66,7 @@ impl<'de> TableHelper<'de> {
         ensures answer { AsksDeprecated T.reads name.now old.now (state_of self.old) result (state_of self.new) }
         ensures warned { Warns (map content_of warnings.old.items) (outdated name.now old.now (state_of self.old)) result
             (map content_of warnings.new.items) }
-        ensures told { IfOk result (λ field. kept (state_of self.old) + lacking field ≤ kept (state_of self.new)) }
+        ensures recorded { IfOk result (λ field. kept (state_of self.old) + lacking field ≤ kept (state_of self.new)) }
         ensures whole { AllWhole (state_of self.new) }
     {
         let value = self.take_deprecated(name, old, warnings)?;
@@ -84,7 +84,7 @@ impl<'de> TableHelper<'de> {
         ensures answer { TriesDeprecated T.reads name.now old.now (state_of self.old) result (state_of self.new) }
         ensures warned { Warns (map content_of warnings.old.items) (outdated name.now old.now (state_of self.old)) result
             (map content_of warnings.new.items) }
-        ensures told { OnOk result (kept (state_of self.old) ≤ kept (state_of self.new)) }
+        ensures recorded { OnOk result (kept (state_of self.old) ≤ kept (state_of self.new)) }
         ensures whole { AllWhole (state_of self.new) }
     {
         let value = self.take_deprecated(name, old, warnings)?;
@@ -103,7 +103,7 @@ impl<'de> TableHelper<'de> {
         ensures answer { IfOk result (λ field. ReadsMoved T.reads (lacks name.now) (option_map view value.entry)
             (state_of self.old) field (state_of self.new)) }
         ensures err { OnErr result (state_of self.new ≡ state_of self.old) }
-        ensures told { IfOk result (λ field. kept (state_of self.old) + lacking field ≤ kept (state_of self.new)) }
+        ensures recorded { IfOk result (λ field. kept (state_of self.old) + lacking field ≤ kept (state_of self.new)) }
         ensures whole { AllWhole (state_of self.new) }
     {
         match value {
@@ -125,7 +125,7 @@ impl<'de> TableHelper<'de> {
         ensures answer { IfOk result (λ field. ReadsMoved T.reads (λ s. s) (option_map view value.entry)
             (state_of self.old) field (state_of self.new)) }
         ensures err { OnErr result (state_of self.new ≡ state_of self.old) }
-        ensures told { OnOk result (kept (state_of self.old) ≤ kept (state_of self.new)) }
+        ensures recorded { OnOk result (kept (state_of self.old) ≤ kept (state_of self.new)) }
         ensures whole { AllWhole (state_of self.new) }
     {
         match value {
@@ -146,7 +146,7 @@ impl<'de> TableHelper<'de> {
         ensures state { OnOk result (state_of self.new ≡ asked_both name.now old.now (state_of self.old)) }
         ensures err { OnErr result (Starved name.now (state_of self.old) (state_of self.new)
             ⊎ (state_of self.new ≡ noted old.now (noted name.now (state_of self.old)))) }
-        ensures told { OnOk result (kept (state_of self.old) ≤ kept (state_of self.new)) }
+        ensures recorded { OnOk result (kept (state_of self.old) ≤ kept (state_of self.new)) }
         ensures good { IfOk result (λ value. IfSome value (λ v. IsTrue (is_whole (view v)))) }
         ensures whole { AllWhole (state_of self.new) }
     {
@@ -170,7 +170,7 @@ impl<'de> TableHelper<'de> {
             ≡ map content_of warnings.old.items ++ outdated name.now old.now (state_of self.old)) }
         ensures err { OnErr result (StarvedDeprecated name.now old.now (state_of self.old) (state_of self.new)) }
         ensures unwarned { OnErr result (map content_of warnings.new.items ≡ map content_of warnings.old.items) }
-        ensures told { OnOk result (kept (state_of self.old) ≤ kept (state_of self.new)) }
+        ensures recorded { OnOk result (kept (state_of self.old) ≤ kept (state_of self.new)) }
         ensures good { IfOk result (λ value. IfSome value (λ v. IsTrue (is_whole (view v)))) }
         ensures whole { AllWhole (state_of self.new) }
     {
@@ -198,14 +198,14 @@ impl<'de> TableHelper<'de> {
         ensures state { OnOk result (state_of self.new ≡ keeping_twice name.now (option_map entry_of newer.entry)
             old.now (option_map entry_of older.entry) (state_of self.old)) }
         ensures err { OnErr result (state_of self.new ≡ state_of self.old) }
-        ensures told { OnOk result (kept (state_of self.old) ≤ kept (state_of self.new)) }
+        ensures recorded { OnOk result (kept (state_of self.old) ≤ kept (state_of self.new)) }
         ensures good { IfOk result (λ value. IfSome value (λ v. IsTrue (is_whole (view v)))) }
         ensures whole { AllWhole (state_of self.old) → AllWhole (state_of self.new) }
     {
         match (newer, older) {
             (Some((span, value)), Some((other, earlier))) => {
                 drop(earlier);
-                self.keep(told_twice(self.alloc, name, span, old, other)?)?;
+                self.keep(both_names_error(self.alloc, name, span, old, other)?)?;
                 Ok(Some(value))
             }
             (Some((_, value)), None) | (None, Some((_, value))) => Ok(Some(value)),
@@ -269,7 +269,7 @@ fn place_of(entry: &Option<(Span, Value)>) -> Option<Span>
 
 /// Returns the error `DuplicateKey` for a field that is present under both of its names, at the later key. Fails if an
 /// allocation fails.
-fn told_twice<'s>(
+fn both_names_error<'s>(
     alloc: Global,
     name: &str,
     span: Span,
@@ -279,14 +279,14 @@ fn told_twice<'s>(
     ensures { IfOk result (λ error. content_of error ≡ twice name.now span old.now other) }
 {
     if span.start < other.start {
-        told_again(alloc, old, other, span)
+        duplicate_key(alloc, old, other, span)
     } else {
-        told_again(alloc, name, span, other)
+        duplicate_key(alloc, name, span, other)
     }
 }
 
 /// Returns the error `DuplicateKey` at `span`, with `first` as the earlier key. Fails if an allocation fails.
-fn told_again<'s>(
+fn duplicate_key<'s>(
     alloc: Global,
     name: &str,
     span: Span,

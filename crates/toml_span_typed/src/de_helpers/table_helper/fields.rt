@@ -21,7 +21,7 @@ impl<'de> TableHelper<'de> {
     pub fn read<T: Deserialize<'de>>(&mut self, name: &'de str) -> Result<Option<T>, AllocError>
         requires { AllWhole (state_of self.old) }
         ensures answer { Asks T.reads name.now (state_of self.old) result (state_of self.new) }
-        ensures told { IfOk result (λ field. kept (state_of self.old) + lacking field ≤ kept (state_of self.new)) }
+        ensures recorded { IfOk result (λ field. kept (state_of self.old) + lacking field ≤ kept (state_of self.new)) }
         ensures whole { AllWhole (state_of self.new) }
     {
         self.ask(name)
@@ -51,7 +51,7 @@ impl<'de> TableHelper<'de> {
     ) -> Result<Option<T>, AllocError>
         requires { AllWhole (state_of self.old) }
         ensures answer { Tries T.reads name.now (state_of self.old) result (state_of self.new) }
-        ensures told { OnOk result (kept (state_of self.old) ≤ kept (state_of self.new)) }
+        ensures recorded { OnOk result (kept (state_of self.old) ≤ kept (state_of self.new)) }
         ensures whole { AllWhole (state_of self.new) }
     {
         self.optional(name)
@@ -64,7 +64,7 @@ impl<'de> TableHelper<'de> {
         read: Result<T, Stop<DeserError<'de>>>,
     ) -> Result<Option<T>, AllocError>
         ensures answer { IfOk result (λ field. Keeps read.entry (state_of self.old) field (state_of self.new)) }
-        ensures told { IfOk result (λ field. kept (state_of self.old) + lacking field ≤ kept (state_of self.new)) }
+        ensures recorded { IfOk result (λ field. kept (state_of self.old) + lacking field ≤ kept (state_of self.new)) }
         ensures err { OnErr result (state_of self.new ≡ state_of self.old) }
         ensures whole { AllWhole (state_of self.old) → AllWhole (state_of self.new) }
     {
@@ -104,7 +104,7 @@ impl<'de> TableHelper<'de> {
     fn ask<T: Deserialize<'de>>(&mut self, name: &'de str) -> Result<Option<T>, AllocError>
         requires { IfSome (found name.now (state_of self.old)) (λ value. IsTrue (is_whole value)) }
         ensures answer { Asks T.reads name.now (state_of self.old) result (state_of self.new) }
-        ensures told { IfOk result (λ field. kept (state_of self.old) + lacking field ≤ kept (state_of self.new)) }
+        ensures recorded { IfOk result (λ field. kept (state_of self.old) + lacking field ≤ kept (state_of self.new)) }
         ensures whole { AllWhole (state_of self.old) → AllWhole (state_of self.new) }
     {
         match self.take(name) {

@@ -28,7 +28,7 @@ impl<'de> TableHelper<'de> {
     pub fn keep_repeated(&mut self, names: &[&Spanned<String>]) -> Result<(), AllocError>
         ensures ok { OnOk result (state_of self.new
             ≡ keeping (spec.repeated (map (λ name. named name.now) names.now)) (state_of self.old)) }
-        ensures told { OnOk result (kept (state_of self.old) ≤ kept (state_of self.new)) }
+        ensures recorded { OnOk result (kept (state_of self.old) ≤ kept (state_of self.new)) }
         ensures err { OnErr result (state_of self.new ≡ state_of self.old) }
         ensures whole { AllWhole (state_of self.old) → AllWhole (state_of self.new) }
     {
@@ -66,13 +66,13 @@ fn push_repeated<'s>(
         ≡ map content_of errors.old.items ++ spec.duplicate_errors (name.now, span) before) }
 {
     if let Some(before) = before {
-        errors.push(told_again(alloc, name, span, before)?)?;
+        errors.push(repeated_name(alloc, name, span, before)?)?;
     }
     Ok(())
 }
 
 /// Returns the error of a name that occurs at `span` and, before that, at `before`. Fails if an allocation fails.
-fn told_again<'s>(
+fn repeated_name<'s>(
     alloc: Global,
     name: &str,
     span: Span,

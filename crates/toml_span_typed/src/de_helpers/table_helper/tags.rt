@@ -8,7 +8,7 @@ ghost use Rattle.toml_span_typed.specs.Rests.{ReadsRest, emptied, remaining};
 ghost use Rattle.toml_span_typed.specs.TableHelper.{AllWhole, Starved, missing, state_of};
 ghost use Rattle.toml_span_typed.specs.Reads.{Taken};
 ghost use Rattle.toml_span_typed.specs.Tags.{IsNameOf, IsUnexpected, among, asked_tag, keeping_tag, first_or, read_tag};
-ghost use Rattle.toml_span_typed.specs.code.Tags.{tag_told};
+ghost use Rattle.toml_span_typed.specs.code.Tags.{tag_result};
 
 use crate::de_helpers::table_helper::{TableHelper, missing_field};
 use crate::deser_error::DeserError;
@@ -34,7 +34,7 @@ impl<'de> TableHelper<'de> {
         ensures answer { IfOk result (λ tag. (option_map (λ t. t.now) tag, state_of self.new)
             ≡ asked_tag name.now (map (λ t. t.now) tags.now) (state_of self.old)) }
         ensures starved { OnErr result (Starved name.now (state_of self.old) (state_of self.new)) }
-        ensures told { IfOk result (λ tag. kept (state_of self.old) + lacking tag ≤ kept (state_of self.new)) }
+        ensures recorded { IfOk result (λ tag. kept (state_of self.old) + lacking tag ≤ kept (state_of self.new)) }
         ensures whole { AllWhole (state_of self.new) }
     {
         let tag = match self.take_placed(name)? {
@@ -50,9 +50,9 @@ impl<'de> TableHelper<'de> {
         tag: Result<&'de str, Error<'de>>,
     ) -> Result<Option<&'de str>, AllocError>
         ensures answer { IfOk result (λ t. (option_map (λ t. t.now) t, state_of self.new)
-            ≡ keeping_tag (state_of self.old) (tag_told tag.entry)) }
+            ≡ keeping_tag (state_of self.old) (tag_result tag.entry)) }
         ensures err { OnErr result (state_of self.new ≡ state_of self.old) }
-        ensures told { IfOk result (λ t. kept (state_of self.old) + lacking t ≤ kept (state_of self.new)) }
+        ensures recorded { IfOk result (λ t. kept (state_of self.old) + lacking t ≤ kept (state_of self.new)) }
         ensures whole { AllWhole (state_of self.old) → AllWhole (state_of self.new) }
     {
         match tag {
@@ -81,7 +81,7 @@ impl<'de> TableHelper<'de> {
         requires { AllWhole (state_of self.old) }
         ensures answer { IfOk result (λ rest. ReadsRest T.reads (state_of self.old) rest (state_of self.new)) }
         ensures err { OnErr result (state_of self.new ≡ emptied (state_of self.old)) }
-        ensures told { IfOk result (λ rest. kept (state_of self.old) + lacking rest ≤ kept (state_of self.new)) }
+        ensures recorded { IfOk result (λ rest. kept (state_of self.old) + lacking rest ≤ kept (state_of self.new)) }
         ensures whole { AllWhole (state_of self.new) }
     {
         let rest = self.take_rest();
@@ -127,7 +127,7 @@ fn tag_of<'de>(
     tags: &'de [&'de str],
 ) -> Result<Result<&'de str, Error<'de>>, AllocError>
     requires { is_taken (view value.old) ≡ false }
-    ensures tag { IfOk result (λ tag. tag_told tag ≡ read_tag (map (λ t. t.now) tags.now) (view value.old)) }
+    ensures tag { IfOk result (λ tag. tag_result tag ≡ read_tag (map (λ t. t.now) tags.now) (view value.old)) }
     ensures err { OnErr result (IsUnexpected (map (λ t. t.now) tags.now) (view value.old)) }
     ensures taken { Taken (view value.old) (view value.new) }
 {

@@ -30,7 +30,7 @@ impl<'de> TableHelper<'de> {
         ensures answer { AsksWithWarnings T.reads name.now (state_of self.old) result (state_of self.new)
             (map content_of warnings.old.items) (map content_of warnings.new.items) }
         ensures kept { Extends (map content_of warnings.old.items) (map content_of warnings.new.items) }
-        ensures told { IfOk result (λ field. kept (state_of self.old) + lacking field ≤ kept (state_of self.new)) }
+        ensures recorded { IfOk result (λ field. kept (state_of self.old) + lacking field ≤ kept (state_of self.new)) }
         ensures whole { AllWhole (state_of self.new) }
     {
         match self.take_placed(name)? {
@@ -53,7 +53,7 @@ impl<'de> TableHelper<'de> {
         ensures answer { TriesWithWarnings T.reads name.now (state_of self.old) result (state_of self.new)
             (map content_of warnings.old.items) (map content_of warnings.new.items) }
         ensures kept { Extends (map content_of warnings.old.items) (map content_of warnings.new.items) }
-        ensures told { IfOk result (λ field. kept (state_of self.old) ≤ kept (state_of self.new)) }
+        ensures recorded { IfOk result (λ field. kept (state_of self.old) ≤ kept (state_of self.new)) }
         ensures whole { AllWhole (state_of self.new) }
     {
         match self.take_placed(name)? {

@@ -6,12 +6,13 @@ use Rattle.toml_span_lines.specs.Run.{HasWritten}
 use Rattle.toml_span_lines.specs.declared.held.Unwritten.{Unwritten}
 use Rattle.toml_span_lines.specs.declared.held.Unwritten.TheVariants.{Failed, Memory}
 use Rattle.toml_span_check.specs.Answer.{IsAnswer}
-use Rattle.toml_span_check.specs.Run.{Asked, Begins, Shows, Tells, TellsFirst, Told, complaint, counted, status_of}
+use Rattle.toml_span_check.specs.Run.{Asked, Begins, Shows, Collects, CollectsFirst, IsOutput, complaint, counted}
+use Rattle.toml_span_check.specs.Run.{status_of}
 use Rattle.toml_span_check.specs.Words.{shown_word}
 use Rattle.toml_span_check.specs.declared.answer.Task.{Task}
 use Rattle.toml_span_check.specs.declared.faults.Format.{Format}
 use Rattle.toml_span_check.specs.declared.run.Tally.{Tally}
-use Rattle.toml_span_check.specs.declared.run.Telling.{Telling}
+use Rattle.toml_span_check.specs.declared.run.Collected.{Collected}
 
 -- A prefix of a text has been written, and the rest is in the buffer. If no document is printed, nothing has been
 -- written.
@@ -28,15 +29,15 @@ Begun format task pointer name bytes old new held =
 
 -- If the result is `Ok` with the number of errors, what was in the buffer and the answer have been written, except for
 -- what is in the buffer now. Something is written only if a document is printed.
-abbrev pub TellsBytes : Format → Task → List ℕ → List ℕ → List ℕ → Result ℕ Unwritten → Option (List ℕ)
+abbrev pub CollectsBytes : Format → Task → List ℕ → List ℕ → List ℕ → Result ℕ Unwritten → Option (List ℕ)
     → Option (List ℕ) → Bool → List ℕ → List ℕ → Type 0
-TellsBytes format task pointer name bytes (Ok count) old new failed held held' =
+CollectsBytes format task pointer name bytes (Ok count) old new failed held held' =
     (failed ≡ false) × ((new ≡ old) ⊎ Shows task)
     × ((text : List ℕ) × IsAnswer format task pointer name bytes (count, text)
     × Holds task old new (held ++ text) held')
-TellsBytes format task pointer name bytes (Err Memory) old new failed held held' =
+CollectsBytes format task pointer name bytes (Err Memory) old new failed held held' =
     (failed ≡ false) × ((new ≡ old) ⊎ Begun format task pointer name bytes old new held)
-TellsBytes format task pointer name bytes (Err Failed) old new failed held held' =
+CollectsBytes format task pointer name bytes (Err Failed) old new failed held held' =
     (failed ≡ true) × Begun format task pointer name bytes old new held
 
 -- ---- a file
@@ -61,49 +62,49 @@ BegunOne format task pointer name reading old new held =
     Shows task × ((all : TextsOf) × Adds format task pointer name reading held all × HasWritten old new all.0)
 
 -- before and after: what is in the buffer of the first text, and the others
-abbrev pub TellsOne : Format → Task → List ℕ → List ℕ → Result (List ℕ) (List ℕ) → Result (Unit {0}) Unwritten
+abbrev pub CollectsOne : Format → Task → List ℕ → List ℕ → Result (List ℕ) (List ℕ) → Result (Unit {0}) Unwritten
     → Option (List ℕ) → Option (List ℕ) → Bool → TextsOf → TextsOf → Type 0
-TellsOne format task pointer name reading (Ok done) old new failed held held' =
+CollectsOne format task pointer name reading (Ok done) old new failed held held' =
     (failed ≡ false) × ((new ≡ old) ⊎ Shows task)
     × ((text : List ℕ) × Adds format task pointer name reading held (text, held'.1, held'.2, held'.3)
     × Holds task old new text held'.0)
-TellsOne format task pointer name reading (Err Memory) old new failed held held' =
+CollectsOne format task pointer name reading (Err Memory) old new failed held held' =
     (failed ≡ false) × ((new ≡ old) ⊎ BegunOne format task pointer name reading old new held)
-TellsOne format task pointer name reading (Err Failed) old new failed held held' =
+CollectsOne format task pointer name reading (Err Failed) old new failed held held' =
     (failed ≡ true) × BegunOne format task pointer name reading old new held
 
 -- ---- the files of these names
 
-abbrev pub TellsFiles : Format → Task → List ℕ → List (List ℕ) → Result Telling Unwritten → Option Asked → Option Asked
-    → Option (List ℕ) → Option (List ℕ) → Bool → Type 0
-TellsFiles format task pointer names (Ok t) old new told told' failed =
-    (failed ≡ false) × ((told' ≡ told) ⊎ Shows task)
-    × ((all : List ℕ) × Tells format task pointer names old new all (string_bytes t.errors) t.status t.wrong
-    × Holds task told told' all t.held.items)
-TellsFiles format task pointer names (Err Memory) old new told told' failed =
-    (failed ≡ false) × ((told' ≡ told)
-    ⊎ (Shows task × ((last : Option Asked) × TellsFirst format task pointer names old last told told')))
-TellsFiles format task pointer names (Err Failed) old new told told' failed =
-    (failed ≡ true) × Shows task × TellsFirst format task pointer names old new told told'
+abbrev pub CollectsFiles : Format → Task → List ℕ → List (List ℕ) → Result Collected Unwritten → Option Asked
+    → Option Asked → Option (List ℕ) → Option (List ℕ) → Bool → Type 0
+CollectsFiles format task pointer names (Ok t) old new stdout stdout' failed =
+    (failed ≡ false) × ((stdout' ≡ stdout) ⊎ Shows task)
+    × ((all : List ℕ) × Collects format task pointer names old new all (string_bytes t.errors) t.status t.wrong
+    × Holds task stdout stdout' all t.held.items)
+CollectsFiles format task pointer names (Err Memory) old new stdout stdout' failed =
+    (failed ≡ false) × ((stdout' ≡ stdout)
+    ⊎ (Shows task × ((last : Option Asked) × CollectsFirst format task pointer names old last stdout stdout')))
+CollectsFiles format task pointer names (Err Failed) old new stdout stdout' failed =
+    (failed ≡ true) × Shows task × CollectsFirst format task pointer names old new stdout stdout'
 
 -- ---- the files that arguments stand for
 
 -- Nothing was written or, if documents are printed, a prefix of the output for the first files.
-abbrev pub TellsAll : Format → Task → List ℕ → List (List ℕ) → List (List ℕ) → Bool → Result Telling Unwritten
+abbrev pub CollectsAll : Format → Task → List ℕ → List (List ℕ) → List (List ℕ) → Bool → Result Collected Unwritten
     → Option Asked → Option Asked → Option (List ℕ) → Option (List ℕ) → Bool → Type 0
-TellsAll format task pointer excludes names is_watched (Ok t) old new told told' failed =
-    (failed ≡ false) × ((told' ≡ told) ⊎ Shows task)
+CollectsAll format task pointer excludes names is_watched (Ok t) old new stdout stdout' failed =
+    (failed ≡ false) × ((stdout' ≡ stdout) ⊎ Shows task)
     × ((out : List ℕ)
-    × Told format task pointer excludes names is_watched false old new out (string_bytes t.errors) t.status
-    × HoldsRest told told' out t.held.items)
-TellsAll format task pointer excludes names is_watched (Err Memory) old new told told' failed =
-    (failed ≡ false) × ((told' ≡ told)
-    ⊎ (Shows task × ((last : Option Asked) × Begins format task pointer excludes names false old last told told')))
-TellsAll format task pointer excludes names is_watched (Err Failed) old new told told' failed =
-    (failed ≡ true) × Begins format task pointer excludes names false old new told told'
+    × IsOutput format task pointer excludes names is_watched false old new out (string_bytes t.errors) t.status
+    × HoldsRest stdout stdout' out t.held.items)
+CollectsAll format task pointer excludes names is_watched (Err Memory) old new stdout stdout' failed =
+    (failed ≡ false) × ((stdout' ≡ stdout)
+    ⊎ (Shows task × ((last : Option Asked) × Begins format task pointer excludes names false old last stdout stdout')))
+CollectsAll format task pointer excludes names is_watched (Err Failed) old new stdout stdout' failed =
+    (failed ≡ true) × Begins format task pointer excludes names false old new stdout stdout'
 
 -- a quiet run: status 4 if an allocation failed, otherwise that of the output
 abbrev pub EndsQuiet : Format → Task → List ℕ → List (List ℕ) → List (List ℕ) → Bool → Option Asked → Option Asked → ℕ
     → Type 0
 EndsQuiet format task pointer excludes names is_watched old new status =
-    (status ≡ 4) ⊎ Told format task pointer excludes names is_watched true old new [] [] status
+    (status ≡ 4) ⊎ IsOutput format task pointer excludes names is_watched true old new [] [] status

@@ -1,6 +1,6 @@
 use Rattle.toml_span_lex.proofs.Common.{◌≡◌, ◌<◌, length, arith, nat_tests, common_steps}
 use Rattle.toml_span_c.proofs.Cuts.{uncut-differs}
-use Rattle.toml_span_c.proofs.fill.stands.Goals as goal
+use Rattle.toml_span_c.proofs.fill.is_written_at.Goals as goal
 
 pub returns-else-span-document : goal.returns-else-span-document
 returns-else-span-document c =

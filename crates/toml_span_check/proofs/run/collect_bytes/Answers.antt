@@ -2,7 +2,7 @@ use Rattle.toml_span_lex.proofs.Common.{[], inl, refl, subst, Appends-nil}
 use Rattle.toml_span_check.specs.code.Judged.{Judges}
 use Rattle.toml_span_check.specs.declared.answer.Judged.{Judged}
 use Rattle.toml_span_check.proofs.Judged.{shows-bytes}
-use Rattle.toml_span_check.proofs.run.tell_bytes.Goals as goal
+use Rattle.toml_span_check.proofs.run.collect_bytes.Goals as goal
 
 pub returns-in_ok-append-in-Text : goal.returns-in_ok-append-in-Text
 returns-in_ok-append-in-Text g c =

@@ -1,7 +1,7 @@
 use Rattle.toml_span_lex.proofs.Common.{ap, arith, nat_tests, common_steps}
 use Rattle.toml_span_check.specs.Run.{read_of}
 use Rattle.toml_span_check.proofs.Judged.{stops-one, stops-count}
-use Rattle.toml_span_check.proofs.run.tell_one.Goals as goal
+use Rattle.toml_span_check.proofs.run.collect_one.Goals as goal
 
 pub returns-in_err-found-in-Ok : goal.returns-in_err-found-in-Ok
 returns-in_err-found-in-Ok g c =
