@@ -10,7 +10,7 @@ use Rattle.toml_span_tree.specs.Error.{content_of}
 use Rattle.toml_span_tree.specs.Value.{is_whole, view}
 use Rattle.toml_span_read.specs.Data.{ParsedAssignment, ParsedSection, headerless_section, SimpleKey}
 use Rattle.toml_span_read.specs.code.Faults.{IsPlacedStop}
-use Rattle.toml_span_read.specs.Faults.{ReportsFault}
+use Rattle.toml_span_read.specs.Faults.{fault_content}
 use Rattle.toml_span_read.specs.Keys.{SpellsKey}
 use Rattle.toml_span_read.specs.Read as read
 use Rattle.toml_span_read.specs.Grammar.{SpellsDocument, SectionsWith, SpellsScalar}
@@ -27,7 +27,7 @@ use Rattle.toml_span.specs.code.Placing.{AreSections, Assembles}
 
 -- a fault of reading is reported as an error
 pub answers-fault : (text : List ℕ) (limit : ℕ) (stop : Stop Fault) (fault : Fault) (error : Error) → stop ≡ stops.Fault fault → AssembleReturns text limit (Err stop) → IsPlacedStop text stop
-    → ReportsFault text fault (content_of error) → IsParseResult text limit (Err (stops.Fault error))
+    → content_of error ≡ fault_content text fault → IsParseResult text limit (Err (stops.Fault error))
 answers-fault text limit stop fault error is reported placed tells = inl (fault, rw is at reported, (rw is at placed, tells))
 
 -- ---- the sections that a text spells

@@ -1,7 +1,7 @@
 -- The numbers of kinds have the names of the kinds, and each error of a document has a number.
 use Rattle.toml_span_lex.proofs.Common.{◌≡◌, ◌≢◌, ◌∙◌, ap, arith, inl, inr, List, refl, sym, ℕ}
 use Rattle.toml_span.specs.Clashes.{kind_of_clash}
-use Rattle.toml_span.specs.Parsing.{IsRefusal, ReportsClash}
+use Rattle.toml_span.specs.Parsing.{IsRefusal}
 use Rattle.toml_span.specs.declared.claims.ClashKind.{ClashKind}
 use Rattle.toml_span.specs.declared.claims.ClashKind.TheVariants.{DuplicateTable, DuplicateKey, RedefineAsArray}
 use Rattle.toml_span.specs.declared.claims.ClashInfo.{ClashInfo}
@@ -65,9 +65,6 @@ clash-numbered RedefineAsArray name m h = omega (arith, h)
 pub refusal-numbered : (bytes : List ℕ) (limit : ℕ) (error : Error) → IsRefusal bytes limit (stops.Fault error)
     → code_number (content_of error).kind ≢ 0
 refusal-numbered bytes limit error (inl (fault, has, answer)) h =
-    let (inside, tells) = answer in
-    let (line, column, info, is) = tells in
-    fault-numbered fault.kind (sym (ap (λ e. code_number e.kind) is) ∙ h)
+    fault-numbered fault.kind (sym (ap (λ e. code_number e.kind) answer.1) ∙ h)
 refusal-numbered bytes limit error (inr (sections, clash, has, answer)) h =
-    let tells : ReportsClash bytes clash error = answer in
-    clash-numbered clash.info.kind clash.name clash.info (sym (ap (λ e. code_number e.kind) tells.reports) ∙ h)
+    clash-numbered clash.info.kind clash.name clash.info (sym (ap (λ e. code_number e.kind) answer.1) ∙ h)

@@ -1,6 +1,7 @@
 -- What the program writes for the files that it reads.
 use Rattle.std.specs.Prelude.{◌≡◌, ◌↔◌, ◌≤◌, ◌⊎◌, ⊤, ℕ, ◌+◌, ◌==◌, nat_lt, max, min, Bool, true, false, ◌||◌, IsTrue}
-use Rattle.std.specs.Prelude.{List, [], ◌∷◌, ◌++◌, map, length, codes, if◌then◌else◌, Option, Some, None, Result, Ok, Err}
+use Rattle.std.specs.Prelude.{List, [], ◌∷◌, ◌++◌, map, length, codes, if◌then◌else◌, Option, Some, None, Result, Ok}
+use Rattle.std.specs.Prelude.{Err}
 use Rattle.std.specs.Prelude.{String, Vec, string_bytes}
 use Rattle.std.specs.Fmt.{decimal}
 use Rattle.std.specs.Global.{Global}
@@ -189,7 +190,7 @@ pub record Runs (format : Format) (task : Task) (pointer : List ℕ) (excludes n
   -- with status 4 nothing has been written or, if documents are printed, a prefix of the output for the first files
   pub silent : status ≡ 4 → Keeps stderr stderr' × (Keeps stdout stdout'
       ⊎ (Shows task × ((last : Option Asked)
-        × Begins format task pointer excludes names is_quiet old last stdout stdout')))
+      × Begins format task pointer excludes names is_quiet old last stdout stdout')))
   -- the same after a failed write to standard output
   pub cut : out_failed ≡ true → Keeps stderr stderr'
       × Begins format task pointer excludes names is_quiet old new stdout stdout'

@@ -2,7 +2,8 @@
 ghost use Rattle.std.specs.Prelude.{◌≡◌, ◌+◌, ◌++◌, IfOk, OnOk, false, map, string_bytes};
 ghost use Rattle.toml_span_check.specs.Run as spec;
 ghost use Rattle.toml_span_check.specs.Run.{FindsAll, Runs, complaint};
-ghost use Rattle.toml_span_check.specs.code.Collected.{EndsQuiet, CollectsAll, CollectsBytes, CollectsFiles, CollectsOne};
+ghost use Rattle.toml_span_check.specs.code.Collected.{EndsQuiet, CollectsAll, CollectsBytes, CollectsFiles};
+ghost use Rattle.toml_span_check.specs.code.Collected.{CollectsOne};
 
 use crate::answer::{Judged, Task, judge};
 use crate::document::show;

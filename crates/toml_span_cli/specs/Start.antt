@@ -20,8 +20,8 @@ help_of readers.Get = GET.now
 
 -- What is printed for an error of this kind: the help or the version, if the words ask for it, otherwise what is wrong
 -- with them. Nothing is printed if an allocation fails.
-abbrev pub Refuses : Reader → ErrorKind → Option (List ℕ) → Option (List ℕ) → Bool → Option (List ℕ) → Option (List ℕ) → Bool
-    → ℕ → Type 0
+abbrev pub Refuses : Reader → ErrorKind → Option (List ℕ) → Option (List ℕ) → Bool → Option (List ℕ) → Option (List ℕ)
+    → Bool → ℕ → Type 0
 Refuses reader kind stdout stdout' out_failed stderr stderr' err_failed status =
     ((kind ≡ DisplayHelp) × Says stdout stdout' out_failed (help_of reader) 0 status × Keeps stderr stderr')
     ⊎ ((kind ≡ DisplayVersion) × Says stdout stdout' out_failed VERSION.now 0 status × Keeps stderr stderr')

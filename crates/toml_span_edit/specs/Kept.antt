@@ -1,6 +1,8 @@
 -- Which bytes of a text an edit keeps.
-use Rattle.std.specs.Prelude.{◌≡◌, ⊤, ℕ, zero, suc, ◌≤◌, ◌+◌, ◌-◌, ◌⊎◌, Bool, true, false, not, ◌==◌, ◌&&◌, ◌||◌, nat_le, nat_lt}
-use Rattle.std.specs.Prelude.{List, [], ◌∷◌, ◌++◌, take, drop, map, slice_index, slice_range, if◌then◌else◌, Option, Some}
+use Rattle.std.specs.Prelude.{◌≡◌, ⊤, ℕ, zero, suc, ◌≤◌, ◌+◌, ◌-◌, ◌⊎◌, Bool, true, false, not, ◌==◌, ◌&&◌, ◌||◌}
+use Rattle.std.specs.Prelude.{nat_le, nat_lt}
+use Rattle.std.specs.Prelude.{List, [], ◌∷◌, ◌++◌, take, drop, map, slice_index, slice_range, if◌then◌else◌, Option}
+use Rattle.std.specs.Prelude.{Some}
 use Rattle.std.specs.Prelude.{None, Ok, unwrap_or, option_map}
 use Rattle.std.specs.List.{list_all, list_any}
 use Rattle.toml_span_lex.specs.Bytes.{is_blank, hash, line_feed, left_brace, left_bracket}
@@ -128,7 +130,8 @@ abbrev pub room_at : List ℕ → Path → (Option Span → Node → Option Span
     → Option (Option Span × Node) → Option Span
 room_at text path deeper n outer None = None
 room_at text [] deeper n outer (Some (key, m)) =
-    Some (unwrap_or (held_in text n (with_key key (reach text m)) outer) (lines_around text (with_key key (reach text m))))
+    Some (unwrap_or (held_in text n (with_key key (reach text m)) outer)
+    (lines_around text (with_key key (reach text m))))
 room_at text (segment ∷ path) deeper n outer (Some (key, m)) =
     deeper (held_in text n (with_key key (reach text m)) outer) m
 
@@ -142,7 +145,8 @@ room text (segment ∷ path) outer n = room_at text path (room text path) n oute
 abbrev pub with_sections : List ℕ → Path → Span → List SectionMention → Span
 with_sections text path s [] = s
 with_sections text path s (m ∷ ms) =
-    with_sections text path (if names_first path m.path then hull s (lines_around text (hull m.header m.body)) else s) ms
+    with_sections text path
+    (if names_first path m.path then hull s (lines_around text (hull m.header m.body)) else s) ms
 
 -- The span is around all that is written of what the path names: the brackets or braces that hold it, or its lines.
 abbrev pub IsAround : Path → Node → List ℕ → Span → Type 0

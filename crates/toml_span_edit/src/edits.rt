@@ -104,7 +104,8 @@ impl<'e> Edits<'e> {
     /// Appends `Change::SetOrAdd`: replaces the value at a path, or adds it. If an allocation fails, the list is
     /// unchanged.
     pub fn set_or_add(&mut self, path: &'e [&'e str], value: &'e str) -> Result<(), AllocError>
-        ensures { Pushed (record { path = path.entry; change = changes.SetOrAdd value.entry }) self.old result self.new }
+        ensures { Pushed (record { path = path.entry; change = changes.SetOrAdd value.entry }) self.old result
+            self.new }
     {
         self.change(path, Change::SetOrAdd(value))
     }

@@ -5,7 +5,7 @@ use Rattle.toml_span_lex.specs.declared.stop.Stop.{Stop}
 use Rattle.toml_span_lex.specs.declared.stop.Stop.TheVariants as stops
 use Rattle.toml_span_tree.specs.Error.{content_of}
 use Rattle.toml_span_read.specs.Data.{ParsedSection, parsed_section, depth_limit}
-use Rattle.toml_span_read.specs.Faults.{ReportsFault}
+use Rattle.toml_span_read.specs.Faults.{fault_content}
 use Rattle.toml_span_read.specs.Read.{document}
 use Rattle.toml_span_read.specs.declared.fault.Fault.{Fault}
 use Rattle.toml_span_read.specs.declared.section.Section.{Section}
@@ -21,7 +21,7 @@ abbrev pub ReadsSections : List ℕ → Result (Vec Section Global) (Stop Format
 ReadsSections text (Ok found) = document text depth_limit (Ok (map parsed_section found.items))
 ReadsSections text (Err (stops.Memory e)) = Unit {0}
 ReadsSections text (Err (stops.Fault (errors.Invalid error))) =
-    (fault : Fault) × document text depth_limit (Err fault) × ReportsFault text fault (content_of error)
+    (fault : Fault) × document text depth_limit (Err fault) × (content_of error ≡ fault_content text fault)
 ReadsSections text (Err (stops.Fault errors.WouldDiffer)) = ⊥
 
 -- Both texts have the same sections in the same order: the same headers, and the same keys in the same order with the
@@ -55,7 +55,7 @@ abbrev pub Keeps : (List ℕ → List ℕ → Type 0) → List ℕ → Result (S
 Keeps P text (Ok new) = P text (string_bytes new)
 Keeps P text (Err (stops.Memory e)) = Unit {0}
 Keeps P text (Err (stops.Fault (errors.Invalid error))) =
-    (fault : Fault) × document text depth_limit (Err fault) × ReportsFault text fault (content_of error)
+    (fault : Fault) × document text depth_limit (Err fault) × (content_of error ≡ fault_content text fault)
 Keeps P text (Err (stops.Fault errors.WouldDiffer)) = (bs : List ParsedSection) × document text depth_limit (Ok bs)
 
 -- the same sections and comments

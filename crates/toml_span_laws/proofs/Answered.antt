@@ -8,7 +8,6 @@ use Rattle.toml_span_tree.specs.Value.{view}
 use Rattle.toml_span_tree.specs.declared.error.Error.{Error}
 use Rattle.toml_span_tree.specs.declared.value.Value.{Value}
 use Rattle.toml_span_read.specs.declared.fault.Fault.{Fault}
-use Rattle.toml_span_read.specs.Faults.{ReportsFault}
 use Rattle.toml_span_read.specs.Data.{ParsedSection}
 use Rattle.toml_span_read.specs.Read.{document}
 use Rattle.toml_span_read.proofs.ReadSound.{document_sound}
@@ -18,20 +17,10 @@ use Rattle.toml_span_laws.proofs.WiderDocument.{document_wider}
 use Rattle.toml_span_laws.proofs.OneSpelled.{same_read, not_reported}
 use Rattle.toml_span.specs.Claims.{claims}
 use Rattle.toml_span.specs.Clashes.{NamedClash, first_clash}
-use Rattle.toml_span.specs.Parsing.{Outcome, resolved, clashed, refused_at, HasOutcome, ReportsClash, IsAnswerOf, IsParseResult, IsTree, IsRefusal}
+use Rattle.toml_span.specs.Parsing.{Outcome, resolved, clashed, refused_at, HasOutcome, IsAnswerOf, IsParseResult, IsTree, IsRefusal}
 use Rattle.toml_span_laws.specs.Outcomes.{IsAlike}
 use Rattle.toml_span_laws.proofs.FirstClash.{cases_option}
 use Rattle.toml_span_laws.proofs.OneTree.{node-one}
-
--- ---- one clash
-
-one-clash : (text : List ℕ) (t : NamedClash) (e f : Error) → ReportsClash text t e → ReportsClash text t f → content_of e ≡ content_of f
-one-clash text t e f a b = grind (arith, nat_tests, common_steps)
-
--- ---- one fault
-
-tells-one : (text : List ℕ) (fault : Fault) (a b : tree.ErrorContent) → ReportsFault text fault a → ReportsFault text fault b → a ≡ b
-tells-one text fault a b (l, c, at, is) (m, d, here, same) = grind (arith, nat_tests, common_steps)
 
 -- ---- one outcome
 
@@ -79,8 +68,8 @@ one-tree text limit root other (bs, has, tree) g =
 
 pub one-refusal : (text : List ℕ) (limit : ℕ) (e f : Error) → IsRefusal text limit (stops.Fault e) → IsRefusal text limit (stops.Fault f) → content_of e ≡ content_of f
 one-refusal text limit e f (inl (fault, h, a)) b =
-    grind (arith, nat_tests, common_steps, decides text limit (refused_at fault) (Err (stops.Fault f)) h b, tells-one text fault (content_of e) (content_of f) a.1)
-one-refusal text limit e f (inr (bs, t, h, a)) b = one-clash text t e f a (decides text limit (clashed bs t) (Err (stops.Fault f)) h b)
+    grind (arith, nat_tests, common_steps, decides text limit (refused_at fault) (Err (stops.Fault f)) h b)
+one-refusal text limit e f (inr (bs, t, h, a)) b = a.1 ∙ sym (decides text limit (clashed bs t) (Err (stops.Fault f)) h b).1
 
 pub alike : (text : List ℕ) (limit : ℕ) (r s : Result Value (Stop Error)) → IsParseResult text limit r → IsParseResult text limit s → IsAlike r s
 alike text limit (Ok root) (Ok other) a b = one-tree text limit root other a b

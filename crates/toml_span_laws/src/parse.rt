@@ -62,7 +62,8 @@ pub fn outcome_within_wider()
     ensures resolved { (text : List ℕ) (limit wider : ℕ) (sections : List ParsedSection) → limit ≤ wider
         → HasOutcome text limit (resolved sections) → HasOutcome text wider (resolved sections) }
     ensures clashed { (text : List ℕ) (limit wider : ℕ) (sections : List ParsedSection) (clash : NamedClash)
-        → limit ≤ wider → HasOutcome text limit (clashed sections clash) → HasOutcome text wider (clashed sections clash) }
+        → limit ≤ wider → HasOutcome text limit (clashed sections clash)
+        → HasOutcome text wider (clashed sections clash) }
 {}
 
 /// The outcome of a text determines its result, unless an allocation fails: the tree of the sections, or an error for

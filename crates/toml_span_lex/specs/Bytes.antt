@@ -129,8 +129,8 @@ is_blank c = c == space || c == tab
 abbrev pub is_keylike : ℕ → Bool
 is_keylike c = (is_ascii_alphanumeric c || c == dash) || c == underscore
 
--- `non-eol = %x09 / %x20-7E / non-ascii`: a tab or anything but an ASCII control character. Bytes from 128 on are part of
--- a non-ASCII character.
+-- `non-eol = %x09 / %x20-7E / non-ascii`: a tab or anything but an ASCII control character. Bytes from 128 on are
+-- part of a non-ASCII character.
 abbrev pub is_printed : ℕ → Bool
 is_printed c = c == tab || (nat_le space c && not (c == delete))
 

@@ -1,6 +1,6 @@
 //! Lines and columns of offsets.
 ghost use Rattle.std.specs.Prelude.{◌≡◌, ◌+◌, ◌≤◌, ℕ, length, min};
-ghost use Rattle.toml_span_lex.specs.Lines.{IsLineInfo};
+ghost use Rattle.toml_span_lex.specs.Lines as spec;
 
 use crate::span::Span;
 
@@ -8,7 +8,7 @@ use crate::span::Span;
 /// and the number of bytes after the last of them.
 pub fn line_info(text: &str, at: usize) -> (usize, usize)
     requires { at ≤ length text.now }
-    ensures { IsLineInfo text.now at result.0 result.1 }
+    ensures { result ≡ spec.line_info text.now at }
 {
     let bytes = text.as_bytes();
     let mut line = 0;
@@ -28,8 +28,8 @@ pub fn line_info(text: &str, at: usize) -> (usize, usize)
 /// Both are one more than in `Error::line_info`. `toml_span_report::line_column` counts columns in characters, as
 /// editors do.
 pub fn line_and_byte(text: &str, span: Span) -> (usize, usize)
-    ensures { (line byte : ℕ) × IsLineInfo text.now (min span.start (length text.now)) line byte
-        × (result ≡ (line + 1, byte + 1)) }
+    ensures { let place = spec.line_info text.now (min span.start (length text.now)) in
+        result ≡ (place.0 + 1, place.1 + 1) }
 {
     let (line, byte) = line_info(text, span.start.min(text.len()));
     (line + 1, byte + 1)

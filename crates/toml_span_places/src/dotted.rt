@@ -246,9 +246,9 @@ fn push_segments<'p>(path: &'p str, parts: &mut Vec<CowStr<'p>>) -> Result<(), A
 
 /// Returns the segments of a path: names of keys, and positions of elements in decimal digits.
 ///
-/// An empty path, or one that begins with a slash, is a pointer such as `/a/0`. Any other is a dotted key with positions
-/// in brackets, such as `a."b/c"[0]`. The error is the first place that can't be read, or out of memory. A pointer can
-/// always be read.
+/// An empty path, or one that begins with a slash, is a pointer such as `/a/0`. Any other is a dotted key with
+/// positions in brackets, such as `a."b/c"[0]`. The error is the first place that can't be read, or out of memory. A
+/// pointer can always be read.
 pub fn path_segments<'p>(alloc: Global, path: &'p str) -> Result<Vec<CowStr<'p>>, Stop<PathError>>
     ensures { Reads (IsPath path.now) result }
 {

@@ -6,7 +6,6 @@ use Rattle.toml_span_lex.specs.Bytes.{is_keylike}
 use Rattle.toml_span_read.proofs.FaultPlaces.{so_told}
 use Rattle.toml_span_read.proofs.KeyOrder.{key_inside}
 use Rattle.toml_span_read.specs.declared.fault.ExpectedToken.TheVariants as expected_tokens
-use Rattle.toml_span_read.specs.declared.fault.FaultKind.{FaultKind}
 use Rattle.toml_span_read.specs.Faults.{StartsInside}
 use Rattle.toml_span_read.specs.declared.fault.Fault.{Fault}
 use Rattle.toml_span_read.specs.Gaps.{Dot, NoDot}
@@ -28,8 +27,8 @@ one_more xs ys x e = rw e (length-append xs (x ∷ []))
 
 -- ---- spans
 
-pub key_placed : (text : List ℕ) (i j : ℕ) (p : SimpleKey) (kind : FaultKind) → SpellsSimpleKey p text i j → StartsInside text (record { kind = kind; span = p.span })
-key_placed text i j p kind h = let l = (key_inside p text i j h).0 in record { within = omega (arith, l.forward, l.ends, l.within); forward = l.forward }
+pub key_placed : (text : List ℕ) (i j : ℕ) (p : SimpleKey) → SpellsSimpleKey p text i j → StartsInside text p.span
+key_placed text i j p h = let l = (key_inside p text i j h).0 in record { within = omega (arith, l.forward, l.ends, l.within); forward = l.forward }
 
 -- ---- simple keys as they are read
 
@@ -122,6 +121,6 @@ after_sound header text (suc n) ps i f (inr (e, h, u)) = absurd cc
 pub key_sound : (header : Bool) (text : List ℕ) (limit i j : ℕ) (ss : List SimpleKey) → read.key header text limit [] i (Ok (ss, j)) → SpellsKey ss text i j × (length ss ≤ limit)
 key_sound header text limit i j ss h = grind (arith, after_sound header text limit [] i (ss, j))
 
-pub past_placed : (header : Bool) (text : List ℕ) (i j : ℕ) (s : SimpleKey) → i ≤ length text → SpellsSimpleKey s text i j → StartsInside text (one_too_many header i s)
-past_placed true text i j s within h = key_placed text i j s _ h
+pub past_placed : (header : Bool) (text : List ℕ) (i j : ℕ) (s : SimpleKey) → i ≤ length text → SpellsSimpleKey s text i j → StartsInside text (one_too_many header i s).span
+past_placed true text i j s within h = key_placed text i j s h
 past_placed false text i j s within h = record { within = within; forward = omega arith }

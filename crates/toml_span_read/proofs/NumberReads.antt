@@ -22,7 +22,7 @@ use Rattle.toml_span_read.proofs.NumberLemmas.{bool_cases, byte_is, here, figure
 -- what holds for each number that is read; each fault is within the text
 pub record Reads {A : Type 0} (text : List ℕ) (r : NumberRead A) (Q : A → Type 0) : Type 0 where
   pub given : (a : A) → r ≡ Ok a → Q a
-  pub told : (e : Fault) → r ≡ Err e → StartsInside text e
+  pub told : (e : Fault) → r ≡ Err e → StartsInside text e.span
 
 pub done : {A : Type 0} (text : List ℕ) (a : A) (Q : A → Type 0) → Q a → Reads text (Ok a) Q
 done text a Q q = record { given = λ b e. (let s : a ≡ b = cc in subst (λ x. Q x) s q); told = λ e h. absurd cc }

@@ -7,7 +7,8 @@ use Rattle.toml_span_lex.specs.declared.tokens.Error.TheVariants as errors
 use Rattle.toml_span_lex.specs.Tokens.{Lexeme, whitespace, newline, comment, punctuator, keylike, string}
 use Rattle.toml_span_lex.specs.Bytes.{is_keylike, plus, period, dash, colon, comma, equals, left_brace}
 use Rattle.toml_span_lex.specs.Bytes.{left_bracket, line_feed, right_brace}
-use Rattle.toml_span_lex.specs.Lines.{IsLineInfo}
+use Rattle.toml_span_lex.specs.declared.span.Span.{Span}
+use Rattle.toml_span_lex.specs.Lines.{line_info}
 use Rattle.toml_span_tree.specs.Error as tree
 use Rattle.toml_span_read.specs.declared.fault.ExpectedToken.{ExpectedToken}
 use Rattle.toml_span_read.specs.declared.fault.ExpectedToken.TheVariants as expected_tokens
@@ -70,16 +71,15 @@ error_kind (kinds.Wanted expected found) = tree.wanted (expected_words expected)
 error_kind kinds.MultilineStringKey = tree.multiline_string_key
 error_kind (kinds.DottedKeyInvalidType first) = tree.dotted_key_invalid_type first
 
--- The fault starts inside the text, and its span is not reversed.
-pub record StartsInside (text : List ℕ) (fault : Fault) : Type 0 where
-  pub within : fault.span.start ≤ length text
-  pub forward : fault.span.start ≤ fault.span.end
+-- The span starts inside the text, and is not reversed. It may end after the text.
+pub record StartsInside (text : List ℕ) (span : Span) : Type 0 where
+  pub within : span.start ≤ length text
+  pub forward : span.start ≤ span.end
 
--- The error reports this fault, with its line and column in the text.
-abbrev pub ReportsFault : List ℕ → Fault → tree.ErrorContent → Type 0
-ReportsFault text fault error =
-    (line column : ℕ) × IsLineInfo text fault.span.start line column
-    × (error ≡ record { kind = error_kind fault.kind; span = fault.span; line_info = Some (line, column) })
+-- the error that reports a fault of a text
+abbrev pub fault_content : List ℕ → Fault → tree.ErrorContent
+fault_content text fault =
+    record { kind = error_kind fault.kind; span = fault.span; line_info = Some (line_info text fault.span.start) }
 
 -- ---- faults of the tokenizer
 

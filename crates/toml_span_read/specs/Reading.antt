@@ -7,7 +7,7 @@ use Rattle.toml_span_tree.specs.Error.{content_of}
 use Rattle.toml_span_tree.specs.declared.error.Error.{Error}
 use Rattle.toml_span_read.specs.Data.{ParsedSection, parsed_section}
 use Rattle.toml_span_read.specs.Read.{document}
-use Rattle.toml_span_read.specs.Faults.{ReportsFault, StartsInside}
+use Rattle.toml_span_read.specs.Faults.{StartsInside, fault_content}
 use Rattle.toml_span_read.specs.Gaps.{MaximalGap}
 use Rattle.toml_span_read.specs.declared.fault.Fault.{Fault}
 use Rattle.toml_span_read.specs.declared.section.Section.{Section}
@@ -17,14 +17,14 @@ abbrev pub ReadsDocument : List ℕ → ℕ → Result (Vec Section Global) (Sto
 ReadsDocument text limit (Ok found) = document text limit (Ok (map parsed_section found.items))
 ReadsDocument text limit (Err (stops.Memory e)) = Unit {0}
 ReadsDocument text limit (Err (stops.Fault error)) =
-    (fault : Fault) × document text limit (Err fault) × ReportsFault text fault (content_of error)
+    (fault : Fault) × document text limit (Err fault) × (content_of error ≡ fault_content text fault)
 
 -- The fault, if there is one, starts inside the text, and its span is not reversed.
 abbrev pub RefusedInside : List ℕ → Result (Vec Section Global) (Stop Error) → Type 0
 RefusedInside text (Ok found) = Unit {0}
 RefusedInside text (Err (stops.Memory e)) = Unit {0}
 RefusedInside text (Err (stops.Fault error)) =
-    (fault : Fault) × StartsInside text fault × ReportsFault text fault (content_of error)
+    (fault : Fault) × StartsInside text fault.span × (content_of error ≡ fault_content text fault)
 
 -- The result is these sections, unless an allocation failed.
 abbrev pub AreRead : List ParsedSection → Result (Vec Section Global) (Stop Error) → Type 0

@@ -3,7 +3,7 @@ ghost use Rattle.std.specs.Prelude.{◌≡◌, ◌<◌, ◌≤◌, length};
 ghost use Rattle.toml_span_tree.specs.Error.{kind_of, content_of};
 ghost use Rattle.toml_span_read.specs.Faults as spec;
 ghost use Rattle.toml_span_read.specs.Numerals as numerals;
-ghost use Rattle.toml_span_read.specs.Faults.{ReportsFault};
+ghost use Rattle.toml_span_read.specs.Faults.{fault_content};
 ghost use Rattle.toml_span_read.specs.code.Faults.{Bounded};
 
 use toml_span_lex::lines::line_info;
@@ -201,7 +201,7 @@ fn error_kind<'s>(kind: FaultKind) -> ErrorKind<'s>
 /// Returns the error that reports a fault, with the line and column of its span in `text`.
 pub fn error_of<'s>(text: &str, fault: Fault) -> Error<'s>
     requires { fault.span.start ≤ length text.now }
-    ensures { ReportsFault text.now fault (content_of result) }
+    ensures { content_of result ≡ fault_content text.now fault }
 {
     Error {
         kind: error_kind(fault.kind),

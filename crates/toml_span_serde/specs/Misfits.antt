@@ -11,7 +11,7 @@ use Rattle.toml_span_tree.specs.Path.{Place, place_at}
 use Rattle.toml_span_tree.specs.Path as tree
 use Rattle.toml_span_tree.specs.Value.{view}
 use Rattle.toml_span_tree.specs.declared.value.Value.{Value}
-use Rattle.toml_span_lex.specs.Lines.{IsLineInfo}
+use Rattle.toml_span_lex.specs.Lines.{line_info}
 use Rattle.toml_span_read.specs.Data.{depth_limit}
 use Rattle.toml_span_report.specs.Names.{nearest}
 use Rattle.toml_span_report.specs.UnknownKeys.{listed, named}
@@ -140,8 +140,7 @@ IsAt root (stop.Fault m) = Names (path_of m.path.items) m.span root
 
 -- The misfit has the line and the column of its span, if that starts in the text.
 abbrev pub HasLine : List ℕ → Misfit → Type 0
-HasLine text m = m.span.start ≤ length text → (line column : ℕ) × (m.line_info ≡ Some (line, column))
-    × IsLineInfo text m.span.start line column
+HasLine text m = m.span.start ≤ length text → m.line_info ≡ Some (line_info text m.span.start)
 
 -- The text spells a document, and P holds for its tree.
 abbrev pub HasTree : List ℕ → (Node → Type 0) → Type 0

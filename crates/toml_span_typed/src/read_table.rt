@@ -100,22 +100,22 @@ macro_rules! read_table {
     (@key $field:ident $key:literal) => { $key };
 
     (@append []) => { () };
-    (@append [$gathered:ident $warnings:ident]) => { $warnings.append(&mut $gathered)? };
+    (@append [$new:ident $warnings:ident]) => { $warnings.append(&mut $new)? };
 
     // a required field, and an optional one
     (@one [$helper:ident, $warnings:tt, $field:ident], $ty:ty, [$key:expr]) => { $helper.read::<$ty>($key)? };
     (@one [$helper:ident, $warnings:tt, $field:ident], $ty:ty, [$key:expr, $old:expr]) => {
         $helper.read_either::<$ty>($key, $old)?
     };
-    (@one [$helper:ident, [$gathered:ident $warnings:ident], $field:ident], $ty:ty, [$key:expr, $old:expr, deprecated]) => {
-        $helper.read_deprecated::<$ty>($key, $old, &mut $gathered)?
+    (@one [$helper:ident, [$new:ident $warnings:ident], $field:ident], $ty:ty, [$key:expr, $old:expr, deprecated]) => {
+        $helper.read_deprecated::<$ty>($key, $old, &mut $new)?
     };
     (@some [$helper:ident, $warnings:tt, $field:ident], $ty:ty, [$key:expr]) => { $helper.read_optional::<$ty>($key)? };
     (@some [$helper:ident, $warnings:tt, $field:ident], $ty:ty, [$key:expr, $old:expr]) => {
         $helper.read_optional_either::<$ty>($key, $old)?
     };
-    (@some [$helper:ident, [$gathered:ident $warnings:ident], $field:ident], $ty:ty, [$key:expr, $old:expr, deprecated]) => {
-        $helper.read_optional_deprecated::<$ty>($key, $old, &mut $gathered)?
+    (@some [$helper:ident, [$new:ident $warnings:ident], $field:ident], $ty:ty, [$key:expr, $old:expr, deprecated]) => {
+        $helper.read_optional_deprecated::<$ty>($key, $old, &mut $new)?
     };
     (@one [$helper:ident, [], $field:ident], $ty:ty, [$key:expr, $old:expr, deprecated]) => {
         $crate::read_table!(@silent $field deprecated)
@@ -150,8 +150,8 @@ macro_rules! read_table {
         $crate::read_table!(@words $read [] [Spanned<$ty>] $keys $($words)*)
     };
     (@words $read:tt [option] [$ty:ty] $keys:tt) => { $crate::read_table!(@some $read, $ty, $keys) };
-    (@words [$helper:ident, [$gathered:ident $warnings:ident], $field:ident] [option] [$ty:ty] [$key:expr] with_warnings,) => {
-        $helper.read_optional_with_warnings::<$ty>($key, &mut $gathered)?
+    (@words [$helper:ident, [$new:ident $warnings:ident], $field:ident] [option] [$ty:ty] [$key:expr] with_warnings,) => {
+        $helper.read_optional_with_warnings::<$ty>($key, &mut $new)?
     };
     (@words $read:tt [option] [$ty:ty] $keys:tt $($words:tt)*) => {
         $crate::read_table!(@words $read [] [Option<$ty>] $keys $($words)*)
@@ -165,8 +165,8 @@ macro_rules! read_table {
             None => $default,
         }
     };
-    (@words [$helper:ident, [$gathered:ident $warnings:ident], $field:ident] [] [$ty:ty] [$key:expr] with_warnings,) => {
-        $helper.read_with_warnings::<$ty>($key, &mut $gathered)?
+    (@words [$helper:ident, [$new:ident $warnings:ident], $field:ident] [] [$ty:ty] [$key:expr] with_warnings,) => {
+        $helper.read_with_warnings::<$ty>($key, &mut $new)?
     };
     (@words [$helper:ident, $warnings:tt, $field:ident] [] [$ty:ty] $keys:tt unique($name:ident),) => {{
         let list = $crate::read_table!(@one [$helper, $warnings, $field], $ty, $keys);
@@ -179,7 +179,9 @@ macro_rules! read_table {
         }
         list
     }};
-    (@words [$helper:ident, $warnings:tt, $field:ident] [] [$ty:ty] $keys:tt flatten,) => { $helper.read_rest::<$ty>()? };
+    (@words [$helper:ident, $warnings:tt, $field:ident] [] [$ty:ty] $keys:tt flatten,) => {
+        $helper.read_rest::<$ty>()?
+    };
 
     // a type that contains the value of the field
     (@held $read:tt [] $ty:ty, $keys:tt) => { $crate::read_table!(@one $read, $ty, $keys) };

@@ -22,7 +22,8 @@ use Rattle.toml_span_read.specs.declared.value.Assignment.{Assignment}
 use Rattle.toml_span.specs.declared.branch.Branch.{Branch}
 use Rattle.toml_span.specs.Claims.{Claims, value_claims, value_shape, parsed_inner, shape_claimed, claims}
 use Rattle.toml_span.specs.Claims.{part_info, assignments_claims}
-use Rattle.toml_span.specs.code.Machine.{OkOrClash, clash_found, put_all, no_cells, show_all, Cell, CellMap, named_clash}
+use Rattle.toml_span.specs.code.Machine.{OkOrClash, clash_found, put_all, no_cells, show_all, Cell, CellMap}
+use Rattle.toml_span.specs.code.Machine.{named_clash}
 use Rattle.toml_span.specs.code.Relative.{counts_after, counts_after_through, passing, section_at, through}
 use Rattle.toml_span.specs.code.Relative.{through_pair}
 use Rattle.toml_span.specs.code.Tree.{entries, cells, counts, infos, IsScope, IsChild, IsHeld, Sound, value_shows}

@@ -8,7 +8,8 @@ use Rattle.toml_span_lex.specs.declared.stop.Stop.{Stop}
 use Rattle.toml_span_lex.specs.declared.stop.Stop.TheVariants as stops
 use Rattle.toml_span_lex.specs.declared.tokens.Error.{Error}
 use Rattle.toml_span_read.specs.code.Gaps.{Further}
-use Rattle.toml_span_places.specs.Dotted.{IsDotted, IsKey, IsPosition, IsStep, NoKey, NoPosition, NoStep, Outcome, Steps, string_error}
+use Rattle.toml_span_places.specs.Dotted.{IsDotted, IsKey, IsPosition, IsStep, NoKey, NoPosition, NoStep, Outcome}
+use Rattle.toml_span_places.specs.Dotted.{Steps, string_error}
 use Rattle.toml_span_places.specs.declared.dotted.PathError.{PathError}
 
 abbrev pub StringGives : {Z : Type 0} → List ℕ → ℕ → Result (CowStr Z × Bool × ℕ) (Stop PathError) → Type 0

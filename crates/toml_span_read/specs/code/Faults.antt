@@ -18,7 +18,7 @@ MatchesReading view m (Err (stops.Fault e)) = m (Err e)
 
 abbrev pub IsPlacedStop : List ℕ → Stop Fault → Type 0
 IsPlacedStop text (stops.Memory e) = Unit {0}
-IsPlacedStop text (stops.Fault fault) = StartsInside text fault
+IsPlacedStop text (stops.Fault fault) = StartsInside text fault.span
 
 -- What was read ends after i, or the fault is inside the text.
 abbrev pub Advances : {A : Type 0} → List ℕ → ℕ → Result (A × ℕ) (Stop Fault) → Type 0

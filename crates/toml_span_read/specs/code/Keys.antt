@@ -27,4 +27,4 @@ PartGives header text limit n i (Ok (key, j, next)) =
     read.simple_key_at text i (Ok (simple_key key, j)) × (n < limit) × Further text i j × DotGives text j next
 PartGives header text limit n i (Err (stops.Memory e)) = Unit {0}
 PartGives header text limit n i (Err (stops.Fault e)) =
-    ((ps : List SimpleKey) → read.key header text (limit - n) ps i (Err e)) × StartsInside text e
+    ((ps : List SimpleKey) → read.key header text (limit - n) ps i (Err e)) × StartsInside text e.span

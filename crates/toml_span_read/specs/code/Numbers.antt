@@ -33,4 +33,4 @@ pub record Passes (text : List ℕ) (i j : ℕ) : Type 0 where
 
 abbrev pub IsPlacedFault : {A : Type 0} → List ℕ → Result A Fault → Type 0
 IsPlacedFault text (Ok found) = Unit {0}
-IsPlacedFault text (Err fault) = StartsInside text fault
+IsPlacedFault text (Err fault) = StartsInside text fault.span

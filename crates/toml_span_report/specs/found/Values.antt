@@ -6,7 +6,8 @@ use Rattle.toml_span_report.specs.Bytes.{ahead, byte_after, end_of, part, start_
 use Rattle.toml_span_report.specs.Finding.{FindingContent, MeantContent, as_meant, marked, pieces, quoted, replaced}
 use Rattle.toml_span_report.specs.declared.bytes.Class.TheVariants as class
 use Rattle.toml_span_report.specs.Words.{said}
-use Rattle.toml_span_report.specs.declared.words.TheConstants.{NEAR_FALSE, NEAR_TRUE, NULL, OTHER_BOOLEAN, OTHER_FLOAT, PREFIXED, RAW_STRING}
+use Rattle.toml_span_report.specs.declared.words.TheConstants.{NEAR_FALSE, NEAR_TRUE, NULL, OTHER_BOOLEAN}
+use Rattle.toml_span_report.specs.declared.words.TheConstants.{OTHER_FLOAT, PREFIXED, RAW_STRING}
 use Rattle.toml_span_report.specs.declared.words.TheConstants.{UNQUOTED, UNQUOTED_TEXT, UPPER_BOOLEAN}
 
 -- The word and the name are the same up to an offset, and then after one byte of either or both, or of each after two

@@ -57,7 +57,8 @@ fn near_boolean(word: &str) -> Option<Meant>
     }
 }
 
-/// Returns what TOML has for a word of other languages, or for a misspelled boolean: the mistake, and the code to write.
+/// Returns what TOML has for a word of other languages, or for a misspelled boolean: the mistake, and the code to
+/// write.
 #[tactic(auto, unfolding(crate::specs::found::Values::known_word))]
 pub(crate) fn known_word(word: &str) -> Option<Meant>
     ensures { option_map meant_content result ≡ spec.known_word word.now }

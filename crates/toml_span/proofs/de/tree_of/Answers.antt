@@ -16,19 +16,11 @@ returns-in-Ok-clause-answers c = λ bs limit given assembles. answers-tree c.arg
 pub returns-in-Err-Fault-clause-answers : goal.returns-in-Err-Fault-clause-answers
 returns-in-Err-Fault-clause-answers c = λ bs limit given assembles.
     let n = length c.args.text.now in
-    let place = c.line_info-place.result in
     let inside = clash_inside n _ _ c.in-Err-Fault.field-0-is (c.in-Err-Fault.ensures.placed n c.requires.inside) in inr (
       bs,
       named_clash c.in-Err-Fault.clash,
       (given, first-of-error _ n _ _ c.in-Err-Fault.field-0-is (c.in-Err-Fault.ensures.assembles bs assembles)),
-      record {
-        line = place.0;
-        column = place.1;
-        reports = rw c.into_inner-clash.ensures at c.into_error.ensures;
-        within = omega (arith, inside.0, inside.1);
-        forward = inside.0;
-        place = rw c.into_inner-clash.ensures at c.line_info-place.ensures;
-      },
+      (record { within = omega (arith, inside.0, inside.1); forward = inside.0 }, grind (arith, c.into_inner-clash.ensures, c.into_error.ensures, c.line_info-place.ensures)),
     )
 
 pub returns-in-Ok-clause-borrows : goal.returns-in-Ok-clause-borrows

@@ -64,7 +64,8 @@ impl<'de> TableHelper<'de> {
     ) -> Result<Option<T>, AllocError>
         requires { AllWhole (state_of self.old) }
         ensures answer { AsksDeprecated T.reads name.now old.now (state_of self.old) result (state_of self.new) }
-        ensures warned { Warns (map content_of warnings.old.items) (outdated name.now old.now (state_of self.old)) result
+        ensures warned { Warns (map content_of warnings.old.items) (outdated name.now old.now (state_of self.old))
+            result
             (map content_of warnings.new.items) }
         ensures recorded { IfOk result (λ field. kept (state_of self.old) + lacking field ≤ kept (state_of self.new)) }
         ensures whole { AllWhole (state_of self.new) }
@@ -82,7 +83,8 @@ impl<'de> TableHelper<'de> {
     ) -> Result<Option<T>, AllocError>
         requires { AllWhole (state_of self.old) }
         ensures answer { TriesDeprecated T.reads name.now old.now (state_of self.old) result (state_of self.new) }
-        ensures warned { Warns (map content_of warnings.old.items) (outdated name.now old.now (state_of self.old)) result
+        ensures warned { Warns (map content_of warnings.old.items) (outdated name.now old.now (state_of self.old))
+            result
             (map content_of warnings.new.items) }
         ensures recorded { OnOk result (kept (state_of self.old) ≤ kept (state_of self.new)) }
         ensures whole { AllWhole (state_of self.new) }
