@@ -139,8 +139,8 @@ pub struct Clash {
 }
 
 impl Clash {
-    /// Converts the clash into an error. `line_info` is the line and the column of `span.start`, both from 0, the
-    /// column in bytes.
+    /// Converts the clash into an error. `line_info` is the line and the column at which the clash's span starts, both
+    /// counted from 0, the column in bytes.
     pub fn into_error<'s>(self, line_info: (usize, usize)) -> Error<'s>
         ensures { content_of result ≡ clashes.content_of_clash self.info (string_bytes self.name) line_info }
     {

@@ -91,7 +91,7 @@ pub(crate) fn push_number(out: &mut String, title: &str, number: usize) -> Resul
     write!(out, "{number}")
 }
 
-/// Returns the end of what to mark: that of the span, without a line feed at its end.
+/// Returns the end of what to mark: the end of the span or, if the span ends with a line feed, the offset of that.
 fn marked_end(text: &str, span: Span) -> usize
     ensures { result ≡ spec.marked_end text.now span }
 {

@@ -327,7 +327,7 @@ fn entry_text(
     format!(in document.alloc; "{above}{front}{key} = {value}{note}")
 }
 
-/// Returns the blanks with which to begin a line at a point.
+/// Returns the white space with which to begin a line that is inserted at `target`.
 fn indent_there<'s>(text: &'s str, target: InsertionPoint<'_, '_>) -> &'s str {
     match target {
         InsertionPoint::Body(section) => body_indent(text, section),

@@ -148,8 +148,9 @@ impl<'e> Edits<'e> {
         self.change(path, Change::Append(value))
     }
 
-    /// Appends `Change::Insert`: adds an element before the one at a path, whose last segment is a position. If an
-    /// allocation fails, the list is unchanged.
+    /// Appends `Change::Insert`: adds an element, the TOML value `value`, to an array. The last segment of the path is a
+    /// position: the new element goes before the one there, or to the end. If an allocation fails, the list is
+    /// unchanged.
     pub fn insert(&mut self, path: &'e [&'e str], value: &'e str) -> Result<(), AllocError>
         ensures { Pushed (record { path = path.entry; change = changes.Insert value.entry }) self.old result self.new }
     {

@@ -112,8 +112,9 @@ fn cut_to_line_end(
     }
 }
 
-/// Removes items that are followed by the closing bracket or brace on the same line, with one comma: the one before
-/// them or, if a comment or a line end is there, the one after them. Fails if an allocation fails.
+/// Plans to remove the items of a list in `items`, which the bracket or brace at `close` follows on the same line, and
+/// one comma: the one between them and the item in `before` or, if a comment or line break is there, the one after
+/// them. Fails if an allocation fails.
 fn cut_last(
     text: &str,
     before: Option<Span>,
@@ -262,8 +263,9 @@ fn front_of(alloc: Global, text: &str, list: &Val<'_>, last: Span) -> Result<Str
     Ok(front)
 }
 
-/// Inserts an item before another one: on a line of its own, above the comments of that one, if that one begins a line.
-/// Fails if an allocation fails.
+/// Plans to insert an item before the item of `list` at `index`, whose span is `next`. If that one begins a line, the new
+/// item gets a line of its own, above the comments of that one; otherwise it is written before it on its line. Fails if
+/// an allocation fails.
 fn put_before(
     alloc: Global,
     text: &str,

@@ -109,8 +109,8 @@ fn common(parts: &DottedKey<'_>, path: &[&str]) -> Option<usize> {
     Some(count)
 }
 
-/// Appends what an assignment names at a path, which begins at the table of the assignment and is not empty. Fails if
-/// an allocation fails.
+/// Appends the mentions of a path in an assignment. The path begins at the table of the assignment, which is `home`, and
+/// is not empty. Fails if an allocation fails.
 #[cycle(push_inside)]
 fn push_assigned<'s, 'de>(
     assignment: &'s Assignment<'de>,

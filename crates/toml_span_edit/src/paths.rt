@@ -35,13 +35,13 @@ pub(crate) fn position(segment: &str) -> Option<usize>
     segment.parse::<usize>().ok()
 }
 
-/// Returns the segments after the first `count`.
+/// Returns the segments after the first `count`: none if there are fewer.
 pub(crate) fn rest_of<'p, 'e>(path: &'p [&'e str], count: usize) -> &'p [&'e str] {
     let start = count.min(path.len());
     &path[start..]
 }
 
-/// Returns the first `count` segments.
+/// Returns the first `count` segments, or all if there are fewer.
 pub(crate) fn front_of<'p, 'e>(path: &'p [&'e str], count: usize) -> &'p [&'e str] {
     path.get(..count).unwrap_or(path)
 }

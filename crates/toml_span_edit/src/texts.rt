@@ -213,7 +213,8 @@ fn removed_text(
     }
 }
 
-/// The text after a value is written over another one, also over one that headers or dotted keys define.
+/// Returns the text with `value` written over the value `old` at a path, which headers or dotted keys may define. Fails
+/// if `value` is not a TOML value, if `old` can't be cut out, or if an allocation fails.
 fn replaced_text(
     alloc: Global,
     text: &str,

@@ -59,8 +59,8 @@ fn permuted_comments(alloc: Global, old: &str, new: &str) -> Result<bool, AllocE
     Ok(same_texts(before.as_slice(), after.as_slice()))
 }
 
-/// Returns whether the text `new` has these sections, without regard to spans and the order of the assignments in each
-/// section, and the comments of `text`, in any order. Fails if an allocation fails.
+/// Returns whether the text `new` has these sections, spans and the order of assignments within each section aside, and
+/// has the comments of `text`, in any order. Fails if an allocation fails.
 fn is_permuted(
     alloc: Global,
     text: &str,

@@ -38,7 +38,8 @@ pub fn reading_gives(text: &str)
     let _ = first_place(text);
 }
 
-/// A token that is found where another one is expected has the name that the tokenizer gives it.
+/// The name that an error gives a token, where another one is expected, is the one that the tokenizer's own errors give
+/// it.
 pub fn one_wording()
     ensures { (token : Lexeme) → found_words (found_of token) ≡ words token }
 {}

@@ -182,7 +182,7 @@ fn line_end_start(text: &str, at: usize) -> usize
     }
 }
 
-/// Returns the form of a comment in this gap.
+/// Returns the `NewerKind` of a comment in this gap.
 fn comment_kind(gap: Gap) -> NewerKind
     ensures { result ≡ spec.comment_kind gap }
 {
@@ -192,7 +192,7 @@ fn comment_kind(gap: Gap) -> NewerKind
     }
 }
 
-/// Returns the form of a line end in this gap.
+/// Returns the `NewerKind` of a line end in this gap.
 fn line_end_kind(gap: Gap) -> NewerKind
     ensures { result ≡ spec.line_end_kind gap }
 {

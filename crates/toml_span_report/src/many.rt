@@ -30,7 +30,7 @@ fn place_of(strip: Option<Strip<'_>>) -> usize
     }
 }
 
-/// Formats a report. Fails if an allocation fails.
+/// Formats a report, and returns its text with the offset of its first primary mark. Fails if an allocation fails.
 fn draw(
     alloc: Global,
     style: Style,

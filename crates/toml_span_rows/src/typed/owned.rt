@@ -15,7 +15,7 @@ pub struct Name(String);
 /// Reads a name.
 fn name_of(alloc: Global, text: &str) -> Result<Name, Stop<&'static str>> {
     if text.is_empty() {
-        return Err(Stop::Fault("a name is not empty"));
+        return Err(Stop::Fault("a name must not be empty"));
     }
     Ok(Name(String::from_str(alloc, text)?))
 }

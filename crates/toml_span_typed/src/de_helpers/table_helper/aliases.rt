@@ -269,8 +269,8 @@ fn place_of(entry: &Option<(Span, Value)>) -> Option<Span>
     }
 }
 
-/// Returns the error `DuplicateKey` for a field that is present under both of its names, at the later key. Fails if an
-/// allocation fails.
+/// Returns the error `DuplicateKey` for a field that is present under its name, at `span`, and under its old name, at
+/// `other`. The error is at the later of the two keys. Fails if an allocation fails.
 fn both_names_error<'s>(
     alloc: Global,
     name: &str,
