@@ -1,4 +1,4 @@
-//! The answer to one file: its errors, or what to print of its document.
+//! Checks one file: returns the reports of its errors, or the document to print.
 ghost use Rattle.std.specs.Prelude.{◌≡◌, ◌++◌, IfOk, OnOk, ℕ, List, map, string_bytes};
 ghost use Rattle.toml_span_lex.specs.declared.stop.Stop.TheVariants.{Fault};
 ghost use Rattle.toml_span.specs.Parsing.{IsRefusal};
@@ -40,7 +40,8 @@ pub enum Task {
     Show(Form),
 }
 
-/// Returns the report of an error without a place in the file. Fails if an allocation fails.
+/// Returns the text of a report that marks no place in the file. `name` is the name of the file. Fails if an allocation
+/// fails.
 fn plain_fault(
     alloc: Global,
     format: Format,
@@ -54,7 +55,8 @@ fn plain_fault(
     Ok(fault_text(alloc, format, &report, name, "")?.into_bytes())
 }
 
-/// Appends the text of each report. Fails if an allocation fails.
+/// Appends the text of each report in this format. `name` is the name of the file, `text` the source. Fails if an
+/// allocation fails.
 fn push_reports(
     alloc: Global,
     out: &mut String,
@@ -91,8 +93,8 @@ fn errors_text(
     Ok((reports.len(), out.into_bytes()))
 }
 
-/// Returns the number of errors of a source that `parse` accepts, but that uses what this version of TOML lacks, and
-/// the text of their reports. Fails if an allocation fails.
+/// Returns how often a source that `parse` accepts uses syntax that this version of TOML lacks, and the text of the
+/// reports. Fails if an allocation fails.
 fn version_text(
     alloc: Global,
     format: Format,
@@ -149,7 +151,7 @@ fn not_utf8(alloc: Global, format: Format, name: &str) -> Result<Vec<u8>, AllocE
     )
 }
 
-/// The answer to a file.
+/// The result for one file.
 pub(crate) enum Judged<'t> {
     /// Errors, or nothing to print: the number of errors, and the text of their reports.
     Text(usize, Vec<u8>),
@@ -157,7 +159,8 @@ pub(crate) enum Judged<'t> {
     Document(Form, Value<'t>),
 }
 
-/// Answers a text. Fails if an allocation fails.
+/// Parses the text of a file. Returns the document if it is valid and `task` is to print it, otherwise the number of
+/// errors and the text of their reports. `name` is the name of the file. Fails if an allocation fails.
 fn judge_text<'t>(
     alloc: Global,
     format: Format,
@@ -185,7 +188,8 @@ fn judge_text<'t>(
     }
 }
 
-/// Answers the bytes of a file. Fails if an allocation fails.
+/// Returns the result for the bytes of a file, as `judge_text` does for its text. A file that is longer than `BOUND` or
+/// not valid UTF-8 has one error. `name` is the name of the file. Fails if an allocation fails.
 pub(crate) fn judge<'t>(
     alloc: Global,
     format: Format,

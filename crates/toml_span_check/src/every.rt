@@ -97,7 +97,7 @@ fn next_error(alloc: Global, text: &str, from: usize) -> Result<Option<ErrorAt>,
     }
 }
 
-/// Adds a report, unless there is one for the same offset. Fails if an allocation fails.
+/// Adds a report of an error at the offset `place`, unless there is one for this offset. Fails if an allocation fails.
 fn push_new(found: &mut Found, report: Report, place: usize) -> Result<(), AllocError>
     ensures { OnOk result (AddsReport (report_content report) place (progress found.old) (progress found.new)) }
 {
@@ -108,7 +108,7 @@ fn push_new(found: &mut Found, report: Report, place: usize) -> Result<(), Alloc
     Ok(())
 }
 
-/// Adds an error, and blanks its statement. Fails if an allocation fails.
+/// Returns `found` with an error added, and with spaces in place of its statement. Fails if an allocation fails.
 fn with_error(alloc: Global, mut found: Found, next: ErrorAt) -> Result<Found, AllocError>
     ensures { IfOk result (λ more. Adds (report_content next.report) next.place (progress found)
         (progress more)) }
@@ -132,8 +132,8 @@ fn is_full(found: &Found, len: usize) -> bool
     most(len) <= found.places.len()
 }
 
-/// Adds the faults of the text from the offset `from` on: after each, reading goes on at the next statement. Fails if
-/// an allocation fails.
+/// Returns `found` with the faults of the text from the offset `from` on. After each fault, reading goes on at the next
+/// statement. Fails if an allocation fails.
 fn with_faults(
     alloc: Global,
     mut found: Found,
@@ -159,7 +159,7 @@ fn with_faults(
     Ok(found)
 }
 
-/// Adds the report that there are more errors. Fails if an allocation fails.
+/// Returns the reports and one more, which says that there are more errors. Fails if an allocation fails.
 fn with_too_many(alloc: Global, mut reports: Vec<Report>) -> Result<Vec<Report>, AllocError>
     ensures { IfOk result (λ more. map report_content more.items
         ≡ map report_content reports.items ++ spec.too_many ∷ []) }
@@ -169,7 +169,8 @@ fn with_too_many(alloc: Global, mut reports: Vec<Report>) -> Result<Vec<Report>,
     Ok(reports)
 }
 
-/// Adds the clashes between the statements that are left, and returns all reports. Fails if an allocation fails.
+/// Returns the reports of `found`, and those of the clashes between the statements that are left. Fails if an
+/// allocation fails.
 fn with_clashes(alloc: Global, mut found: Found, text: &str) -> Result<Vec<Report>, AllocError>
     requires { Finds text.now (progress found) }
     ensures { IfOk result (λ reports. Checks text.now (map report_content reports.items)) }

@@ -23,7 +23,8 @@ pub enum Format {
     Sarif,
 }
 
-/// Returns a report with source lines and marks, and a blank line after it. Fails if an allocation fails.
+/// Returns a report with source lines and marks, and a blank line after it. `name` is the name of the file, `text` the
+/// source. Fails if an allocation fails.
 fn marked_text(
     alloc: Global,
     style: Style,
@@ -39,7 +40,8 @@ fn marked_text(
     Ok(out)
 }
 
-/// Returns a report in this format. In SARIF, it is a result after a comma. Fails if an allocation fails.
+/// Returns a report in this format. `name` is the name of the file, `text` the source. In SARIF, the report is a result
+/// after a comma. Fails if an allocation fails.
 pub(crate) fn fault_text(
     alloc: Global,
     format: Format,

@@ -23,7 +23,7 @@ pub struct Fixed {
     pub count: usize,
 }
 
-/// Returns whether all replacements are safe.
+/// Returns whether each of the replacements is safe.
 fn all_safe(repairs: &[Repair]) -> bool
     ensures { result ≡ spec.all_safe (map repair_of repairs.now) }
 {

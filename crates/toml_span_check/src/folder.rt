@@ -48,7 +48,7 @@ pub fn is_folder(rt: &HostRuntime, name: &str) -> bool {
     }
 }
 
-/// Returns whether there is a file at this path, or a link to one. Returns true if the system can't say.
+/// Returns whether there is a file, or a link to one, at this path. Returns true if the system reports an error.
 fn may_be_file(rt: &HostRuntime, path: &str) -> bool {
     match fs::metadata(rt, path) {
         Ok(found) => found.is_file(),
@@ -76,7 +76,7 @@ fn names_in(rt: &HostRuntime, folder: &str) -> io::Result<Vec<Vec<u8>>> {
     Ok(names)
 }
 
-/// Returns the path of a name in a directory. Fails if an allocation fails.
+/// Returns the path of the file called `name` in a directory. Fails if an allocation fails.
 fn path_of(alloc: Global, folder: &str, name: &[u8]) -> Result<String, AllocError> {
     let mut path = String::from_str(alloc, folder)?;
     if !folder.ends_with('/') {
@@ -117,8 +117,8 @@ fn is_passed_over(name: &str) -> bool {
 }
 
 impl Below {
-    /// Returns whether `.gitignore` files ignore a path. `ignore` is the position of the nearest such file. The first
-    /// of it and those above that has a pattern for the path decides. Fails if an allocation fails.
+    /// Returns whether `.gitignore` files ignore a path. `ignore` is the position in `ignores` of the nearest such
+    /// file. The nearest one with a pattern that matches the path decides. Fails if an allocation fails.
     fn is_ignored(
         &self,
         alloc: Global,
@@ -144,8 +144,8 @@ impl Below {
         Ok(false)
     }
 
-    /// Returns whether to leave a path out, because of a pattern of `--exclude` or a `.gitignore` file. Fails if an
-    /// allocation fails.
+    /// Returns whether to leave a path out, because of its name, a pattern of `--exclude` or a `.gitignore` file.
+    /// `ignore` is as in `is_ignored`. Fails if an allocation fails.
     fn is_left_out(
         &self,
         alloc: Global,
@@ -217,8 +217,9 @@ impl Below {
         }
     }
 
-    /// Reads the `.gitignore` file of a directory, if one is among these names. Returns the position of the file that
-    /// applies there. Fails if an allocation fails.
+    /// Reads the `.gitignore` file of a directory, if `names`, the names in the directory, include it. Returns the
+    /// position in `ignores` of the nearest such file, in the directory or above, if there is one. Fails if an
+    /// allocation fails.
     fn ignore_of(
         &mut self,
         rt: &HostRuntime,
@@ -243,8 +244,8 @@ impl Below {
         Ok(Some(at))
     }
 
-    /// Adds what is in a directory. If it can't be listed, adds the directory itself, so that an attempt to read it
-    /// reports the reason. Fails if an allocation fails.
+    /// Adds the files and directories in a directory. If it can't be listed, adds the directory itself, so that an
+    /// attempt to read it reports the reason. Fails if an allocation fails.
     fn look_into(
         &mut self,
         rt: &HostRuntime,

@@ -91,7 +91,8 @@ pub(crate) fn push_number(out: &mut String, title: &str, number: usize) -> Resul
     write!(out, "{number}")
 }
 
-/// Returns the end of what to mark: the end of the span or, if the span ends with a line feed, the offset of that.
+/// Returns the end of what to mark: the end of the span or, if the span ends with a line feed, the offset of that line
+/// feed.
 fn marked_end(text: &str, span: Span) -> usize
     ensures { result ≡ spec.marked_end text.now span }
 {
@@ -103,8 +104,8 @@ fn marked_end(text: &str, span: Span) -> usize
     }
 }
 
-/// Appends the columns of a region if it is on one line. `start` and `end` are its lines and columns. Fails if an
-/// allocation fails.
+/// Appends the columns of a region if it is on one line. `start` and `end` are each a line and a column, counted from
+/// 1. Fails if an allocation fails.
 #[tactic(auto, unfolding(crate::specs::Github::columns))]
 fn push_columns(
     out: &mut String,
@@ -120,7 +121,8 @@ fn push_columns(
     push_number(out, ",endColumn=", end.1)
 }
 
-/// Appends the lines of a region and, if it is on one line, its columns. Fails if an allocation fails.
+/// Appends the lines of a region and, if it is on one line, its columns. `start` and `end` are each a line and a
+/// column, counted from 1. Fails if an allocation fails.
 #[tactic(auto, unfolding(crate::specs::Github::lines))]
 fn push_lines(
     out: &mut String,
@@ -134,7 +136,7 @@ fn push_lines(
     push_columns(out, start, end)
 }
 
-/// Appends the lines and columns of a label. Fails if an allocation fails.
+/// Appends the lines and columns of a span in the source `text`. Fails if an allocation fails.
 fn push_region(out: &mut String, text: &str, span: Span) -> Result<(), AllocError>
     ensures { OnOk result (string_bytes out.new ≡ string_bytes out.old ++ spec.region text.now span) }
 {
@@ -143,7 +145,8 @@ fn push_region(out: &mut String, text: &str, span: Span) -> Result<(), AllocErro
     push_lines(out, start, end)
 }
 
-/// Appends the lines and columns of the first primary label, if there is one. Fails if an allocation fails.
+/// Appends the lines and columns of the first primary label in the source `text`, if there is one. Fails if an
+/// allocation fails.
 fn push_place(out: &mut String, text: &str, labels: &[Label<()>]) -> Result<(), AllocError>
     ensures { OnOk result (string_bytes out.new ≡ string_bytes out.old
         ++ spec.primary_region text.now (map label_content labels.now)) }
@@ -156,7 +159,8 @@ fn push_place(out: &mut String, text: &str, labels: &[Label<()>]) -> Result<(), 
     Ok(())
 }
 
-/// Returns a report as one command, with a line feed at the end. Fails if an allocation fails.
+/// Returns a report as one command, with a line feed at the end. `name` is the name of the file, `text` the source.
+/// Fails if an allocation fails.
 pub(crate) fn github(
     alloc: Global,
     report: &Report,

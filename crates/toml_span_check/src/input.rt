@@ -29,8 +29,8 @@ pub trait Inputs {
         ensures { IfOk result (λ found. Finds (log self.old) (log self.new)
             (map (λ pattern. pattern.now) excludes.now, name.now, map (λ file. string_bytes file) found.items)) };
 
-    /// Returns the bytes of a file, or a message that says why it can't be read. Of a file that is longer than `BOUND`,
-    /// one byte more than that is enough. Fails if an allocation fails.
+    /// Returns the bytes of a file, or a message that says why it can't be read. If the file is longer than `BOUND`,
+    /// its first `BOUND + 1` bytes are enough. Fails if an allocation fails.
     fn read(&mut self, alloc: Global, name: &str) -> Result<Result<Vec<u8>, String>, AllocError>
         ensures { IfOk result (λ r. Logs (log self.old) (log self.new) ((name.now, read_of r) ∷ [])) };
 }

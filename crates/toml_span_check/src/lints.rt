@@ -69,7 +69,7 @@ pub fn sarif_document(alloc: Global, tool: &str, results: &str) -> Result<String
     Ok(out)
 }
 
-/// Removes a comma at the start of a text.
+/// Returns a text without the comma at its start, if it has one.
 fn without_comma(text: &str) -> &str
     ensures { result.now ≡ spec.without_comma text.now }
 {

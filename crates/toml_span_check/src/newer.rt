@@ -45,7 +45,7 @@ pub(crate) fn is_older(version: Version, name: &str) -> bool
     }
 }
 
-/// Returns the message of the report for this form.
+/// Returns the message of the report of a form of this kind.
 fn message_of(kind: NewerKind) -> &'static str
     ensures { result.now ≡ spec.message_of kind }
 {
@@ -62,7 +62,7 @@ fn message_of(kind: NewerKind) -> &'static str
     }
 }
 
-/// Returns the help of the report for this form.
+/// Returns the help of the report of a form of this kind.
 fn help_of(kind: NewerKind) -> &'static str
     ensures { result.now ≡ spec.help_of kind }
 {
@@ -89,7 +89,8 @@ fn four_digits(alloc: Global, text: &str, end: usize) -> Result<String, AllocErr
     Ok(out)
 }
 
-/// Adds a replacement that means the same in TOML 1.0, if there is one. Fails if an allocation fails.
+/// Returns the report with a replacement of `form` that means the same in TOML 1.0, if there is one. Fails if an
+/// allocation fails.
 fn with_older(
     alloc: Global,
     report: Report,
@@ -115,7 +116,7 @@ fn with_older(
     }
 }
 
-/// Returns the report of a use, without replacements and notes. Fails if an allocation fails.
+/// Returns the report of a newer form, without replacements and notes. Fails if an allocation fails.
 fn plain_report(alloc: Global, form: NewerForm) -> Result<Report, AllocError>
     ensures { IfOk result (λ made. report_content made ≡ spec.plain_report form) }
 {
@@ -124,7 +125,8 @@ fn plain_report(alloc: Global, form: NewerForm) -> Result<Report, AllocError>
         .help(help_of(form.kind))
 }
 
-/// Adds a note on why the file is checked as TOML 1.0, if its name decided that. Fails if an allocation fails.
+/// Returns the report, with a note on why the file is checked as TOML 1.0 if its name decided that (`is_default`).
+/// Fails if an allocation fails.
 fn with_reason(report: Report, is_default: bool) -> Result<Report, AllocError>
     ensures { IfOk result (λ made. report_content made ≡ spec.with_reason (report_content report) is_default) }
 {
@@ -135,8 +137,8 @@ fn with_reason(report: Report, is_default: bool) -> Result<Report, AllocError>
     }
 }
 
-/// Returns the report of a use. `is_default` says whether the name of the file decided to check it as TOML 1.0. Fails
-/// if an allocation fails.
+/// Returns the report of a newer form. `is_default` says whether the name of the file decided to check it as TOML 1.0.
+/// Fails if an allocation fails.
 fn newer_report(
     alloc: Global,
     text: &str,
@@ -150,7 +152,7 @@ fn newer_report(
     with_reason(repaired, is_default)
 }
 
-/// Returns the report of each use. Fails if an allocation fails.
+/// Returns the report of each newer form, as `newer_report` does. Fails if an allocation fails.
 fn reports_of(
     alloc: Global,
     text: &str,
@@ -167,8 +169,8 @@ fn reports_of(
     Ok(reports)
 }
 
-/// Returns the reports of what a document uses that TOML 1.0 lacks, in the order of the text. Returns none if the text
-/// can't be read.
+/// Returns a report for each place where a document uses syntax that TOML 1.0 lacks, in the order of the text. The list
+/// is empty if the text can't be read.
 ///
 /// `is_default` says whether the name of the file decided to check it as TOML 1.0. Fails only if an allocation fails.
 pub fn newer_reports(alloc: Global, text: &str, is_default: bool) -> Result<Vec<Report>, AllocError>
@@ -183,8 +185,8 @@ pub fn newer_reports(alloc: Global, text: &str, is_default: bool) -> Result<Vec<
     reports_of(alloc, text, forms.as_slice(), is_default)
 }
 
-/// Returns the reports of what a valid document uses that this version lacks. `name` is the name of the file. Fails if
-/// an allocation fails.
+/// Returns a report for each place where a valid document uses syntax that this version lacks. `name` is the name of
+/// the file. Fails if an allocation fails.
 pub(crate) fn version_reports(
     alloc: Global,
     text: &str,
@@ -225,8 +227,8 @@ fn all_edits<'r>(alloc: Global, reports: &'r [Report]) -> Result<Vec<Replacement
     Ok(edits)
 }
 
-/// Replaces what a document uses that this version of TOML lacks by what means the same in it, and returns the result
-/// with the number of replacements. Leaves what has no replacement. `name` is the name of the file. Takes time linear
+/// Replaces syntax that this version of TOML lacks by syntax that means the same, and returns the new text with the
+/// number of replacements. Syntax without such a replacement stays. `name` is the name of the file. Takes time linear
 /// in the length of the text. Fails only if an allocation fails.
 pub fn with_older_forms(
     alloc: Global,

@@ -1,4 +1,4 @@
-//! Runs a check of files.
+//! Checks or prints files, and writes the output.
 ghost use Rattle.std.specs.Prelude.{◌≡◌, ◌+◌, ◌++◌, IfOk, OnOk, false, map, string_bytes};
 ghost use Rattle.toml_span_check.specs.Run as spec;
 ghost use Rattle.toml_span_check.specs.Run.{FindsAll, Runs, complaint};
@@ -50,7 +50,7 @@ fn sum_of(count: usize, more: usize) -> Result<usize, AllocError>
 }
 
 impl Collected {
-    /// Counts the errors of a file. Fails if a sum does not fit.
+    /// Counts a file with this many errors. Fails if a sum does not fit.
     fn count(&mut self, errors: usize) -> Result<(), AllocError>
         ensures { OnOk result (self.new ≡ record self.old { wrong = spec.counted self.old.wrong errors }) }
     {
@@ -80,8 +80,8 @@ pub fn push_complaint(out: &mut String, name: &str, reason: &str) -> Result<(), 
     Ok(())
 }
 
-/// Answers the bytes of a file: writes the document to print, or appends the reports of errors to `held`. Returns the
-/// number of errors. Fails if a write or an allocation fails.
+/// Checks or prints the bytes of a file: writes the document to print, or appends the reports of errors to `held`.
+/// Returns the number of errors. Fails if a write or an allocation fails.
 fn collect_bytes<O: Sink>(
     alloc: Global,
     format: Format,
@@ -107,7 +107,8 @@ fn collect_bytes<O: Sink>(
     }
 }
 
-/// Answers one file, which may be unreadable, and counts its errors. Fails if a write or an allocation fails.
+/// Checks or prints one file, and counts its errors in `collected`. `reading` has the bytes of the file, or why it
+/// can't be read. Fails if a write or an allocation fails.
 fn collect_one<O: Sink>(
     alloc: Global,
     format: Format,
@@ -150,7 +151,8 @@ fn collect_one<O: Sink>(
     Ok(())
 }
 
-/// Returns the names of the files that the arguments stand for. Fails if an allocation fails.
+/// Returns the names of the files that the arguments `names` stand for. `excludes` are patterns of files to leave out
+/// of directories. Fails if an allocation fails.
 fn find_all<I: Inputs>(
     alloc: Global,
     excludes: &[&str],
@@ -169,7 +171,8 @@ fn find_all<I: Inputs>(
     Ok(files)
 }
 
-/// Reads the files in order, and answers each. Fails if a write or an allocation fails.
+/// Reads the files in order, and checks or prints each. Returns the output that has not been written yet. Fails if a
+/// write or an allocation fails.
 fn collect<I: Inputs, O: Sink>(
     alloc: Global,
     format: Format,
@@ -209,7 +212,8 @@ fn collect<I: Inputs, O: Sink>(
     Ok(collected)
 }
 
-/// Appends a number and a noun, such as `1 file` or `2 files`. Fails if an allocation fails.
+/// Appends a number and a noun, such as `1 file` or `2 files`. `word` is the singular of the noun, after a space. Fails
+/// if an allocation fails.
 fn push_number(out: &mut String, number: usize, word: &str) -> Result<(), AllocError>
     ensures { OnOk result (string_bytes out.new ≡ string_bytes out.old ++ spec.number_of number word.now) }
 {
@@ -221,7 +225,8 @@ fn push_number(out: &mut String, number: usize, word: &str) -> Result<(), AllocE
     Ok(())
 }
 
-/// Appends the line that counts errors: `3 errors in 2 of 5 files`. Fails if an allocation fails.
+/// Appends the line that counts errors: `3 errors in 2 of 5 files`. `files` is the number of all files. Fails if an
+/// allocation fails.
 #[tactic(auto, unfolding(crate::specs::Run::found_errors))]
 fn push_errors(out: &mut String, files: usize, wrong: Tally) -> Result<(), AllocError>
     ensures { OnOk result (string_bytes out.new ≡ string_bytes out.old ++ spec.found_errors files wrong) }
@@ -243,7 +248,7 @@ fn push_checked(out: &mut String, files: usize) -> Result<(), AllocError>
     out.push_str(" checked\n")
 }
 
-/// Appends the last line of a check that prints text: the number of errors or, if there are none and standard output is
+/// Appends the last line of a check that prints text: the number of errors or, without errors and if standard error is
 /// a terminal (`is_watched`), the number of files. Fails if an allocation fails.
 fn push_summary(
     out: &mut String,
@@ -273,8 +278,8 @@ fn whole(alloc: Global, format: Format, task: Task, stdout: Vec<u8>) -> Result<V
     }
 }
 
-/// Reads the files that the arguments stand for, and answers each, with a summary at the end. Fails if a write or an
-/// allocation fails.
+/// Reads the files that the arguments `names` stand for, and checks or prints each, with a summary at the end. Returns
+/// the output that has not been written yet. Fails if a write or an allocation fails.
 fn collect_all<I: Inputs, O: Sink>(
     alloc: Global,
     format: Format,
@@ -306,8 +311,9 @@ fn collect_all<I: Inputs, O: Sink>(
     Ok(collected)
 }
 
-/// Reads the files that the arguments stand for, answers each, and writes the output. Returns the exit status: 0
-/// without errors, 1 if a file has errors, 2 if a file can't be read, 3 if a write failed, 4 if an allocation failed.
+/// Reads the files that the arguments `names` stand for, checks or prints each, and writes the output. Returns the exit
+/// status: 0 without errors, 1 if a file has errors, 2 if a file can't be read, 3 if a write failed, 4 if an allocation
+/// failed.
 fn run_aloud<I: Inputs, O: Sink, E: Sink>(
     alloc: Global,
     format: Format,
@@ -379,7 +385,7 @@ fn run_quiet<I: Inputs>(
 /// Reads the files that the arguments `names` stand for, and checks or prints each of them.
 ///
 /// `excludes` are patterns of files to leave out of directories, and `pointer` names the value to print. `is_watched`
-/// says whether standard output is a terminal, and `is_quiet` suppresses all output. Returns the exit status: 0 without
+/// says whether standard error is a terminal, and `is_quiet` suppresses all output. Returns the exit status: 0 without
 /// errors, 1 if a file has errors, 2 if a file can't be read, 3 if a write failed, 4 if an allocation failed.
 pub fn run<I: Inputs, O: Sink, E: Sink>(
     alloc: Global,

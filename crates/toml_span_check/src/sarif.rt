@@ -125,7 +125,8 @@ fn push_artifact(out: &mut String, name: &str) -> Result<(), AllocError>
     Ok(())
 }
 
-/// Appends the lines and columns of a region, after its opening brace. Fails if an allocation fails.
+/// Appends the lines and columns of a region, after its opening brace. `start` and `end` are each a line and a column,
+/// counted from 1. Fails if an allocation fails.
 fn push_lines(
     out: &mut String,
     start: (usize, usize),
@@ -140,7 +141,7 @@ fn push_lines(
     Ok(())
 }
 
-/// Appends the byte range of a region, before its closing brace. Fails if an allocation fails.
+/// Appends the byte range of a region, and its closing brace. Fails if an allocation fails.
 #[tactic(auto, unfolding(crate::specs::Sarif::bytes))]
 fn push_bytes(out: &mut String, start: usize, end: usize) -> Result<(), AllocError>
     requires { start ≤ end }
@@ -161,7 +162,8 @@ fn push_region(out: &mut String, text: &str, span: Span) -> Result<(), AllocErro
     push_bytes(out, start, end)
 }
 
-/// Appends the location of a label, with its message. Fails if an allocation fails.
+/// Appends the location of a label in the file `name`, whose source is `text`, with the label's message. Fails if an
+/// allocation fails.
 fn push_location(
     alloc: Global,
     out: &mut String,
@@ -241,7 +243,7 @@ fn others(alloc: Global, name: &str, text: &str, labels: &[Label<()>]) -> Result
     Ok(out)
 }
 
-/// Removes the comma before the first element of a list.
+/// Returns a list without the comma before its first element.
 fn listed(elements: &[u8]) -> &[u8]
     ensures { result.now ≡ spec.listed elements.now }
 {
@@ -251,7 +253,7 @@ fn listed(elements: &[u8]) -> &[u8]
     }
 }
 
-/// Appends the code, the level and the message of a report, after a comma. Fails if an allocation fails.
+/// Appends a comma, and the code, the level and the message of a report. Fails if an allocation fails.
 fn push_front(alloc: Global, out: &mut String, report: &Report) -> Result<(), AllocError>
     ensures { OnOk result (string_bytes out.new ≡ string_bytes out.old ++ spec.front (report_content report.now)) }
 {
@@ -384,7 +386,8 @@ fn push_fixes(
     }
 }
 
-/// Returns a report as a result, after a comma. Fails if an allocation fails.
+/// Returns a report as a result, after a comma. `name` is the name of the file, `text` the source. Fails if an
+/// allocation fails.
 pub(crate) fn sarif(
     alloc: Global,
     report: &Report,

@@ -8,14 +8,14 @@ use std::alloc::{AllocError, Global};
 use toml_span::value::{Table, Value, ValueInner};
 use toml_span_report::visible::push_quoted;
 
-/// Returns the text of a boolean.
+/// Returns a boolean as text: `true` or `false`.
 pub(crate) fn truth(is_true: bool) -> &'static str
     ensures { result.now ≡ spec.truth is_true }
 {
     if is_true { "true" } else { "false" }
 }
 
-/// Appends a comma, unless this is the first element. Fails if an allocation fails.
+/// Appends a comma if `later`, that is, before any element but the first. Fails if an allocation fails.
 pub(crate) fn push_comma(out: &mut String, later: bool) -> Result<(), AllocError>
     ensures { OnOk result (string_bytes out.new ≡ string_bytes out.old ++ spec.comma_if later) }
 {
@@ -41,7 +41,7 @@ fn push_tagged(
     out.push_str("}")
 }
 
-/// Appends a scalar with its type, or nothing for an array or a table. Fails if an allocation fails.
+/// Appends a scalar as JSON with its type, or nothing for an array or a table. Fails if an allocation fails.
 fn push_typed(alloc: Global, out: &mut String, scalar: &ValueInner<'_>) -> Result<(), AllocError>
     ensures { OnOk result (string_bytes out.new ≡ string_bytes out.old ++ spec.own_text true (inner_view scalar.now)) }
 {
@@ -62,7 +62,7 @@ fn push_typed(alloc: Global, out: &mut String, scalar: &ValueInner<'_>) -> Resul
     }
 }
 
-/// Appends a scalar, or nothing for an array or a table. Fails if an allocation fails.
+/// Appends a scalar as JSON, or nothing for an array or a table. Fails if an allocation fails.
 fn push_plain(alloc: Global, out: &mut String, scalar: &ValueInner<'_>) -> Result<(), AllocError>
     ensures { OnOk result (string_bytes out.new ≡ string_bytes out.old ++ spec.own_text false (inner_view scalar.now)) }
 {
@@ -88,7 +88,7 @@ pub(crate) struct Shape {
     pub(crate) is_tagged: bool,
 }
 
-/// Appends a value. A value that has been taken is `null`. Fails if an allocation fails.
+/// Appends a value as JSON. A value that has been taken is `null`. Fails if an allocation fails.
 #[cycle(push_value)]
 fn push_value(shape: Shape, out: &mut String, value: &Value<'_>) -> Result<(), AllocError>
     ensures { OnOk result (string_bytes out.new ≡ string_bytes out.old ++ spec.shown shape.is_tagged (view value.now)) }

@@ -23,7 +23,8 @@ pub(crate) struct Statement {
     pub(crate) start: usize,
     /// The start of the next statement.
     pub(crate) next: usize,
-    /// Where the last statement ends that has no meaning without it: for a header the last one of its section.
+    /// The end of what has no meaning without the statement: for a header, the end of its section; for an assignment,
+    /// `next`.
     pub(crate) end: usize,
 }
 
@@ -50,7 +51,7 @@ fn is_long(text: &str, at: usize) -> bool {
     quote == byte_at(text, at.saturating_add(1)) && quote == byte_at(text, at.saturating_add(2))
 }
 
-/// Returns what is open before a statement that begins at the offset `line`: nothing.
+/// Returns the state at the start of a statement that begins at the offset `line`: nothing is open.
 fn begin(text: &str, line: usize) -> Open {
     Open {
         depth: 0,
@@ -243,9 +244,9 @@ fn indentation(text: &str, line: usize) -> usize {
     blanks_end(text, line).saturating_sub(line)
 }
 
-/// Returns whether the line that begins at `line` is the start of a statement, even though the one from `start` on,
-/// with an error at `place`, is not closed. It must not be indented further than that one, and the error must not be in
-/// its head.
+/// Returns whether a statement begins on the line at the offset `line`, although the one that begins at `start` and has
+/// an error at `place` is not closed. The line must not be indented further than that statement, and its own head must
+/// end after `place`.
 fn resumes(text: &str, line: usize, start: usize, place: usize) -> bool {
     match head_end(text, line) {
         Some(end) => end > place && indentation(text, line) <= indentation(text, start),
@@ -253,8 +254,8 @@ fn resumes(text: &str, line: usize, start: usize, place: usize) -> bool {
     }
 }
 
-/// Returns whether the line that begins at `line` belongs to a statement that can't be read, and that begins at
-/// `start`: it is indented further, is not blank, and does not begin a statement.
+/// Returns whether the line at the offset `line` belongs to a statement that begins at `start` and can't be read. It
+/// does if it is indented further, has more than a comment, and does not begin a statement.
 fn continues(text: &str, line: usize, start: usize) -> bool {
     let is_blank = matches!(
         byte_at(text, blanks_end(text, line)),
@@ -265,7 +266,8 @@ fn continues(text: &str, line: usize, start: usize) -> bool {
         && head_end(text, line).is_none()
 }
 
-/// Returns the start of the first line after `place` that begins a statement in spite of an open string.
+/// Returns the start of the first line after `place` on which a statement begins in spite of an open string, or the
+/// length of the text. `start` is the start of the statement with that string.
 fn next_head(text: &str, start: usize, place: usize) -> usize {
     for at in place..text.len() {
         if byte_at(text, at) == b'\n' && resumes(text, at + 1, start, place) {
@@ -275,9 +277,9 @@ fn next_head(text: &str, start: usize, place: usize) -> usize {
     text.len()
 }
 
-/// Returns where the next statement begins after the one from `start` on, which has an error at `place`. If the
-/// statement can't be read (`is_broken`), lines that continue it are skipped; and if it is not closed, the next one is
-/// the next line that begins a statement.
+/// Returns the start of the statement after the one that begins at `start` and has an error at `place`. If that one
+/// can't be read (`is_broken`), lines that continue it are skipped. If it is not closed either, the next statement
+/// begins on the first line that `resumes` accepts.
 fn next_of(text: &str, start: usize, place: usize, is_broken: bool) -> usize {
     let mut open = begin(text, start);
     for at in start..text.len() {
@@ -300,7 +302,8 @@ fn next_of(text: &str, start: usize, place: usize, is_broken: bool) -> usize {
     }
 }
 
-/// Returns the start of the first header from the start of a line on, or the length of the text if there is none.
+/// Returns the start of the line of the first header at or after `from`, the start of a line, or the length of the
+/// text.
 fn next_header(text: &str, from: usize) -> usize {
     let mut open = begin(text, from);
     if open.is_header {
@@ -329,7 +332,8 @@ pub(crate) fn is_clash(kind: &ErrorKind<'_>) -> bool {
     )
 }
 
-/// Returns the statement that contains the offset `place`, where an error is. A statement begins at `from`.
+/// Returns the statement that contains the offset `place`, where an error is. A statement must begin at `from`.
+/// `is_clash` says that the error is a clash, so that the statement can be read.
 pub(crate) fn statement_of(text: &str, from: usize, place: usize, is_clash: bool) -> Statement {
     let start = start_of(text, from, place);
     let next = next_of(text, start, place, !is_clash);

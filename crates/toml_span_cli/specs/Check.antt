@@ -21,13 +21,13 @@ abbrev pub ChecksFixed : List (List ℕ) → Bool → Bool → Option (List ℕ)
 ChecksFixed words is_terminal is_watched stdout stdout' out_failed stderr stderr' err_failed status =
     (line : List ℕ) × (mid : Option (List ℕ)) × HasWritten stderr mid line
     × (Starts readers.Check words is_terminal is_watched None None stdout stdout' out_failed mid stderr' err_failed
-      status
+    status
     ⊎ ((status ≡ 3) × Keeps stdout stdout' × (mid ≡ stderr')))
 
 abbrev pub Checks : List (List ℕ) → Bool → Bool → Option (List ℕ) → Option (List ℕ) → Bool → Option (List ℕ)
     → Option (List ℕ) → Bool → ℕ → Type 0
 Checks words is_terminal is_watched stdout stdout' out_failed stderr stderr' err_failed status =
     Starts readers.Check words is_terminal is_watched None None stdout stdout' out_failed stderr stderr' err_failed
-      status
+    status
     ⊎ (AsksForFixing words is_terminal
     × ChecksFixed words is_terminal is_watched stdout stdout' out_failed stderr stderr' err_failed status)

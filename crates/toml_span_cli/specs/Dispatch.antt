@@ -62,11 +62,11 @@ AnswersFirst None words is_coloured is_watched stdout stdout' out_failed stderr 
 AnswersFirst (Some word) words is_coloured is_watched stdout stdout' out_failed stderr stderr' err_failed status =
     (exists : Bool)
     × Answers (request_of word exists) words is_coloured is_watched stdout stdout' out_failed stderr stderr' err_failed
-      status
+    status
 
 -- How the command line is carried out. Its first word is the program's name.
 abbrev pub Dispatches : List (List ℕ) → Bool → Bool → Option (List ℕ) → Option (List ℕ) → Bool → Option (List ℕ)
     → Option (List ℕ) → Bool → ℕ → Type 0
 Dispatches words is_coloured is_watched stdout stdout' out_failed stderr stderr' err_failed status =
     AnswersFirst (slice_get words 1) words is_coloured is_watched stdout stdout' out_failed stderr stderr' err_failed
-      status
+    status

@@ -39,6 +39,6 @@ Starts reader words is_terminal is_watched old new stdout stdout' out_failed std
     × (faults reader words is_terminal ≡ [])
     × Asks reader words is_terminal format task pointer excludes names is_quiet is_fixing
     × Runs format task pointer excludes names is_watched is_quiet old new stdout stdout' out_failed stderr stderr'
-      err_failed status)
+    err_failed status)
     ⊎ ((kind : ErrorKind) × ((kind ≡ OutOfMemory) ⊎ IsAmong kind (faults reader words is_terminal)) × (new ≡ old)
     × Refuses reader kind stdout stdout' out_failed stderr stderr' err_failed status)

@@ -25,8 +25,8 @@ pub(crate) fn printed(alloc: Global, out: String) -> Answer {
     }
 }
 
-/// Returns the answer of a command that fails with this status: a line with `front`, the name of the file and the
-/// reason. Fails if an allocation fails.
+/// Returns the answer of a command that fails with this status: a line with `front`, the name of the file in backticks,
+/// and the reason. Fails if an allocation fails.
 pub(crate) fn failed(
     alloc: Global,
     front: &str,

@@ -55,7 +55,8 @@ struct Reading<'w> {
     waiting: Waiting,
 }
 
-/// Parses a number of seconds, from 0 to `MOST_WAIT`. Fails with a message if it is not one.
+/// Parses a number of seconds. Fails with a message if it is not a number from 0 to `MOST_WAIT`, or if an allocation
+/// fails.
 fn seconds(alloc: Global, word: &str) -> Result<u64, Stop<String>> {
     match word.parse::<u64>() {
         Ok(number) if number <= MOST_WAIT => Ok(number),
@@ -66,7 +67,7 @@ fn seconds(alloc: Global, word: &str) -> Result<u64, Stop<String>> {
 }
 
 impl<'w> Reading<'w> {
-    /// Fails with the message that this argument is unexpected.
+    /// Always fails: with the message that the argument `word` is unexpected, or if an allocation fails.
     fn unexpected(&self, word: &str) -> Result<(), Stop<String>> {
         let word = quoted_word(self.alloc, word)?;
         Err(Stop::Fault(format!(in self.alloc;
@@ -74,7 +75,7 @@ impl<'w> Reading<'w> {
         )?))
     }
 
-    /// Parses an argument that begins with a dash. Fails with a message.
+    /// Parses an argument that begins with a dash. Fails with a message, or if an allocation fails.
     fn option(&mut self, word: &'w str) -> Result<(), Stop<String>> {
         match word {
             "-h" | "--help" => self.asked.is_help = true,
@@ -95,7 +96,7 @@ impl<'w> Reading<'w> {
         Ok(())
     }
 
-    /// Parses an argument. Fails with a message.
+    /// Parses the next argument. Fails with a message, or if an allocation fails.
     fn take(&mut self, word: &'w str) -> Result<(), Stop<String>> {
         match self.waiting {
             Waiting::Wait => self.asked.options.wait = seconds(self.alloc, word)?,

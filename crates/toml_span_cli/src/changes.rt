@@ -40,8 +40,8 @@ pub(crate) fn count_of(command: Command) -> usize {
     }
 }
 
-/// Returns the edit that a command makes with its arguments after the name of the file, or `None` if it takes another
-/// number of them.
+/// Returns the edit that a command makes. `words` are its arguments after the name of the file. Returns `None` if their
+/// number is wrong.
 pub(crate) fn change_of<'w>(command: Command, words: &[&'w str]) -> Option<Change<'w>> {
     let [path, rest @ ..] = words else {
         return None;
@@ -60,7 +60,7 @@ pub(crate) fn change_of<'w>(command: Command, words: &[&'w str]) -> Option<Chang
 }
 
 impl<'w> Change<'w> {
-    /// Returns whether the paths of the edit begin with a slash or are empty.
+    /// Returns whether each path of the edit is empty or begins with a slash.
     pub(crate) fn has_pointers(&self) -> bool {
         match self.task {
             Task::Move(to) => is_pointer(self.path) && is_pointer(to),
@@ -69,7 +69,7 @@ impl<'w> Change<'w> {
     }
 }
 
-/// Returns the command with this name, or `None` if no line of a script may begin with it.
+/// Returns the command with this name, or `None` if an edit in a script can't begin with it.
 fn scripted(name: &str) -> Option<Command> {
     match name {
         "set" => Some(Command::Set),
@@ -83,7 +83,8 @@ fn scripted(name: &str) -> Option<Command> {
     }
 }
 
-/// Splits a line after its first word, which may be in quotes. In quotes nothing is escaped.
+/// Splits a line after its first word, which may be in quotes. Returns the word without quotes, and the rest of the
+/// line. Returns `None` if a quote is not closed. Quotes have no escapes.
 fn first_word(line: &str) -> Option<(&str, &str)> {
     let line = line.trim_start();
     let (word, rest) = match (line.strip_prefix('\''), line.strip_prefix('"')) {
@@ -98,7 +99,7 @@ fn first_word(line: &str) -> Option<(&str, &str)> {
 }
 
 /// Parses a line of a script: a command and its arguments, separated by blanks. The last argument is the rest of the
-/// line. Returns `None` if the line is wrong.
+/// line. Returns `None` if the line is not an edit.
 fn line_change(line: &str) -> Option<Change<'_>> {
     let (name, rest) = first_word(line)?;
     let command = scripted(name)?;
@@ -117,7 +118,8 @@ fn line_change(line: &str) -> Option<Change<'_>> {
     }
 }
 
-/// Parses a line of a script. Fails with a message, or if an allocation fails.
+/// Parses an edit in a script or in `-e`. `front` and the number `at` name it in messages, as in `line 2`. Fails with a
+/// message, or if an allocation fails.
 fn checked<'w>(
     alloc: Global,
     front: &str,

@@ -22,7 +22,8 @@ struct Count {
     files: usize,
 }
 
-/// Fixes the errors of a source, and then replaces what its version of TOML lacks. Fails if an allocation fails.
+/// Fixes the errors of a source, and then replaces syntax that the version of TOML in `task` lacks. Returns the new
+/// text with the number of fixes. `name` is the name of the file. Fails if an allocation fails.
 fn fixed(alloc: Global, text: &str, task: Task, name: &str) -> Result<Fixed, AllocError> {
     let made = with_fixes(alloc, text)?;
     let Task::Check(version) = task else {
@@ -36,8 +37,8 @@ fn fixed(alloc: Global, text: &str, task: Task, name: &str) -> Result<Fixed, All
 }
 
 /// Fixes the errors of a file, and replaces the file if there were any. Returns the number of fixes, or the answer for
-/// a file that could not be written. Leaves a file that can't be read, or is not a text of at most 16 MiB, for the
-/// check to report. Fails if an allocation fails.
+/// a file that could not be written. Returns 0 for standard input, and for a file that can't be read or is not a text
+/// of at most 16 MiB, which the check reports. Fails if an allocation fails.
 fn fix_file(
     alloc: Global,
     host: &mut Host,
@@ -73,7 +74,8 @@ struct Outcome {
     is_written: bool,
 }
 
-/// Returns the line that counts the fixes, or an empty text if there is nothing to say. Fails if an allocation fails.
+/// Returns the outcome of fixes that were all written, with a line that counts them. The line is empty without fixes,
+/// or if `is_quiet`. Fails if an allocation fails.
 fn counted(alloc: Global, count: Count, is_quiet: bool) -> Result<Outcome, AllocError> {
     let (errors, files) = (count.errors, count.files);
     let mut line = String::new(alloc);
@@ -88,7 +90,8 @@ fn counted(alloc: Global, count: Count, is_quiet: bool) -> Result<Outcome, Alloc
     })
 }
 
-/// Fixes the errors of the files that the arguments stand for, except for standard input. Fails if an allocation fails.
+/// Fixes the errors of the files that the arguments stand for, except for standard input. Stops at the first file that
+/// can't be written. Fails if an allocation fails.
 fn fix_files(alloc: Global, options: &Options<'_>, host: &mut Host) -> Result<Outcome, AllocError> {
     let mut count = Count {
         errors: 0,
@@ -116,8 +119,8 @@ fn fix_files(alloc: Global, options: &Options<'_>, host: &mut Host) -> Result<Ou
     counted(alloc, count, options.is_quiet)
 }
 
-/// Carries out `--fix`. Returns `None` if the arguments don't have that option, or are wrong. Fails if an allocation
-/// fails.
+/// Carries out `--fix`. Returns `None` if the arguments don't have that option, or are wrong. `words` are the name of
+/// the command and its arguments. Fails if an allocation fails.
 fn fix(
     alloc: Global,
     words: &[String],
@@ -134,7 +137,7 @@ fn fix(
     }
 }
 
-/// Prints what fixing has to say and, if all fixes were written, checks the files. Returns the exit status.
+/// Prints the line of `outcome` and, if all fixes were written, checks the files. Returns the exit status.
 fn check_fixed<O: Sink, E: Sink>(
     alloc: Global,
     outcome: &Outcome,
@@ -170,8 +173,8 @@ fn check_fixed<O: Sink, E: Sink>(
     }
 }
 
-/// Checks files and, with `--fix`, first fixes their errors. `words` are the name of the command and its arguments.
-/// Returns the exit status. Fails if an allocation fails.
+/// Checks files and, with `--fix`, first fixes their errors. `words` are the name of the command and its arguments. The
+/// other parameters are those of `dispatch`. Returns the exit status. Fails if an allocation fails.
 pub(crate) fn check<O: Sink, E: Sink>(
     alloc: Global,
     words: &[String],

@@ -31,7 +31,7 @@ pub(crate) const NAMES: [&str; 14] = [
     "edit", "explain", "help",
 ];
 
-/// Returns the command of this name.
+/// Returns the command with this name, if there is one.
 pub(crate) fn command_named(name: &str) -> Option<Command>
     ensures { result ≡ spec.command_named name.now }
 {
@@ -54,7 +54,7 @@ pub(crate) fn command_named(name: &str) -> Option<Command>
     }
 }
 
-/// Returns a command's name, and its arguments other than options, as its usage has them.
+/// Returns the usage of a command: its name and its arguments.
 pub(crate) fn arguments_of(command: Command) -> &'static str {
     match command {
         Command::Check => "check [OPTION].. [FILE|DIRECTORY|-]..",

@@ -36,7 +36,7 @@ enum Request {
     Unknown,
 }
 
-/// Returns what the first argument is. `exists` says whether a file has this name.
+/// Returns what the first argument asks for. `exists` says whether a file has this name.
 #[tactic(auto, unfolding(crate::specs::Dispatch::request_of))]
 fn request_of(word: &str, exists: bool) -> Request
     ensures { result ≡ spec.request_of word.now exists }
@@ -54,7 +54,8 @@ fn request_of(word: &str, exists: bool) -> Request
     }
 }
 
-/// Reports an argument that is neither a command nor a file. Returns status 2. Fails if an allocation fails.
+/// Prints to `errors` that an argument is neither a command nor a file, with the nearest command. Returns status 2, or
+/// 3 if the write fails. Fails if an allocation fails.
 fn say_unknown<E: Sink>(alloc: Global, word: &str, errors: &mut E) -> Result<u8, AllocError>
     requires { E.failed errors.old ≡ false }
     ensures { IfOk result (λ status.
@@ -111,8 +112,9 @@ fn say_help<O: Sink>(alloc: Global, command: Command, out: &mut O) -> Result<u8,
     }
 }
 
-/// Carries out a command. `words` are its name, or that of the program, and its arguments. Returns the exit status.
-/// Fails if an allocation fails.
+/// Carries out a command. `words` are its name, or that of the program, and its arguments. `is_coloured` says whether
+/// `--color auto` means colors, and `is_watched` whether standard error is a terminal. Returns the exit status. Fails
+/// if an allocation fails.
 fn perform<O: Sink, E: Sink>(
     alloc: Global,
     command: Command,
@@ -156,10 +158,12 @@ fn perform<O: Sink, E: Sink>(
     }
 }
 
-/// Carries out what the arguments ask for. `words` are the name of the program and its arguments.
+/// Carries out what the arguments ask for. `words` are the name of the program and its arguments. `is_coloured` says
+/// whether `--color auto` means colors, and `is_watched` whether standard error is a terminal.
 ///
 /// Returns the exit status: 0 for success, 1 for an error in a file or a refused edit, 2 if a file can't be read or the
-/// arguments are wrong, 3 if a write fails, 4 if an allocation fails.
+/// arguments are wrong, 3 if a write fails, 4 if an allocation fails in `check` or `get`. Fails if any other allocation
+/// fails.
 pub(crate) fn dispatch<O: Sink, E: Sink>(
     alloc: Global,
     words: &[String],

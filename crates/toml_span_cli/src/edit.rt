@@ -18,8 +18,8 @@ use toml_span_files::{Failed, Failure, LIMIT, edit_file, unified};
 use toml_span_lines::sink::Sink;
 use toml_span_report::visible::{push_char, visible, visible_lines};
 
-/// Returns a text to print. For a terminal, all characters are escaped that it would act on, except tabs and line ends.
-/// Fails if an allocation fails.
+/// Returns a text as it is printed: unchanged or, for a terminal, with escapes for the characters that terminals act
+/// on, except tabs and line ends. Fails if an allocation fails.
 pub(crate) fn shown(alloc: Global, text: String, is_terminal: bool) -> Result<String, AllocError> {
     if !is_terminal {
         return Ok(text);
@@ -34,13 +34,14 @@ pub(crate) fn shown(alloc: Global, text: String, is_terminal: bool) -> Result<St
     Ok(out)
 }
 
-/// Returns the answer for edits that were refused. Fails if an allocation fails.
+/// Returns the answer for edits that were refused with a message, `stop`. Fails if an allocation failed or fails.
 fn refused(alloc: Global, file: &str, stop: Stop<String>) -> Result<Answer, AllocError> {
     let reason = stop.fault()?;
     failed(alloc, "error: cannot edit ", file, reason.as_str(), 1)
 }
 
-/// Returns the answer that prints the result of edits, or how it differs from the file. Fails if an allocation fails.
+/// Makes edits of a file without replacing it. Returns the answer, which prints the result or how it differs from the
+/// file. Fails if an allocation fails.
 fn show(
     alloc: Global,
     file: &str,
@@ -105,7 +106,8 @@ fn perform(
     }
 }
 
-/// Makes the edits of a script on standard input. Returns the answer. Fails if an allocation fails.
+/// Makes the edits of a script on standard input. Returns the answer. `file` is the file to edit. Fails if an
+/// allocation fails.
 fn perform_script(
     alloc: Global,
     file: &str,
@@ -141,7 +143,7 @@ pub(crate) fn edit_help(alloc: Global, command: Command) -> Result<String, Alloc
     Ok(text)
 }
 
-/// Returns the answer for wrong arguments. Fails if an allocation fails.
+/// Returns the answer for wrong arguments. `message` says what is wrong. Fails if an allocation fails.
 fn misuse(alloc: Global, command: Command, message: &str) -> Result<Answer, AllocError> {
     let arguments = arguments_of(command);
     let text = format!(in alloc;
@@ -154,7 +156,7 @@ fn misuse(alloc: Global, command: Command, message: &str) -> Result<Answer, Allo
     })
 }
 
-/// Returns the answer for a wrong number of arguments. Fails if an allocation fails.
+/// Returns the answer for a wrong number of arguments, which is `given`. Fails if an allocation fails.
 fn miscounted(alloc: Global, command: Command, given: usize) -> Result<Answer, AllocError> {
     let wanted = count_of(command).saturating_add(1);
     let arguments = if wanted == 1 { "argument" } else { "arguments" };
@@ -162,8 +164,8 @@ fn miscounted(alloc: Global, command: Command, given: usize) -> Result<Answer, A
     misuse(alloc, command, message.as_str())
 }
 
-/// Makes the edits of the options `-e`, or of a script on standard input. Returns the answer. Fails if an allocation
-/// fails.
+/// Makes the edits of the options `-e` or, without `-e`, of a script on standard input. Returns the answer. Fails if an
+/// allocation fails.
 fn edit_by_script(
     alloc: Global,
     asked: &Arguments<'_>,

@@ -64,7 +64,7 @@ fn title_of(page: &str) -> &str {
     }
 }
 
-/// Appends a line for each code, with its title. Fails if an allocation fails.
+/// Appends a line for each code in the list, with the title of its explanation. Fails if an allocation fails.
 fn push_titles(out: &mut String, list: &[&str]) -> Result<(), AllocError> {
     for code in list {
         out.push_str(*code)?;
@@ -88,7 +88,8 @@ fn say_all<O: Sink>(alloc: Global, out: &mut O) -> Result<u8, AllocError>
     Ok(say(out, text.as_str(), 0))
 }
 
-/// Reports a code that is not known. Returns status 2. Fails if an allocation fails.
+/// Prints to `errors` that a code is not known, with the nearest one. Returns status 2, or 3 if the write fails. Fails
+/// if an allocation fails.
 fn say_unknown<E: Sink>(alloc: Global, code: &str, errors: &mut E) -> Result<u8, AllocError>
     requires { E.failed errors.old ≡ false }
     ensures { IfOk result (λ status. status ≤ 4) }

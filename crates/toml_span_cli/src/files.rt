@@ -8,8 +8,8 @@ use toml_span_check::folder::is_folder;
 use toml_span_check::input::{Host, Inputs};
 use toml_span_files::{Failure, Options, put_file};
 
-/// Returns the bytes of a file, or of standard input for `-`, or why they can't be read. Does not read directories.
-/// Fails if an allocation fails.
+/// Returns the bytes of a file, or of standard input for `-`, or else a message that says why they can't be read. A
+/// directory can't be read. Fails if an allocation fails.
 pub(crate) fn read_file(
     alloc: Global,
     host: &mut Host,
@@ -21,7 +21,7 @@ pub(crate) fn read_file(
     host.read(alloc, name)
 }
 
-/// Returns how the line for a failure begins, and the exit status.
+/// Returns the first words of the message for a failure, and the exit status.
 fn beginning(failure: &Failure) -> (&'static str, u8)
     ensures { result.1 ≤ 3 }
 {
@@ -32,7 +32,7 @@ fn beginning(failure: &Failure) -> (&'static str, u8)
     }
 }
 
-/// Returns why a file was not edited, in words. Fails if an allocation fails.
+/// Returns the reason why a file was not edited, as text. Fails if an allocation fails.
 fn words_of(alloc: Global, failure: &Failure) -> Result<String, AllocError> {
     match failure {
         Failure::Unread(error) => match error.kind() {
@@ -82,8 +82,8 @@ pub(crate) fn unedited(
     Ok(answer)
 }
 
-/// Replaces the content of a file by a text, unless its bytes have changed since they were read. Returns `None`, or the
-/// answer for a file that was not written. Fails if an allocation fails.
+/// Replaces the content of a file by a text, unless it is no longer `bytes`, which was read earlier. Returns `None`, or
+/// the answer for a file that was not written. Fails if an allocation fails.
 pub(crate) fn replace(
     alloc: Global,
     rt: &HostRuntime,

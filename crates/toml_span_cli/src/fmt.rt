@@ -19,9 +19,10 @@ use toml_span_lines::sink::Sink;
 use toml_span_report::visible::visible;
 use toml_span_report::{Report, Style, render};
 
-/// The maximum values of the options.
+/// The maximum value of `--width`.
 const MOST_COLUMNS: usize = 65_535;
 
+/// The maximum value of `--indent`.
 const MOST_SPACES: usize = 64;
 
 /// An option whose value is a number.
@@ -45,7 +46,7 @@ struct Asked<'w> {
     is_over: bool,
 }
 
-/// Parses the value of an option. Fails with a message.
+/// Parses `word`, the value of `option`, as a number from 0 to `most`. Fails with a message, or if an allocation fails.
 fn number_of(alloc: Global, option: &str, word: &str, most: usize) -> Result<usize, Stop<String>> {
     match word.parse::<usize>() {
         Ok(number) if number <= most => Ok(number),
@@ -56,7 +57,7 @@ fn number_of(alloc: Global, option: &str, word: &str, most: usize) -> Result<usi
 }
 
 impl<'w> Asked<'w> {
-    /// Parses and stores the value of an option. Fails with a message.
+    /// Parses `word` as the value of an option, and stores it. Fails with a message, or if an allocation fails.
     fn set(&mut self, alloc: Global, option: Number, word: &str) -> Result<(), Stop<String>> {
         match option {
             Number::Width => {
@@ -69,7 +70,7 @@ impl<'w> Asked<'w> {
         Ok(())
     }
 
-    /// Parses an option. Fails with a message.
+    /// Parses an option without its value. Fails with a message if it is unknown, or if an allocation fails.
     fn option(&mut self, alloc: Global, word: &str) -> Result<(), Stop<String>> {
         match word {
             "--check" => self.is_check = true,
@@ -87,7 +88,7 @@ impl<'w> Asked<'w> {
         Ok(())
     }
 
-    /// Parses an argument. Fails with a message.
+    /// Parses the next argument. Fails with a message, or if an allocation fails.
     fn take(&mut self, alloc: Global, word: &'w str) -> Result<(), Stop<String>> {
         if let Some(option) = self.waiting.take() {
             return self.set(alloc, option, word);
@@ -177,7 +178,8 @@ fn would_change(
     })
 }
 
-/// Writes the new text of a file, or returns what would change. Fails if an allocation fails.
+/// Returns the answer for a formatted file, and replaces its content, unless it is standard input, or `--check` or
+/// `--diff` is given. `text` is the old text. Fails if an allocation fails.
 fn put(
     alloc: Global,
     asked: &Asked<'_>,
@@ -202,7 +204,8 @@ fn put(
     }
 }
 
-/// Formats a file. Returns what to print. Fails if an allocation fails.
+/// Formats a file. Returns the answer, with the reason if the file can't be read or formatted. Fails if an allocation
+/// fails.
 fn format_file(
     alloc: Global,
     asked: &Asked<'_>,
@@ -246,7 +249,7 @@ fn add(all: &mut Answer, one: &Answer) -> Result<(), AllocError> {
     Ok(())
 }
 
-/// Formats the files that the arguments stand for. Returns what to print. Fails if an allocation fails.
+/// Formats the files that the arguments stand for. Returns one answer for all of them. Fails if an allocation fails.
 fn format_each(alloc: Global, asked: &Asked<'_>, host: &mut Host) -> Result<Answer, AllocError> {
     let mut all = printed(alloc, String::new(alloc));
     for name in &asked.names {
@@ -259,8 +262,8 @@ fn format_each(alloc: Global, asked: &Asked<'_>, host: &mut Host) -> Result<Answ
     Ok(all)
 }
 
-/// Formats the files that the arguments stand for. Returns what to print: on a terminal, differences are escaped. Fails
-/// if an allocation fails.
+/// Formats the files that the arguments stand for. Returns one answer for all of them, in which differences are escaped
+/// if they go to a terminal. Fails if an allocation fails.
 fn format_all(alloc: Global, asked: &Asked<'_>, host: &mut Host) -> Result<Answer, AllocError> {
     let answer = format_each(alloc, asked, host)?;
     if !asked.is_diff {

@@ -30,7 +30,7 @@ struct Prepared<'w> {
     value: String,
 }
 
-/// Returns a path's segments. None are lost: all paths are pointers (see `Change::has_pointers`).
+/// Returns the segments of a path, which must be a pointer (see `Change::has_pointers`). Fails if an allocation fails.
 fn segments_of<'w>(alloc: Global, path: &'w str) -> Result<Vec<&'w str>, AllocError> {
     match segments(alloc, path)? {
         Some(segments) => Ok(segments),
@@ -38,7 +38,8 @@ fn segments_of<'w>(alloc: Global, path: &'w str) -> Result<Vec<&'w str>, AllocEr
     }
 }
 
-/// Returns a value that was given as an argument, as TOML. If `is_string`, the argument is the content of a string.
+/// Returns the value of an argument as TOML. If `is_string`, the argument is the content of a string. Fails if an
+/// allocation fails.
 fn value_of(alloc: Global, value: &str, is_string: bool) -> Result<String, AllocError> {
     if is_string {
         string_text(alloc, value)
@@ -60,7 +61,8 @@ fn kind_of(task: Task<'_>) -> Kind {
     }
 }
 
-/// Prepares an edit. Fails if an allocation fails.
+/// Prepares an edit for the library. If `is_string`, its value is a text rather than TOML. Fails if an allocation
+/// fails.
 fn prepare<'w>(
     alloc: Global,
     change: &'w Change<'_>,
@@ -87,7 +89,8 @@ fn prepare<'w>(
     Ok(prepared)
 }
 
-/// Prepares edits. Fails if an allocation fails.
+/// Prepares edits for the library. If `is_string`, their values are texts rather than TOML. Fails if an allocation
+/// fails.
 fn prepare_all<'w>(
     alloc: Global,
     changes: &'w [Change<'_>],
@@ -119,7 +122,7 @@ fn edit_of<'w>(prepared: &'w Prepared<'w>) -> Edit<'w> {
     }
 }
 
-/// Makes edits that have been prepared. Fails with the edit that is refused, or if an allocation fails.
+/// Makes prepared edits, and returns the new text. Fails with the edit that is refused, or if an allocation fails.
 fn finished<'w>(
     alloc: Global,
     text: &'w str,
@@ -132,7 +135,8 @@ fn finished<'w>(
     edits.finish()
 }
 
-/// Returns the words for a refused edit, with its number if there are several.
+/// Returns the message for a refused edit, one of `count`, with its number if there are several. Fails if an allocation
+/// fails.
 fn words_of(alloc: Global, error: &EditError, count: usize) -> Result<String, AllocError> {
     let mut words = String::new(alloc);
     if count > 1 {
@@ -143,7 +147,8 @@ fn words_of(alloc: Global, error: &EditError, count: usize) -> Result<String, Al
     Ok(words)
 }
 
-/// If an edit was refused because it sets a value over tables, changes it so that it does that. Returns whether it did.
+/// Changes the edit that was refused with `error` so that it replaces tables too. Returns whether that was possible:
+/// the edit must set a value that headers or dotted keys define.
 fn force(list: &mut [Prepared<'_>], error: &EditError) -> bool {
     let Reason::NotSpelled = error.reason else {
         return false;
@@ -160,8 +165,8 @@ fn force(list: &mut [Prepared<'_>], error: &EditError) -> bool {
     }
 }
 
-/// Makes edits that have been prepared. If `is_forced`, values may be set over tables. Fails with a message, or if an
-/// allocation fails.
+/// Makes prepared edits, and returns the new text. If `is_forced`, values may be set over tables. Fails with a message,
+/// or if an allocation fails.
 fn forced(
     alloc: Global,
     text: &str,

@@ -57,7 +57,7 @@ enum Mistake {
     Path,
     /// The path does not begin with a slash.
     Slash,
-    /// Errors as SARIF, which is one document, where a value is shown.
+    /// `get` is asked for SARIF, which only `check` can print.
     Sarif,
 }
 
@@ -101,7 +101,8 @@ fn required<'w>(alloc: Global, name: &'w str) -> Arg<'w>
     Arg::new(alloc, name).required(true)
 }
 
-/// Returns the options of both commands. Fails if an allocation fails.
+/// Returns a command with the options of both commands. `name` is its name in messages, and `help` its help text. Fails
+/// if an allocation fails.
 fn common<'w>(alloc: Global, name: &'w str, help: &'w str) -> Result<Command<'w>, AllocError>
     ensures { IfOk result (λ c. app_of c ≡ spec.common) }
 {
@@ -113,7 +114,7 @@ fn common<'w>(alloc: Global, name: &'w str, help: &'w str) -> Result<Command<'w>
         .arg(choice(alloc, "color", "auto"))
 }
 
-/// Returns the arguments of `check`. Fails if an allocation fails.
+/// Returns the command `check` with its arguments, for clap. Fails if an allocation fails.
 fn check_command<'w>(alloc: Global) -> Result<Command<'w>, AllocError>
     ensures { IfOk result (λ c. app_of c ≡ spec.check) }
 {
@@ -125,7 +126,7 @@ fn check_command<'w>(alloc: Global) -> Result<Command<'w>, AllocError>
         .arg(files(alloc))
 }
 
-/// Returns the options of `get` for the form of the value. Fails if an allocation fails.
+/// Returns the command `get` with its options, without its other arguments. Fails if an allocation fails.
 fn forms_command<'w>(alloc: Global) -> Result<Command<'w>, AllocError>
     ensures { IfOk result (λ c. app_of c ≡ spec.forms) }
 {
@@ -137,7 +138,7 @@ fn forms_command<'w>(alloc: Global) -> Result<Command<'w>, AllocError>
         .arg(flag(alloc, "items"))
 }
 
-/// Returns the arguments of `get`. Fails if an allocation fails.
+/// Returns the command `get` with its arguments, for clap. Fails if an allocation fails.
 fn get_command<'w>(alloc: Global) -> Result<Command<'w>, AllocError>
     ensures { IfOk result (λ c. app_of c ≡ spec.get) }
 {
@@ -146,7 +147,7 @@ fn get_command<'w>(alloc: Global) -> Result<Command<'w>, AllocError>
         .arg(required(alloc, "PATH"))
 }
 
-/// Returns the arguments of a command. Fails if an allocation fails.
+/// Returns a command with its arguments, for clap. Fails if an allocation fails.
 fn command<'w>(alloc: Global, reader: Reader) -> Result<Command<'w>, AllocError>
     ensures { IfOk result (λ c. app_of c ≡ spec.program reader) }
 {
@@ -156,7 +157,7 @@ fn command<'w>(alloc: Global, reader: Reader) -> Result<Command<'w>, AllocError>
     }
 }
 
-/// Returns the output format with this name.
+/// Returns the output format with this name, or `None` for any other name. `style` is used for source lines.
 fn format_named(name: &str, style: Style) -> Option<Format>
     ensures { result ≡ spec.format_named name.now style }
 {
@@ -170,7 +171,7 @@ fn format_named(name: &str, style: Style) -> Option<Format>
     }
 }
 
-/// Returns the style for this value of `--color`.
+/// Returns the style for this value of `--color`, or `None` for any other value. `is_terminal` decides for `auto`.
 fn style_named(name: &str, is_terminal: bool) -> Option<Style>
     ensures { result ≡ spec.style_named name.now is_terminal }
 {
@@ -183,7 +184,7 @@ fn style_named(name: &str, is_terminal: bool) -> Option<Style>
     }
 }
 
-/// Returns the value of an option, or an empty text.
+/// Returns the value of an option, or an empty text if it has no value.
 fn value_of<'w>(matches: &ArgMatches<'w>, name: &str) -> &'w str
     ensures { result.now ≡ spec.value_of (rows_of (found_of matches.now)) name.now }
 {
@@ -197,7 +198,8 @@ fn is_given(matches: &ArgMatches<'_>, name: &str) -> bool
     value_of(matches, name) == "true"
 }
 
-/// Returns the chosen form after one more flag. Fails if two flags choose a form.
+/// Returns the form `chosen` so far or, if the flag of `form` is given, `form`. Fails with `Mistake::Forms` if both
+/// choose a form, or with the mistake in `chosen`.
 fn with_form(
     chosen: Result<Option<Form>, Mistake>,
     is_given: bool,
@@ -212,7 +214,7 @@ fn with_form(
     }
 }
 
-/// Returns the form of the value, if a flag chooses one. Fails if two do.
+/// Returns the form of the value, if a flag chooses one. Fails with `Mistake::Forms` if several do.
 fn form_of(matches: &ArgMatches<'_>) -> Result<Option<Form>, Mistake>
     ensures { result ≡ spec.form_of (rows_of (found_of matches.now)) }
 {
@@ -233,7 +235,7 @@ pub(crate) fn is_pointer(path: &str) -> bool
     }
 }
 
-/// Returns the version of TOML with this name, or `None` if there is none.
+/// Returns the version of TOML with this name, or `None` for any other name.
 fn version_named(name: &str) -> Option<Version>
     ensures { result ≡ spec.version_named name.now }
 {
@@ -263,7 +265,7 @@ fn task_of(reader: Reader, matches: &ArgMatches<'_>) -> Result<Task, Mistake>
     }
 }
 
-/// Returns the format and the task. Fails if they don't go together.
+/// Returns the format and the task. Fails with `Mistake::Sarif` if they don't go together.
 fn with_task(format: Format, task: Task) -> Result<(Format, Task), Mistake>
     ensures { result ≡ spec.with_task format task }
 {

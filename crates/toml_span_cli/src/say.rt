@@ -30,7 +30,8 @@ pub(crate) fn quoted_word(alloc: Global, word: &str) -> Result<String, AllocErro
     Ok(out)
 }
 
-/// Reports wrong arguments of a command. Returns status 2. Fails if an allocation fails.
+/// Prints to `errors` that the arguments of a command are wrong, with its usage. `message` says what is wrong. Returns
+/// status 2, or 3 if the write fails. Fails if an allocation fails.
 pub(crate) fn say_misuse<E: Sink>(
     alloc: Global,
     command: Command,

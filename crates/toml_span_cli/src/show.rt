@@ -15,7 +15,8 @@ use toml_span_lines::run::run;
 use toml_span_lines::sink::Sink;
 use toml_span_lines::tracked::Tracked;
 
-/// Reports a file that can't be read. Returns status 2. Fails if an allocation fails.
+/// Prints to `errors` that a file can't be read, and why. Returns status 2, or 3 if the write fails. Fails if an
+/// allocation fails.
 pub(crate) fn say_unread<E: Sink>(
     alloc: Global,
     name: &str,

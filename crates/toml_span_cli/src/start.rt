@@ -27,8 +27,8 @@ fn help_of(reader: Reader) -> &'static str
     }
 }
 
-/// Returns clap's message for arguments that it refuses. If it accepts them in their displayed form, the path is not
-/// valid UTF-8, and the message says so. Fails if an allocation fails.
+/// Returns clap's message for arguments that it refuses. `words` are the arguments in their displayed form. If clap
+/// accepts them in this form, the path is not valid UTF-8, and the message says so. Fails if an allocation fails.
 fn message_of(alloc: Global, reader: Reader, words: &[String]) -> Result<String, AllocError> {
     match options_of(alloc, reader, words, false) {
         Ok(options) => {
@@ -57,7 +57,8 @@ fn mistake(alloc: Global, reader: Reader, words: &[String]) -> Result<String, Al
     visible_lines(alloc, message.as_str())
 }
 
-/// Prints the help or the version, if the arguments ask for it, or what is wrong with them. Returns the exit status.
+/// Prints the help or the version, if the arguments ask for it, otherwise what is wrong with them. `error` is clap's
+/// error for `words`. Returns the exit status.
 fn refuse<O: Sink, E: Sink>(
     alloc: Global,
     reader: Reader,
@@ -82,9 +83,10 @@ fn refuse<O: Sink, E: Sink>(
     }
 }
 
-/// Carries out `check` or `get`: runs on files (see `run`), or prints the help or the version, with status 0, or what
-/// is wrong with the arguments, with status 2. `words` are the name of the command or program and its arguments.
-/// Returns the exit status: 3 if a write fails, 4 if an allocation fails.
+/// Carries out `check` or `get`: runs on files (see `run`), prints the help or the version with status 0, or prints
+/// what is wrong with the arguments with status 2. `words` are the name of the command or program and its arguments.
+/// `is_terminal` says whether `--color auto` means colors, and `is_watched` is passed on to `run`. Returns the exit
+/// status: 3 if a write fails, 4 if an allocation fails.
 pub(crate) fn start<I: Inputs, O: Sink, E: Sink>(
     alloc: Global,
     reader: Reader,

@@ -7,7 +7,7 @@ use std::env::FillError;
 use std::rt::Env;
 use toml_span_check::words::word_text;
 
-/// Returns the argument at a position, or `None` after the last one. Fails if an allocation fails.
+/// Returns the argument at the position `at`, or `None` after the last one. Fails if an allocation fails.
 fn word(rt: &HostRuntime, at: usize) -> Result<Option<Vec<u8>>, AllocError> {
     let mut size = 256usize;
     for _ in 0..usize::BITS {
@@ -44,7 +44,7 @@ pub(crate) fn is_help(word: &str) -> bool
     word == "-h" || word == "--help"
 }
 
-/// Returns whether an argument asks for the version.
+/// Returns whether an argument is `-V` or `--version`.
 pub(crate) fn is_version(word: &str) -> bool
     ensures { result ≡ spec.is_version word.now }
 {

@@ -18,9 +18,9 @@ use toml_span_read::{Assignment, Section, Val, ValKind};
 /// Where an entry of a table can be written.
 #[derive(Clone, Copy)]
 enum InsertionPoint<'s, 'de> {
-    /// Before the first header: at the end of the lines there, or at the start of the text.
+    /// At the start of a document that has no assignment before its first header, as `top_of` says.
     Top,
-    /// On a line of its own, after the lines of the table's section.
+    /// On its own line, after the lines of the table's section.
     Body(&'s Section<'de>),
     /// After the line or pair of a dotted key. The part with this index names the table.
     Dotted(&'s Assignment<'de>, usize, Home<'s, 'de>),
@@ -31,7 +31,7 @@ enum InsertionPoint<'s, 'de> {
     Header(&'s Section<'de>, usize),
 }
 
-/// Returns whether these mentions are of an array of tables: the first one opens an element of it.
+/// Returns whether these mentions name an array of tables, that is, whether the first one opens an element of it.
 pub(crate) fn names_array(mentions: &[Mention<'_, '_>]) -> bool {
     match mentions.first() {
         Some(Mention::Below(section, index)) => opens_element(*section, *index),
@@ -39,7 +39,7 @@ pub(crate) fn names_array(mentions: &[Mention<'_, '_>]) -> bool {
     }
 }
 
-/// Returns where an entry can be written in the table that has these mentions, or `None` if they are not of a table.
+/// Returns where an entry can be written in the table that these mentions name, or `None` if they don't name a table.
 fn insertion_point<'s, 'de>(mentions: &[Mention<'s, 'de>]) -> Option<InsertionPoint<'s, 'de>> {
     let mut target = None;
     if names_array(mentions) {
@@ -65,8 +65,9 @@ fn insertion_point<'s, 'de>(mentions: &[Mention<'s, 'de>]) -> Option<InsertionPo
     }
 }
 
-/// Returns where to write the first entry of a document that has none before its first header: after a byte order mark,
-/// and after comments at the start that a blank line ends.
+/// Returns the offset at which to write the first entry of a document that has no assignment before its first header:
+/// the start, after a byte order mark. Comments there are skipped, with the blank line after them, if a blank line or
+/// the end of the text follows them.
 fn top_of(text: &str) -> usize {
     let start = if text.starts_with('\u{feff}') { 3 } else { 0 };
     let mut at = start;
@@ -84,8 +85,8 @@ fn top_of(text: &str) -> usize {
     }
 }
 
-/// Inserts lines at the offset `at`, which is the start of a line, or the end of a text whose last line is not closed.
-/// Fails if an allocation fails.
+/// Plans to insert lines at the offset `at`, which is the start of a line or the end of the text. If the last line of
+/// the text has no line end, one is written before them. Fails if an allocation fails.
 fn put_lines(
     document: Document<'_, '_>,
     at: usize,
@@ -100,7 +101,8 @@ fn put_lines(
     plan.put(point(at), new)
 }
 
-/// Inserts an entry before the first header. Fails if an allocation fails.
+/// Plans to insert an entry at the start of a document that has no assignment before its first header. Fails if an
+/// allocation fails.
 fn put_at_top(document: Document<'_, '_>, entry: &str, plan: &mut Plan) -> Result<(), AllocError> {
     let (text, end) = (document.text, line_end(document.text));
     let at = top_of(text);
@@ -113,7 +115,7 @@ fn put_at_top(document: Document<'_, '_>, entry: &str, plan: &mut Plan) -> Resul
     put_lines(document, at, lines.as_str(), plan)
 }
 
-/// Returns the blanks at the start of the last line of a section.
+/// Returns the indent of a new line in a section: that of its last assignment or, without assignments, of its header.
 fn body_indent<'s>(text: &'s str, section: &Section<'_>) -> &'s str {
     match section.assignments.as_slice().last() {
         Some(assignment) if begins_line(text, assignment.extent.start) => {
@@ -123,7 +125,7 @@ fn body_indent<'s>(text: &'s str, section: &Section<'_>) -> &'s str {
     }
 }
 
-/// Inserts an entry at a point of its table. Fails if an allocation fails.
+/// Plans to write `entry`, such as `a = 1`, at the place `target` in its table. Fails if an allocation fails.
 fn put_entry(
     document: Document<'_, '_>,
     target: InsertionPoint<'_, '_>,
@@ -164,8 +166,8 @@ fn put_entry(
     }
 }
 
-/// Inserts an entry of the table that a dotted key names, after the assignment with that key. Fails if an allocation
-/// fails.
+/// Plans to write `entry` after `assignment`, in the table that the assignment's dotted key names. `table` is the text
+/// of that key up to the name of the table, and `home` says where the assignment is. Fails if an allocation fails.
 fn put_sibling(
     document: Document<'_, '_>,
     assignment: &Assignment<'_>,
@@ -190,7 +192,8 @@ fn put_sibling(
     }
 }
 
-/// Returns how many of the first segments of a path name an existing value. Fails if an allocation fails.
+/// Returns the length of the longest prefix of a path that names an existing value. The prefix is shorter than the
+/// path, and 0 means the root. Fails if an allocation fails.
 pub(crate) fn known(document: Document<'_, '_>, path: &[&str]) -> Result<usize, AllocError> {
     for depth in (1..path.len()).rev() {
         if !document.mentions(front_of(path, depth))?.is_empty() {
@@ -200,7 +203,7 @@ pub(crate) fn known(document: Document<'_, '_>, path: &[&str]) -> Result<usize, 
     Ok(0)
 }
 
-/// Returns a dotted key with these parts. Fails if an allocation fails.
+/// Returns a dotted key with these parts, each in quotes if necessary. Fails if an allocation fails.
 pub(crate) fn dotted(document: Document<'_, '_>, parts: &[&str]) -> Result<String, AllocError> {
     let mut key = String::new(document.alloc);
     for name in parts {
@@ -226,7 +229,8 @@ fn root_insertion_point<'s, 'de>(mentions: &[Mention<'s, 'de>]) -> InsertionPoin
     }
 }
 
-/// Returns where an entry of the table at a path can be written. The table must exist.
+/// Returns where an entry of the table at a path can be written. Fails with `Nothing` if there is nothing at the path,
+/// with `NoTable` if it is not a table, or if an allocation fails.
 fn table_insertion_point<'s, 'de>(
     document: Document<'s, 'de>,
     path: &[&str],
@@ -242,7 +246,8 @@ fn table_insertion_point<'s, 'de>(
     }
 }
 
-/// Adds an entry to an existing table. Fails with the reason if that is not possible, or if an allocation fails.
+/// Plans to add the TOML value `value` to an existing table. The last segment of the path is the new key. Fails with
+/// the reason if that is not possible, or if an allocation fails.
 pub(crate) fn add(
     document: Document<'_, '_>,
     path: &[&str],
@@ -263,8 +268,9 @@ pub(crate) fn add(
     Ok(())
 }
 
-/// Returns the end of the last section of the table at a path, and the text of its header followed by a dot. Returns
-/// `None` if the table is written in braces or by dotted keys. Fails if an allocation fails.
+/// Returns the end of the last section of the table at a path, and the text of the table's header without brackets. For
+/// the root, that is the end of the text and an empty string. Returns `None` unless headers alone define the table.
+/// Fails if an allocation fails.
 pub(crate) fn section_place<'s>(
     document: Document<'s, '_>,
     path: &[&str],
@@ -294,7 +300,8 @@ pub(crate) fn section_place<'s>(
     Ok(place)
 }
 
-/// Inserts a section at an offset, with blank lines around it. Fails if an allocation fails.
+/// Plans to insert the lines `section` at the offset `at`, separated by blank lines from what is above and below. Fails
+/// if an allocation fails.
 pub(crate) fn put_section(
     document: Document<'_, '_>,
     at: usize,
@@ -314,8 +321,8 @@ pub(crate) fn put_section(
     put_lines(document, at, lines.as_str(), plan)
 }
 
-/// Returns an entry with the comments of its value: the lines above it, and what follows it on its line. Fails if an
-/// allocation fails.
+/// Returns the text of an entry for the value `moved`: the comment lines above it, the indent `front`, the key, the
+/// value, and the comment after it, without a line end. Fails if an allocation fails.
 fn entry_text(
     document: Document<'_, '_>,
     key: &str,
@@ -327,7 +334,7 @@ fn entry_text(
     format!(in document.alloc; "{above}{front}{key} = {value}{note}")
 }
 
-/// Returns the white space with which to begin a line that is inserted at `target`.
+/// Returns the indent of a line that is inserted at `target`.
 fn indent_there<'s>(text: &'s str, target: InsertionPoint<'_, '_>) -> &'s str {
     match target {
         InsertionPoint::Body(section) => body_indent(text, section),
@@ -335,7 +342,7 @@ fn indent_there<'s>(text: &'s str, target: InsertionPoint<'_, '_>) -> &'s str {
     }
 }
 
-/// Returns whether an entry at this point can have comments.
+/// Returns whether an entry that is written at `target` can have comments.
 fn takes_comments(target: InsertionPoint<'_, '_>) -> bool {
     match target {
         InsertionPoint::Top | InsertionPoint::Body(_) | InsertionPoint::Header(_, _) => true,
@@ -343,9 +350,9 @@ fn takes_comments(target: InsertionPoint<'_, '_>) -> bool {
     }
 }
 
-/// Adds a value at a path where there is none, and the missing tables on the way: as a section of its own, or by a
-/// dotted key in a table that is written in braces or by dotted keys. If its key begins a line, the comments of the
-/// value are written too. Fails with the reason if that is not possible, or if an allocation fails.
+/// Plans to add the value `moved` at a path that names nothing, and the missing tables on the way: under a new header
+/// or, in a table that braces or dotted keys define, by a dotted key. Its comments are left out in braces and next to a
+/// dotted key. Fails with the reason if that is not possible, or if an allocation fails.
 pub(crate) fn add_lines(
     document: Document<'_, '_>,
     path: &[&str],
@@ -380,8 +387,8 @@ pub(crate) fn add_lines(
     Ok(())
 }
 
-/// Adds a value at a path where there is none, and the missing tables on the way. Fails with the reason if that is not
-/// possible, or if an allocation fails.
+/// Plans to add the TOML value `value` at a path that names nothing, and the missing tables on the way. Fails with the
+/// reason if that is not possible, or if an allocation fails.
 pub(crate) fn add_deep(
     document: Document<'_, '_>,
     path: &[&str],
@@ -397,13 +404,14 @@ pub(crate) fn add_deep(
     add_lines(document, path, moved, plan)
 }
 
-/// Returns the dot between a header and a key, or an empty string if there is no header.
+/// Returns the dot between `header`, the text of a header, and a key after it. Returns an empty string if `header` is
+/// empty.
 pub(crate) fn dot_after(header: &str) -> &'static str {
     if header.is_empty() { "" } else { "." }
 }
 
-/// Adds an empty table at a path where there is nothing: by a header, or as `{}` in a table that is written in braces
-/// or by dotted keys. Fails with the reason if that is not possible, or if an allocation fails.
+/// Plans to add an empty table at a path that names nothing: by a header, or as `{}` in a table that braces or dotted
+/// keys define. Fails with the reason if that is not possible, or if an allocation fails.
 pub(crate) fn add_table(
     document: Document<'_, '_>,
     path: &[&str],

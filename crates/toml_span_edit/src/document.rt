@@ -1,4 +1,4 @@
-//! A document that is read, and what an edit replaces in it.
+//! A document that has been read, and the text of its headers and keys.
 ghost use Rattle.std.specs.Prelude.{IfOk, Ok, map};
 ghost use Rattle.toml_span_read.specs.Data.{depth_limit, parsed_section};
 ghost use Rattle.toml_span_read.specs.Read.{document};
@@ -20,7 +20,8 @@ pub(crate) struct Document<'s, 'de> {
     pub sections: &'s [Section<'de>],
 }
 
-/// The sections of a text that is a document.
+/// Returns the sections of a text. Fails with `WouldDiffer` if the text can't be split into sections, or if an
+/// allocation fails.
 pub(crate) fn sections_of<'t>(
     alloc: Global,
     text: &'t str,
@@ -36,7 +37,7 @@ pub(crate) fn sections_of<'t>(
     }
 }
 
-/// The value that is written at one of these mentions.
+/// Returns the value at a path, if it is written as a value. `mentions` are the mentions of the path.
 pub(crate) fn written<'s, 'de>(mentions: &[Mention<'s, 'de>]) -> Option<&'s Val<'de>> {
     for mention in mentions {
         match *mention {
@@ -48,7 +49,7 @@ pub(crate) fn written<'s, 'de>(mentions: &[Mention<'s, 'de>]) -> Option<&'s Val<
     None
 }
 
-/// Returns the element of an array at an index.
+/// Returns the element of an array at `index`. Returns `None` if `list` is not an array, or is too short.
 fn element_of<'s, 'de>(list: &'s Val<'de>, index: usize) -> Option<&'s Val<'de>> {
     match &list.kind {
         ValKind::Array(items) => items.get(index),
@@ -56,12 +57,13 @@ fn element_of<'s, 'de>(list: &'s Val<'de>, index: usize) -> Option<&'s Val<'de>>
     }
 }
 
-/// Returns the part of a header at an index.
+/// Returns the part of a section's header at `index`, or `None` if the header is too short.
 fn header_key<'s, 'de>(section: &'s Section<'de>, index: usize) -> Option<&'s Key<'de>> {
     section.header.as_slice().get(index)
 }
 
 impl<'s, 'de> Document<'s, 'de> {
+    /// Returns the places that name the value at a path, in the order of the text. Fails if an allocation fails.
     pub(crate) fn mentions(&self, path: &[&str]) -> Result<Vec<Mention<'s, 'de>>, AllocError> {
         mentions_of(self.alloc, self.sections, path)
     }
@@ -71,7 +73,7 @@ impl<'s, 'de> Document<'s, 'de> {
         with_quotes(self.text, key.span)
     }
 
-    /// Returns the text of a header up to the part at an index, without the brackets.
+    /// Returns the text of a section's header from its first part to the part at `index`, without the brackets.
     pub(crate) fn header_text(&self, section: &Section<'_>, index: usize) -> &'s str {
         match (header_key(section, 0), header_key(section, index)) {
             (Some(first), Some(last)) => {
@@ -81,14 +83,14 @@ impl<'s, 'de> Document<'s, 'de> {
         }
     }
 
-    /// Returns the text of a dotted key up to the part at an index.
+    /// Returns the text of an assignment's dotted key from its first part to the part at `index`.
     pub(crate) fn dotted_text(&self, assignment: &Assignment<'_>, index: usize) -> &'s str {
         let first = self.whole(part_at(&assignment.parts, 0));
         let last = self.whole(part_at(&assignment.parts, index));
         part(self.text, first.start, last.end)
     }
 
-    /// Returns the end of the lines of a section's assignments.
+    /// Returns the end of a section's lines: of its last assignment or, without assignments, of its header.
     pub(crate) fn body_end(&self, section: &Section<'_>) -> usize {
         section_lines(self.text, section).end
     }

@@ -80,13 +80,14 @@ impl<'e> Edits<'e> {
         Ok(())
     }
 
+    /// Appends the edit that makes a change at a path. If an allocation fails, the list is unchanged.
     fn change(&mut self, path: &'e [&'e str], change: Change<'e>) -> Result<(), AllocError>
         ensures { Pushed (record { path = path.entry; change = change.entry }) self.old result self.new }
     {
         self.push(Edit { path, change })
     }
 
-    /// Appends `Change::Set`: replaces the value at a path by this one. If an allocation fails, the list is unchanged.
+    /// Appends `Change::Set`: replaces the value at a path by `value`. If an allocation fails, the list is unchanged.
     pub fn set(&mut self, path: &'e [&'e str], value: &'e str) -> Result<(), AllocError>
         ensures { Pushed (record { path = path.entry; change = changes.Set value.entry }) self.old result self.new }
     {
@@ -148,8 +149,8 @@ impl<'e> Edits<'e> {
         self.change(path, Change::Append(value))
     }
 
-    /// Appends `Change::Insert`: adds an element, the TOML value `value`, to an array. The last segment of the path is a
-    /// position: the new element goes before the one there, or to the end. If an allocation fails, the list is
+    /// Appends `Change::Insert`: adds an element, the TOML value `value`, to an array. The last segment of the path is
+    /// a position: the new element goes before the one there, or to the end. If an allocation fails, the list is
     /// unchanged.
     pub fn insert(&mut self, path: &'e [&'e str], value: &'e str) -> Result<(), AllocError>
         ensures { Pushed (record { path = path.entry; change = changes.Insert value.entry }) self.old result self.new }
@@ -177,7 +178,8 @@ impl<'e> Edits<'e> {
     }
 }
 
-/// Makes an edit. If it is refused, the error has this index.
+/// Makes an edit and returns the new text. Fails with the reason and `index` if the edit is refused, or if an
+/// allocation fails.
 fn edit_made(
     alloc: Global,
     text: &str,
@@ -192,7 +194,8 @@ fn edit_made(
     }
 }
 
-/// Makes edits one after the other. `first` is the index of the first of them.
+/// Makes edits one after the other and returns the new text. `first` is the index of the first edit, for errors. Fails
+/// with the first edit that is refused, or if an allocation fails.
 fn rest_made(
     alloc: Global,
     text: String,
@@ -208,7 +211,8 @@ fn rest_made(
     Ok(new)
 }
 
-/// Makes edits one after the other.
+/// Makes edits one after the other and returns the new text: the text itself without edits. Fails with the first edit
+/// that is refused, or if an allocation fails.
 fn all_made(alloc: Global, text: &str, edits: &[Edit<'_>]) -> Result<String, Stop<EditError>>
     ensures { IfOk result (λ new. spec.EditsMade edits.now text.now (string_bytes new)) }
 {
@@ -220,7 +224,7 @@ fn all_made(alloc: Global, text: &str, edits: &[Edit<'_>]) -> Result<String, Sto
     Ok(made)
 }
 
-/// Returns the error of a refused edit.
+/// Adds the index `edit` of the refused edit to its reason. A failed allocation stays a failed allocation.
 fn refused(edit: usize, stop: Stop<Reason>) -> Stop<EditError> {
     match stop {
         Stop::Memory(error) => Stop::Memory(error),

@@ -7,10 +7,10 @@ use toml_span::Stop;
 use toml_span_places::{quote_key, quote_string};
 use toml_span_read::{Section, read_sections};
 
-/// What is written before a value to read it alone.
+/// The text before a value in a document that has only this value.
 const FRONT: &str = "v = ";
 
-/// Returns a document with only this value. Fails if an allocation fails.
+/// Returns a document in which `v` is the given value and nothing else is written. Fails if an allocation fails.
 pub(crate) fn probe_text(alloc: Global, value: &str) -> Result<String, AllocError>
     ensures { IfOk result (λ text. string_bytes text ≡ codes "v = " ++ value.now) }
 {
@@ -19,8 +19,8 @@ pub(crate) fn probe_text(alloc: Global, value: &str) -> Result<String, AllocErro
     Ok(text)
 }
 
-/// Returns the sections of a document with only this value. Fails with `NoValue` if it is not a value, or if an
-/// allocation fails.
+/// Returns the sections of `probe`, the text that `probe_text` returned for `value`. Fails with `NoValue` if `value` is
+/// not one TOML value, or if an allocation fails.
 pub(crate) fn probed<'p>(
     alloc: Global,
     probe: &'p str,
@@ -40,7 +40,7 @@ pub(crate) fn probed<'p>(
     }
 }
 
-/// Returns whether there is only one assignment, which ends at `end`.
+/// Returns whether there is only one assignment and no header, and the assignment ends at the offset `end`.
 fn is_one_value(sections: &[Section<'_>], end: usize) -> bool {
     match sections {
         [section] => match section.assignments.as_slice() {
@@ -64,8 +64,8 @@ fn is_in_word(c: char) -> bool {
     !c.is_whitespace() && !c.is_control() && !"\"'[]{}#,=\\`".contains(c)
 }
 
-/// Returns the reason to refuse a value. For a bare word, it suggests the string that was probably meant, quoted for a
-/// shell. Fails if an allocation fails.
+/// Returns the reason to refuse `value`, which is not a TOML value. For a bare word, it suggests the string that was
+/// probably meant, quoted for a shell. Fails if an allocation fails.
 pub(crate) fn no_value(alloc: Global, value: &str) -> Result<Reason, AllocError> {
     if value.is_empty() || !value.chars().all(|c| is_in_word(c)) {
         return Ok(Reason::NoValue(None));
@@ -74,7 +74,8 @@ pub(crate) fn no_value(alloc: Global, value: &str) -> Result<Reason, AllocError>
     Ok(Reason::NoValue(Some(format!(in alloc; "'{string}'?")?)))
 }
 
-/// Replaces the escapes `\e` and `\xHH`, which TOML 1.1 added, by escapes of TOML 1.0. Fails if an allocation fails.
+/// Returns a text with the escapes `\e` and `\xHH`, which TOML 1.1 added, replaced by escapes of TOML 1.0. Fails if an
+/// allocation fails.
 fn older(alloc: Global, text: &str) -> Result<String, AllocError> {
     let mut out = String::new(alloc);
     let mut escaped = false;

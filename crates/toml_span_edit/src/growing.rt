@@ -11,8 +11,9 @@ use crate::reason::Reason;
 use toml_span::Stop;
 use toml_span_read::{Section, Val, ValKind};
 
-/// Returns a section for a new element of an array of tables: the header, and a line for each pair of the value, which
-/// must be an inline table. Fails with the reason if it is not, or if an allocation fails.
+/// Returns a section for a new element of an array of tables: the header `[[header]]`, and a line for each pair of
+/// `value`. Fails with `NoInlineTable` if `value` is not an inline table, with `NoValue` if it is not a TOML value, or
+/// if an allocation fails.
 fn element_text(
     document: Document<'_, '_>,
     header: &str,
@@ -35,13 +36,13 @@ fn element_text(
     Ok(lines)
 }
 
-/// Returns the value of the only assignment.
+/// Returns the value of the first assignment.
 fn given_value<'s, 'de>(sections: &'s [Section<'de>]) -> Option<&'s Val<'de>> {
     Some(&sections.first()?.assignments.as_slice().first()?.value)
 }
 
-/// Returns the text of the header of an array of tables, and the end of its last section. Returns `None` if no header
-/// opens an element of it.
+/// Returns the text of the header of an array of tables, without brackets, and the end of the array's last section.
+/// `mentions` are those of the array. Returns `None` if no header opens an element of it.
 fn elements_end<'s>(
     document: Document<'s, '_>,
     mentions: &[Mention<'s, '_>],
@@ -58,7 +59,8 @@ fn elements_end<'s>(
     }
 }
 
-/// Returns whether a value is an inline table.
+/// Returns whether the TOML value `value` is an inline table. Fails with `NoValue` if it is not a TOML value, or if an
+/// allocation fails.
 fn is_inline(document: Document<'_, '_>, value: &str) -> Result<bool, Stop<Reason>> {
     let probe = probe_text(document.alloc, value)?;
     let sections = probed(document.alloc, probe.as_str(), value)?;
@@ -68,9 +70,9 @@ fn is_inline(document: Document<'_, '_>, value: &str) -> Result<bool, Stop<Reaso
     })
 }
 
-/// Adds an array with one element at a path where there is nothing: as a section if the element is an inline table and
-/// neither braces nor dotted keys define the table around it. Fails with the reason if that is not possible, or if an
-/// allocation fails.
+/// Plans to add an array with the one element `value` at a path that names nothing. The array is written by a header if
+/// `value` is an inline table and no braces or dotted keys define the table around it. Fails with the reason if that is
+/// not possible, or if an allocation fails.
 fn append_first(
     document: Document<'_, '_>,
     path: &[&str],
@@ -90,9 +92,9 @@ fn append_first(
     add_deep(document, path, array.as_str(), plan)
 }
 
-/// Adds an element at the end of the array at a path. In an array of tables it becomes a section, and its value must be
-/// an inline table. If there is nothing at the path, adds an array with only this element. Fails with the reason if
-/// that is not possible, or if an allocation fails.
+/// Plans to add the element `value` at the end of the array at a path. In an array of tables it becomes a section, and
+/// must be an inline table. If there is nothing at the path, adds an array with only this element. Fails with the
+/// reason if that is not possible, or if an allocation fails.
 pub(crate) fn append(
     document: Document<'_, '_>,
     path: &[&str],
@@ -125,8 +127,8 @@ pub(crate) fn append(
     }
 }
 
-/// Inserts an element of an array of tables before the section `next` of another element. Fails with the reason if that
-/// is not possible, or if an allocation fails.
+/// Plans to insert the element `value` into an array of tables, before the section `next` of another element and the
+/// comments above that section. Fails with the reason if `value` is not an inline table, or if an allocation fails.
 fn put_element(
     document: Document<'_, '_>,
     next: &Section<'_>,
@@ -142,8 +144,9 @@ fn put_element(
     Ok(())
 }
 
-/// Adds an element before the one at a path, whose last segment is a position, or at the end of the array. Fails with
-/// the reason if that is not possible, or if an allocation fails.
+/// Plans to insert an element into an array. The last segment of the path is a position: the new element goes before
+/// the one there, or after the last one. Fails with `NoArray` if the path does not lead to such a position, with
+/// another reason if the element can't be written there, or if an allocation fails.
 pub(crate) fn insert(
     document: Document<'_, '_>,
     path: &[&str],
@@ -174,7 +177,7 @@ pub(crate) fn insert(
     }
 }
 
-/// Returns how many elements the sections in these mentions open.
+/// Returns how many of these mentions are sections that open an element of the array.
 fn elements(mentions: &[Mention<'_, '_>]) -> usize {
     let mut count: usize = 0;
     for mention in mentions {

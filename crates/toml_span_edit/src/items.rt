@@ -11,7 +11,7 @@ use toml_span::value::{Value, ValueInner};
 use toml_span_places::literal_span;
 use toml_span_read::{Val, ValKind};
 
-/// Returns the span of a value with its quotes.
+/// Returns the span of the literal that spells a value: for a string, quotes included.
 pub(crate) fn literal_of(text: &str, value: &Val<'_>) -> Span {
     let ValKind::String(string) = &value.kind else {
         return value.span;
@@ -48,7 +48,7 @@ fn close_of(list: &Val<'_>) -> usize {
     list.span.end.saturating_sub(1)
 }
 
-/// Returns where the space after an item ends: at the next item, or at the closing bracket or brace.
+/// Returns the end of the space after the item at `index`: the start of the next item, or the closing bracket or brace.
 fn space_end(text: &str, list: &Val<'_>, index: usize) -> usize {
     match item_span(text, list, index.saturating_add(1)) {
         Some(next) => next.start,
@@ -56,8 +56,8 @@ fn space_end(text: &str, list: &Val<'_>, index: usize) -> usize {
     }
 }
 
-/// Returns the offset of the comma between two offsets. Otherwise there are only blanks, line ends and comments between
-/// them.
+/// Returns the offset of the comma between `start` and `end`, if there is one. Apart from it, only blanks, line ends
+/// and comments may be there. A comma in a comment does not count.
 fn comma_between(text: &str, start: usize, end: usize) -> Option<usize> {
     let mut is_comment = false;
     for (index, byte) in part(text, start, end).bytes().enumerate() {
@@ -71,7 +71,8 @@ fn comma_between(text: &str, start: usize, end: usize) -> Option<usize> {
     None
 }
 
-/// Removes a comma, with its line if nothing else is on it. Fails if an allocation fails.
+/// Plans to remove the comma at the offset `comma`, with its line if nothing else is on it. Fails if an allocation
+/// fails.
 fn cut_comma(text: &str, comma: usize, plan: &mut Plan) -> Result<(), AllocError> {
     let stop = line_stop(text, comma);
     let after = comma.saturating_add(1);
@@ -88,8 +89,9 @@ fn cut_comma(text: &str, comma: usize, plan: &mut Plan) -> Result<(), AllocError
     })
 }
 
-/// Removes items that are followed by a line end, with the comment before that and one comma. Fails if an allocation
-/// fails.
+/// Plans to remove the items in the span `items`, the comment after them on the same line, and the comma after them, if
+/// any. `space` is the offset of the next item or of the closing bracket or brace; a line end must come before it.
+/// Fails if an allocation fails.
 fn cut_to_line_end(
     text: &str,
     items: Span,
@@ -112,9 +114,10 @@ fn cut_to_line_end(
     }
 }
 
-/// Plans to remove the items of a list in `items`, which the bracket or brace at `close` follows on the same line, and
-/// one comma: the one between them and the item in `before` or, if a comment or line break is there, the one after
-/// them. Fails if an allocation fails.
+/// Plans to remove the last items of a list, and one comma. `items` is the span of these items, and `before` that of
+/// the item before them. The closing bracket or brace at the offset `close` must be on the line where the items end.
+/// Removes the comma between `before` and the items if they are on one line; otherwise the comma after the items, if
+/// there is one. Fails if an allocation fails.
 fn cut_last(
     text: &str,
     before: Option<Span>,
@@ -141,8 +144,8 @@ fn cut_last(
     })
 }
 
-/// Removes the items from index `first` to `last`, each with one comma and the comment at the end of its line. A
-/// comment on its own line stays, since it belongs to what follows it. Fails if an allocation fails.
+/// Plans to remove the items of `list` from index `first` to `last`, both included, with one comma and the comment at
+/// the end of their last line. A comment on its own line before or after them stays. Fails if an allocation fails.
 pub(crate) fn cut_items(
     text: &str,
     list: &Val<'_>,
@@ -174,7 +177,7 @@ pub(crate) fn cut_items(
     cut_last(text, before, items, end, plan)
 }
 
-/// Inserts the first item into empty brackets or braces. Fails if an allocation fails.
+/// Plans to insert the first item into the empty brackets or braces of `list`. Fails if an allocation fails.
 fn put_first(
     alloc: Global,
     text: &str,
@@ -196,7 +199,7 @@ fn put_first(
     plan.put(Span { start, end }, new)
 }
 
-/// An item to insert: the lines above it with its comments, and what follows its comma on the line.
+/// An item to insert. `above` has the comment lines above it, and `note` is what follows it and its comma on the line.
 #[derive(Clone, Copy)]
 pub(crate) struct Item<'i> {
     pub above: &'i str,
@@ -204,8 +207,10 @@ pub(crate) struct Item<'i> {
     pub note: &'i str,
 }
 
-/// Inserts an item after the last one: on a line of its own if the last one begins a line, or if a comment ends its
-/// line. Fails if an allocation fails.
+/// Plans to insert an item into `list` after the last one, whose span is `last`. The new item gets its own line if the
+/// last one begins a line or has a comment after it on its line; otherwise it follows on the same line. If the comma of
+/// the last item is on a later line, with the closing bracket or brace, the new item follows that comma. Fails if an
+/// allocation fails.
 fn put_last(
     alloc: Global,
     text: &str,
@@ -253,8 +258,8 @@ fn put_last(
     }
 }
 
-/// Returns the blanks for a new item on a line of its own: those of the line of the last item, or four more than those
-/// of the line that opens the brackets. Fails if an allocation fails.
+/// Returns the indent of a new item on its own line: that of the line of the item in the span `last`, and four spaces
+/// more if `list` opens on that line. Fails if an allocation fails.
 fn front_of(alloc: Global, text: &str, list: &Val<'_>, last: Span) -> Result<String, AllocError> {
     let mut front = String::from_str(alloc, indent(text, last.start))?;
     if list.span.start >= line_start(text, last.start) {
@@ -263,9 +268,9 @@ fn front_of(alloc: Global, text: &str, list: &Val<'_>, last: Span) -> Result<Str
     Ok(front)
 }
 
-/// Plans to insert an item before the item of `list` at `index`, whose span is `next`. If that one begins a line, the new
-/// item gets a line of its own, above the comments of that one; otherwise it is written before it on its line. Fails if
-/// an allocation fails.
+/// Plans to insert an item before the item of `list` at `index`, whose span is `next`. If `next` begins a line, the new
+/// item gets its own line, above the comments of `next`. Otherwise it is written on the same line. Fails if an
+/// allocation fails.
 fn put_before(
     alloc: Global,
     text: &str,
@@ -298,7 +303,8 @@ fn put_before(
     plan.put(point(next.start), format!(in alloc; "{item}, ")?)
 }
 
-/// Inserts an item before the one at an index, or after the last one. Fails if an allocation fails.
+/// Plans to insert an item into `list` before the one at `index` or, if the list is too short, after the last one.
+/// Fails if an allocation fails.
 pub(crate) fn put_item(
     alloc: Global,
     text: &str,
@@ -317,7 +323,7 @@ pub(crate) fn put_item(
     }
 }
 
-/// Returns an item without comments.
+/// Returns an item with this text and without comments.
 pub(crate) fn bare(text: &str) -> Item<'_> {
     Item {
         above: "",
@@ -326,8 +332,8 @@ pub(crate) fn bare(text: &str) -> Item<'_> {
     }
 }
 
-/// Returns the comment at the end of the line of the item that ends at the offset, after a comma if there is one, with
-/// the blanks before it.
+/// Returns the comment at the end of the line of the item that ends at the offset `end`, with the blanks before it. The
+/// comma after the item is skipped. The result is empty if anything else follows the item on the line.
 fn note_after(text: &str, end: usize) -> &str {
     let rest = part(text, end, line_stop(text, end));
     let note = match rest.trim_start().strip_prefix(',') {
@@ -341,7 +347,8 @@ fn note_after(text: &str, end: usize) -> &str {
     }
 }
 
-/// Returns the comments of an item that begins a line: the lines above it, and the comment at the end of its line.
+/// Returns the comment lines above the item in a span, and the comment at the end of its line. Both are empty if the
+/// item does not begin a line.
 pub(crate) fn comments_of(text: &str, item: Span) -> (&str, &str) {
     if !begins_line(text, item.start) {
         return ("", "");

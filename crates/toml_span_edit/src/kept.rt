@@ -1,4 +1,4 @@
-//! Which bytes of a text a new text keeps.
+//! Checks which bytes of a text an edit keeps.
 ghost use Rattle.std.specs.Prelude.{◌≡◌, ◌==◌, false, true, map, slice_range};
 ghost use Rattle.std.specs.List.{list_all, list_any};
 ghost use Rattle.toml_span_places.specs.Replace.{edit_of};
@@ -10,14 +10,14 @@ use toml_span_lex::bytes::is_blank;
 use toml_span_places::Replacement;
 use toml_span_read::gaps::byte_at;
 
-/// Whether a byte is a space, a tab or a part of a line end.
+/// Returns whether a byte is a space, a tab or part of a line end.
 fn is_space(byte: u8) -> bool
     ensures { result ≡ spec.is_space byte }
 {
     is_blank(byte) || byte == b'\n' || byte == b'\r'
 }
 
-/// Whether there is nothing but spaces, tabs and line ends.
+/// Returns whether all bytes are spaces, tabs or parts of line ends.
 fn is_all_space(bytes: &[u8]) -> bool
     ensures { result ≡ list_all spec.is_space bytes.now }
 {
@@ -29,7 +29,7 @@ fn is_all_space(bytes: &[u8]) -> bool
     true
 }
 
-/// The bytes of a span, or none where the text has no such part.
+/// Returns the bytes from `start` to `end`, or to the end of the text if that comes first.
 fn bytes_of(text: &str, start: usize, end: usize) -> &[u8]
     ensures { result.now ≡ slice_range text.now start end }
 {
@@ -38,14 +38,14 @@ fn bytes_of(text: &str, start: usize, end: usize) -> &[u8]
     if start < end { &bytes[start..end] } else { &[] }
 }
 
-/// Whether a replacement inserts its text, or replaces only spaces, tabs and line ends.
+/// Returns whether a replacement only inserts text, or replaces only spaces, tabs and line ends.
 fn replaces_space(text: &str, replacement: Replacement<'_>) -> bool
     ensures { result ≡ spec.replaces_space text.now (edit_of replacement.entry) }
 {
     is_all_space(bytes_of(text, replacement.span.start, replacement.span.end))
 }
 
-/// Whether replacements insert their texts, or replace only spaces, tabs and line ends.
+/// Returns whether each replacement only inserts text, or replaces only spaces, tabs and line ends.
 pub(crate) fn replace_space(text: &str, list: &[Replacement<'_>]) -> bool
     ensures { result ≡ list_all (spec.replaces_space text.now) (map edit_of list.now) }
 {
@@ -57,14 +57,15 @@ pub(crate) fn replace_space(text: &str, list: &[Replacement<'_>]) -> bool
     true
 }
 
-/// Whether bytes are the same.
+/// Returns whether two slices of bytes are equal.
 fn is_same(bytes: &[u8], others: &[u8]) -> bool
     ensures { result ≡ true → bytes.now ≡ others.now }
 {
     bytes == others
 }
 
-/// Whether new bytes are the same before a span and after it.
+/// Returns whether `new` consists of the bytes of `old` before a span, any other bytes, and the bytes of `old` after
+/// the span. Returns false if `old` does not contain the span.
 fn bytes_around(old: &[u8], span: Span, new: &[u8]) -> bool
     ensures { result ≡ true → spec.KeepsAround old.now span new.now }
 {
@@ -77,14 +78,15 @@ fn bytes_around(old: &[u8], span: Span, new: &[u8]) -> bool
     is_same(&old[..start], &new[..start]) && is_same(&old[end..], &new[stop..])
 }
 
-/// Whether a new text is the same before a span and after it.
+/// Returns whether `new` consists of the text before a span, any other text, and the text after the span. Returns false
+/// if the text does not contain the span.
 pub(crate) fn keeps_around(text: &str, span: Span, new: &str) -> bool
     ensures { result ≡ true → spec.KeepsAround text.now span new.now }
 {
     bytes_around(text.as_bytes(), span, new.as_bytes())
 }
 
-/// Whether there are only comments on lines of their own, and blanks.
+/// Returns whether the text from `start` to `end` consists only of blanks and comments with their line ends.
 pub(crate) fn only_comments(text: &str, start: usize, end: usize) -> bool
     ensures { result ≡ spec.only_comments false (slice_range text.now start end) }
 {
@@ -102,7 +104,7 @@ pub(crate) fn only_comments(text: &str, start: usize, end: usize) -> bool
     true
 }
 
-/// Whether there is nothing but brackets that open a header, and blanks.
+/// Returns whether all bytes are blanks or opening brackets, as at the start of a header.
 fn is_opening(bytes: &[u8]) -> bool
     ensures { result ≡ list_all spec.is_opening bytes.now }
 {
@@ -114,7 +116,7 @@ fn is_opening(bytes: &[u8]) -> bool
     true
 }
 
-/// Whether a byte is among others.
+/// Returns whether `wanted` is one of the bytes.
 fn has_byte(bytes: &[u8], wanted: u8) -> bool
     ensures { result ≡ list_any (λ c. c == wanted) bytes.now }
 {
@@ -126,7 +128,8 @@ fn has_byte(bytes: &[u8], wanted: u8) -> bool
     false
 }
 
-/// Whether a replacement is of a part of a line that begins with a bracket.
+/// Returns whether a replacement is inside one line, and only blanks and opening brackets, at least one, come before it
+/// on that line.
 fn is_header_part(text: &str, replacement: Replacement<'_>) -> bool
     ensures { result ≡ spec.is_header_part text.now (edit_of replacement.entry) }
 {
@@ -135,7 +138,7 @@ fn is_header_part(text: &str, replacement: Replacement<'_>) -> bool
     is_opening(before) && has_byte(before, b'[') && !has_byte(bytes_of(text, start, end), b'\n')
 }
 
-/// Whether replacements are of parts of lines that begin with a bracket.
+/// Returns whether each replacement is inside a line, after its opening brackets: see `is_header_part`.
 pub(crate) fn are_header_parts(text: &str, list: &[Replacement<'_>]) -> bool
     ensures { result ≡ list_all (spec.is_header_part text.now) (map edit_of list.now) }
 {

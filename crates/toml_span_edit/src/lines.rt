@@ -1,22 +1,22 @@
-//! The lines of a text.
+//! Finds the starts and ends of lines, their indents, and the comments above them.
 use toml_span::Span;
 
-/// Returns the part of a text between two offsets, or an empty text if there is no such part.
+/// Returns the text from `start` to `end`, or an empty text if that is not a part of the text.
 pub(crate) fn part(text: &str, start: usize, end: usize) -> &str {
     text.get(start..end).unwrap_or("")
 }
 
-/// Returns the empty span at an offset.
+/// Returns the empty span at the offset `at`.
 pub(crate) fn point(at: usize) -> Span {
     Span { start: at, end: at }
 }
 
-/// Returns the line end that a text uses.
+/// Returns the line end for new lines of a text: CRLF if the text contains one, otherwise a line feed.
 pub(crate) fn line_end(text: &str) -> &'static str {
     if text.contains("\r\n") { "\r\n" } else { "\n" }
 }
 
-/// Returns the start of the line of an offset.
+/// Returns the start of the line that contains `offset`.
 pub(crate) fn line_start(text: &str, offset: usize) -> usize {
     match part(text, 0, offset).rfind('\n') {
         Some(at) => at.saturating_add(1),
@@ -24,7 +24,7 @@ pub(crate) fn line_start(text: &str, offset: usize) -> usize {
     }
 }
 
-/// Returns the end of the line of an offset, before its line end.
+/// Returns the end of the line that contains `offset`, without its line end.
 pub(crate) fn line_stop(text: &str, offset: usize) -> usize {
     let rest = part(text, offset, text.len());
     match rest.find('\n') {
@@ -40,7 +40,8 @@ pub(crate) fn line_stop(text: &str, offset: usize) -> usize {
     }
 }
 
-/// Returns the start of the line after that of an offset, or the length of the text.
+/// Returns the start of the line after the one that contains `offset`, or the length of the text if that is the last
+/// line.
 pub(crate) fn next_line(text: &str, offset: usize) -> usize {
     let rest = part(text, offset, text.len());
     match rest.find('\n') {
@@ -49,7 +50,7 @@ pub(crate) fn next_line(text: &str, offset: usize) -> usize {
     }
 }
 
-/// Returns the start of the run of blanks that ends at an offset.
+/// Returns the start of the spaces and tabs directly before `offset`.
 pub(crate) fn blanks_before(text: &str, offset: usize) -> usize {
     part(text, 0, offset).trim_end_matches([' ', '\t']).len()
 }
@@ -60,7 +61,7 @@ pub(crate) fn begins_line(text: &str, offset: usize) -> bool {
     start == 0 || part(text, 0, start).ends_with('\n')
 }
 
-/// Returns the blanks at the start of the line of an offset.
+/// Returns the spaces and tabs at the start of the line that contains `offset`.
 pub(crate) fn indent(text: &str, offset: usize) -> &str {
     let start = line_start(text, offset);
     let line = part(text, start, text.len());
@@ -68,7 +69,8 @@ pub(crate) fn indent(text: &str, offset: usize) -> &str {
     part(text, start, text.len().saturating_sub(rest.len()))
 }
 
-/// Returns the start of the lines with only a comment that are directly above the line which starts at the offset.
+/// Returns the start of the block of comment lines that ends at `offset`, the start of a line. Returns `offset` if the
+/// line above is not a comment line.
 pub(crate) fn comments_above(text: &str, offset: usize) -> usize {
     let mut start: usize = 0;
     let mut at: usize = 0;
@@ -81,7 +83,7 @@ pub(crate) fn comments_above(text: &str, offset: usize) -> usize {
     start
 }
 
-/// Returns whether the offset is after a line without a line end.
+/// Returns whether the text before `offset` ends with a line that has no line end yet.
 pub(crate) fn is_open(text: &str, offset: usize) -> bool {
     offset > 0 && !part(text, 0, offset).ends_with('\n')
 }

@@ -12,7 +12,7 @@ use crate::same::{same_items, same_tree};
 use std::collections::btree_map::Iter;
 use toml_span::value::{Array, Key, Table, Value, ValueInner};
 
-/// Returns the value of the entry with this name.
+/// Returns the value of the entry with this name, if there is one.
 fn entry_named<'v, 'de>(table: &'v Table<'de>, name: &str) -> Option<&'v Value<'de>>
     ensures { option_map (λ v. view v.now) result ≡ get_member name.now (members_view table.now.entries) }
 {
@@ -24,7 +24,7 @@ fn entry_named<'v, 'de>(table: &'v Table<'de>, name: &str) -> Option<&'v Value<'
     None
 }
 
-/// Returns the element at the position that a segment spells.
+/// Returns the element at the position that a segment spells, if there is one.
 fn element_named<'v, 'de>(array: &'v Array<'de>, segment: &str) -> Option<&'v Value<'de>>
     ensures { option_map (λ v. view v.now) result
         ≡ option_and_then (λ i. get_item i (items_view array.now.items)) (position_of segment.now) }
@@ -32,7 +32,8 @@ fn element_named<'v, 'de>(array: &'v Array<'de>, segment: &str) -> Option<&'v Va
     array.get(position(segment)?)
 }
 
-/// Returns the value that a segment selects: an entry of a table, or an element of an array.
+/// Returns the value that a segment selects: an entry of a table, or an element of an array. Returns `None` if there is
+/// no such entry or element, or if `value` is taken.
 pub(crate) fn child<'v, 'de>(value: &'v Value<'de>, segment: &str) -> Option<&'v Value<'de>>
     ensures { option_map (λ v. view v.now) result ≡ spec.child segment.now (inner_of (view value.now)) }
 {
@@ -46,7 +47,7 @@ pub(crate) fn child<'v, 'de>(value: &'v Value<'de>, segment: &str) -> Option<&'v
     }
 }
 
-/// Returns the value at a path.
+/// Returns the value at a path below `value`, if there is one.
 pub(crate) fn value_at<'v, 'de>(path: &[&str], value: &'v Value<'de>) -> Option<&'v Value<'de>>
     ensures { option_map (λ v. view v.now) result ≡ paths.found (map (λ s. s.now) path.now) (view value.now) }
 {
@@ -59,7 +60,8 @@ pub(crate) fn value_at<'v, 'de>(path: &[&str], value: &'v Value<'de>) -> Option<
     }
 }
 
-/// Whether two arrays are the same, except for the elements at a position, which both have.
+/// Returns whether two arrays are equal except for their elements at the position `at`. Returns false if one of them
+/// has no such element.
 #[tactic(auto, using(crate::proofs::Elements::short_but, crate::proofs::Elements::few_but))]
 fn items_but(items: &[Value<'_>], at: usize, others: &[Value<'_>]) -> bool
     ensures { result ≡ spec.items_but at (items_view items.now) (items_view others.now) }
@@ -215,7 +217,7 @@ fn last(value: &Value<'_>, new: &Value<'_>, other: &Value<'_>) -> bool
     }
 }
 
-/// Returns the next entry that does not have this name.
+/// Returns the next entry whose name is not `name`, and advances `rest` beyond it.
 fn next_but<'v, 'de>(
     rest: &mut Iter<'v, Key<'de>, Value<'de>>,
     name: &str,
@@ -250,7 +252,7 @@ fn same_without(table: &Table<'_>, name: &str, others: &Table<'_>, other_name: &
     next_but(&mut rest, other_name).is_none()
 }
 
-/// Returns whether `other` is the table `value`, in which the entry `name` is called `new`.
+/// Returns whether `other` is the table `value` with the entry `name` renamed to `new`.
 fn renamed(value: &Value<'_>, name: &str, new: &str, other: &Value<'_>) -> bool
     ensures { result ≡ spec.renamed name.now new.now (inner_of (view value.now)) (inner_of (view other.now)) }
 {
@@ -265,7 +267,7 @@ fn renamed(value: &Value<'_>, name: &str, new: &str, other: &Value<'_>) -> bool
     }
 }
 
-/// A change of the value at a path. A segment selects an entry of that table, or an element of that array.
+/// A change of a value. A segment in it selects an entry of that value, a table, or an element of that value, an array.
 #[derive(Clone, Copy)]
 pub(crate) enum Local<'l, 'v, 'de> {
     /// The value is replaced by this one.
@@ -315,7 +317,7 @@ pub(crate) fn changed(
     }
 }
 
-/// Returns whether `value` is `new` inside tables, one for each of the names, that contain nothing else.
+/// Returns whether `value` is `new` inside nested tables, one for each of the names, each with only one entry.
 fn is_nested(names: &[&str], new: &Value<'_>, value: &Value<'_>) -> bool
     ensures { result ≡ same (spec.nested (map (λ s. s.now) names.now) (view new.now)) (view value.now) }
 {
@@ -334,8 +336,8 @@ fn is_nested(names: &[&str], new: &Value<'_>, value: &Value<'_>) -> bool
     }
 }
 
-/// Returns whether the tree `other` is `value` with the value `new` at a path where there was none, and with the tables
-/// that were missing on the way.
+/// Returns whether the tree `other` is `value` with `new` added at a path, which named nothing before, and with the
+/// tables that were missing on the way.
 pub(crate) fn added(path: &[&str], new: &Value<'_>, value: &Value<'_>, other: &Value<'_>) -> bool
     ensures { result ≡ spec.added (map (λ s. s.now) path.now) (view new.now) (view value.now) (view other.now) }
 {

@@ -38,7 +38,7 @@ enum Placement {
     Below(usize),
 }
 
-/// Returns the part of a dotted key at an index.
+/// Returns the part of a dotted key at `index`, or its last part if the key is shorter.
 pub(crate) fn part_at<'s, 'de>(parts: &'s DottedKey<'de>, index: usize) -> &'s Key<'de> {
     if let Some(key) = parts.inner.get(index) {
         return key;
@@ -64,8 +64,9 @@ fn count_up(counts: &mut Vec<usize>, depth: usize) -> usize {
     }
 }
 
-/// Returns where the table of a section is, relative to a path. `counts` has, for each number of first segments of the
-/// path, how many elements have been opened in the array of tables that they name.
+/// Returns where the table of a section is, relative to a path. `counts[n]` is the number of elements that have been
+/// opened in the array of tables that the first `n` segments of the path name. An element that the section opens is
+/// added to it.
 fn placement_of(section: &Section<'_>, path: &[&str], counts: &mut Vec<usize>) -> Placement {
     let mut depth: usize = 0;
     let last = section.header.len().saturating_sub(1);
@@ -97,8 +98,8 @@ fn placement_of(section: &Section<'_>, path: &[&str], counts: &mut Vec<usize>) -
     Placement::Above(depth)
 }
 
-/// Returns how many parts of a dotted key a path begins with: all parts, or as many as the path has segments. Returns
-/// `None` if they differ.
+/// Compares the parts of a dotted key with the first segments of a path. Returns how many have been compared: all
+/// parts, or as many as the path has segments. Returns `None` if one of them differs.
 fn common(parts: &DottedKey<'_>, path: &[&str]) -> Option<usize> {
     let count = parts.inner.len().saturating_add(1).min(path.len());
     for index in 0..count {
@@ -109,8 +110,8 @@ fn common(parts: &DottedKey<'_>, path: &[&str]) -> Option<usize> {
     Some(count)
 }
 
-/// Appends the mentions of a path in an assignment. The path begins at the table of the assignment, which is `home`, and
-/// is not empty. Fails if an allocation fails.
+/// Appends the mentions of a path in an assignment. `home` says where the assignment is. The path begins at the table
+/// around the assignment, and is not empty. Fails if an allocation fails.
 #[cycle(push_inside)]
 fn push_assigned<'s, 'de>(
     assignment: &'s Assignment<'de>,
@@ -132,7 +133,8 @@ fn push_assigned<'s, 'de>(
     push_inside(&assignment.value, rest_of(path, count), out)
 }
 
-/// Appends the element of an array at an index, if the path leads there. Fails if an allocation fails.
+/// Appends a mention of the element of `array` at `index`, if `rest`, the path inside that element, is empty. Fails if
+/// an allocation fails.
 fn push_element<'s, 'de>(
     array: &'s Val<'de>,
     index: usize,
@@ -145,7 +147,8 @@ fn push_element<'s, 'de>(
     Ok(())
 }
 
-/// Appends what is at a path inside a value, unless the path is empty. Fails if an allocation fails.
+/// Appends the mentions of a path inside a value. The path begins at the value. If it is empty, nothing is appended.
+/// Fails if an allocation fails.
 #[cycle(push_inside)]
 fn push_inside<'s, 'de>(
     value: &'s Val<'de>,
@@ -171,7 +174,8 @@ fn push_inside<'s, 'de>(
     Ok(())
 }
 
-/// Appends what a section names at a path. Fails if an allocation fails.
+/// Appends the mentions of a path in a section, and counts the element that its header opens in `counts`: see
+/// `placement_of`. Fails if an allocation fails.
 fn push_section<'s, 'de>(
     section: &'s Section<'de>,
     path: &[&str],
@@ -191,8 +195,8 @@ fn push_section<'s, 'de>(
     Ok(())
 }
 
-/// Returns the places that name the value at a path, in the order of the text. There are none if the document has no
-/// such value, or if it is an array of tables without an element. Fails if an allocation fails.
+/// Returns the places that name the value at a path, in the order of the text. The list is empty if the document has no
+/// such value, or if the value is an array of tables without an element. Fails if an allocation fails.
 pub(crate) fn mentions_of<'s, 'de>(
     alloc: Global,
     sections: &'s [Section<'de>],
@@ -206,7 +210,8 @@ pub(crate) fn mentions_of<'s, 'de>(
     Ok(out)
 }
 
-/// Returns whether a section is that of an element of the array that the part of its header with this index names.
+/// Returns whether a section is an element of the array of tables that the part of its header at the index `part`
+/// names.
 pub(crate) fn opens_element(section: &Section<'_>, part: usize) -> bool {
     section.array && part.saturating_add(1) == section.header.len()
 }

@@ -23,12 +23,13 @@ pub(crate) struct Moved<'s> {
     pub note: &'s str,
 }
 
-/// Returns the start of the comments above an assignment or element with this extent.
+/// Returns the start of the comment lines directly above an assignment or element with this extent.
 fn comments_start(text: &str, extent: Span) -> usize {
     comments_above(text, line_start(text, extent.start))
 }
 
-/// Returns the value at a path with its comments, if it is written as a value. Fails if an allocation fails.
+/// Returns the value at a path with its comments, or `None` if it is not written as a value. Fails if an allocation
+/// fails.
 pub(crate) fn moved_value<'s>(
     document: Document<'s, '_>,
     path: &[&str],
@@ -52,7 +53,8 @@ pub(crate) fn moved_value<'s>(
     Ok(Some(Moved { above, value, note }))
 }
 
-/// Returns the extent of an assignment on lines, or of an element, whose comments move with it.
+/// Returns the span of the assignment or element in a mention, if its comments move with it: for an assignment on its
+/// own line, and for an element of an array in brackets.
 fn extent_of(text: &str, mention: &Mention<'_, '_>) -> Option<Span> {
     match *mention {
         Mention::Assigned(assignment, Home::Lines) => Some(assignment.extent),
@@ -61,7 +63,8 @@ fn extent_of(text: &str, mention: &Mention<'_, '_>) -> Option<Span> {
     }
 }
 
-/// Removes the comments above the value at a path. They move with it. Fails if an allocation fails.
+/// Plans to remove the comment lines directly above the value at a path, which move with the value. Fails if an
+/// allocation fails.
 pub(crate) fn cut_comments(
     document: Document<'_, '_>,
     path: &[&str],
@@ -94,8 +97,8 @@ fn is_array(document: Document<'_, '_>, path: &[&str]) -> Result<bool, AllocErro
     })
 }
 
-/// Inserts a value that is moved at a path: as an element of the array there, or as an entry. Fails with the reason if
-/// that is not possible, or if an allocation fails.
+/// Plans to insert the value `moved` at a path: as an element if the path leads into an array, otherwise as an entry of
+/// a table. Fails with the reason if that is not possible, or if an allocation fails.
 pub(crate) fn put_moved(
     document: Document<'_, '_>,
     path: &[&str],
@@ -116,8 +119,8 @@ pub(crate) fn put_moved(
     add_lines(document, path, moved, plan)
 }
 
-/// Returns the text of the header for a table at a path, if headers define the table around it, or that is the root.
-/// Fails if an allocation fails.
+/// Returns the text of a header for a table at a path, without the brackets, if that table goes into the root or into a
+/// table that headers define. Returns `None` otherwise, and for an empty path. Fails if an allocation fails.
 fn new_header(document: Document<'_, '_>, path: &[&str]) -> Result<Option<String>, AllocError> {
     let [front @ .., name] = path else {
         return Ok(None);
@@ -137,8 +140,7 @@ fn new_header(document: Document<'_, '_>, path: &[&str]) -> Result<Option<String
     Ok(Some(format!(in document.alloc; "{table}.{key}")?))
 }
 
-/// Returns the span of a header from its first part to the one at an index, which names the table of the section or one
-/// around it.
+/// Returns the span of a section's header from its first part to the part at `index`, quotes included.
 fn header_span(text: &str, section: &Section<'_>, index: usize) -> Span {
     let keys = section.header.as_slice();
     match (keys.first(), keys.get(index)) {
@@ -150,8 +152,9 @@ fn header_span(text: &str, section: &Section<'_>, index: usize) -> Span {
     }
 }
 
-/// Changes the path in the headers of the table, or array of tables, at a path. Fails with the reason if anything other
-/// than headers defines it, or the table around the new path, or if an allocation fails.
+/// Plans to write `target` instead of `path` in the headers of the table, or array of tables, at `path`, and of the
+/// tables inside it. Fails with `NotSpelled` if anything but headers defines the value at `path` or the table around
+/// `target`, or if `path` names an element of an array, or if an allocation fails.
 pub(crate) fn rename_headers(
     document: Document<'_, '_>,
     path: &[&str],

@@ -62,7 +62,7 @@ pub(crate) fn has_position(path: &[&str], index: usize, at: usize) -> bool {
     }
 }
 
-/// Whether a segment names a step.
+/// Returns whether a segment names a step: a key with this name, or an element at this position.
 fn is_step(segment: &str, step: Step<'_>) -> bool
     ensures { result ≡ spec.is_step segment.now (step_of step.entry) }
 {
@@ -75,7 +75,7 @@ fn is_step(segment: &str, step: Step<'_>) -> bool
     }
 }
 
-/// Whether segments name steps, one by one.
+/// Returns whether a path has as many segments as there are steps, and each segment names its step.
 pub(crate) fn names_steps(path: &[&str], steps: &[Step<'_>]) -> bool
     ensures { result ≡ spec.names_steps (map (λ s. s.now) path.now) (map step_of steps.now) }
 {
@@ -88,7 +88,7 @@ pub(crate) fn names_steps(path: &[&str], steps: &[Step<'_>]) -> bool
     is_step(*segment, *step) && names_steps(path, steps)
 }
 
-/// Whether segments name the first steps.
+/// Returns whether each segment of a path names the step at the same index. There may be more steps than segments.
 pub(crate) fn names_first(path: &[&str], steps: &[Step<'_>]) -> bool
     ensures { result ≡ spec.names_first (map (λ s. s.now) path.now) (map step_of steps.now) }
 {

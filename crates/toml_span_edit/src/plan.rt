@@ -1,4 +1,4 @@
-//! What an edit replaces in a text.
+//! The replacements that make an edit.
 ghost use Rattle.std.specs.Prelude.{◌≡◌, IfOk, Some, map, string_bytes};
 ghost use Rattle.toml_span_places.specs.Replace.{edit_of, replaced};
 ghost use Rattle.toml_span_edit.specs.Kept as spec;
@@ -24,6 +24,7 @@ pub(crate) struct Plan {
 }
 
 impl Plan {
+    /// Returns a plan without replacements.
     pub(crate) fn new(alloc: Global) -> Self {
         Plan {
             alloc,
@@ -43,7 +44,7 @@ impl Plan {
         self.put(span, text)
     }
 
-    /// The pieces as replacements.
+    /// Returns the replacements, with their texts borrowed. Fails if an allocation fails.
     fn replacements(&self) -> Result<Vec<Replacement<'_>>, AllocError> {
         let mut list = Vec::with_capacity(self.alloc, self.pieces.len())?;
         for piece in &self.pieces {
@@ -55,13 +56,15 @@ impl Plan {
         Ok(list)
     }
 
-    /// The text with the pieces replaced.
+    /// Returns the text with the replacements made. Fails with `WouldDiffer` if they are not in the order of the text
+    /// or overlap, or if an allocation fails.
     pub(crate) fn applied(&self, text: &str) -> Result<String, Stop<Reason>> {
         let list = self.replacements()?;
         with_replaced(self.alloc, text, list.as_slice())
     }
 
-    /// The text with the pieces inserted. They are refused if they replace anything but white space.
+    /// Returns the text with the replacements made. Fails with `WouldDiffer` if they replace anything but white space,
+    /// are not in the order of the text, or overlap, or if an allocation fails.
     pub(crate) fn inserted(&self, text: &str) -> Result<String, Stop<Reason>>
         ensures { IfOk result (λ new. spec.IsInserted text.now (string_bytes new)) }
     {
@@ -72,7 +75,8 @@ impl Plan {
         with_replaced(self.alloc, text, list.as_slice())
     }
 
-    /// The text with the pieces replaced. They are refused if they replace anything but parts of headers.
+    /// Returns the text with the replacements made. Fails with `WouldDiffer` if they replace anything but parts of
+    /// headers, are not in the order of the text, or overlap, or if an allocation fails.
     pub(crate) fn in_headers(&self, text: &str) -> Result<String, Stop<Reason>>
         ensures { IfOk result (λ new. spec.AreHeadersReplaced text.now (string_bytes new)) }
     {
@@ -84,7 +88,8 @@ impl Plan {
     }
 }
 
-/// The text with these replacements made.
+/// Returns the text with these replacements made. Fails with `WouldDiffer` if they are not in the order of the text or
+/// overlap, or if an allocation fails.
 fn with_replaced(
     alloc: Global,
     text: &str,

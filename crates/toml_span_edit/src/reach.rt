@@ -1,4 +1,4 @@
-//! Where a value of a tree is written.
+//! Finds where the value at a path of a tree is written.
 ghost use Rattle.std.specs.Prelude.{◌≡◌, IfOk, Ok, map, option_map};
 ghost use Rattle.toml_span_read.specs.Data.{depth_limit, parsed_section};
 ghost use Rattle.toml_span_read.specs.Read.{document as read};
@@ -17,7 +17,7 @@ use toml_span::{Span, Stop};
 use toml_span_places::{SectionPlace, literal_span, section_places};
 use toml_span_read::gaps::byte_at;
 
-/// The smallest span around two.
+/// Returns the smallest span that contains both spans.
 fn hull(one: Span, other: Span) -> Span
     ensures { result ≡ spec.hull one other }
 {
@@ -35,7 +35,7 @@ fn hull(one: Span, other: Span) -> Span
     }
 }
 
-/// The smallest span around the literals of a value and of all values in it, and their keys.
+/// Returns the smallest span that contains the literals of a value and of all values inside it, and the keys inside it.
 #[cycle(reach)]
 fn reach(text: &str, value: &Value<'_>) -> Span
     ensures { result ≡ spec.reach text.now (view value.now) }
@@ -51,7 +51,7 @@ fn reach(text: &str, value: &Value<'_>) -> Span
     }
 }
 
-/// The same of these elements and a span.
+/// Returns the smallest span that contains `own` and the `reach` of each element.
 #[cycle(reach)]
 fn items_reach(text: &str, own: Span, items: &[Value<'_>]) -> Span
     ensures { result ≡ spec.items_reach text.now own (items_view items.now) }
@@ -63,7 +63,7 @@ fn items_reach(text: &str, own: Span, items: &[Value<'_>]) -> Span
     span
 }
 
-/// The same of these entries and a span.
+/// Returns the smallest span that contains `own` and, for each entry, its key and the `reach` of its value.
 #[cycle(reach)]
 fn entries_reach(text: &str, own: Span, table: &Table<'_>) -> Span
     ensures { result ≡ spec.members_reach text.now own (members_view table.now.entries) }
@@ -75,7 +75,7 @@ fn entries_reach(text: &str, own: Span, table: &Table<'_>) -> Span
     span
 }
 
-/// The entry with a name, with the span of its key.
+/// Returns the value of the entry with this name, with the span of its key.
 fn entry<'v, 'de>(table: &'v Table<'de>, name: &str) -> Option<(Option<Span>, &'v Value<'de>)>
     ensures { option_map (λ e. (e.0, view e.1.now)) result ≡ entry_at name.now (members_view table.now.entries) }
 {
@@ -87,7 +87,7 @@ fn entry<'v, 'de>(table: &'v Table<'de>, name: &str) -> Option<(Option<Span>, &'
     None
 }
 
-/// The entry or the element that a segment names, with the span of its key.
+/// Returns the entry or element that a segment names, with the span of its key if it is an entry.
 fn named<'v, 'de>(value: &'v Value<'de>, segment: &str) -> Option<(Option<Span>, &'v Value<'de>)>
     ensures { option_map (λ e. (e.0, view e.1.now)) result ≡ spec.named segment.now (inner_of (view value.now)) }
 {
@@ -100,7 +100,7 @@ fn named<'v, 'de>(value: &'v Value<'de>, segment: &str) -> Option<(Option<Span>,
     }
 }
 
-/// The span of a key and its value, or of a value without a key.
+/// Returns the smallest span that contains `span` and the span of the key, if there is a key.
 fn with_key(key: Option<Span>, span: Span) -> Span
     ensures { result ≡ spec.with_key key span }
 {
@@ -110,7 +110,7 @@ fn with_key(key: Option<Span>, span: Span) -> Span
     }
 }
 
-/// Where the line of an offset starts.
+/// Returns the start of the line that contains the offset `at`.
 pub(crate) fn line_start(text: &str, at: usize) -> usize
     ensures { result ≡ spec.line_start text.now at }
 {
@@ -121,7 +121,7 @@ pub(crate) fn line_start(text: &str, at: usize) -> usize
     start
 }
 
-/// The offset after the next line feed at or after an offset, or the end of the text.
+/// Returns the offset after the first line feed from `from` on, or the length of the text.
 fn after_line(text: &str, from: usize) -> usize
     ensures { result ≡ after_line text.now from }
 {
@@ -134,7 +134,7 @@ fn after_line(text: &str, from: usize) -> usize
     bytes.len().max(from)
 }
 
-/// Where the lines of what ends at an offset end.
+/// Returns the end of the line that contains the byte before the offset `end`, including its line end.
 fn lines_end(text: &str, end: usize) -> usize
     ensures { result ≡ spec.lines_end text.now end }
 {
@@ -144,7 +144,7 @@ fn lines_end(text: &str, end: usize) -> usize
     after_line(text, end)
 }
 
-/// The lines of a span.
+/// Returns the span of the whole lines that contain a span, including the last line end.
 fn lines_around(text: &str, span: Span) -> Span
     ensures { result ≡ spec.lines_around text.now span }
 {
@@ -154,7 +154,7 @@ fn lines_around(text: &str, span: Span) -> Span
     }
 }
 
-/// Whether a literal of this kind begins with a byte.
+/// Returns whether a byte opens a literal of this value: `[` for an array, `{` for a table.
 fn opens(value: &Value<'_>, byte: u8) -> bool
     ensures { result ≡ spec.opens (inner_of (view value.now)) byte }
 {
@@ -164,7 +164,7 @@ fn opens(value: &Value<'_>, byte: u8) -> bool
     value.as_table().is_some() && byte == b'{'
 }
 
-/// What is in these brackets or braces, if a span is in them, or else what is in others around them.
+/// Returns the span between the brackets or braces of a value, if they contain `span`. Otherwise returns `outer`.
 fn held_in(text: &str, value: &Value<'_>, span: Span, outer: Option<Span>) -> Option<Span>
     ensures { result ≡ spec.held_in text.now (view value.now) span outer }
 {
@@ -176,8 +176,9 @@ fn held_in(text: &str, value: &Value<'_>, span: Span, outer: Option<Span>) -> Op
     outer
 }
 
-/// Where what a path names is written: what is in the innermost brackets or braces around it, or else its lines, from
-/// the first to the last. `outer` is what is in those around the value.
+/// Returns the part of the text in which the value at a path is written: what is between the innermost brackets or
+/// braces around it or, without such, its lines from the first to the last. Returns `None` if the path is empty or
+/// leads to nothing. `outer` is what is between the brackets or braces around `value`, where the path begins.
 fn room(text: &str, path: &[&str], outer: Option<Span>, value: &Value<'_>) -> Option<Span>
     ensures { result ≡ spec.room text.now (map (λ s. s.now) path.now) outer (view value.now) }
 {
@@ -193,7 +194,8 @@ fn room(text: &str, path: &[&str], outer: Option<Span>, value: &Value<'_>) -> Op
     room(text, rest, held, below)
 }
 
-/// The span around one and the lines of all these sections that are of the table at a path, or of tables in it.
+/// Returns the smallest span that contains `span` and the lines of all sections of the table at a path, and of the
+/// tables inside it.
 fn with_sections(text: &str, path: &[&str], span: Span, places: &[SectionPlace<'_>]) -> Span
     ensures { result ≡ spec.with_sections text.now (map (λ s. s.now) path.now) span
         (map section_mention places.now) }
@@ -207,8 +209,9 @@ fn with_sections(text: &str, path: &[&str], span: Span, places: &[SectionPlace<'
     around
 }
 
-/// The span around all that is written of what a path names: what is in the brackets or braces that hold it, or its
-/// lines.
+/// Returns the span that contains everything that a path names: what is between the innermost brackets or braces around
+/// it, or its lines. `value` is the tree of the document. Fails with `Nothing` if the path is empty or leads to
+/// nothing, or if an allocation fails.
 pub(crate) fn around(
     document: Document<'_, '_>,
     path: &[&str],

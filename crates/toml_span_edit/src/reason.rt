@@ -1,6 +1,6 @@
 //! Why an edit was refused.
 
-/// Why an edit was refused.
+/// Why an edit was refused. A reason may come with more text, which `detail` returns.
 #[derive(Debug, Drop)]
 pub enum Reason {
     /// The document is longer than 16 MiB.
@@ -33,7 +33,7 @@ pub enum Reason {
 }
 
 impl Reason {
-    /// Returns the reason in words. `detail` may continue them.
+    /// Returns the reason as text. If `detail` is not empty, it continues this text.
     pub fn text(&self) -> &'static str {
         match self {
             Reason::TooLong => "the file is larger than 16 MiB",

@@ -10,7 +10,7 @@ use toml_span::{Span, Stop};
 use toml_span_places::{assignment_lines, section_lines};
 use toml_span_read::Val;
 
-/// Adjacent items of one array or inline table.
+/// Adjacent items of one array or inline table, from index `first` to `last`, both included.
 #[derive(Clone, Copy)]
 struct Run<'s, 'de> {
     list: &'s Val<'de>,
@@ -18,7 +18,7 @@ struct Run<'s, 'de> {
     last: usize,
 }
 
-/// Returns the items to remove for a mention in brackets or braces, or `None` if it is on lines.
+/// Returns the item to remove for a mention in brackets or braces, or `None` for a mention on lines.
 fn run_of<'s, 'de>(mention: &Mention<'s, 'de>) -> Option<Run<'s, 'de>> {
     let (list, index) = match *mention {
         Mention::Dotted(_, _, Home::Braces(list, index)) => (list, index),
@@ -33,7 +33,7 @@ fn run_of<'s, 'de>(mention: &Mention<'s, 'de>) -> Option<Run<'s, 'de>> {
     })
 }
 
-/// Returns the lines to remove for a mention, or `None` if it is not on lines of its own.
+/// Returns the lines to remove for a mention, or `None` for a mention in brackets or braces.
 fn lines_of(text: &str, mention: &Mention<'_, '_>) -> Option<Span> {
     match *mention {
         Mention::Own(section) => Some(section_lines(text, section)),
@@ -44,7 +44,7 @@ fn lines_of(text: &str, mention: &Mention<'_, '_>) -> Option<Span> {
     }
 }
 
-/// Joins two runs, if the second continues the first.
+/// Returns both runs as one, or `None` if `next` does not directly follow `run` in the same list.
 fn joined<'s, 'de>(run: Run<'s, 'de>, next: Run<'s, 'de>) -> Option<Run<'s, 'de>> {
     let continues = run.list.span == next.list.span && run.last.saturating_add(1) == next.first;
     if continues {
@@ -58,7 +58,7 @@ fn joined<'s, 'de>(run: Run<'s, 'de>, next: Run<'s, 'de>) -> Option<Run<'s, 'de>
     }
 }
 
-/// Removes the items of a run. Fails if an allocation fails.
+/// Plans to remove the items of a run, if there is one. Fails if an allocation fails.
 fn cut_run(text: &str, run: Option<Run<'_, '_>>, plan: &mut Plan) -> Result<(), AllocError> {
     match run {
         Some(run) => cut_items(text, run.list, run.first, run.last, plan),
@@ -66,7 +66,7 @@ fn cut_run(text: &str, run: Option<Run<'_, '_>>, plan: &mut Plan) -> Result<(), 
     }
 }
 
-/// Removes what these mentions name. Fails if an allocation fails.
+/// Plans to remove the lines and items of these mentions. Fails if an allocation fails.
 fn cut_all(text: &str, mentions: &[Mention<'_, '_>], plan: &mut Plan) -> Result<(), AllocError> {
     let mut open = None;
     for mention in mentions {
@@ -87,7 +87,7 @@ fn cut_all(text: &str, mentions: &[Mention<'_, '_>], plan: &mut Plan) -> Result<
     cut_run(text, open, plan)
 }
 
-/// Returns whether a mention only passes through a table on the way to another value, and does not define it.
+/// Returns whether a mention names a table only on the way to another value, and does not define the table.
 fn passes(mention: &Mention<'_, '_>) -> bool {
     match *mention {
         Mention::Below(_, _) => true,
@@ -96,13 +96,14 @@ fn passes(mention: &Mention<'_, '_>) -> bool {
     }
 }
 
-/// Returns whether a table exists only because of values in it, of which there are `values`: no header and no braces
-/// define it.
+/// Returns whether a table exists only because of one value in it: no header and no braces define it. `table` are the
+/// mentions of the table, and `values` is the number of mentions of the value.
 fn is_implied(table: &[Mention<'_, '_>], values: usize) -> bool {
     table.len() == values && table.iter().all(|mention| passes(mention))
 }
 
-/// Writes an empty table instead of the first of these mentions, which are removed. Fails if an allocation fails.
+/// Plans to write an empty table in place of the mention `table`: a header without entries, or a dotted key with `{}`.
+/// Fails if an allocation fails.
 fn keep_table(
     document: Document<'_, '_>,
     table: &Mention<'_, '_>,
@@ -138,8 +139,8 @@ fn keep_table(
     }
 }
 
-/// Removes the value at a path. A table that exists only because of it stays as an empty table, which is written as a
-/// header or as `{}`. Fails with the reason if that is not possible, or if an allocation fails.
+/// Plans to remove the value at a path. A table that exists only because of this value stays as an empty table, written
+/// as a header or as `{}`. Fails with the reason if that is not possible, or if an allocation fails.
 pub(crate) fn remove(
     document: Document<'_, '_>,
     path: &[&str],

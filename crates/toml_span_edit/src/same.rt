@@ -42,7 +42,7 @@ fn same_scalar(inner: &ValueInner<'_>, other: &ValueInner<'_>) -> bool
     }
 }
 
-/// Returns whether two lists have equal values.
+/// Returns whether two lists have the same length and the same values in the same order.
 #[cycle(same)]
 pub(crate) fn same_items(items: &[Value<'_>], others: &[Value<'_>]) -> bool
     ensures { result ≡ spec.same_items (items_view items.now) (items_view others.now) }
@@ -59,7 +59,7 @@ pub(crate) fn same_items(items: &[Value<'_>], others: &[Value<'_>]) -> bool
     rest.next().is_none()
 }
 
-/// Returns whether two tables have equal entries.
+/// Returns whether two tables have the same entries: the same names with the same values.
 #[cycle(same)]
 fn same_entries(table: &Table<'_>, others: &Table<'_>) -> bool
     ensures { result ≡ spec.same_members (members_view table.now.entries) (members_view others.now.entries) }

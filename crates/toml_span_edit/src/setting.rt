@@ -1,4 +1,4 @@
-//! Values that are set, and keys that are renamed.
+//! Replaces values that are written as such, and renames keys.
 ghost use Rattle.std.specs.Prelude.{◌≡◌, ◌++◌, IfOk, Ok, Some, [], ◌∷◌, map, string_bytes};
 ghost use Rattle.toml_span_read.specs.Data.{depth_limit, parsed_section};
 ghost use Rattle.toml_span_read.specs.Read.{document as read};
@@ -18,7 +18,7 @@ use toml_span::value::Value;
 use toml_span::{Span, Stop};
 use toml_span_places::{KeyPlace, key_places, literal_span, replaced};
 
-/// How what is at a path is written.
+/// How the value at a path is written.
 #[derive(Clone, Copy)]
 pub(crate) enum Written {
     /// As a value.
@@ -29,7 +29,8 @@ pub(crate) enum Written {
     Nowhere,
 }
 
-/// How what is at a path is written.
+/// Returns how the value at a path is written. Fails if the text can't be split into sections, or if an allocation
+/// fails.
 pub(crate) fn how_written(
     alloc: Global,
     text: &str,
@@ -52,7 +53,8 @@ pub(crate) fn how_written(
     })
 }
 
-/// The text with another one in place of a span.
+/// Returns the text with `new` in place of a span. Fails with `WouldDiffer` if the span is not a part of the text, or
+/// if an allocation fails.
 fn with_span_replaced(
     alloc: Global,
     text: &str,
@@ -67,7 +69,8 @@ fn with_span_replaced(
     }
 }
 
-/// The text with a value written over the literal at a path.
+/// Returns the text with `value` written over the literal of the value at a path. `old` is the tree of the text. Fails
+/// with `Nothing` if there is no such value, or if an allocation fails.
 pub(crate) fn write_over(
     alloc: Global,
     text: &str,
@@ -84,7 +87,9 @@ pub(crate) fn write_over(
     }
 }
 
-/// The text with a value written over the one at a path.
+/// Returns the text with the TOML value `value` written over the value at a path. `old` is the tree of the text. Fails
+/// with `NoValue` if `value` is not a TOML value, with `Nothing` if the path leads to nothing, with `NotSpelled` if
+/// headers or dotted keys define the value at the path, or if an allocation fails.
 pub(crate) fn set_text(
     alloc: Global,
     text: &str,
@@ -105,7 +110,8 @@ pub(crate) fn set_text(
 
 // ---- keys
 
-/// The keys at a path, with their quotes.
+/// Returns the spans of the keys in `places` that name the value at a path, quotes included. Fails if an allocation
+/// fails.
 fn keys_at(alloc: Global, path: &[&str], places: &[KeyPlace<'_>]) -> Result<Vec<Span>, AllocError>
     ensures { IfOk result (λ spans. spans.items
         ≡ spec.keys_at (map (λ s. s.now) path.now) (map key_mention places.now)) }
@@ -119,7 +125,7 @@ fn keys_at(alloc: Global, path: &[&str], places: &[KeyPlace<'_>]) -> Result<Vec<
     Ok(spans)
 }
 
-/// The spans of all keys at a path, with their quotes.
+/// Returns the spans of all keys that name the value at a path, quotes included. Fails if an allocation fails.
 fn key_spans(document: Document<'_, '_>, path: &[&str]) -> Result<Vec<Span>, AllocError>
     ensures { IfOk result (λ spans. spans.items ≡ spec.keys_at (map (λ s. s.now) path.now)
         (document_keys document.entry.text.now (map parsed_section document.entry.sections.now))) }
@@ -128,7 +134,8 @@ fn key_spans(document: Document<'_, '_>, path: &[&str]) -> Result<Vec<Span>, All
     keys_at(document.alloc, path, places.as_slice())
 }
 
-/// The text with a key in place of these.
+/// Returns the text with `key` in place of each of the spans. Fails with `WouldDiffer` if the spans are not parts of
+/// the text in its order, or if an allocation fails.
 fn with_spans(alloc: Global, text: &str, spans: &[Span], key: &str) -> Result<String, Stop<Reason>>
     ensures { IfOk result (λ new. places.replaced text.now (map (λ span. (span, key.now)) spans.now)
         ≡ Some (string_bytes new)) }
@@ -139,7 +146,8 @@ fn with_spans(alloc: Global, text: &str, spans: &[Span], key: &str) -> Result<St
     }
 }
 
-/// The text with a key in place of all keys at a path.
+/// Returns the text with `key` in place of all keys that name the value at a path. Fails if they can't be replaced, or
+/// if an allocation fails.
 fn with_key(document: Document<'_, '_>, path: &[&str], key: &str) -> Result<String, Stop<Reason>>
     ensures { IfOk result (λ new. places.replaced document.entry.text.now (map (λ span. (span, key.now))
         (spec.keys_at (map (λ s. s.now) path.now) (document_keys document.entry.text.now
@@ -149,7 +157,8 @@ fn with_key(document: Document<'_, '_>, path: &[&str], key: &str) -> Result<Stri
     with_spans(document.alloc, document.text, spans.as_slice(), key)
 }
 
-/// Checks that keys name what is at a path.
+/// Checks that keys name the value at a path. Fails with `NoKey` for the root and for an element of an array, with
+/// `Nothing` if the path leads to nothing, or if an allocation fails.
 fn check_keys(document: Document<'_, '_>, path: &[&str]) -> Result<(), Stop<Reason>> {
     if path.is_empty() {
         return Err(Stop::Fault(Reason::NoKey));
@@ -168,7 +177,8 @@ fn check_keys(document: Document<'_, '_>, path: &[&str]) -> Result<(), Stop<Reas
     Ok(())
 }
 
-/// The text with a name written over the keys of a path.
+/// Returns the text with the key `name` in place of all keys that name the value at a path. Fails with the reason if
+/// there is no such value or it has no key, or if an allocation fails.
 fn rename_keys(
     document: Document<'_, '_>,
     path: &[&str],
@@ -183,7 +193,8 @@ fn rename_keys(
     with_key(document, path, key.as_str())
 }
 
-/// The text with a name written over the keys of a path.
+/// Returns the text with the key `name` in place of all keys that name the value at a path. Fails with the reason if
+/// the text can't be split into sections, if there is no such value or it has no key, or if an allocation fails.
 pub(crate) fn renamed_text(
     alloc: Global,
     text: &str,

@@ -1,4 +1,4 @@
-//! One edit: what it replaces in the text, and whether the new tree is as it should be.
+//! Makes one edit, and checks that the new tree is the old one with only this change.
 ghost use Rattle.std.specs.Prelude.{◌≡◌, ◌++◌, IfOk, OnOk, true, codes, map, string_bytes, ◌⊎◌};
 ghost use Rattle.toml_span_read.specs.Data.{depth_limit};
 ghost use Rattle.toml_span_tree.specs.Value.{view};
@@ -17,7 +17,8 @@ use std::alloc::{AllocError, Global};
 use toml_span::value::Value;
 use toml_span::{Error, Stop, parse};
 
-/// Where a new value goes: to the path itself, to a name or position there, or to the end of the array there.
+/// Where a new value goes, relative to a path: `Here` at the path, `Under` a key or position in the table or array
+/// there, or at the `End` of the array there.
 #[derive(Clone, Copy)]
 pub(crate) enum Spot<'l> {
     Here,
@@ -25,14 +26,14 @@ pub(crate) enum Spot<'l> {
     End,
 }
 
-/// Returns the message of an error after its line and column, both counted from 1. Fails if an allocation fails.
+/// Returns an error as text: its line and column, both counted from 1, and its message. Fails if an allocation fails.
 fn fault_text(alloc: Global, fault: &Error<'_>) -> Result<String, AllocError> {
     let (line, column) = fault.line_info.unwrap_or((0, 0));
     let (line, column) = (line.saturating_add(1), column.saturating_add(1));
     format!(in alloc; "{line}:{column}: {fault}")
 }
 
-/// Returns the tree of a text, or its error in words. Fails if an allocation fails.
+/// Returns the tree of a text, or its error as `fault_text` writes it. Fails if an allocation fails.
 fn tree<'t>(alloc: Global, text: &'t str) -> Result<Result<Value<'t>, String>, AllocError>
     ensures { IfOk result (λ read. IfOk read (λ root. IsTree text.now depth_limit root)) }
 {
@@ -47,7 +48,8 @@ fn tree<'t>(alloc: Global, text: &'t str) -> Result<Result<Value<'t>, String>, A
     }
 }
 
-/// The tree of a document with a given value alone, under the name `v`.
+/// Returns the tree of `probe`, a document in which `v` is `value`. Fails with `NoValue` if it is not valid TOML, or if
+/// an allocation fails.
 fn given_tree<'p>(alloc: Global, probe: &'p str, value: &str) -> Result<Value<'p>, Stop<Reason>>
     ensures { IfOk result (λ root. IsTree probe.now depth_limit root) }
 {
@@ -60,7 +62,7 @@ fn given_tree<'p>(alloc: Global, probe: &'p str, value: &str) -> Result<Value<'p
     }
 }
 
-/// Returns the change that a value makes at this spot.
+/// Returns the change that puts the value `given` at this spot.
 fn local_of<'l, 'v, 'de>(spot: Spot<'l>, given: &'v Value<'de>) -> Local<'l, 'v, 'de>
     ensures { local result ≡ spec.goes spot.entry (view given.now) }
 {
@@ -71,7 +73,8 @@ fn local_of<'l, 'v, 'de>(spot: Spot<'l>, given: &'v Value<'de>) -> Local<'l, 'v,
     }
 }
 
-/// Returns whether the tree `new` is `old` with a new value at a spot.
+/// Returns whether the tree `new` is `old` with the TOML value `value` at a spot relative to the path. Fails with
+/// `NoValue` if `value` is not a TOML value, or if an allocation fails.
 fn goes(
     alloc: Global,
     spot: Spot<'_>,
@@ -91,7 +94,8 @@ fn goes(
     }
 }
 
-/// Returns whether the tree `new` is `old` with a new value at a path where there was none.
+/// Returns whether the tree `new` is `old` with the TOML value `value` added at a path, which named nothing before.
+/// Fails with `NoValue` if `value` is not a TOML value, or if an allocation fails.
 fn is_new(
     alloc: Global,
     value: &str,
@@ -110,7 +114,8 @@ fn is_new(
     }
 }
 
-/// Returns whether the tree `new` is `old` with this edit made, which is not a move.
+/// Returns whether the tree `new` is `old` with this edit made. Returns false for a move. Fails with `NoValue` if the
+/// given value is not a TOML value, or if an allocation fails.
 fn is_made(
     alloc: Global,
     edit: Edit<'_>,
@@ -135,7 +140,8 @@ fn is_made(
     }
 }
 
-/// Returns whether the tree `new` is `old` with a new value at a path, whether or not there was one.
+/// Returns whether the tree `new` is `old` with the TOML value `value` at a path, added or in place of another value.
+/// Fails with `NoValue` if `value` is not a TOML value, or if an allocation fails.
 fn is_set_or_new(
     alloc: Global,
     value: &str,
@@ -153,8 +159,8 @@ fn is_set_or_new(
     goes(alloc, Spot::Here, value, path, old, new)
 }
 
-/// Returns whether the tree `new` is `old` with a new element at the end of the array at a path, or with a new array
-/// that has only this element.
+/// Returns whether the tree `new` is `old` with the TOML value `value` at the end of the array at a path, or with a new
+/// array that has only this element. Fails with `NoValue` if `value` is not a TOML value, or if an allocation fails.
 fn is_appended(
     alloc: Global,
     value: &str,
@@ -175,7 +181,8 @@ fn is_appended(
     goes(alloc, Spot::End, value, path, old, new)
 }
 
-/// Returns whether the tree `new` is `old` with a new value at a path, in a table or array that existed.
+/// Returns whether the tree `new` is `old` with the TOML value `value` at a path, added to a table or array that
+/// existed. Fails with `NoValue` if `value` is not a TOML value, or if an allocation fails.
 fn is_under(
     alloc: Global,
     value: &str,
@@ -213,7 +220,7 @@ fn is_renamed(new_name: &str, path: &[&str], old: &Value<'_>, new: &Value<'_>) -
     }
 }
 
-/// Returns whether the tree `new` is `old` with a value inserted at a path, as an element or as an entry.
+/// Returns whether the tree `new` is `old` with `value` inserted at a path, as an element or as an entry.
 fn is_put(path: &[&str], value: &Value<'_>, old: &Value<'_>, new: &Value<'_>) -> bool
     ensures { result ≡ true
         → spec.IsPut (map (λ s. s.now) path.now) (view value.now) (view old.now) (view new.now) }
@@ -227,7 +234,7 @@ fn is_put(path: &[&str], value: &Value<'_>, old: &Value<'_>, new: &Value<'_>) ->
     }
 }
 
-/// The tree of the text that is edited, or the reason that there is none.
+/// Returns the tree of the text to edit. Fails with `NoDocument` if it is not valid TOML, or if an allocation fails.
 pub(crate) fn old_tree<'t>(alloc: Global, text: &'t str) -> Result<Value<'t>, Stop<Reason>>
     ensures { IfOk result (λ root. IsTree text.now depth_limit root) }
 {
@@ -248,7 +255,8 @@ pub(crate) fn new_tree<'t>(alloc: Global, text: &'t str) -> Result<Value<'t>, St
     }
 }
 
-/// Checks that a text is a document whose tree is that of the text before with an edit made, other than a move.
+/// Checks that the text `new` is a document whose tree is `old` with an edit made, other than a move. Fails with
+/// `WouldBeNone` or `WouldDiffer` if not, or if an allocation fails.
 fn check_made(alloc: Global, edit: Edit<'_>, old: &Value<'_>, new: &str) -> Result<(), Stop<Reason>>
     ensures { OnOk result (spec.IsMade edit.entry.change (map (λ s. s.now) edit.entry.path.now) (view old.now)
         new.now) }
@@ -261,7 +269,8 @@ fn check_made(alloc: Global, edit: Edit<'_>, old: &Value<'_>, new: &str) -> Resu
     }
 }
 
-/// Checks that a text is a document whose tree is that of the text without a value, which is put at its new path.
+/// Checks that the text `new` is a document whose tree is `rest` with `value` inserted at a path. Fails with
+/// `WouldBeNone` or `WouldDiffer` if not, or if an allocation fails.
 fn check_put_back(
     alloc: Global,
     path: &[&str],
@@ -279,8 +288,8 @@ fn check_put_back(
     }
 }
 
-/// Checks that a text is a document whose tree is that of the text before with the value at a path moved to another
-/// one. `without` is the text without that value.
+/// Checks that the text `new` is a document whose tree is `old` with the value at `path` moved to `target`. `without`
+/// is the text without that value. Fails with the reason if not, or if an allocation fails.
 fn check_moved(
     alloc: Global,
     without: &str,
@@ -302,7 +311,8 @@ fn check_moved(
     check_put_back(alloc, target, value, &rest, new)
 }
 
-/// Moves the value at a path to another one.
+/// Returns the text with the value at `path` moved to `target`. `old` is the tree of the text. Fails with the reason if
+/// that is not possible, or if an allocation fails.
 fn move_value(
     alloc: Global,
     text: &str,
@@ -321,7 +331,8 @@ fn move_value(
     Ok(new)
 }
 
-/// Makes an edit other than a move.
+/// Makes an edit other than a move, and returns the new text. `old` is the tree of the text. Fails with the reason if
+/// the edit is refused, or if an allocation fails.
 fn edited(
     alloc: Global,
     text: &str,
@@ -338,9 +349,9 @@ fn edited(
     Ok(new)
 }
 
-/// Makes an edit of a text, and returns the new one. The reason to refuse it is that the text is not a document, that
-/// the edit can't be made, that the tree of the result would not be the old one with this edit alone, or that other
-/// bytes would change.
+/// Makes an edit, and returns the new text. Fails with the reason if the text is not a document, if the edit can't be
+/// made, if the tree of the result would not be the old tree with only this change, or if other bytes would change.
+/// Fails also if an allocation fails.
 pub(crate) fn step(alloc: Global, text: &str, edit: Edit<'_>) -> Result<String, Stop<Reason>>
     ensures { IfOk result (λ new. spec.EditMade edit.entry text.now (string_bytes new)) }
 {

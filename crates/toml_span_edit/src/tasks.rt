@@ -19,7 +19,7 @@ pub enum Task<'w> {
     Add(&'w str, &'w str),
 }
 
-/// Returns the path and the change of a task at a path. Fails if an allocation fails.
+/// Returns the path and the change of the edit that carries out a task at the given path. Fails if an allocation fails.
 fn change_of<'w>(
     path: Vec<&'w str>,
     task: Task<'w>,
@@ -37,8 +37,8 @@ fn change_of<'w>(
     Ok((path, change))
 }
 
-/// Carries out a task at the value that a pointer names. Returns the new text. Fails with the reason if the edit is
-/// refused, or if an allocation fails.
+/// Carries out a task at the value that a pointer names, and returns the new text. Fails with the reason if the edit is
+/// refused, with `Nothing` if the pointer is not valid, or if an allocation fails.
 fn perform(
     alloc: Global,
     text: &str,

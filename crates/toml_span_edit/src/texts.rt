@@ -1,4 +1,4 @@
-//! The new text of an edit, and which bytes of the old one it keeps.
+//! Makes the new text of an edit, and checks which bytes of the old text it keeps.
 ghost use Rattle.std.specs.Prelude.{◌≡◌, ◌≤◌, ◌⊎◌, IfOk, false, true, map, slice_range, string_bytes};
 ghost use Rattle.toml_span_tree.specs.Value.{view};
 ghost use Rattle.toml_span_edit.specs.Kept as spec;
@@ -23,7 +23,8 @@ use toml_span::{Span, Stop};
 
 // ---- what is inserted
 
-/// Plans what a change inserts.
+/// Adds to `plan` what a change inserts at a path. Fails with the reason if the change can't be made, with
+/// `WouldDiffer` if it does not only insert something, or if an allocation fails.
 fn plan(
     document: Document<'_, '_>,
     path: &[&str],
@@ -40,7 +41,8 @@ fn plan(
     }
 }
 
-/// The text with what a change inserts.
+/// Returns the text with what a change inserts at a path. Fails with the reason if the change can't be made, with
+/// `WouldDiffer` if it would replace more than white space, or if an allocation fails.
 fn inserted_text(
     alloc: Global,
     text: &str,
@@ -60,7 +62,9 @@ fn inserted_text(
     pieces.inserted(text)
 }
 
-/// The text with a value written over the one at a path, or added.
+/// Returns the text with `value` written over the value at a path or, if there is nothing, added there. `old` is the
+/// tree of the text. Fails with `NotSpelled` if headers or dotted keys define the value at the path, with another
+/// reason if `value` can't be written there, or if an allocation fails.
 fn set_or_added_text(
     alloc: Global,
     text: &str,
@@ -82,7 +86,8 @@ fn set_or_added_text(
 
 // ---- what is removed
 
-/// The text without the value at a path, and with `has_comments` without the comments above it.
+/// Returns the text without the value at a path and, if `has_comments`, without the comments above it. Fails with the
+/// reason if the value can't be removed, or if an allocation fails.
 fn removed(
     document: Document<'_, '_>,
     path: &[&str],
@@ -96,7 +101,8 @@ fn removed(
     pieces.applied(document.text)
 }
 
-/// The new text, if it is the same before an offset and after one.
+/// Returns `new` if it consists of the text before the offset `start`, any other text, and the text from the offset
+/// `end` on. Fails with `WouldDiffer` otherwise.
 fn if_around(text: &str, start: usize, end: usize, new: String) -> Result<String, Stop<Reason>>
     ensures { IfOk result (λ out. spec.KeepsAround text.now (record { start = start; end = end })
         (string_bytes out)) }
@@ -108,7 +114,9 @@ fn if_around(text: &str, start: usize, end: usize, new: String) -> Result<String
     }
 }
 
-/// The text without the value at a path.
+/// Returns the text without the value at a path. `old` is the tree of the text. Fails with the reason if the value
+/// can't be removed, with `WouldDiffer` if more would change than the part of the text that `around` returns, or if an
+/// allocation fails.
 fn cut_text(
     alloc: Global,
     text: &str,
@@ -128,7 +136,7 @@ fn cut_text(
     if_around(text, span.start, span.end, new)
 }
 
-/// Where the comments directly above an offset start, or the offset.
+/// Returns the start of the comments directly above the offset `at`, or `at` if there are no comments.
 fn comments_from(text: &str, at: usize) -> usize
     ensures on { result ≤ at }
     ensures comments { spec.only_comments false (slice_range text.now result at) ≡ true }
@@ -140,7 +148,9 @@ fn comments_from(text: &str, at: usize) -> usize
     at
 }
 
-/// The text without the value at a path, and without its comments.
+/// Returns the text without the value at a path and the comments directly above it. `old` is the tree of the text.
+/// Fails with the reason if the value can't be removed, with `WouldDiffer` if anything else would change, or if an
+/// allocation fails.
 pub(crate) fn text_without(
     alloc: Global,
     text: &str,
@@ -161,7 +171,8 @@ pub(crate) fn text_without(
     if_around(text, comments_from(text, span.start), span.end, new)
 }
 
-/// The text without the value at a path, and then with another one added there.
+/// Returns the text with the value at a path removed, and then `value` added at that path. `old` is the tree of the
+/// text. Fails with the reason if one of the two is not possible, or if an allocation fails.
 fn cut_then_added(
     alloc: Global,
     text: &str,
@@ -176,7 +187,8 @@ fn cut_then_added(
     inserted_text(alloc, without.as_str(), path, Change::SetOrAdd(value))
 }
 
-/// Whether sections define an array of which a path names the only element.
+/// Returns whether a path names the only element of an array of tables. Fails if the text can't be read, or if an
+/// allocation fails.
 fn is_only_element(alloc: Global, text: &str, path: &[&str]) -> Result<bool, Stop<Reason>> {
     let [front @ .., segment] = path else {
         return Ok(false);
@@ -194,7 +206,8 @@ fn is_only_element(alloc: Global, text: &str, path: &[&str]) -> Result<bool, Sto
     Ok(names_array(array.as_slice()) && element.len() == array.len())
 }
 
-/// The text without the value at a path. An array of tables without its only element is `[]`.
+/// Returns the text without the value at a path. If that is the only element of an array of tables, the array becomes
+/// `[]`. `old` is the tree of the text. Fails with the reason if the value can't be removed, or if an allocation fails.
 fn removed_text(
     alloc: Global,
     text: &str,
@@ -213,8 +226,9 @@ fn removed_text(
     }
 }
 
-/// Returns the text with `value` written over the value `old` at a path, which headers or dotted keys may define. Fails
-/// if `value` is not a TOML value, if `old` can't be cut out, or if an allocation fails.
+/// Returns the text with the value at a path replaced by `value`. Headers or dotted keys may define the old value.
+/// `old` is the tree of the text. Fails with the reason if `value` is not a TOML value or the old value can't be
+/// removed, or if an allocation fails.
 fn replaced_text(
     alloc: Global,
     text: &str,
@@ -235,7 +249,8 @@ fn replaced_text(
 
 // ---- what is moved
 
-/// The text with a value that was moved put at a path.
+/// Returns the text with the value `moved` added at a path. Fails with the reason if that is not possible, or if an
+/// allocation fails.
 fn put_text(
     alloc: Global,
     text: &str,
@@ -255,7 +270,8 @@ fn put_text(
     pieces.inserted(text)
 }
 
-/// The text with the headers of what is at a path written as those of another path.
+/// Returns the text with the path `target` instead of `path` in the headers of the table, or array of tables, at
+/// `path`, and of the tables inside it. Fails with the reason if that is not possible, or if an allocation fails.
 fn headers_text(
     document: Document<'_, '_>,
     path: &[&str],
@@ -268,7 +284,8 @@ fn headers_text(
     pieces.in_headers(document.text)
 }
 
-/// The text with the value at a path moved to another one. `without` is the text without that value.
+/// Returns the text with the value at `path` moved to `target`. `without` is the text without that value and its
+/// comments. Fails with the reason if the value can't be moved, or if an allocation fails.
 pub(crate) fn moved_text(
     alloc: Global,
     text: &str,
@@ -293,7 +310,8 @@ pub(crate) fn moved_text(
 
 // ---- changes
 
-/// The text after an edit other than a move.
+/// Returns the text after an edit other than a move. `old` is the tree of the text. Fails with the reason if the edit
+/// can't be made, with `WouldDiffer` for a move, or if an allocation fails.
 pub(crate) fn edited_text(
     alloc: Global,
     text: &str,

@@ -1,4 +1,4 @@
-//! Checks new texts of a document before they are returned.
+//! Checks that a new text of a document has the same tree.
 ghost use Rattle.std.specs.Prelude.{◌≡◌, IfOk, string_bytes};
 ghost use Rattle.toml_span_edit.specs.Edited.{IsSameDocument};
 

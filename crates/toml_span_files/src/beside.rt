@@ -35,12 +35,12 @@ enum Try {
     Left,
 }
 
-/// Returns whether these are of the same file.
+/// Returns whether both are the metadata of the same file.
 pub(crate) fn is_same(one: &Metadata, other: &Metadata) -> bool {
     one.dev() == other.dev() && one.ino() == other.ino()
 }
 
-/// Returns whether a name leads to this open file, without a link.
+/// Returns whether this open file is at the path `name`, and not just a link to it.
 fn is_at(rt: &HostRuntime, name: &str, file: &File) -> bool {
     match (fs::symlink_metadata(rt, name), file.metadata()) {
         (Ok(named), Ok(open)) => is_same(&named, &open),
@@ -48,14 +48,15 @@ fn is_at(rt: &HostRuntime, name: &str, file: &File) -> bool {
     }
 }
 
-/// Creates the new file, which must not exist.
+/// Creates the new file, with the path `name`. Fails if it exists or can't be created.
 fn create(rt: &HostRuntime, name: &str) -> io::Result<File> {
     let mut options = OpenOptions::new();
     options.read(true).write(true).create_new(true);
     options.mode(OWN_MODE).open(rt, name)
 }
 
-/// Locks a file that was just created. If the system has no locks, having created it is enough.
+/// Locks the file with the path `name`, which was just created. If the system has no locks, having created it is
+/// enough. Returns `Locked`, or `Busy` if another run was faster.
 fn claim(rt: &HostRuntime, name: &str, file: File) -> Try {
     if let Err(TryLockError::WouldBlock) = file.try_lock() {
         return Try::Busy;
@@ -72,7 +73,8 @@ fn is_own(found: &Metadata) -> bool {
     found.is_file() && found.mode() & 0o7777 == OWN_MODE && found.nlink() == 1
 }
 
-/// Removes the file of this name if it looks like one that a run has created, and nobody has locked it.
+/// Removes the file with the path `name` if it looks like one that a run has created, and nobody has locked it. Returns
+/// `Left` if it does not look like that, or can't be opened or locked for another reason, otherwise `Busy`.
 fn clear(rt: &HostRuntime, name: &str) -> io::Result<Try> {
     let Ok(found) = fs::symlink_metadata(rt, name) else {
         return Ok(Try::Busy);
@@ -95,7 +97,8 @@ fn clear(rt: &HostRuntime, name: &str) -> io::Result<Try> {
     }
 }
 
-/// Creates and locks the new file, if that is possible now.
+/// Creates and locks the new file with the path `name`, if that is possible now. Fails if the file can't be created, or
+/// one that was left can't be removed.
 fn try_lock(rt: &HostRuntime, name: &str) -> io::Result<Try> {
     match create(rt, name) {
         Ok(file) => Ok(claim(rt, name, file)),
@@ -121,8 +124,8 @@ pub(crate) fn waited(rt: &HostRuntime, file: &File, wait: u64) -> bool {
     false
 }
 
-/// Creates and locks the new file of this name, and waits up to `wait` seconds if another run has it. Fails with `Busy`
-/// or `Left` if that is not enough.
+/// Creates and locks the new file with the path `name`, and waits up to `wait` seconds if another run has it. Fails
+/// with `Busy` or `Left` after this time, or if the file can't be created.
 pub(crate) fn lock(rt: &HostRuntime, name: String, wait: u64) -> Result<Beside, Failure> {
     let mut is_left = false;
     for _ in 0..wait.saturating_mul(TRIES).saturating_add(1) {

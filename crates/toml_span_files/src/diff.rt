@@ -20,7 +20,7 @@ pub enum Part<'t> {
     New(&'t str),
 }
 
-/// Joins the parts that the old text has. Fails if an allocation fails.
+/// Returns the old text: the parts that are `Same` or `Old`, joined. Fails if an allocation fails.
 fn old_text(alloc: Global, parts: &[Part<'_>]) -> Result<String, AllocError>
     ensures { IfOk result (λ text. string_bytes text ≡ flat_map spec.old_part parts.now) }
 {
@@ -34,7 +34,7 @@ fn old_text(alloc: Global, parts: &[Part<'_>]) -> Result<String, AllocError>
     Ok(text)
 }
 
-/// Joins the parts that the new text has. Fails if an allocation fails.
+/// Returns the new text: the parts that are `Same` or `New`, joined. Fails if an allocation fails.
 fn new_text(alloc: Global, parts: &[Part<'_>]) -> Result<String, AllocError>
     ensures { IfOk result (λ text. string_bytes text ≡ flat_map spec.new_part parts.now) }
 {
@@ -144,7 +144,7 @@ fn push_lines<'t>(
     Ok(())
 }
 
-/// Compares two texts. That the parts join to these texts is not proved here, but checked by `splits`. Fails if an
+/// Compares two texts, and returns their parts. `parts` checks afterwards that these join to the two texts. Fails if an
 /// allocation fails.
 fn guessed<'t>(alloc: Global, old: &'t str, new: &'t str) -> Result<Vec<Part<'t>>, AllocError> {
     let front = shared_front(old, new);
@@ -179,8 +179,8 @@ fn splits(alloc: Global, old: &str, new: &str, parts: &[Part<'_>]) -> Result<boo
     Ok(has_old && has_new)
 }
 
-/// Compares two texts, and returns their lines in order: those that both have, and those that only one has. Fails only
-/// if an allocation fails.
+/// Compares two texts, and returns their lines in order: those that both texts have, and those that only one has. Fails
+/// only if an allocation fails.
 pub fn parts<'t>(alloc: Global, old: &'t str, new: &'t str) -> Result<Vec<Part<'t>>, AllocError>
     ensures spelled { IfOk result (λ parts. Splits old.now new.now parts.items) }
 {

@@ -52,7 +52,7 @@ pub struct Disk<'r> {
     ready: Vec<u8>,
 }
 
-/// Fails unless this is a regular file.
+/// Checks that this is a regular file. Fails with `Directory` or `NotRegular` if not.
 fn check_kind(found: &Metadata) -> Result<(), Failure> {
     if found.is_dir() {
         Err(Failure::Directory)
@@ -63,8 +63,8 @@ fn check_kind(found: &Metadata) -> Result<(), Failure> {
     }
 }
 
-/// Fails if the file may not be edited with these options: unless it is a writable regular file without other hard
-/// links.
+/// Checks that a file may be edited with these options. Fails if it is not a regular file, if it is read-only and the
+/// edit is not forced, or if it has other hard links and is not written in place.
 fn check(found: &Metadata, options: Options) -> Result<(), Failure> {
     check_kind(found)?;
     if found.permissions().readonly() && !options.is_forced {
@@ -87,7 +87,8 @@ fn is_closed(failure: &Failure) -> bool {
     }
 }
 
-/// Returns the new file, or `None` if none can be created and the file is written in place anyway.
+/// Returns the new file from `locked`, the result of `lock`. Returns `None` if the directory allows no new file, but
+/// the file is to be written in place. Fails with any other failure in `locked`.
 fn beside_or_none(
     locked: Result<Beside, Failure>,
     options: Options,
@@ -104,8 +105,9 @@ fn beside_or_none(
     }
 }
 
-/// Gives a new file the owner and group of the old one. Returns the mode to give it. With `is_forced`, it may keep
-/// another owner or group, and then gets no set-id bits.
+/// Gives the new file `file` the owner and group of the old one, whose metadata is `found`. Returns the mode to give
+/// it. If the owner or group can't be kept, fails with `Owner` or, with `is_forced`, returns the mode without set-id
+/// bits.
 fn keep_owner(file: &File, found: &Metadata, is_forced: bool) -> Result<u32, Failure> {
     let new = file.metadata().map_err(unwritten)?;
     let mode = found.permissions().mode();
@@ -119,7 +121,8 @@ fn keep_owner(file: &File, found: &Metadata, is_forced: bool) -> Result<u32, Fai
     }
 }
 
-/// Writes the text to a new file, and gives it the owner, the group and the mode of the old one.
+/// Writes the text to a new file, and gives it the owner, the group and the mode of the old one, whose metadata is
+/// `found`. Fails with `Unwritten` or `Owner`.
 fn fill(file: &mut File, found: &Metadata, text: &[u8], is_forced: bool) -> Result<(), Failure> {
     file.write_all(text).map_err(unwritten)?;
     file.sync_all().map_err(unwritten)?;
@@ -128,7 +131,8 @@ fn fill(file: &mut File, found: &Metadata, text: &[u8], is_forced: bool) -> Resu
         .map_err(unwritten)
 }
 
-/// Reads a file, up to its end or until it is longer than `LIMIT`.
+/// Reads a file, up to its end or until more than `LIMIT` bytes have been read. Fails with `Unread`, or if an
+/// allocation fails.
 fn front_of(alloc: Global, file: &mut File) -> Result<Vec<u8>, Failure> {
     let mut bytes = Vec::new(alloc);
     let mut buf = [0u8; 8192];
@@ -161,7 +165,7 @@ fn extend(file: &mut File, text: &[u8]) -> io::Result<()> {
     written
 }
 
-/// Overwrites a file with a text. The file is at least as long as the text.
+/// Replaces the content of a file by a text that is not longer. After an error, the file may have a part of each.
 fn overwrite(file: &mut File, text: &[u8]) -> io::Result<()> {
     file.seek(SeekFrom::Start(0))?;
     file.write_all(text)?;
@@ -183,7 +187,8 @@ impl<'r> Disk<'r> {
         })
     }
 
-    /// Opens the file to write it in place, and locks it, since there may be no new file to lock.
+    /// Opens the file to write it in place, and locks it, since there may be no new file to lock. Fails if it can't be
+    /// opened, or with `Busy` if another run keeps it locked.
     fn open_in_place(&mut self) -> Result<(), Failure> {
         let mut options = OpenOptions::new();
         let open = options
@@ -198,7 +203,8 @@ impl<'r> Disk<'r> {
         Ok(())
     }
 
-    /// Records the file when it is first read. Fails with `Changed` if it is another file later.
+    /// Records which file has been opened for reading. Fails if it is not a regular file, or with `Changed` if it is
+    /// not the file that was opened before.
     fn recognize(&mut self, found: Metadata) -> Result<(), Failure> {
         check_kind(&found)?;
         if let Some(first) = &self.found

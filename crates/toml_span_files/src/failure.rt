@@ -4,7 +4,7 @@ use std::fmt::{Display, Formatter, Write};
 use std::io::ErrorKind;
 use std::{fmt, io};
 
-/// Why a file could not be edited. It is as before, except after `Damaged`.
+/// Why a file could not be edited. The file is as before, except after `Damaged`.
 #[derive(Debug, Drop)]
 pub enum Failure {
     /// An allocation failed.
@@ -65,7 +65,7 @@ impl<T: Drop> From<AllocFailed<T>> for Failure {
     }
 }
 
-/// Converts the error of a read.
+/// Returns the failure for an error of a read: `Memory` if an allocation failed, otherwise `Unread`.
 pub(crate) fn unread(error: io::Error) -> Failure {
     match error.kind() {
         ErrorKind::OutOfMemory => Failure::Memory,
@@ -73,7 +73,7 @@ pub(crate) fn unread(error: io::Error) -> Failure {
     }
 }
 
-/// Converts the error of a write.
+/// Returns the failure for an error of a write: `Memory` if an allocation failed, otherwise `Unwritten`.
 pub(crate) fn unwritten(error: io::Error) -> Failure {
     match error.kind() {
         ErrorKind::OutOfMemory => Failure::Memory,

@@ -36,7 +36,7 @@ impl Range {
         self.count = self.count.saturating_add(1);
     }
 
-    /// Moves on to the next hunk: `more` lines after the end of this one.
+    /// Moves on to the next hunk, which begins `more` lines after the end of this one.
     fn pass(&mut self, more: usize) {
         self.before = self.before.saturating_add(self.count).saturating_add(more);
         self.count = 0;
@@ -56,7 +56,7 @@ impl Range {
 }
 
 impl<'t> Hunks<'t> {
-    /// Appends a line with its mark to the hunk. Fails if an allocation fails.
+    /// Appends a line to the hunk, after its mark: `-`, `+` or a space. Fails if an allocation fails.
     fn push(&mut self, mark: char, line: &str) -> Result<(), AllocError> {
         if mark != '+' {
             self.old.count();
@@ -84,7 +84,7 @@ impl<'t> Hunks<'t> {
         Ok(())
     }
 
-    /// Appends a line of only one of the texts. Fails if an allocation fails.
+    /// Appends a line that only one of the texts has, with its mark `-` or `+`. Fails if an allocation fails.
     fn change(&mut self, mark: char, line: &str) -> Result<(), AllocError> {
         self.push_waiting(usize::MAX)?;
         self.is_open = true;
@@ -107,7 +107,7 @@ impl<'t> Hunks<'t> {
         Ok(())
     }
 
-    /// Appends a line of both texts. Fails if an allocation fails.
+    /// Appends a line that both texts have. Fails if an allocation fails.
     fn same(&mut self, line: &'t str) -> Result<(), AllocError> {
         self.waiting.push(line)?;
         if self.is_open && self.waiting.len() > CONTEXT * 2 {
@@ -121,7 +121,7 @@ impl<'t> Hunks<'t> {
         Ok(())
     }
 
-    /// Appends the lines of a part. Fails if an allocation fails.
+    /// Appends the lines of a part to the hunks. Fails if an allocation fails.
     fn part(&mut self, part: Part<'t>) -> Result<(), AllocError> {
         match part {
             Part::Same(lines) => {

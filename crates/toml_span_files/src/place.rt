@@ -13,7 +13,7 @@ const ENDING: &str = ".toml-span";
 /// How many bytes of the file's name the name of the new file begins with, at most.
 const KEPT: usize = 128;
 
-/// Splits a path after its last slash.
+/// Splits a path after its last slash: returns the directory with its slash, or an empty text, and the name.
 fn split(name: &str) -> (&str, &str) {
     match name.rsplit_once('/') {
         Some((folder, rest)) => (
@@ -43,7 +43,8 @@ fn led_to(alloc: Global, link: &str, target: &str) -> Result<String, AllocError>
     Ok(place)
 }
 
-/// Follows the links of a path. Returns the path of what they finally lead to.
+/// Follows the links of a path, and returns the path of what they finally lead to. Fails if a path can't be examined,
+/// after 40 links, or if an allocation fails.
 pub(crate) fn place_of(rt: &HostRuntime, name: &str) -> Result<String, Failure> {
     let mut place = String::from_str(rt.alloc(), name)?;
     for _ in 0..LINKS {

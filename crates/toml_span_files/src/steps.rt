@@ -14,13 +14,13 @@ pub trait Steps {
     fn begin(&mut self) -> Result<(), Failure>
         ensures { past self.new ≡ past self.old };
 
-    /// Returns the bytes of the file as they are now. Of a file that is longer than `LIMIT`, any part longer than that
-    /// is enough.
+    /// Returns the bytes of the file as they are now. If the file is longer than `LIMIT`, any part of it that is longer
+    /// than that is enough.
     fn read(&mut self) -> Result<Vec<u8>, Failure>
         ensures bytes { IfOk result (λ bytes. past self.new ≡ option_map (with_seen bytes.items) (past self.old)) }
         ensures err { OnErr result (past self.new ≡ past self.old) };
 
-    /// Writes the new text to where it is kept until `replace`. The file stays as it is.
+    /// Writes the new text to a place where it is kept until `replace`. The file stays as it is.
     fn prepare(&mut self, text: &[u8]) -> Result<(), Failure>
         ensures ready { OnOk result (past self.new ≡ option_map (with_ready text.now) (past self.old)) }
         ensures err { OnErr result (past self.new ≡ past self.old) };

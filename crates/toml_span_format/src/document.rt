@@ -15,7 +15,7 @@ use std::alloc::{AllocError, Global};
 use toml_span_lex::stop::Stop;
 use toml_span_read::{Section, read_sections};
 
-/// Reads the sections of a text. Fails with `FormatError::Invalid`, or if an allocation fails.
+/// Returns the sections of a text. Fails with `FormatError::Invalid` if it can't be read, or if an allocation fails.
 pub(crate) fn sections_of<'t>(
     alloc: Global,
     text: &'t str,
@@ -107,7 +107,7 @@ fn is_same(
     same_comments(alloc, text, new)
 }
 
-/// Formats a document.
+/// Formats a document, and returns the new text.
 ///
 /// The result has the same sections, keys, values and comments as `text`, all in the same order. Only white space, line
 /// ends and commas differ. Spaces and tabs at the end of a comment do not count as part of it.

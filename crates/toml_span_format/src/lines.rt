@@ -43,7 +43,8 @@ struct Sorter<'p, 't, 's> {
 }
 
 impl Sorter<'_, '_, '_> {
-    /// Appends the pieces from `start` to `end` to the result, the first with this gap. Fails if an allocation fails.
+    /// Appends the pieces from position `start` to `end`, exclusive, to the result, the first one with this gap. Fails
+    /// if an allocation fails.
     fn copy(&mut self, start: usize, end: usize, gap: Gap) -> Result<(), AllocError> {
         for (at, piece) in self
             .pieces
@@ -61,7 +62,7 @@ impl Sorter<'_, '_, '_> {
         Ok(())
     }
 
-    /// Returns the gap before the piece at a position.
+    /// Returns the gap before the piece at a position, or `NextLine` at the end.
     fn gap_at(&self, at: usize) -> Gap {
         match self.pieces.get(at) {
             Some(piece) => piece.gap,
@@ -103,8 +104,8 @@ impl Sorter<'_, '_, '_> {
         }
     }
 
-    /// Begins a line at the position `at`. Comments belong to an assignment that begins right below them. Fails if an
-    /// allocation fails.
+    /// Begins a line with the piece at the position `at`, and ends the entry before it. Comments directly above an
+    /// assignment belong to it. Fails if an allocation fails.
     fn begin_line(&mut self, alloc: Global, at: usize) -> Result<(), AllocError> {
         let Some(piece) = self.pieces.get(at) else {
             return Ok(());

@@ -53,7 +53,7 @@ fn same_named(a: &[Named<'_, '_>], b: &[Named<'_, '_>]) -> bool
 }
 
 /// Returns whether two lists have equal assignments, in any order, without regard to spans. May return `false` if
-/// assignments with the same key are in another order. Fails if an allocation fails.
+/// assignments with the same key are in different orders. Fails if an allocation fails.
 fn permuted_pairs(
     alloc: Global,
     a: &[Assignment<'_>],

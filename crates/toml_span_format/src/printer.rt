@@ -52,8 +52,8 @@ impl Printer {
         Ok(())
     }
 
-    /// Begins a line, after a blank line if the gap has one, except at the start and after an opening bracket. Fails if
-    /// an allocation fails.
+    /// Begins a line. A blank line is written before it if the gap has one, except at the start and after an opening
+    /// bracket. Fails if an allocation fails.
     fn begin_line(&mut self, gap: Gap) -> Result<(), AllocError> {
         if self.is_begun {
             self.end_line()?;
@@ -78,7 +78,8 @@ impl Printer {
         self.column
     }
 
-    /// Begins an element of the innermost open array or inline table. Fails if an allocation fails.
+    /// Begins an element of the innermost open array or inline table, on a new line or after a comma. Fails if an
+    /// allocation fails.
     fn begin_element(&mut self, gap: Gap) -> Result<(), AllocError> {
         let Some(frame) = self.open.last_mut() else {
             return Ok(());
@@ -115,7 +116,7 @@ impl Printer {
         }
     }
 
-    /// Prints a comment, on a line of its own or at the end of the current line. Fails if an allocation fails.
+    /// Prints a comment, on its own line or at the end of the current line. Fails if an allocation fails.
     fn comment(&mut self, piece: &Piece<'_>) -> Result<(), AllocError> {
         if piece.is_own_comment() {
             self.begin_line(piece.gap)?;
@@ -147,7 +148,7 @@ impl Printer {
         self.end_element()
     }
 
-    /// Returns how to print an array or inline table that begins here and has this form.
+    /// Returns how to print an array or inline table of this form that begins in the current column.
     fn mode_of(&mut self, form: Form) -> Mode {
         let (is_flat, reserved) = match self.open.last() {
             Some(frame) => (frame.mode == Mode::Flat, frame.reserved),
@@ -229,7 +230,8 @@ impl Printer {
     }
 }
 
-/// Prints all pieces after a byte order mark, if `mark` is one, and returns the text. Fails if an allocation fails.
+/// Returns the text of all pieces in their new layout. It begins with `mark`, a byte order mark or an empty string, and
+/// its lines end with `line_end`. Fails if an allocation fails.
 pub(crate) fn print(
     alloc: Global,
     mark: &str,

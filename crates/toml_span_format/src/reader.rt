@@ -35,7 +35,7 @@ struct Frame {
 }
 
 impl Frame {
-    /// Returns the number of columns that the whole takes on one line.
+    /// Returns the number of columns that the array or inline table takes on one line.
     fn whole_width(&self) -> usize {
         let brackets = if self.is_table && self.elements > 0 {
             4
@@ -46,7 +46,7 @@ impl Frame {
         self.width.saturating_add(commas).saturating_add(brackets)
     }
 
-    /// Returns the form in which to write it.
+    /// Returns the form in which to write the array or inline table.
     ///
     /// An inline table on one line stays on one line, because TOML 1.0 allows no line ends in inline tables.
     fn form(&self) -> Form {
@@ -90,7 +90,8 @@ pub(crate) struct Pieces<'t> {
 }
 
 impl<'t> Reader<'t> {
-    /// Returns the piece of a token with the current gap, and starts a new gap.
+    /// Returns the piece of a token that begins at the offset `start`, with the current gap before it, and starts a new
+    /// gap.
     fn piece(&mut self, kind: Kind, text: &'t str, start: usize) -> Piece<'t> {
         let gap = self.gap;
         self.gap = Gap::SameLine;
@@ -103,7 +104,7 @@ impl<'t> Reader<'t> {
         }
     }
 
-    /// Adds to the number of columns of the innermost open array or inline table.
+    /// Adds `by` to the number of columns of the innermost open array or inline table.
     fn widen(&mut self, by: usize) {
         if let Some(frame) = self.open.last_mut() {
             frame.width = frame.width.saturating_add(by);
@@ -133,7 +134,7 @@ impl<'t> Reader<'t> {
         }
     }
 
-    /// Processes a line end.
+    /// Processes the line end with this span: updates the gap and, outside arrays and inline tables, begins a line.
     fn line_end(&mut self, span: Span) {
         self.gap = if self.has_comma {
             self.gap.on_new_line()
@@ -154,7 +155,8 @@ impl<'t> Reader<'t> {
         }
     }
 
-    /// Processes a comment. Fails if an allocation fails.
+    /// Processes a comment. If it is between a key and its value, it is moved before the key. Fails if an allocation
+    /// fails.
     fn comment(&mut self, text: &'t str, start: usize) -> Result<(), AllocError> {
         let mut piece = self.piece(Kind::Comment, text, start);
         if let Some(key) = self.key.first_mut() {
@@ -217,7 +219,8 @@ impl<'t> Reader<'t> {
         Ok(())
     }
 
-    /// Begins a value: appends its key first, if it has one. Fails if an allocation fails.
+    /// Begins a value: appends the pieces of its key or, without a key, counts it as an element. Fails if an allocation
+    /// fails.
     fn begin_value(&mut self) -> Result<(), AllocError> {
         if self.key.is_empty() {
             self.count();
@@ -271,7 +274,8 @@ impl<'t> Reader<'t> {
         Ok(())
     }
 
-    /// Updates the innermost open array or inline table for one of this form that was closed in it.
+    /// Updates the innermost open array or inline table after `frame`, which was inside it and is written in this form,
+    /// was closed.
     fn hold(&mut self, frame: &Frame, form: Form) {
         self.widen(frame.whole_width());
         if let Some(outer) = self.open.last_mut() {

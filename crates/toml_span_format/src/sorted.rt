@@ -15,7 +15,8 @@ use std::alloc::{AllocError, Global};
 use toml_span_lex::stop::Stop;
 use toml_span_read::Section;
 
-/// Returns the text in its new layout, with its keys sorted. Fails if an allocation fails.
+/// Returns the text in its new layout, with its keys sorted. `sections` are those of the text. Fails if an allocation
+/// fails.
 fn laid_out_sorted(
     alloc: Global,
     text: &str,
@@ -59,8 +60,8 @@ fn permuted_comments(alloc: Global, old: &str, new: &str) -> Result<bool, AllocE
     Ok(same_texts(before.as_slice(), after.as_slice()))
 }
 
-/// Returns whether the text `new` has these sections, spans and the order of assignments within each section aside, and
-/// has the comments of `text`, in any order. Fails if an allocation fails.
+/// Returns whether the text `new` has these sections and the comments of `text`. The spans, the order of the
+/// assignments in each section, and the order of the comments may differ. Fails if an allocation fails.
 fn is_permuted(
     alloc: Global,
     text: &str,
@@ -81,7 +82,7 @@ fn is_permuted(
     permuted_comments(alloc, text, new)
 }
 
-/// Formats a document, and sorts its keys.
+/// Formats a document, sorts its keys, and returns the new text.
 ///
 /// In each section, the assignments between two blank lines are sorted by their keys: part by part, by the bytes of the
 /// names. Assignments with the same key keep their order. A comment on its own line moves with the assignment right

@@ -49,14 +49,15 @@ pub struct PathError {
     pub fault: PathFault,
 }
 
-/// Returns the error for an offset.
+/// Returns the error `fault` at the offset `at` of the path.
 fn stop(at: usize, fault: PathFault) -> Stop<PathError>
     ensures { result ≡ Fault (spec.error at fault) }
 {
     Stop::Fault(PathError { at, fault })
 }
 
-/// Returns the error for a string that begins at `at` and is read up to `end`.
+/// Converts the tokenizer's error in a string that begins at `at` and was read up to `end`. A string that is not closed
+/// is reported at `at`, any other error at `end`.
 fn string_error(at: usize, end: usize, error: tokens::Error) -> Stop<PathError>
     ensures { result ≡ Fault (spec.string_error at end error) }
 {
@@ -66,8 +67,8 @@ fn string_error(at: usize, end: usize, error: tokens::Error) -> Stop<PathError>
     }
 }
 
-/// Reads the string at an offset. Returns its content, whether it has three quotes on each side, and the offset after
-/// it.
+/// Reads the string at the offset `at`. Returns its content, whether it has three quotes on each side, and the offset
+/// after it. Fails if the string can't be read, or if an allocation fails.
 fn string_read<'p>(
     alloc: Global,
     path: &'p str,
@@ -91,7 +92,8 @@ fn string_read<'p>(
     }
 }
 
-/// Reads the key in quotes at an offset. Returns its name and the offset after it.
+/// Reads the key in quotes at the offset `at`. Returns its name and the offset after it. Fails if it can't be read or
+/// has three quotes on each side, or if an allocation fails.
 ///
 /// `quoted-key = basic-string / literal-string` (TOML 1.1, Keys)
 fn quoted_at<'p>(
@@ -111,7 +113,8 @@ fn quoted_at<'p>(
     }
 }
 
-/// Reads the key at an offset. Returns its name and the offset after it.
+/// Reads the key at the offset `at`. Returns its name and the offset after it. Fails if no key begins there or it can't
+/// be read, or if an allocation fails.
 ///
 /// `simple-key = quoted-key / unquoted-key` (TOML 1.1, Keys)
 #[tactic(auto, using(toml_span_read::proofs::Places::run_some))]
@@ -134,12 +137,14 @@ fn key_at<'p>(
     }
 }
 
+/// Returns whether a byte is an ASCII digit.
 fn is_digit(byte: u8) -> bool
     ensures { result ≡ is_ascii_digit byte }
 {
     byte.is_ascii_digit()
 }
 
+/// Returns whether all bytes are ASCII digits.
 fn are_digits(bytes: &[u8]) -> bool
     ensures { result ≡ list_all is_ascii_digit bytes.now }
 {
@@ -153,14 +158,16 @@ fn is_position(run: &str) -> bool
     are_digits(run.as_bytes()) && (run.len() == 1 || byte_at(run, 0) != b'0')
 }
 
-/// Returns whether a run of bare key bytes is a position, and a bracket closes after it.
+/// Returns whether `digits`, a run of bare key bytes that ends at the offset `end`, is a position, and a closing
+/// bracket follows it.
 fn is_closed(path: &str, digits: &str, end: usize) -> bool
     ensures { result ≡ spec.is_closed path.now digits.now end }
 {
     is_position(digits) && byte_at(path, end) == b']'
 }
 
-/// Reads the position after the bracket at an offset. Returns its digits and the offset after its closing bracket.
+/// Reads the position after the opening bracket at the offset `at`. Returns its digits and the offset after the closing
+/// bracket. Fails if anything else is there.
 #[tactic(auto, using(toml_span_read::proofs::Places::run_some))]
 fn opened_at<'p>(path: &'p str, at: usize) -> Result<(CowStr<'p>, usize), Stop<PathError>>
     requires { slice_index path.now at ≡ left_bracket }
@@ -179,7 +186,8 @@ fn opened_at<'p>(path: &'p str, at: usize) -> Result<(CowStr<'p>, usize), Stop<P
     }
 }
 
-/// Reads the position in brackets at an offset. Returns its digits and the offset after it.
+/// Reads the position in brackets at the offset `at`. Returns its digits and the offset after the closing bracket.
+/// Fails if anything else is there.
 fn position_at<'p>(path: &'p str, at: usize) -> Result<(CowStr<'p>, usize), Stop<PathError>>
     ensures { PositionGives path.now at result }
 {
@@ -190,8 +198,8 @@ fn position_at<'p>(path: &'p str, at: usize) -> Result<(CowStr<'p>, usize), Stop
     }
 }
 
-/// Reads the step at an offset: a dot and a key, or a position in brackets. Returns its segment and the offset after
-/// it.
+/// Reads the step at the offset `at`: a dot and a key, or a position in brackets. Returns its segment and the offset
+/// after it. Fails if anything else is there, or if an allocation fails.
 fn step_at<'p>(
     alloc: Global,
     path: &'p str,
@@ -206,7 +214,8 @@ fn step_at<'p>(
     }
 }
 
-/// Reads a dotted key with positions.
+/// Reads a dotted key with positions, such as `a.b[0]`, and returns its segments. Fails with the first place that can't
+/// be read, or if an allocation fails.
 #[tactic(auto, using(crate::proofs::DottedLemmas::after_first, crate::proofs::DottedLemmas::after_more))]
 fn dotted<'p>(alloc: Global, path: &'p str) -> Result<Vec<CowStr<'p>>, Stop<PathError>>
     ensures { Reads (IsDotted path.now) result }
@@ -221,7 +230,8 @@ fn dotted<'p>(alloc: Global, path: &'p str) -> Result<Vec<CowStr<'p>>, Stop<Path
     Ok(parts)
 }
 
-/// Returns the first segment, and what is after its slash, if it has one.
+/// Returns the text before the first slash of a path, and the text after it. Without a slash, returns the path and
+/// `None`.
 fn cut<'p>(path: &'p str) -> (&'p str, Option<&'p str>)
     ensures { SplitAtSlash path.now result.0.now (option_map (λ rest. rest.now) result.1) }
 {
@@ -231,7 +241,7 @@ fn cut<'p>(path: &'p str) -> (&'p str, Option<&'p str>)
     }
 }
 
-/// Adds the segments of a path between its slashes.
+/// Appends the segments of a path, which are separated by slashes. Fails if an allocation fails.
 fn push_segments<'p>(path: &'p str, parts: &mut Vec<CowStr<'p>>) -> Result<(), AllocError>
     ensures { OnOk result (map cow_str_bytes parts.new.items
         ≡ map cow_str_bytes parts.old.items ++ segments path.now) }
@@ -247,8 +257,8 @@ fn push_segments<'p>(path: &'p str, parts: &mut Vec<CowStr<'p>>) -> Result<(), A
 /// Returns the segments of a path: names of keys, and positions of elements in decimal digits.
 ///
 /// An empty path, or one that begins with a slash, is a pointer such as `/a/0`. Any other is a dotted key with
-/// positions in brackets, such as `a."b/c"[0]`. The error is the first place that can't be read, or out of memory. A
-/// pointer can always be read.
+/// positions in brackets, such as `a."b/c"[0]`. Fails with the first place that can't be read, or if an allocation
+/// fails. A pointer can always be read.
 pub fn path_segments<'p>(alloc: Global, path: &'p str) -> Result<Vec<CowStr<'p>>, Stop<PathError>>
     ensures { Reads (IsPath path.now) result }
 {
@@ -265,7 +275,8 @@ pub fn path_segments<'p>(alloc: Global, path: &'p str) -> Result<Vec<CowStr<'p>>
     }
 }
 
-/// Returns the position that a segment spells. `None` also if it is past every list.
+/// Returns the position that a segment spells, without a sign and without leading zeros. Returns `None` for any other
+/// segment, and for a number that does not fit into a `usize`.
 fn position(segment: &str) -> Option<usize>
     ensures { PositionIs result (position_of segment.now) }
 {
@@ -279,7 +290,7 @@ fn position(segment: &str) -> Option<usize>
     segment.parse::<usize>().ok()
 }
 
-/// Returns the element that a segment names.
+/// Returns the element at the position that a segment spells, if there is one.
 fn array_entry<'v, 'de>(array: &'v Array<'de>, segment: &str) -> Option<&'v Value<'de>>
     ensures { option_map (λ v. view v.now) result
         ≡ option_and_then (λ i. get_item i (items_view array.now.items)) (position_of segment.now) }
@@ -287,7 +298,7 @@ fn array_entry<'v, 'de>(array: &'v Array<'de>, segment: &str) -> Option<&'v Valu
     array.get(position(segment)?)
 }
 
-/// Returns the value under a name.
+/// Returns the value of the entry with this name, if there is one.
 fn entry_named<'v, 'de>(table: &'v Table<'de>, name: &str) -> Option<&'v Value<'de>>
     ensures { option_map (λ v. view v.now) result ≡ get_member name.now (members_view table.now.entries) }
 {
@@ -299,7 +310,7 @@ fn entry_named<'v, 'de>(table: &'v Table<'de>, name: &str) -> Option<&'v Value<'
     None
 }
 
-/// Returns what a segment names in an array or a table.
+/// Returns the entry of a table, or the element of an array, that a segment names.
 fn entry_of<'v, 'de>(inner: &'v ValueInner<'de>, segment: &str) -> Option<&'v Value<'de>>
     ensures { option_map (λ v. view v.now) result ≡ entry segment.now (inner_view inner.now) }
 {
@@ -310,7 +321,7 @@ fn entry_of<'v, 'de>(inner: &'v ValueInner<'de>, segment: &str) -> Option<&'v Va
     }
 }
 
-/// Returns what a segment names below a value, unless it is taken.
+/// Returns the entry or element of a value that a segment names, unless one of the two is taken.
 fn child_of<'v, 'de>(value: &'v Value<'de>, segment: &str) -> Option<&'v Value<'de>>
     ensures { option_map (λ v. view v.now) result ≡ untaken_entry segment.now (view value.now) }
 {
@@ -321,8 +332,9 @@ fn child_of<'v, 'de>(value: &'v Value<'de>, segment: &str) -> Option<&'v Value<'
     if child.is_taken() { None } else { Some(child) }
 }
 
-/// Returns the value at a path below a value, given as its segments (see `path_segments`): in a table the name of a
-/// key, in an array a position. In each table on the way it goes through the entries.
+/// Returns the value at a path below `value`, or `None` if there is nothing. A segment of the path is the name of a key
+/// in a table, or a position in an array (see `path_segments`). Takes time linear in the number of entries of each
+/// table on the way.
 pub fn value_at<'v, 'de>(value: &'v Value<'de>, path: &[CowStr<'_>]) -> Option<&'v Value<'de>>
     ensures { option_map (λ v. view v.now) result ≡ spec.named (map cow_str_bytes path.now) (view value.now) }
 {
@@ -332,7 +344,7 @@ pub fn value_at<'v, 'de>(value: &'v Value<'de>, path: &[CowStr<'_>]) -> Option<&
     value_at(child_of(value, segment.as_ref())?, rest)
 }
 
-/// Returns the segments as `Edits` of `toml_span_edit` takes them.
+/// Returns the segments as string slices, as `Edits` of `toml_span_edit` takes them. Fails if an allocation fails.
 pub fn segment_names<'s>(
     alloc: Global,
     segments: &'s [CowStr<'_>],

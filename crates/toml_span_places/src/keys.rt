@@ -37,6 +37,7 @@ pub struct KeyPlace<'t> {
     pub role: Role,
 }
 
+/// Returns whether a byte is a quotation mark or an apostrophe.
 pub(crate) fn is_quote(byte: u8) -> bool
     ensures { result ≡ spec.is_quote byte }
 {

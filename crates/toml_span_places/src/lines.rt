@@ -54,7 +54,8 @@ pub fn assignment_lines(text: &str, assignment: &Assignment<'_>) -> Span
     }
 }
 
-/// Returns the end of the lines of a section's assignments, given the spans of its header's line and of the section.
+/// Returns the end of the line of a section's last assignment or, without assignments, of its header. `header` is the
+/// span of the header's line, and `extent` that of the section.
 pub(crate) fn body_end(text: &str, header: Span, extent: Span) -> usize
     ensures { result ≡ spec.body_end text.now header extent }
 {

@@ -19,8 +19,8 @@ pub(crate) fn byte_before(text: &str, at: usize, back: usize) -> u8
     }
 }
 
-/// Returns the end of the opening quotes of a string whose content begins at `from`. Between them may be a line end,
-/// which is dropped.
+/// Returns the end of the opening quotes of a string whose content begins at `from`: `from` itself, or the start of a
+/// line end before it, which is dropped from the content.
 fn after_quotes(text: &str, from: usize) -> usize
     ensures { result ≡ spec.after_quotes text.now from }
 {
@@ -45,7 +45,8 @@ fn quotes_before(text: &str, at: usize) -> usize
     }
 }
 
-/// Returns the span of a string with its quotes, given the span of its content.
+/// Returns the span of a string with its quotes, given the span of its content. `is_empty` says whether the content is
+/// empty; its span may then be that of the opening quote.
 fn string_literal(text: &str, span: Span, is_empty: bool) -> Span
     ensures { result ≡ spec.string_literal text.now span is_empty }
 {

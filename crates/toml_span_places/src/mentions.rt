@@ -93,7 +93,8 @@ fn by_value(role: Option<Role>, form: Option<TableForm>, key: Span, span: Span) 
     }
 }
 
-/// Appends the mention by the last part of a section's header, whose path is `path`. Fails if an allocation fails.
+/// Appends the mention by `key`, the last part of a section's header. `path` is the path that the header names. Fails
+/// if an allocation fails.
 fn push_last<'t, 'de>(
     alloc: Global,
     section: &Section<'_>,
@@ -124,8 +125,8 @@ fn push_last<'t, 'de>(
     push(alloc, path, details, out)
 }
 
-/// Appends the mentions by these parts of a section's header, which follow `path`. Returns the path with these parts.
-/// Fails if an allocation fails.
+/// Appends the mentions by `parts`, the rest of a section's header, which continues `path`. Returns the path that the
+/// header names. Fails if an allocation fails.
 fn push_header<'t, 'de>(
     alloc: Global,
     section: &Section<'_>,
@@ -158,8 +159,8 @@ fn push_header<'t, 'de>(
     push_header(alloc, section, rest, opened, inside, out)
 }
 
-/// Appends the mentions by the parts of an assignment's key, which follow `path`. Returns the path with these parts.
-/// Fails if an allocation fails.
+/// Appends the mentions by the rest of an assignment's key, the parts `inner` and `last`, which continue `path`.
+/// `extent` is the span of the assignment. Returns the path that the key names. Fails if an allocation fails.
 fn push_parts<'t, 'de>(
     alloc: Global,
     extent: Span,
@@ -187,7 +188,7 @@ fn push_parts<'t, 'de>(
     push_parts(alloc, extent, rest, last, path_below, out)
 }
 
-/// Appends the mentions in these assignments, in the table at `path`. Fails if an allocation fails.
+/// Appends the mentions in the assignments `pairs` of the table at `path`. Fails if an allocation fails.
 #[cycle(push_value)]
 fn push_pairs<'t, 'de>(
     alloc: Global,
@@ -204,7 +205,8 @@ fn push_pairs<'t, 'de>(
     Ok(())
 }
 
-/// Appends the mentions in an assignment, by its key and in its value. Fails if an allocation fails.
+/// Appends the mentions in an assignment of the table at `path`: by its key, and in its value. Fails if an allocation
+/// fails.
 #[cycle(push_value)]
 fn push_pair<'t, 'de>(
     alloc: Global,
@@ -269,8 +271,8 @@ fn push_items<'t, 'de>(
     Ok(())
 }
 
-/// Appends the mentions in a section: in its header and, if `with_assignments`, in its assignments. Fails if an
-/// allocation fails.
+/// Appends the mentions in a section: in its header and, if `with_assignments`, in its assignments. Counts in `opened`
+/// the element that a header with double brackets adds. Fails if an allocation fails.
 fn push_section<'t, 'de>(
     alloc: Global,
     section: &'t Section<'de>,

@@ -39,7 +39,7 @@ pub enum NewerKind {
     ByteOrderMark,
 }
 
-/// A use of one of these forms, and where it is in the text.
+/// One place in a text that uses a form of syntax that TOML 1.0 lacks.
 #[derive(Clone, Copy, Debug, PartialEq, Eq)]
 pub struct NewerForm {
     pub kind: NewerKind,
@@ -58,7 +58,7 @@ pub(crate) enum Gap {
     AfterLast,
 }
 
-/// Appends a use that spans `start..end`. Fails if an allocation fails.
+/// Appends a newer form that spans `start..end`. Fails if an allocation fails.
 fn push(
     kind: NewerKind,
     start: usize,
@@ -148,9 +148,8 @@ fn time_start(date: &str) -> usize
     if byte_at(date, 2) == b':' { 0 } else { 11 }
 }
 
-/// Appends the hours and minutes of a date or time that has a time without seconds. Fails if an allocation fails.
-///
-/// `partial-time = time-hour ":" time-minute [ ":" time-second [ time-secfrac ] ]` (TOML 1.1, Local Time)
+/// Appends the hours and minutes of a date or time, if seconds do not follow them. `span` is the span of the value.
+/// Fails if an allocation fails.
 fn push_date<'de>(
     date: &DateText<'de>,
     span: Span,
@@ -202,8 +201,8 @@ fn line_end_kind(gap: Gap) -> NewerKind
     }
 }
 
-/// Appends a line end, whose line feed is at the offset `at`, and before it the comment that it ends, if there is one,
-/// which begins at `comment`. Fails if an allocation fails.
+/// Appends the line end whose line feed is at the offset `at` and, before it, the comment that it ends. `comment` is
+/// the offset at which this comment begins, if there is one. Fails if an allocation fails.
 fn push_line_end(
     text: &str,
     gap: Gap,
@@ -221,8 +220,8 @@ fn push_line_end(
     push(line_end_kind(gap), end, at + 1, out)
 }
 
-/// Appends what the byte at the offset `at` ends or is: a comment and a line end, or a trailing comma. `comment` is
-/// where the comment around the byte begins, if there is one. Fails if an allocation fails.
+/// Appends what the byte at the offset `at` ends or is: a line end with the comment before it, or a trailing comma.
+/// `comment` is the offset at which the comment around the byte begins, if there is one. Fails if an allocation fails.
 fn push_byte(
     text: &str,
     gap: Gap,
@@ -256,8 +255,8 @@ fn ends_gap(text: &str, comment: Option<usize>, at: usize) -> bool
     comment.is_none() && !is_between(byte_at(text, at))
 }
 
-/// Returns the offset of the comment that is open after the byte at `at`, if one is. `comment` is the one before the
-/// byte.
+/// Returns the offset at which the comment around the byte after `at` begins, if it is in one. `comment` is the same
+/// for the byte at `at`.
 fn next_comment(text: &str, comment: Option<usize>, at: usize) -> Option<usize>
     ensures { result ≡ spec.next_comment text.now comment at }
 {
@@ -268,7 +267,8 @@ fn next_comment(text: &str, comment: Option<usize>, at: usize) -> Option<usize>
     }
 }
 
-/// Appends the uses in the gap that begins at `from`, up to the next key, value or brace. Fails if an allocation fails.
+/// Appends the newer forms in the gap that begins at `from`, up to the next key, value or brace. Fails if an allocation
+/// fails.
 #[tactic(auto, using(crate::proofs::Uses::gap_next, crate::proofs::Uses::gap_stop, crate::proofs::Uses::gap_end))]
 fn push_gap(text: &str, gap: Gap, from: usize, out: &mut Vec<NewerForm>) -> Result<(), AllocError>
     ensures { OnOk result (out.new.items ≡ out.old.items ++ spec.gap_forms text.now gap from) }
@@ -284,7 +284,7 @@ fn push_gap(text: &str, gap: Gap, from: usize, out: &mut Vec<NewerForm>) -> Resu
     Ok(())
 }
 
-/// Appends the uses in the gap after the opening brace at the offset `at`. Fails if an allocation fails.
+/// Appends the newer forms in the gap after the opening brace at the offset `at`. Fails if an allocation fails.
 #[tactic(auto, using(crate::proofs::Uses::gap_past))]
 fn push_opened(text: &str, at: usize, out: &mut Vec<NewerForm>) -> Result<(), AllocError>
     ensures { OnOk result (out.new.items ≡ out.old.items ++ spec.gap_forms text.now Gap.BeforePair (at + 1)) }
@@ -318,7 +318,8 @@ fn gap_after(position: usize, count: usize) -> Gap
     }
 }
 
-/// Appends the uses in a pair of an inline table, and in the gap after it. Fails if an allocation fails.
+/// Appends the newer forms in a pair of an inline table, and in the gap after it, whose kind is `after`. Fails if an
+/// allocation fails.
 #[cycle(push_value)]
 fn push_pair<'de>(
     text: &str,
@@ -335,7 +336,7 @@ fn push_pair<'de>(
     push_gap(text, after, pair.extent.end, out)
 }
 
-/// Appends the uses in the pairs of an inline table, and in the gaps between them. Fails if an allocation fails.
+/// Appends the newer forms in the pairs of an inline table, and in the gaps after them. Fails if an allocation fails.
 #[cycle(push_value)]
 fn push_pairs<'de>(
     text: &str,
@@ -351,7 +352,7 @@ fn push_pairs<'de>(
     Ok(())
 }
 
-/// Appends the uses in the elements of an array. Fails if an allocation fails.
+/// Appends the newer forms in the elements of an array. Fails if an allocation fails.
 #[cycle(push_value)]
 fn push_items<'de>(
     text: &str,
@@ -367,7 +368,7 @@ fn push_items<'de>(
     Ok(())
 }
 
-/// Appends the uses in a value. Fails if an allocation fails.
+/// Appends the newer forms in a value. Fails if an allocation fails.
 #[cycle(push_value)]
 fn push_value<'de>(text: &str, value: &Val<'de>, out: &mut Vec<NewerForm>) -> Result<(), AllocError>
     ensures { OnOk result (out.new.items ≡ out.old.items ++ spec.value_forms text.now (parsed_value value.now)) }
@@ -386,7 +387,7 @@ fn push_value<'de>(text: &str, value: &Val<'de>, out: &mut Vec<NewerForm>) -> Re
 
 // ---- the document
 
-/// Appends the uses in assignments. Fails if an allocation fails.
+/// Appends the newer forms in assignments. Fails if an allocation fails.
 fn push_assignments<'de>(
     text: &str,
     assignments: &[Assignment<'de>],

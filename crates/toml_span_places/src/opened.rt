@@ -23,7 +23,7 @@ pub(crate) struct Opened<'t> {
     elements: BTreeMap<Vec<SortedStep<'t>>, usize>,
 }
 
-/// Converts a step.
+/// Converts a step to one with an order.
 fn sorted_step<'t>(step: Step<'t>) -> SortedStep<'t>
     ensures { spec.sorted_step result ≡ step_of step.entry }
 {
@@ -71,7 +71,8 @@ pub(crate) fn elements_of<'t>(
     }
 }
 
-/// Counts one more element of the array of tables at this path. After a failed allocation, the counts are unspecified.
+/// Counts one more element of the array of tables at this path. Fails if an allocation fails; the counts are then
+/// unspecified.
 pub(crate) fn add<'t>(
     alloc: Global,
     opened: &mut Opened<'t>,

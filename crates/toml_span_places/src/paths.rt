@@ -12,7 +12,7 @@ use std::alloc::{AllocError, Global};
 use toml_span_lex::key::Key;
 use toml_span_tree::nodes::Step;
 
-/// Appends a step to a path. Fails if an allocation fails.
+/// Returns `path` with a step appended. Fails if an allocation fails.
 pub(crate) fn extended<'t>(
     mut path: Vec<Step<'t>>,
     step: Step<'t>,
@@ -23,7 +23,7 @@ pub(crate) fn extended<'t>(
     Ok(path)
 }
 
-/// Appends a key to a path. Fails if an allocation fails.
+/// Returns `path` with a key appended. Fails if an allocation fails.
 pub(crate) fn with_key<'t, 'de>(
     path: Vec<Step<'t>>,
     key: &'t Key<'de>,
@@ -41,7 +41,7 @@ pub(crate) fn copied<'t>(alloc: Global, path: &[Step<'t>]) -> Result<Vec<Step<'t
     Ok(steps)
 }
 
-/// Returns the path of an element, given the path of its array. Fails if an allocation fails.
+/// Returns the path of the element at `position` of the array at `path`. Fails if an allocation fails.
 pub(crate) fn element_path<'t>(
     alloc: Global,
     path: &[Step<'t>],
@@ -97,7 +97,7 @@ pub(crate) fn latest<'t>(
     Ok(added.checked_sub(1))
 }
 
-/// Appends the position of an element to a path, if it is given. Fails if an allocation fails.
+/// Returns `path` with the position of an element appended, if one is given. Fails if an allocation fails.
 pub(crate) fn entered<'t>(
     path: Vec<Step<'t>>,
     element: Option<usize>,

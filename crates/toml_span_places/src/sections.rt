@@ -38,7 +38,8 @@ pub struct SectionPlace<'t> {
     pub body: Span,
 }
 
-/// Returns how a section begins, given how the mention at its start names a table.
+/// Returns how a section begins, given how the mention at its start names a table. Returns `None` for a mention that
+/// does not begin a section.
 fn form_of(named: Option<TableForm>) -> Option<SectionForm>
     ensures { result ≡ spec.form_of named }
 {

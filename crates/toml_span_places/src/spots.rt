@@ -38,8 +38,9 @@ fn holds(span: Span, offset: usize) -> bool
     span.start <= offset && offset < span.end
 }
 
-/// Returns whether the offset is in the value or in its key, with the span of that one. If both contain the offset, it
-/// is the one that starts last. Spans include quotes.
+/// Returns the part, key or value, that contains the offset, with its span. `literal` is the span of the value, and
+/// `quoted` that of its key, quotes included. If both contain the offset, returns the one that starts last; if neither
+/// does, the value.
 fn chosen(offset: usize, literal: Span, quoted: Option<Span>) -> (Part, Span)
     ensures { result ≡ spec.chosen offset literal quoted }
 {

@@ -5,7 +5,7 @@ use Rattle.std.specs.List.{flat_map}
 use Rattle.std.specs.Str.{chars}
 use Rattle.unicode_width.specs.Width.{str_width}
 
--- a control character from U+0080 on, or a character that ends a line or changes the direction of the text
+-- a control character from U+0080 on, or a character that has no width, ends a line or changes the text direction
 abbrev pub is_hidden : ℕ → Bool
 is_hidden c = (nat_le 0x80 c && nat_lt c 0xA0) || c == 0x061C || c == 0x200B || (nat_le 0x200D c && nat_le c 0x200F)
     || (nat_le 0x2028 c && nat_le c 0x202E) || (nat_le 0x2066 c && nat_le c 0x2069) || c == 0xFEFF

@@ -214,14 +214,14 @@ pub(crate) fn byte_after(text: &str, at: usize) -> u8
     byte_at(text, end_of(Class::Blank, text, at))
 }
 
-/// Returns the offset of the first byte that is not a blank on the line of the offset `at`.
+/// Returns the offset of the first byte that is not a blank on the line that contains the offset `at`.
 pub(crate) fn first_of_line(text: &str, at: usize) -> usize
     ensures { result ≡ spec.first_of_line text.now at }
 {
     end_of(Class::Blank, text, start_of(Class::Line, text, at))
 }
 
-/// Returns the end of the line of the offset `at`, without trailing blanks.
+/// Returns the end of the line that contains the offset `at`, without trailing blanks.
 pub(crate) fn last_of_line(text: &str, at: usize) -> usize
     ensures { result ≡ spec.last_of_line text.now at }
 {

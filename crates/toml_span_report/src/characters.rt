@@ -5,8 +5,8 @@ ghost use Rattle.toml_span_report.specs.Characters as spec;
 use std::alloc::{AllocError, Global};
 use unicode_width::UnicodeWidthStr;
 
-/// Returns whether a character is printed as U+FFFD: a control character from U+0080 on, or a character that ends a
-/// line or changes the direction of the text.
+/// Returns whether a character is printed as U+FFFD: a control character from U+0080 on, one that ends a line or
+/// changes the direction of the text, or one without width (U+200B, U+200D, U+FEFF).
 fn is_hidden(c: char) -> bool
     ensures { result ≡ spec.is_hidden c }
 {

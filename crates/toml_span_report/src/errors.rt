@@ -47,7 +47,7 @@ fn message(alloc: Global, error: &Error<'_>) -> Result<String, AllocError>
     }
 }
 
-/// Returns a list of one label, which is primary. Fails if an allocation fails.
+/// Returns a list with one primary label, which has the message `text`. Fails if an allocation fails.
 fn one_label(alloc: Global, span: Span, text: &str) -> Result<Vec<Label<()>>, AllocError>
     ensures { IfOk result (λ labels. map label_content labels.items ≡ spec.one_label span text.now) }
 {
@@ -97,8 +97,8 @@ fn notes(alloc: Global, kind: &ErrorKind<'_>) -> Result<Vec<String>, AllocError>
     Ok(notes)
 }
 
-/// Returns a line of help with the range of the number type of this name, or no line if there is no such type. Fails if
-/// an allocation fails.
+/// Returns a list with one line of help, the range of the number type with this name. The list is empty for any other
+/// name. Fails if an allocation fails.
 fn range(alloc: Global, name: &str) -> Result<Vec<String>, AllocError>
     ensures { IfOk result (λ help. map string_bytes help.items ≡ option_to_list (range_help name.now)) }
 {
@@ -219,6 +219,7 @@ impl Report {
     }
 
     /// Makes the same report as `from_error`, but as a warning, for a program that continues in spite of the error.
+    /// Fails only if an allocation fails.
     pub fn from_warning(alloc: Global, error: &Error<'_>, text: &str) -> Result<Report, AllocError>
         ensures { IfOk result (λ made. ReportsError severities.Warning text.now (content_of error.now)
             (report_content made)) }
@@ -242,7 +243,7 @@ pub fn render_error(
     render(alloc, style, &report, name, text)
 }
 
-/// Appends the report of each error. Fails if an allocation fails.
+/// Appends the report of each error in the source `text`. Fails if an allocation fails.
 pub(crate) fn push_errors(
     alloc: Global,
     errors: &DeserError<'_>,
@@ -258,7 +259,7 @@ pub(crate) fn push_errors(
     Ok(())
 }
 
-/// Returns the report of each error of a read, in order. Fails if an allocation fails.
+/// Returns the report of each error of a read of the source `text`, in order. Fails if an allocation fails.
 pub(crate) fn error_reports(
     alloc: Global,
     errors: &DeserError<'_>,

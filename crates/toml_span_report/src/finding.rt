@@ -48,7 +48,7 @@ pub(crate) struct Meant {
     pub(crate) code: &'static str,
 }
 
-/// Returns a `Meant` with these parts.
+/// Returns a `Meant` with these parts, in `Some`.
 pub(crate) fn as_meant(mistake: Mistake, name: &'static str, code: &'static str) -> Option<Meant>
     ensures { option_map meant_content result ≡ Some (spec.as_meant (texts mistake.entry) name.now code.now) }
 {
@@ -59,7 +59,7 @@ pub(crate) fn as_meant(mistake: Mistake, name: &'static str, code: &'static str)
     })
 }
 
-/// Joins six pieces.
+/// Returns a text of six pieces.
 pub(crate) fn six<'a>(
     first: &'a str,
     second: &'a str,
@@ -81,7 +81,7 @@ pub(crate) fn six<'a>(
     }
 }
 
-/// Joins three pieces.
+/// Returns a text of three pieces.
 pub(crate) fn pieces<'a>(first: &'a str, second: &'a str, third: &'a str) -> Code<'a>
     ensures { code_content result ≡ spec.pieces first.now second.now third.now }
 {

@@ -1,5 +1,5 @@
 //! Reports on TOML documents: errors, or findings of a program's own. Formats them as text with a message, source
-//! lines, and marks below these.
+//! lines, and marks below them.
 #![tactic(auto)]
 
 mod bytes;

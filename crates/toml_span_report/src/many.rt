@@ -30,7 +30,8 @@ fn place_of(strip: Option<Strip<'_>>) -> usize
     }
 }
 
-/// Formats a report, and returns its text with the offset of its first primary mark. Fails if an allocation fails.
+/// Returns the text of a report, with the offset of its first primary mark. `name` is the name of the file, `text` the
+/// source. Fails if an allocation fails.
 fn draw(
     alloc: Global,
     style: Style,
@@ -47,7 +48,7 @@ fn draw(
     Ok(Drawn { at, text })
 }
 
-/// Formats each report. Fails if an allocation fails.
+/// Returns the text of each report with its offset, as `draw` does. Fails if an allocation fails.
 fn draw_all(
     alloc: Global,
     style: Style,
@@ -101,8 +102,8 @@ fn count_of(severity: Severity, reports: &[Report]) -> usize
     count
 }
 
-/// Appends a count with its word, such as `3 errors`, after a comma unless it is the first. Appends nothing if the
-/// count is 0. Fails if an allocation fails.
+/// Appends a count with its word, such as `3 errors`, after a comma unless it is the first. `word` is the singular.
+/// Appends nothing if the count is 0. Fails if an allocation fails.
 fn push_count(line: &mut String, count: usize, word: &str) -> Result<(), AllocError>
     ensures { OnOk result (string_bytes line.new ≡ spec.with_count (string_bytes line.old) count word.now) }
 {
@@ -142,7 +143,8 @@ fn total(alloc: Global, reports: &[Report]) -> Result<String, AllocError>
     Ok(line)
 }
 
-/// Joins the texts and the last line. Fails if an allocation fails.
+/// Returns the texts, each with a blank line after it, and then the line that counts the reports. Fails if an
+/// allocation fails.
 fn joined(alloc: Global, drawn: &[Drawn], reports: &[Report]) -> Result<String, AllocError>
     ensures { IfOk result (λ out. string_bytes out
         ≡ spec.joined (map drawn_content drawn.now) (map report_content reports.now)) }

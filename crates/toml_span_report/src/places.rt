@@ -30,7 +30,7 @@ fn mark_end(text: &str) -> usize
     }
 }
 
-/// Returns the offset at which the line of an offset begins.
+/// Returns the start of the line that contains the offset `at`, after a byte order mark at the start of the text.
 pub(crate) fn line_start(text: &str, at: usize) -> usize
     requires { IsCharBoundary text.now at }
     ensures value { result ≡ spec.line_start text.now at }
@@ -46,7 +46,7 @@ pub(crate) fn line_start(text: &str, at: usize) -> usize
     start
 }
 
-/// Returns the offset of the first line feed, or the length of the text if there is none.
+/// Returns the offset of the first line feed in `bytes`, or their number if they have no line feed.
 fn line_feed(bytes: &[u8]) -> usize
     ensures value { result ≡ position_or_len spec.is_line_feed bytes.now }
     ensures within { result ≤ length bytes.now }
@@ -60,7 +60,7 @@ fn line_feed(bytes: &[u8]) -> usize
     bytes.len()
 }
 
-/// Returns the offset at which the line of an offset ends: before its LF or CRLF, or at the end of the text.
+/// Returns the end of the line that contains the offset `at`: before its LF or CRLF, or at the end of the text.
 pub(crate) fn line_end(text: &str, at: usize) -> usize
     requires { IsCharBoundary text.now at }
     ensures value { result ≡ spec.line_end text.now at }
@@ -77,7 +77,7 @@ pub(crate) fn line_end(text: &str, at: usize) -> usize
     }
 }
 
-/// Returns the number of the line of an offset, counted from 1.
+/// Returns the number of the line that contains the offset `at`, counted from 1.
 #[tactic(auto, unfolding(crate::specs::Places::line_number))]
 pub(crate) fn line_number(text: &str, at: usize) -> usize
     requires { at ≤ length text.now }
@@ -95,7 +95,7 @@ pub(crate) fn characters(text: &str) -> usize
     text.chars().count()
 }
 
-/// Returns the column of an offset, counted from 1 in characters.
+/// Returns the column of the offset `at`, counted from 1 in characters.
 pub(crate) fn column(text: &str, at: usize) -> usize
     requires { IsCharBoundary text.now at }
     ensures { result ≡ spec.column text.now at }

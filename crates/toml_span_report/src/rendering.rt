@@ -120,7 +120,7 @@ pub(crate) fn main_strip<'a>(strips: &[Strip<'a>]) -> Option<Strip<'a>>
     strips.first().copied()
 }
 
-/// Appends the line and the column of a strip, if there is one. Fails if an allocation fails.
+/// Appends the place of a strip, if there is one, as `:line:column`. Fails if an allocation fails.
 fn push_place(out: &mut String, strip: Option<Strip<'_>>) -> Result<(), AllocError>
     ensures { OnOk result (string_bytes out.new ≡ string_bytes out.old
         ++ spec.line_and_column (option_map marked_line_of strip.entry)) }
@@ -132,7 +132,7 @@ fn push_place(out: &mut String, strip: Option<Strip<'_>>) -> Result<(), AllocErr
     write!(out, ":{number}:{column}")
 }
 
-/// Returns the number of digits of the highest line number. Fails if an allocation fails.
+/// Returns the number of digits of the highest line number of the strips. Fails if an allocation fails.
 fn width_of(alloc: Global, strips: &[Strip<'_>]) -> Result<usize, AllocError>
     ensures { IfOk result (λ width. width ≡ spec.width_of (map marked_line_of strips.now)) }
 {
@@ -227,8 +227,8 @@ fn push_marks_line(frame: Frame, out: &mut String, strip: &Strip<'_>) -> Result<
     out.push_str("\n")
 }
 
-/// Appends the source line of a strip, after `...` or a bar if it does not follow the line above. Appends nothing if
-/// that line shows the strip too. Fails if an allocation fails.
+/// Appends the source line of a strip: after a line with a bar if it is the first one, or after `...` if lines are left
+/// out. Appends nothing if the window `above` shows the strip too. Fails if an allocation fails.
 fn push_opening(
     frame: Frame,
     out: &mut String,
@@ -271,7 +271,8 @@ fn push_strips(frame: Frame, out: &mut String, strips: &[Strip<'_>]) -> Result<(
     Ok(())
 }
 
-/// Returns the first line and the line with the place. Fails if an allocation fails.
+/// Returns the beginning of a report: its first line, and the line with its place. `name` is the name of the file.
+/// Fails if an allocation fails.
 fn front(
     frame: Frame,
     report: &Report,
@@ -294,7 +295,7 @@ fn front(
     Ok(out)
 }
 
-/// Appends a note or a line of help. Fails if an allocation fails.
+/// Appends a line with a note or help. `title` is `note: ` or `help: `. Fails if an allocation fails.
 fn push_remark(frame: Frame, out: &mut String, title: &str, text: &str) -> Result<(), AllocError>
     ensures { OnOk result (string_bytes out.new ≡ string_bytes out.old
         ++ spec.remark frame.style frame.width title.now text.now) }
@@ -308,7 +309,7 @@ fn push_remark(frame: Frame, out: &mut String, title: &str, text: &str) -> Resul
     out.push_str("\n")
 }
 
-/// Appends each text as a note or a line of help. Fails if an allocation fails.
+/// Appends each text as a line with a note or help. `title` is `note: ` or `help: `. Fails if an allocation fails.
 fn push_each(
     frame: Frame,
     out: &mut String,
@@ -370,7 +371,8 @@ fn push_remarks(frame: Frame, out: &mut String, report: &Report) -> Result<(), A
     push_each(frame, out, "help: ", help)
 }
 
-/// Formats a report whose labels have these strips. Fails if an allocation fails.
+/// Returns a report as text. `name` is the name of the file, and `strips` are those of the report's labels. Fails if an
+/// allocation fails.
 pub(crate) fn drawn(
     alloc: Global,
     style: Style,
@@ -398,13 +400,14 @@ pub(crate) fn drawn(
 ///
 /// The text has a first line with the message; the place of the first primary label as `name:line:column`, both counted
 /// from 1, the column in characters; the source lines on which labels begin, with marks under them: `^` for a primary
-/// label, `-` for a secondary one; and the notes and help. Labels are in the order of the source. Their spans may be
-/// any: an offset inside a character, or beyond the source, is moved back to the nearest character boundary, and a
+/// label, `-` for a secondary one; and the notes and help. Labels are in the order of the source. They may have any
+/// spans: an offset inside a character, or beyond the source, is moved back to the nearest character boundary, and a
 /// reversed span counts as empty. An empty span has one mark.
 ///
 /// A tab is printed as four spaces, any other control character below U+0080 as its picture. Control characters from
-/// U+0080 on, and characters that end a line or change the direction of the text, are printed as U+FFFD. Marks count a
-/// wide character as two columns (`unicode_width`). A byte order mark at the start of the source is not printed.
+/// U+0080 on, characters that end a line or change the direction of the text, and characters without width (U+200B,
+/// U+200D, U+FEFF) are printed as U+FFFD. Marks count a wide character as two columns (`unicode_width`). A byte order
+/// mark at the start of the source is not printed.
 ///
 /// Long lines are cut: 80 bytes before the first label are shown, and 160 from the start of the last label that begins
 /// within 240 bytes of the first one. For labels further on, the line is printed again. Codes, messages, notes and
@@ -457,7 +460,8 @@ fn unlike_command(name: &str) -> &'static str
     }
 }
 
-/// Formats a one-line report whose labels have these strips. Fails if an allocation fails.
+/// Returns a report as one line. `name` is the name of the file, and `strips` are those of the report's labels. Fails
+/// if an allocation fails.
 fn brief(
     alloc: Global,
     report: &Report,
@@ -480,9 +484,11 @@ fn brief(
 }
 
 /// Returns a report as one line in the form that editors read, `name:line:column: code: message`, which ends with a
-/// line feed. A warning or note has `warning: ` or `note: ` before the code. The place is that of `render`; it is left
-/// out if there is no label, and so is an empty code. A name that begins with `::`, as workflow commands of GitHub do,
-/// gets the prefix `./`. Fails only if an allocation fails.
+/// line feed. `name` is the name of the file, `text` the source.
+///
+/// A warning or note has `warning: ` or `note: ` before the code. The place is that of `render`. It is left out if the
+/// report has no labels, and so is an empty code. A name that begins with `::`, as workflow commands of GitHub do, gets
+/// the prefix `./`. Fails only if an allocation fails.
 pub fn render_line(
     alloc: Global,
     report: &Report,

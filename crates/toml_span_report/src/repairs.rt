@@ -29,7 +29,7 @@ fn code_text(alloc: Global, code: Code<'_>) -> Result<String, AllocError>
     Ok(text)
 }
 
-/// Appends `joint` and the code, if neither is empty. Fails if an allocation fails.
+/// Appends `joint` and the code in backticks, or nothing if one of the two is empty. Fails if an allocation fails.
 fn push_code(out: &mut String, joint: &str, code: &str) -> Result<(), AllocError>
     ensures { OnOk result (string_bytes out.new ≡ string_bytes out.old ++ spec.code_shown joint.now code.now) }
 {
@@ -104,7 +104,8 @@ pub(crate) fn finding_labels(
     Ok(labels)
 }
 
-/// Returns the replacement of a finding in a list, which is empty if there is none. Fails if an allocation fails.
+/// Returns a list with the replacement of a finding. The list is empty if the finding has no replacement. Fails if an
+/// allocation fails.
 pub(crate) fn finding_repairs(
     alloc: Global,
     finding: Finding<'_>,

@@ -73,14 +73,14 @@ impl Report {
         })
     }
 
-    /// Returns an error, as `new` does.
+    /// Returns a report of the severity `Error`, as `new` does. Fails only if an allocation fails.
     pub fn error(alloc: Global, code: &str, message: &str) -> Result<Report, AllocError>
         ensures { IfOk result (λ made. report_content made ≡ spec.bare Error code.now message.now) }
     {
         Report::new(alloc, Severity::Error, code, message)
     }
 
-    /// Returns a warning, as `new` does.
+    /// Returns a report of the severity `Warning`, as `new` does. Fails only if an allocation fails.
     pub fn warning(alloc: Global, code: &str, message: &str) -> Result<Report, AllocError>
         ensures { IfOk result (λ made. report_content made ≡ spec.bare Warning code.now message.now) }
     {
@@ -147,7 +147,8 @@ impl Report {
         self.repair(span, text, true)
     }
 
-    /// Adds a replacement as `replace` does, but one that a person should review first.
+    /// Adds a replacement as `replace` does, but one that a person should review first. Fails only if an allocation
+    /// fails.
     pub fn suggest(self, span: Span, text: &str) -> Result<Report, AllocError>
         ensures { IfOk result (λ made. report_content made
             ≡ spec.with_replacement (report_content self) span text.now false) }

@@ -47,7 +47,7 @@ impl Reported {
     }
 }
 
-/// Writes the text.
+/// Writes the field `text`.
 impl Display for Reported {
     ghost output = { λ reported. Some (string_bytes reported.text) };
 

@@ -40,7 +40,8 @@ pub(crate) struct Strip<'a> {
     pub(crate) message: &'a str,
 }
 
-/// Returns the strip from one offset to another, or to the end of its line if that comes first.
+/// Returns the strip from one offset to another, or to the end of its line if that comes first. `message` is the
+/// message of its label.
 fn strip_at<'a>(
     text: &'a str,
     from: usize,
@@ -70,7 +71,7 @@ fn strip_at<'a>(
     }
 }
 
-/// Returns how many strips begin at or before the offset. They are sorted by their offsets.
+/// Returns how many of the strips, which are sorted by their offsets, begin at or before the offset `at`.
 fn earlier(strips: &[Strip<'_>], at: usize) -> usize
     ensures { result ≡ spec.earlier (map marked_line_of strips.now) at }
 {
@@ -159,8 +160,8 @@ fn window_from(window: Window, strips: &[Strip<'_>]) -> Window
     wide
 }
 
-/// Returns the window that shows a strip: the one above, or a new one, which also shows as many of the following strips
-/// as it can.
+/// Returns the window that shows a strip: `above`, if it does, or a new window, which also shows as many of the
+/// following strips, `strips`, as it can.
 pub(crate) fn window_of(above: Option<Window>, strip: &Strip<'_>, strips: &[Strip<'_>]) -> Window
     ensures { result ≡ spec.window_of above (marked_line_of strip.now) (map marked_line_of strips.now) }
 {

@@ -12,7 +12,8 @@ use toml_span_lex::strings::string_at;
 use toml_span_lex::tokenizer::token_at;
 use toml_span_tree::ErrorKind;
 
-/// Returns the end of the token at an offset, or `None` if there is no token. Fails if an allocation fails.
+/// Returns the end of the token that begins at the offset `at`, or `None` if no token begins there. Fails if an
+/// allocation fails.
 fn token_after(alloc: Global, text: &str, at: usize) -> Result<Option<usize>, AllocError>
     requires { IsCharBoundary text.now at }
     ensures { IfOk result (λ found. spec.FindsToken text.now at found) }
@@ -35,8 +36,8 @@ fn token_after(alloc: Global, text: &str, at: usize) -> Result<Option<usize>, Al
     }
 }
 
-/// Returns the end of the mark for the token at an offset: the end of the token, or of its line if that comes first.
-/// Without a token, it is the offset itself. Fails if an allocation fails.
+/// Returns the end of the mark for the token at the offset `at`: the end of the token, or of its line if that comes
+/// first. Returns `at` itself if no token begins there. Fails if an allocation fails.
 fn marks_end(alloc: Global, text: &str, at: usize) -> Result<usize, AllocError>
     requires { IsCharBoundary text.now at }
     ensures { IfOk result (λ end. spec.MarksToken text.now at end) }

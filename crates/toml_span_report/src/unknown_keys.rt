@@ -46,7 +46,7 @@ fn push_listed(out: &mut String, names: &[&str]) -> Result<(), AllocError>
     }
 }
 
-/// Returns the names of keys, borrowed. Fails if an allocation fails.
+/// Returns the names of the keys as string slices. Fails if an allocation fails.
 pub(crate) fn key_names<'a>(
     alloc: Global,
     keys: &'a [(String, Span)],
@@ -60,7 +60,7 @@ pub(crate) fn key_names<'a>(
     Ok(names)
 }
 
-/// Returns borrowed names. Fails if an allocation fails.
+/// Returns the names as string slices. Fails if an allocation fails.
 pub(crate) fn lent_names<'a>(alloc: Global, owned: &'a [String]) -> Result<Vec<&'a str>, AllocError>
     ensures { IfOk result (λ names. map (λ name. name.now) names.items ≡ map string_bytes owned.now) }
 {
@@ -141,7 +141,8 @@ pub(crate) fn key_labels(
     Ok(labels)
 }
 
-/// Appends the key for which a suggestion is meant, unless there is only one unknown key. Fails if an allocation fails.
+/// Appends ` in place of ` and the unknown key `name`, unless it is the only one (`count`). Fails if an allocation
+/// fails.
 fn push_in_place_of(out: &mut String, count: usize, name: &str) -> Result<(), AllocError>
     ensures { OnOk result (string_bytes out.new ≡ string_bytes out.old ++ spec.in_place_of count name.now) }
 {
@@ -163,8 +164,8 @@ fn suggestion(alloc: Global, count: usize, name: &str, meant: &str) -> Result<St
     Ok(out)
 }
 
-/// Returns the suggestion for an unknown key, if one of the expected names is near enough. Fails if an allocation
-/// fails.
+/// Returns the suggestion for the unknown key `name`, one of `count`, if one of the expected names is near enough.
+/// Fails if an allocation fails.
 fn suggestion_for(
     alloc: Global,
     count: usize,
@@ -191,8 +192,8 @@ fn push_text(texts: &mut Vec<String>, text: Option<String>) -> Result<(), AllocE
     Ok(())
 }
 
-/// Returns the suggestions for the unknown keys for which an expected name is near enough. Fails if an allocation
-/// fails.
+/// Returns a suggestion for each unknown key in `names` for which an expected name is near enough. Fails if an
+/// allocation fails.
 pub(crate) fn suggestions(
     alloc: Global,
     names: &[&str],

@@ -29,7 +29,7 @@ pub(crate) struct Words {
     pub(crate) is_safe: bool,
 }
 
-/// Converts a row of the table.
+/// Returns the messages in a row of the table.
 pub(crate) fn words_of(mistake: Mistake) -> Words
     ensures { spec.words_content result ≡ spec.texts mistake.entry }
 {

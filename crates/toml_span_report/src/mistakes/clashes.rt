@@ -14,7 +14,7 @@ use crate::words::{
 };
 use toml_span_lex::span::Span;
 
-/// Returns the end of the header that begins at the offset, without a comment after it.
+/// Returns the end of the header that begins at `at`, without blanks and the comment after it.
 fn header_end(text: &str, at: usize) -> usize
     ensures { result ≡ spec.header_end text.now at }
 {
@@ -76,8 +76,8 @@ fn no_table(text: &str, at: usize) -> &'static str
 }
 
 /// Returns the line of an inline table with one more assignment. The table begins at `table`, and its key ends at
-/// `key_end`. The assignment is that of the dotted key at `at`, without the part that names the table. Returns nothing
-/// if the table does not end at the end of its line, or the dotted key begins with another part.
+/// `key_end`. The assignment is that of the dotted key at `at`, without the part that names the table. Returns empty
+/// code if the table does not end at the end of its line, or the dotted key begins with another part.
 #[tactic(auto, unfolding(crate::specs::found::Clashes::extended))]
 fn extended<'a>(text: &'a str, key_end: usize, table: usize, at: usize) -> Code<'a>
     ensures { code_content result ≡ spec.extended text.now key_end table at }
@@ -131,7 +131,7 @@ fn body<'a>(text: &'a str, end: usize) -> &'a str
 }
 
 /// Returns what to write in an inline table instead of a header through it. `end` is the end of the header's part that
-/// names the table. Returns nothing if the header has no part after that one.
+/// names the table. Returns empty code if the header has no part after that one.
 #[tactic(auto, unfolding(crate::specs::found::Clashes::subtable))]
 fn subtable<'a>(text: &'a str, end: usize) -> Code<'a>
     ensures { code_content result ≡ spec.subtable text.now end }

@@ -29,7 +29,7 @@ pub(crate) fn is_date(text: &str, start: usize, end: usize) -> bool
         && ahead(text, start, 10) == end
 }
 
-/// Recognizes a date with slashes, in which the year is first or last.
+/// Recognizes a date with slashes, in which the year is last, as in `01/31/2026`.
 #[tactic(auto, unfolding(crate::specs::found::Dates::slash_date))]
 pub(crate) fn slash_date<'a>(text: &'a str, start: usize, end: usize) -> Option<Finding<'a>>
     ensures { option_map finding_content result ≡ spec.slash_date text.now start end }
@@ -52,7 +52,7 @@ pub(crate) fn slash_date<'a>(text: &'a str, start: usize, end: usize) -> Option<
     }
 }
 
-/// Returns `0` if a number has only one digit, otherwise an empty string.
+/// Returns `0` if the number from `from` to `to` has only one digit, otherwise an empty string.
 fn zero_for(from: usize, to: usize) -> &'static str
     ensures { result.now ≡ spec.zero_for from to }
 {
@@ -63,7 +63,7 @@ fn zero_for(from: usize, to: usize) -> &'static str
     }
 }
 
-/// Returns whether the two digits at an offset spell a greater number than `tens` and `ones` do.
+/// Returns whether the two digits at the offset `at` spell a higher number than the digits `tens` and `ones` do.
 fn is_past(text: &str, at: usize, tens: u8, ones: u8) -> bool
     ensures { result ≡ spec.is_past text.now at tens ones }
 {
@@ -86,7 +86,7 @@ const MONTHS: [(&str, &str); 11] = [
     ("12", "December has 31 days"),
 ];
 
-/// Returns whether the number that two digits spell is divisible by four.
+/// Returns whether the number that the two digits at the offset `at` spell is divisible by four.
 fn is_fourth(text: &str, at: usize) -> bool
     ensures { result ≡ spec.is_fourth text.now at }
 {

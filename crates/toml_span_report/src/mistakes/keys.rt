@@ -76,7 +76,7 @@ fn key_start(text: &str, end: usize) -> usize
     }
 }
 
-/// Returns the end of the value at an offset, or the end of the line if the value goes on.
+/// Returns the end of the value that begins at `at`, or the end of the line if the value goes on.
 #[tactic(auto, unfolding(crate::specs::found::Keys::value_end))]
 fn value_end(text: &str, at: usize) -> usize
     ensures { result ≡ spec.value_end text.now at }
@@ -88,7 +88,7 @@ fn value_end(text: &str, at: usize) -> usize
     }
 }
 
-/// Returns whether a word is a decimal integer or a float.
+/// Returns whether the word from `at` to `end` is a decimal integer or a float.
 #[tactic(auto, unfolding(crate::specs::found::Keys::is_number))]
 fn is_number(text: &str, at: usize, end: usize) -> bool
     ensures { result ≡ spec.is_number text.now at end }
@@ -103,8 +103,8 @@ fn is_number(text: &str, at: usize, end: usize) -> bool
         || byte_at(text, point) == b'.' && other < end && end_of(Class::Digit, text, other) == end
 }
 
-/// Returns whether a word is a valid value: it begins with a quote or a bracket, or is a number, a date, a boolean,
-/// `inf` or `nan`.
+/// Returns whether the word from `at` to `end` is a valid value: it begins with a quote or a bracket, or is a number, a
+/// date, a boolean, `inf` or `nan`.
 #[tactic(auto, unfolding(crate::specs::found::Keys::is_value))]
 fn is_value(text: &str, at: usize, end: usize) -> bool
     ensures { result ≡ spec.is_value text.now at end }
@@ -124,7 +124,7 @@ fn is_named(word: &str) -> bool
     matches!(word, "true" | "false" | "inf" | "nan")
 }
 
-/// Returns a finding that marks `mark`, with code that may not be what was meant, and that replaces `edit`.
+/// Returns a finding that marks `mark`, with code that replaces `edit` but may not be what was meant.
 fn doubtful<'a>(mistake: Mistake, mark: Span, edit: Span, code: Code<'a>) -> Finding<'a>
     ensures { finding_content result ≡ spec.doubtful (texts mistake.entry) mark edit (code_content code.entry) }
 {
@@ -136,7 +136,8 @@ fn doubtful<'a>(mistake: Mistake, mark: Span, edit: Span, code: Code<'a>) -> Fin
     Finding { words, ..found }
 }
 
-/// Returns the finding for a key, another sign than `=`, and a word of another language, which begins at `at`.
+/// Returns the finding for a key, another sign than `=`, and at `at` a word of another language. It marks the sign,
+/// `mark`, and replaces `edit`, from the key to the word. If TOML has no such value, it only marks the word.
 fn known_pair<'a>(
     mistake: Mistake,
     key: &'a str,
@@ -154,8 +155,8 @@ fn known_pair<'a>(
     doubtful(mistake, mark, edit, pieces(key, " = ", known.code))
 }
 
-/// Returns the finding for a key, another sign than `=`, and a word at `at` that is not a value: the word belongs in
-/// quotes, or is one of another language.
+/// Returns the finding for a key, another sign than `=`, and at `at` a word that is not a value: the word needs quotes,
+/// or is one of another language. It marks the sign, `mark`, and replaces `edit`, from the key to the word.
 #[tactic(auto, unfolding(crate::specs::found::Keys::other_word))]
 fn other_word<'a>(
     mistake: Mistake,
@@ -199,8 +200,8 @@ pub(crate) fn other_sign<'a>(mistake: Mistake, text: &'a str, from: usize, to: u
     }
 }
 
-/// Returns how the code for an array ends. Unless they are values, its elements are in quotes; `, ..` is for more
-/// elements.
+/// Returns how the code for an array ends. `are_values` says whether its elements are values, which need no quotes, and
+/// `has_more` whether it has more elements, for which `, ..` is written.
 fn closing_of(are_values: bool, has_more: bool) -> &'static str
     ensures { result.now ≡ spec.closing_of are_values has_more }
 {
@@ -335,7 +336,7 @@ fn yaml_item<'a>(text: &'a str, dash: usize, at: usize) -> Finding<'a>
     }
 }
 
-/// Recognizes the mistake in a token after a key, which ends at `end`, where `=` is expected.
+/// Recognizes the mistake in the token at `at`, where `=` is expected. The key before it ends at `end`.
 #[tactic(auto, unfolding(crate::specs::found::Keys::second_word))]
 fn second_word<'a>(text: &'a str, end: usize, at: usize) -> Option<Finding<'a>>
     ensures { option_map finding_content result ≡ spec.second_word text.now end at }
@@ -405,7 +406,7 @@ fn brace_header<'a>(text: &'a str, at: usize) -> Option<Finding<'a>>
     }
 }
 
-/// Returns the finding for a placeholder of a template, in double braces, instead of a value.
+/// Returns the finding for a placeholder of a template, which begins with two braces at `at`, instead of a value.
 #[tactic(auto, unfolding(crate::specs::found::Keys::placeholder))]
 fn placeholder<'a>(text: &'a str, at: usize) -> Finding<'a>
     ensures { finding_content result ≡ spec.placeholder text.now at }

@@ -18,7 +18,7 @@ use crate::words::{
     OPEN_TABLE, VALUE_BELOW,
 };
 
-/// Returns the finding for a bracket that is not closed: the outermost one that is open at the offset.
+/// Returns the finding for a bracket that is not closed: the outermost one that is open at the offset `at`.
 #[tactic(auto, unfolding(crate::specs::found::Lists::unclosed))]
 pub(crate) fn unclosed<'a>(text: &'a str, at: usize) -> Finding<'a>
     ensures { finding_content result ≡ spec.unclosed text.now at }
@@ -34,7 +34,7 @@ pub(crate) fn unclosed<'a>(text: &'a str, at: usize) -> Finding<'a>
     found
 }
 
-/// Recognizes an open bracket or brace at the end of the text.
+/// Recognizes a bracket or brace that is still open at the offset `at`, the end of the text.
 #[tactic(auto, unfolding(crate::specs::found::Lists::open_end))]
 pub(crate) fn open_end<'a>(text: &'a str, at: usize) -> Option<Finding<'a>>
     ensures { option_map finding_content result ≡ spec.open_end text.now at }
@@ -83,7 +83,8 @@ pub(crate) fn missing_value<'a>(text: &'a str, at: usize) -> Option<Finding<'a>>
     }
 }
 
-/// Recognizes the mistake in a comment where a value is expected, such as a color.
+/// Recognizes a value that begins with `#`, such as a color, and is therefore a comment. In any other comment,
+/// recognizes a missing value.
 #[tactic(auto, unfolding(crate::specs::found::Lists::hash))]
 fn hash<'a>(text: &'a str, at: usize) -> Option<Finding<'a>>
     ensures { option_map finding_content result ≡ spec.hash text.now at }
@@ -97,7 +98,7 @@ fn hash<'a>(text: &'a str, at: usize) -> Option<Finding<'a>>
     }
 }
 
-/// Recognizes the mistake in a comma where a value is expected.
+/// Recognizes an extra comma where a value is expected, but not after `=`.
 #[tactic(auto, unfolding(crate::specs::found::Lists::comma))]
 fn comma<'a>(text: &'a str, at: usize) -> Option<Finding<'a>>
     ensures { option_map finding_content result ≡ spec.comma text.now at }
@@ -110,7 +111,7 @@ fn comma<'a>(text: &'a str, at: usize) -> Option<Finding<'a>>
     }
 }
 
-/// Recognizes the mistake in a decimal point where a value is expected.
+/// Recognizes a float without a digit before its point, and a word that begins with a dot, where a value is expected.
 #[tactic(auto, unfolding(crate::specs::found::Lists::point))]
 fn point<'a>(text: &'a str, at: usize) -> Option<Finding<'a>>
     ensures { option_map finding_content result ≡ spec.point text.now at }
@@ -127,7 +128,7 @@ fn point<'a>(text: &'a str, at: usize) -> Option<Finding<'a>>
     }
 }
 
-/// Recognizes the mistake in `=` where a value is expected.
+/// Recognizes `==` between a key and its value. The second `=` is at `at`.
 #[tactic(auto, unfolding(crate::specs::found::Lists::equals))]
 fn equals<'a>(text: &'a str, at: usize) -> Option<Finding<'a>>
     ensures { option_map finding_content result ≡ spec.equals text.now at }
@@ -204,8 +205,8 @@ fn is_heading(text: &str, at: usize) -> bool
         && (is_last(text, ahead(text, end, 1)) || is_last(text, ahead(text, end, 2)))
 }
 
-/// Returns the finding for a word instead of a value. After a bracket that is not closed it is the beginning of the
-/// next assignment, or the name in the next header.
+/// Returns the finding for the word at `at`, which is written instead of a value. After a bracket that is not closed,
+/// the word begins the next assignment, or is the name in the next header.
 #[tactic(auto, unfolding(crate::specs::found::Lists::word))]
 pub(crate) fn word<'a>(text: &'a str, at: usize) -> Finding<'a>
     ensures { finding_content result ≡ spec.word text.now at }
@@ -217,7 +218,7 @@ pub(crate) fn word<'a>(text: &'a str, at: usize) -> Finding<'a>
     }
 }
 
-/// Returns the finding for a missing comma before the offset.
+/// Returns the finding for a comma that is missing before the value or pair at `at`.
 #[tactic(auto, unfolding(crate::specs::found::Lists::missing_comma))]
 fn missing_comma<'a>(mistake: Mistake, text: &'a str, at: usize) -> Finding<'a>
     ensures { finding_content result ≡ spec.missing_comma (texts mistake.entry) text.now at }
@@ -235,7 +236,7 @@ fn missing_comma<'a>(mistake: Mistake, text: &'a str, at: usize) -> Finding<'a>
     found
 }
 
-/// Returns the finding for a token where an array or inline table should continue or end.
+/// Returns the finding for the token at `at`, where an array or inline table should continue or end.
 #[tactic(auto, unfolding(crate::specs::found::Lists::unseparated))]
 fn unseparated<'a>(mistake: Mistake, text: &'a str, at: usize) -> Finding<'a>
     ensures { finding_content result ≡ spec.unseparated (texts mistake.entry) text.now at }

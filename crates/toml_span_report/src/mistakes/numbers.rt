@@ -22,8 +22,8 @@ pub(crate) fn after_sign(text: &str, at: usize) -> usize
     }
 }
 
-/// Returns a description of the digits that a number with this prefix may have, or an empty string if the letter is not
-/// of a prefix.
+/// Returns a description of the digits that a number may have after the prefix with this letter, or an empty string for
+/// any other letter.
 fn digits_of(letter: u8) -> &'static str
     ensures { result.now ≡ spec.digits_of letter }
 {
@@ -165,7 +165,7 @@ fn zeros<'a>(text: &'a str, start: usize, digits: usize, end: usize) -> Finding<
     replaced(LEADING_ZERO, start, end, code)
 }
 
-/// Recognizes a decimal point without a digit after it. It is at `point`.
+/// Recognizes a decimal point, at `point`, without a digit after it.
 #[tactic(auto, unfolding(crate::specs::found::Numbers::trailing_point))]
 fn trailing_point<'a>(text: &'a str, start: usize, point: usize, end: usize) -> Option<Finding<'a>>
     ensures { option_map finding_content result ≡ spec.trailing_point text.now start point end }

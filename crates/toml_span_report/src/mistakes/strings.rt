@@ -62,7 +62,7 @@ fn hex_of(byte: u8) -> &'static str
     }
 }
 
-/// Returns the finding for a control character in a string whose quote is at `quote`.
+/// Returns the finding for the control character at `at`, in a string whose quote is at `quote`.
 #[tactic(auto, unfolding(crate::specs::found::Strings::control))]
 fn control<'a>(text: &'a str, at: usize, quote: usize) -> Finding<'a>
     ensures { finding_content result ≡ spec.control text.now at quote }
@@ -76,7 +76,7 @@ fn control<'a>(text: &'a str, at: usize, quote: usize) -> Finding<'a>
     }
 }
 
-/// Returns the finding for a character that may not occur in a string.
+/// Returns the finding for the character `c` at `at`, which may not occur in the string around it.
 #[tactic(auto, unfolding(crate::specs::found::Strings::character))]
 pub(crate) fn character<'a>(text: &'a str, at: usize, c: char) -> Finding<'a>
     ensures { finding_content result ≡ spec.character text.now at c }
@@ -120,7 +120,8 @@ pub(crate) fn escape<'a>(text: &'a str, at: usize) -> Finding<'a>
     backslash(text, at.saturating_sub(1), ahead(text, at, 1))
 }
 
-/// Returns the zeros that an escape with `count` digits lacks: one with this letter has two, four or eight.
+/// Returns the zeros that an escape with this letter and `count` digits lacks. It needs eight digits after `U`, four
+/// after `u`, and two after any other letter.
 #[tactic(auto, unfolding(crate::specs::found::Strings::zeros_of))]
 fn zeros_of<'a>(letter: u8, count: usize) -> &'a str
     ensures { result.now ≡ spec.zeros_of letter count }
@@ -201,7 +202,8 @@ pub(crate) fn long_key<'a>(text: &'a str, at: usize) -> Finding<'a>
     marked(LONG_KEY, at, ahead(text, at, 3))
 }
 
-/// Recognizes a string that contains its own quote: a word follows it, or is between two strings.
+/// Recognizes a value that begins and ends with a quote and contains it too, so that the string seems to end before the
+/// token at `at`.
 #[tactic(auto, unfolding(crate::specs::found::Strings::quote_in_string))]
 pub(crate) fn quote_in_string<'a>(text: &'a str, at: usize) -> Option<Finding<'a>>
     ensures { option_map finding_content result ≡ spec.quote_in_string text.now at }

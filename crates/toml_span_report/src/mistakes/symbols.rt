@@ -78,7 +78,7 @@ fn curly<'a>(text: &'a str, at: usize, name: &'static str) -> Finding<'a>
     }
 }
 
-/// Returns the finding for a character that is written instead of one of TOML.
+/// Returns the finding for the character at `at`, which is written instead of the one in `meant`.
 #[tactic(auto, unfolding(crate::specs::found::Symbols::other_character))]
 fn other_character<'a>(text: &'a str, at: usize, meant: Meant) -> Finding<'a>
     ensures { finding_content result ≡ spec.other_character text.now at (meant_content meant) }
@@ -90,7 +90,7 @@ fn other_character<'a>(text: &'a str, at: usize, meant: Meant) -> Finding<'a>
     found
 }
 
-/// Recognizes a character that looks like another one.
+/// Recognizes the character `c` at `at` if it looks like one that TOML uses.
 #[tactic(auto, unfolding(crate::specs::found::Symbols::alike))]
 fn alike<'a>(text: &'a str, at: usize, c: char) -> Option<Finding<'a>>
     ensures { option_map finding_content result ≡ spec.alike text.now at c }

@@ -10,8 +10,8 @@ use crate::words::{
     UNQUOTED_TEXT, UPPER_BOOLEAN,
 };
 
-/// Returns whether a word and a name are the same up to an offset, and differ there by one byte that is missing, extra
-/// or another one, or by two bytes in the other order.
+/// Returns whether a word and a name are equal up to the offset `at` and after a difference there: one byte that is
+/// missing, extra or another one, or two bytes that are swapped.
 #[tactic(auto, unfolding(crate::specs::found::Values::is_near_at))]
 fn is_near_at(word: &str, name: &str, at: usize) -> bool
     ensures { result ≡ spec.is_near_at word.now name.now at }
@@ -30,7 +30,7 @@ fn is_near_at(word: &str, name: &str, at: usize) -> bool
             || is_swapped)
 }
 
-/// Returns whether a word is at most one byte, or two swapped ones, away from a name of at most five.
+/// Returns whether a word differs from `name`, which has at most five bytes, by at most one byte or two swapped ones.
 #[tactic(auto, unfolding(crate::specs::found::Values::is_near))]
 fn is_near(word: &str, name: &str) -> bool
     ensures { result ≡ spec.is_near word.now name.now }
@@ -75,8 +75,8 @@ pub(crate) fn known_word(word: &str) -> Option<Meant>
     }
 }
 
-/// Returns the end of a string that needs quotes, whose first word ends at `end`. It has several words if only a
-/// comment, the end of the line, a comma or a closing bracket follows them, otherwise one.
+/// Returns the end of a string that needs quotes. It begins at `at`, and its first word ends at `end`. It has several
+/// words if only a comment, the end of the line, a comma or a closing bracket follows them, otherwise one.
 #[tactic(auto, unfolding(crate::specs::found::Values::phrase_end))]
 pub(crate) fn phrase_end(text: &str, at: usize, end: usize) -> usize
     ensures { result ≡ spec.phrase_end text.now at end }
@@ -88,7 +88,7 @@ pub(crate) fn phrase_end(text: &str, at: usize, end: usize) -> usize
     }
 }
 
-/// Returns the finding for a value that needs quotes.
+/// Returns the finding for the value at `at`, which needs quotes.
 #[tactic(auto, unfolding(crate::specs::found::Values::unquoted_value))]
 pub(crate) fn unquoted_value<'a>(text: &'a str, at: usize) -> Finding<'a>
     ensures { finding_content result ≡ spec.unquoted_value text.now at }
@@ -126,7 +126,7 @@ fn prefixed<'a>(text: &'a str, at: usize, quote: usize) -> Finding<'a>
     }
 }
 
-/// Returns the finding for a word of another language, up to `end`, instead of a value.
+/// Returns the finding for a word of another language, from `at` to `end`, instead of a value.
 fn known_value<'a>(at: usize, end: usize, known: Meant) -> Finding<'a>
     ensures { finding_content result ≡ spec.known_value at end (meant_content known) }
 {
@@ -137,7 +137,7 @@ fn known_value<'a>(at: usize, end: usize, known: Meant) -> Finding<'a>
     }
 }
 
-/// Returns the finding for a word instead of a value.
+/// Returns the finding for the word at `at`, which is written instead of a value.
 #[tactic(auto, unfolding(crate::specs::found::Values::unquoted))]
 pub(crate) fn unquoted<'a>(text: &'a str, at: usize) -> Finding<'a>
     ensures { finding_content result ≡ spec.unquoted text.now at }

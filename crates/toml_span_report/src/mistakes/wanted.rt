@@ -53,7 +53,7 @@ fn comma<'a>(text: &'a str, at: usize) -> Finding<'a>
     }
 }
 
-/// Returns the finding for a value after a header. Its `=` is at `at`.
+/// Returns the finding for a value after the header at `line`. The `=` before the value is at `at`.
 #[tactic(auto, unfolding(crate::specs::found::Wanted::header_value))]
 fn header_value<'a>(text: &'a str, line: usize, at: usize) -> Finding<'a>
     ensures { finding_content result ≡ spec.header_value text.now line at }
@@ -102,7 +102,7 @@ const AFTERNOON: [(&str, &str); 11] = [
     ("11", "23"),
 ];
 
-/// Converts an hour from a 12-hour clock to a 24-hour clock. `is_late` is for the afternoon.
+/// Converts an hour from a 12-hour clock to a 24-hour clock. `is_late` says that the hour is in the afternoon.
 #[tactic(auto, unfolding(crate::specs::found::Wanted::full_hour))]
 fn full_hour<'a>(hour: &'a str, is_late: bool) -> &'a str
     ensures { result.now ≡ spec.full_hour hour.now is_late }
@@ -119,7 +119,7 @@ fn full_hour<'a>(hour: &'a str, is_late: bool) -> &'a str
     }
 }
 
-/// Returns the finding for a time with `AM` or `PM` after it, which is at `at`.
+/// Returns the finding for `AM` or `PM`, from `at` to `end`, after a time.
 #[tactic(auto, unfolding(crate::specs::found::Wanted::half_day))]
 fn half_day<'a>(text: &'a str, at: usize, end: usize) -> Finding<'a>
     ensures { finding_content result ≡ spec.half_day text.now at end }
@@ -148,7 +148,7 @@ fn is_zone(word: &str) -> bool
     matches!(word, "UTC" | "GMT")
 }
 
-/// Returns the finding for the name of a time zone after a date and time.
+/// Returns the finding for the name of a time zone, from `at` to `end`, after a date and time.
 #[tactic(auto, unfolding(crate::specs::found::Wanted::zone))]
 fn zone<'a>(text: &'a str, at: usize, end: usize) -> Finding<'a>
     ensures { finding_content result ≡ spec.zone text.now at end }
@@ -159,7 +159,7 @@ fn zone<'a>(text: &'a str, at: usize, end: usize) -> Finding<'a>
     mended(ZONE_NAME, span_of(at, end), span_of(start, end), code)
 }
 
-/// Returns the finding for a word after a value on its line.
+/// Returns the finding for the word at `at`, after a value on the same line.
 #[tactic(auto, unfolding(crate::specs::found::Wanted::word_after))]
 fn word_after<'a>(text: &'a str, at: usize) -> Finding<'a>
     ensures { finding_content result ≡ spec.word_after text.now at }
