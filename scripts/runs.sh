@@ -343,14 +343,11 @@ toml_span_cli() {
     holds test -L "$work/folder/link.toml"
     holds grep '^\[dependencies.dependencies\]$' "$work/folder/child.toml"
     for name in runs/{colour,github,json,sarif,summary,all_files,get_tagged,items,get_root_as_toml} \
-        runs/{tagged,items}_{clashing,crossing,nested} runs/{fmt_one,fmt_sorted}; do
+        runs/{tagged,items}_{clashing,crossing,nested} runs/{fmt_one,fmt_sorted} \
+        runs/{set_odd,rename_quoted,remove_dotted,remove_inline,add_to_empty,set_in_invalid} \
+        runs/{get_key_quoted,get_wrong_key,set_key_quoted,latin_1}; do
         arguments_of
         refused 4 20 0
-    done
-    # (one refused request is made again: the run is then as usual, with the same system calls)
-    for name in runs/{set_odd,rename_quoted,remove_dotted,remove_inline,add_to_empty,set_in_invalid}; do
-        arguments_of
-        refused 4 20 1
     done
 }
 

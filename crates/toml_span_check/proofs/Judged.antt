@@ -1,10 +1,15 @@
 -- The report on one file.
-use Rattle.toml_span_lex.proofs.Common.{◌≡◌, ◌+◌, ◌++◌, ℕ, Bool, max, List, Option, Vec, Result, Ok, Err, IfOk, IsErrAnd, refl, inl, inr, Global, AllocError, arith, nat_tests, common_steps}
+use Rattle.toml_span_lex.proofs.Common.{◌≡◌, ◌+◌, ◌++◌, ℕ, Bool, max, List, Option, Vec, Result, Ok, Err, IfOk, IsErrAnd, refl, sym, subst, inl, inr, Global, AllocError, arith, nat_tests, common_steps}
 use Rattle.toml_span_lines.specs.Held.{Streams}
 use Rattle.toml_span_lines.specs.declared.held.Unwritten.{Unwritten}
 use Rattle.toml_span_lines.specs.declared.held.Unwritten.TheVariants.{Memory}
 use Rattle.toml_span_lines.proofs.Fronts.{front-written}
-use Rattle.toml_span_check.specs.Answer.{IsAnswer}
+use Rattle.toml_span.specs.Parsing.{IsParseResult}
+use Rattle.toml_span_read.specs.Data.{depth_limit}
+use Rattle.toml_span_tree.specs.declared.value.Value.{Value}
+use Rattle.toml_span_check.specs.Answer.{IsAnswer, IsRead, found}
+use Rattle.toml_span_check.specs.code.Judged.{JudgesText}
+use Rattle.toml_span_check.specs.declared.answer.Judged.TheVariants.{Document}
 use Rattle.toml_span_check.specs.Run.{counted, status_of}
 use Rattle.toml_span_check.specs.code.Collected.{Begun, BegunOne, CollectsBytes, CollectsOne, TextsOf}
 use Rattle.toml_span_check.specs.declared.answer.Form.{Form}
@@ -15,6 +20,12 @@ use Rattle.toml_span_check.specs.declared.faults.Format.{Format}
 -- a text with status 1
 pub with-one : (r : Result (Vec ℕ Global) AllocError) (text : List ℕ) → IfOk r (λ out. out.items ≡ text) → IfOk r (λ out. let a : ℕ × List ℕ = (1, out.items) in a ≡ (1, text))
 with-one r text h = grind (arith, nat_tests, common_steps)
+
+-- a text that is shown
+pub shows-text : (format : Format) (task : Task) (pointer name text : List ℕ) (form : Form) (root : Value) →
+    task ≡ Show form → IsParseResult text depth_limit (Ok root) → JudgesText format task pointer name text (Document form root)
+shows-text format task pointer name text form root is tree =
+    (is, λ place at. subst (λ (t : Task). IsRead format t pointer name text (found format form pointer name place)) (sym is) (inl (root, tree, (place, at, refl))))
 
 -- a document that is shown
 pub shows-bytes : (format : Format) (task : Task) (pointer name bytes : List ℕ) (form : Form) (answer : ℕ × List ℕ) (r : Result ℕ Unwritten) (a b : Option (List ℕ)) (failed : Bool) (held kept : List ℕ) →

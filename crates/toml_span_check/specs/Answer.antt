@@ -1,16 +1,17 @@
 -- The answer to one file: its errors, or what to print of its document.
 use Rattle.std.specs.Prelude.{◌≡◌, ◌<◌, ◌≤◌, ◌⊎◌, ℕ, true, false, IsUtf8, List, [], ◌++◌, length, codes, Option, Some}
-use Rattle.std.specs.Prelude.{None}
+use Rattle.std.specs.Prelude.{None, take}
 use Rattle.std.specs.List.{flat_map}
+use Rattle.std.specs.Str.{IsValidUpTo}
 use Rattle.toml_span_tree.specs.declared.error.Error.{Error}
 use Rattle.toml_span_tree.specs.declared.value.Value.{Value}
 use Rattle.toml_span_tree.specs.Node.{Node}
-use Rattle.toml_span_tree.specs.Pointer.{pointed}
 use Rattle.toml_span_tree.specs.Value.{view}
 use Rattle.toml_span_lex.specs.declared.stop.Stop.TheVariants as stops
 use Rattle.toml_span.specs.Parsing.{IsTree, IsRefusal}
 use Rattle.toml_span_report.specs.Report.{ReportContent, bare}
 use Rattle.toml_span_report.specs.declared.report.Severity.TheVariants as severity
+use Rattle.toml_span_check.specs.Encoding.{not_utf8_report}
 use Rattle.toml_span_check.specs.Every.{Checks}
 use Rattle.toml_span_check.specs.Faults.{fault_text}
 use Rattle.toml_span_check.specs.Newer.{Lacks}
@@ -23,6 +24,7 @@ use Rattle.toml_span_check.specs.declared.answer.Form.{Form}
 use Rattle.toml_span_check.specs.declared.answer.Form.TheVariants.{Plain, Tagged, Items, Raw, Toml}
 use Rattle.toml_span_lines.specs.Lines.{tree_lines}
 use Rattle.toml_span_lines.specs.Run.{bound}
+use Rattle.toml_span_places.specs.Dotted.{Locates}
 use Rattle.toml_span_places.specs.Spelled.{value_text}
 use Rattle.toml_span_read.specs.Data.{depth_limit}
 
@@ -67,7 +69,8 @@ AreLacking format version name text answer =
 -- the answer for a document
 abbrev pub Given : Format → Task → List ℕ → List ℕ → List ℕ → Node → ℕ × List ℕ → Type 0
 Given format (Check version) pointer name text n answer = AreLacking format version name text answer
-Given format (Show form) pointer name text n answer = answer ≡ found format form pointer name (pointed pointer n)
+Given format (Show form) pointer name text n answer =
+    (place : Option Node) × Locates pointer n place × (answer ≡ found format form pointer name place)
 
 -- a document and its answer, or all errors of the text
 abbrev pub IsRead : Format → Task → List ℕ → List ℕ → List ℕ → ℕ × List ℕ → Type 0
@@ -78,13 +81,15 @@ IsRead format task pointer name text answer =
 abbrev pub too_long : Format → List ℕ → ℕ × List ℕ
 too_long format name = (1, plain_fault format (codes "too-long") (codes "the file is larger than 16 MiB") name)
 
-abbrev pub not_utf8 : Format → List ℕ → ℕ × List ℕ
-not_utf8 format name = (1, plain_fault format (codes "not-utf-8") (codes "the file is not valid UTF-8") name)
+-- a file of which the bytes before this offset are UTF-8, and no more
+abbrev pub not_utf8 : Format → List ℕ → List ℕ → ℕ → ℕ × List ℕ
+not_utf8 format name bytes at = (1, fault_text format (not_utf8_report bytes at) name (take at bytes))
 
 -- The status and the text for the bytes of a file, which may be longer than the bound, not UTF-8, a document, or not
 -- valid TOML.
 pub record IsAnswer (format : Format) (task : Task) (pointer : List ℕ) (name : List ℕ) (bytes : List ℕ)
     (answer : ℕ × List ℕ) : Type 0 where
   pub long : bound < length bytes → answer ≡ too_long format name
-  pub no_text : length bytes ≤ bound → ¬ (IsUtf8 bytes) → answer ≡ not_utf8 format name
+  pub no_text : length bytes ≤ bound → ¬ (IsUtf8 bytes)
+      → (at : ℕ) × IsValidUpTo bytes at × (answer ≡ not_utf8 format name bytes at)
   pub read : length bytes ≤ bound → IsUtf8 bytes → IsRead format task pointer name bytes answer

@@ -1,5 +1,6 @@
 pub mod Answer
 pub mod Dates
+pub mod Encoding
 pub mod Every
 pub mod Faults
 pub mod Fixing

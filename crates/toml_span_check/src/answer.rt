@@ -1,5 +1,6 @@
 //! Checks one file: returns the reports of its errors, or the document to print.
 ghost use Rattle.std.specs.Prelude.{◌≡◌, ◌++◌, IfOk, OnOk, ℕ, List, map, string_bytes};
+ghost use Rattle.std.specs.Str.{IsValidUpTo};
 ghost use Rattle.toml_span_lex.specs.declared.stop.Stop.TheVariants.{Fault};
 ghost use Rattle.toml_span.specs.Parsing.{IsRefusal};
 ghost use Rattle.toml_span_read.specs.Data.{depth_limit};
@@ -7,6 +8,7 @@ ghost use Rattle.toml_span_report.specs.Report.{report_content};
 ghost use Rattle.toml_span_check.specs.Answer as spec;
 ghost use Rattle.toml_span_check.specs.code.Judged.{Judges, JudgesText};
 
+use crate::encoding::not_utf8;
 use crate::every::errors_from;
 use crate::faults::{Format, fault_text};
 use crate::newer::{Version, version_reports};
@@ -110,7 +112,7 @@ fn version_text(
     Ok((reports.len(), out.into_bytes()))
 }
 
-/// Returns the report that a pointer names no value. Fails if an allocation fails.
+/// Returns the report that a path names no value. Fails if an allocation fails.
 pub(crate) fn nothing_there(
     alloc: Global,
     format: Format,
@@ -138,17 +140,19 @@ fn too_long(alloc: Global, format: Format, name: &str) -> Result<Vec<u8>, AllocE
     )
 }
 
-/// Returns the report that a file is not valid UTF-8. Fails if an allocation fails.
-fn not_utf8(alloc: Global, format: Format, name: &str) -> Result<Vec<u8>, AllocError>
-    ensures { IfOk result (λ out. (1, out.items) ≡ spec.not_utf8 format name.now) }
+/// Returns the report that a file is not valid UTF-8 from the offset `at` on. Fails if an allocation fails.
+fn not_utf8_fault(
+    alloc: Global,
+    format: Format,
+    name: &str,
+    bytes: &[u8],
+    at: usize,
+) -> Result<Vec<u8>, AllocError>
+    requires { IsValidUpTo bytes.now at }
+    ensures { IfOk result (λ out. out.items ≡ (spec.not_utf8 format name.now bytes.now at).1) }
 {
-    plain_fault(
-        alloc,
-        format,
-        "not-utf-8",
-        "the file is not valid UTF-8",
-        name,
-    )
+    let (report, text) = not_utf8(alloc, bytes, at)?;
+    Ok(fault_text(alloc, format, &report, name, text)?.into_bytes())
 }
 
 /// The result for one file.
@@ -204,6 +208,9 @@ pub(crate) fn judge<'t>(
     }
     match str::from_utf8(bytes) {
         Ok(text) => judge_text(alloc, format, task, name, text),
-        Err(_) => Ok(Judged::Text(1, not_utf8(alloc, format, name)?)),
+        Err(error) => {
+            let at = error.valid_up_to();
+            Ok(Judged::Text(1, not_utf8_fault(alloc, format, name, bytes, at)?))
+        }
     }
 }

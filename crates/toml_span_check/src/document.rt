@@ -1,7 +1,7 @@
 //! Prints a document, or a value in it.
-ghost use Rattle.std.specs.Prelude.{◌≡◌, ◌++◌, OnOk, IfOk, codes, false, string_bytes};
+ghost use Rattle.std.specs.Prelude.{◌≡◌, ◌++◌, OnOk, IfOk, codes, false, option_map, string_bytes};
 ghost use Rattle.toml_span_lines.specs.Held.{Streams};
-ghost use Rattle.toml_span_tree.specs.Pointer.{pointed};
+ghost use Rattle.toml_span_places.specs.Dotted.{Locates};
 ghost use Rattle.toml_span_tree.specs.Value.{view};
 ghost use Rattle.toml_span_check.specs.Answer.{formed, found};
 
@@ -9,11 +9,11 @@ use crate::answer::{Form, nothing_there};
 use crate::faults::Format;
 use crate::shown::{raw, shown};
 use std::alloc::{AllocError, Global};
-use toml_span::Value;
+use toml_span::{Stop, Value};
 use toml_span_lines::held::{Unwritten, write_held};
 use toml_span_lines::lines::write_lines;
 use toml_span_lines::sink::Sink;
-use toml_span_places::to_toml;
+use toml_span_places::{path_segments, to_toml, value_at};
 
 /// Appends a text and a line feed. Fails if an allocation fails.
 fn push_line(mut text: String, held: &mut Vec<u8>) -> Result<(), AllocError>
@@ -47,26 +47,42 @@ fn write_value<W: Sink>(
     write_held(writer, held)
 }
 
-/// Writes the value that a pointer names, or the report that it names none. The end of the output may stay in the
-/// buffer `held`. Returns the number of errors. Fails if a write or an allocation fails.
-pub(crate) fn show<'t, W: Sink>(
+/// Returns the value that a path names below the root, or `None` if it names none or can't be read. Fails if an
+/// allocation fails.
+pub(crate) fn place_of<'v, 'de>(
+    alloc: Global,
+    path: &str,
+    root: &'v Value<'de>,
+) -> Result<Option<&'v Value<'de>>, AllocError>
+    ensures { IfOk result (λ place. Locates path.now (view root.now) (option_map (λ v. view v.now) place)) }
+{
+    match path_segments(alloc, path) {
+        Ok(segments) => Ok(value_at(root, segments.as_slice())),
+        Err(Stop::Memory(error)) => Err(error),
+        Err(Stop::Fault(_)) => Ok(None),
+    }
+}
+
+/// Writes the value at a path, or the report that there is none. The end of the output may stay in the buffer `held`.
+/// Returns the number of errors. Fails if a write or an allocation fails.
+pub(crate) fn show<W: Sink>(
     alloc: Global,
     format: Format,
     form: Form,
-    pointer: &'t str,
+    pointer: &str,
     name: &str,
-    root: &Value<'t>,
+    place: Option<&Value<'_>>,
     held: &mut Vec<u8>,
     writer: &mut W,
 ) -> Result<usize, Unwritten>
     requires { W.failed writer.old ≡ false }
     ensures count { IfOk result (λ s. s
-        ≡ (found format form pointer.now name.now (pointed pointer.now (view root.now))).0) }
+        ≡ (found format form pointer.now name.now (option_map (λ v. view v.now) place.entry)).0) }
     ensures out { Streams result (W.contents writer.old) (W.contents writer.new) (W.failed writer.new)
-        (held.old.items ++ (found format form pointer.now name.now (pointed pointer.now (view root.now))).1)
+        (held.old.items ++ (found format form pointer.now name.now (option_map (λ v. view v.now) place.entry)).1)
         held.new.items }
 {
-    match root.pointer(pointer) {
+    match place {
         Some(value) => {
             write_value(alloc, form, value, held, writer)?;
             Ok(0)

@@ -4,6 +4,7 @@
 pub mod answer;
 mod dates;
 mod document;
+pub mod encoding;
 pub mod every;
 pub mod faults;
 pub mod fixing;

@@ -6,7 +6,7 @@ ghost use Rattle.toml_span_check.specs.code.Collected.{EndsQuiet, CollectsAll, C
 ghost use Rattle.toml_span_check.specs.code.Collected.{CollectsOne};
 
 use crate::answer::{Judged, Task, judge};
-use crate::document::show;
+use crate::document::{place_of, show};
 use crate::faults::Format;
 use crate::input::Inputs;
 use crate::sarif::document;
@@ -102,7 +102,8 @@ fn collect_bytes<O: Sink>(
             Ok(count)
         }
         Judged::Document(form, root) => {
-            show(alloc, format, form, pointer, name, &root, held, out)
+            let place = place_of(alloc, pointer, &root)?;
+            show(alloc, format, form, pointer, name, place, held, out)
         }
     }
 }

@@ -63,7 +63,7 @@ fn is_plain(byte: u8) -> bool
 }
 
 /// Returns the upper-case hexadecimal digit of a number below 16.
-fn hex_digit(number: u8) -> u8
+pub(crate) fn hex_digit(number: u8) -> u8
     requires { number < 16 }
     ensures { result ≡ spec.hex_digit number }
 {

@@ -332,11 +332,49 @@ pub(crate) fn is_clash(kind: &ErrorKind<'_>) -> bool {
     )
 }
 
+/// Returns whether the line that begins at `line` is a marker of a merge conflict, which begins with seven of this byte.
+fn is_marker(text: &str, line: usize, byte: u8) -> bool {
+    (0..7usize).all(|at| byte_at(text, line.saturating_add(at)) == byte)
+}
+
+/// Returns the start of the first line after `from` that is a marker of a merge conflict with this byte, or `None` if
+/// there is none before another conflict begins.
+fn next_marker(text: &str, from: usize, byte: u8) -> Option<usize> {
+    for at in from..text.len() {
+        if byte_at(text, at) == b'\n' {
+            if is_marker(text, at + 1, byte) {
+                return Some(at + 1);
+            }
+            if is_marker(text, at + 1, b'<') {
+                return None;
+            }
+        }
+    }
+    None
+}
+
+/// Returns the end of a side of a merge conflict other than the first one, if a marker before it begins at `line`.
+/// Such a side repeats keys of the first one. The common ancestor is between `|||||||` and `=======`, the second side
+/// between `=======` and `>>>>>>>`.
+fn other_side_end(text: &str, line: usize) -> Option<usize> {
+    if is_marker(text, line, b'|') {
+        next_marker(text, line, b'=')
+    } else if is_marker(text, line, b'=') {
+        next_marker(text, line, b'>')
+    } else {
+        None
+    }
+}
+
 /// Returns the statement that contains the offset `place`, where an error is. A statement must begin at `from`.
-/// `is_clash` says that the error is a clash, so that the statement can be read.
+/// `is_clash` says that the error is a clash, so that the statement can be read. A marker of a merge conflict includes
+/// the side after it, unless that is the first one.
 pub(crate) fn statement_of(text: &str, from: usize, place: usize, is_clash: bool) -> Statement {
     let start = start_of(text, from, place);
-    let next = next_of(text, start, place, !is_clash);
+    let next = match other_side_end(text, start) {
+        Some(end) => end,
+        None => next_of(text, start, place, !is_clash),
+    };
     let end = if begin(text, start).is_header {
         next_header(text, next)
     } else {

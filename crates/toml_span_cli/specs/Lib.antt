@@ -4,6 +4,7 @@ pub mod Commands
 pub mod Dispatch
 pub mod Explain
 pub mod Options
+pub mod Paths
 pub mod Say
 pub mod Show
 pub mod Start

@@ -125,11 +125,6 @@ abbrev pub shows : Result (Option Form) Mistake → Result Task Mistake
 shows (Ok chosen) = Ok (Show (unwrap_or chosen form.Plain))
 shows (Err mistake) = Err mistake
 
--- whether a path is empty or begins with a slash
-abbrev pub is_pointer : List ℕ → Bool
-is_pointer [] = true
-is_pointer (first ∷ rest) = first == 47
-
 abbrev pub version_named : List ℕ → Option Version
 version_named name =
     if bytes_eq name (codes "auto") then Some version.Auto
@@ -146,8 +141,7 @@ abbrev pub task_of : Reader → List Row → Result Task Mistake
 task_of readers.Check rows = checks (version_named (value_of rows (codes "toml")))
 task_of readers.Get rows =
     if is_bytes (value_of rows (codes "PATH")) then Err mistake.Path
-    else if is_pointer (value_of rows (codes "PATH")) then shows (form_of rows)
-    else Err mistake.Slash
+    else shows (form_of rows)
 
 -- If a document is printed, errors can't be reported as one document.
 abbrev pub with_task : Format → Task → Result (Format × Task) Mistake
@@ -194,7 +188,6 @@ kind_of mistake.Color = InvalidValue
 kind_of mistake.Version = InvalidValue
 kind_of mistake.Forms = ArgumentConflict
 kind_of mistake.Path = InvalidValue
-kind_of mistake.Slash = InvalidValue
 kind_of mistake.Sarif = ArgumentConflict
 
 abbrev pub mistake_kinds : Result (Format × Task) Mistake → Kinds

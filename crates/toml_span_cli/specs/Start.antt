@@ -1,5 +1,6 @@
 -- What the program does with its arguments.
-use Rattle.std.specs.Prelude.{◌≡◌, ◌≢◌, ◌⊎◌, ℕ, Bool, true, false, List, [], Option}
+use Rattle.std.specs.Prelude.{◌≡◌, ◌≢◌, ◌⊎◌, ℕ, Bool, true, false, List, [], Option, Some, None, Ok, Err, String}
+use Rattle.std.specs.Prelude.{string_bytes}
 use Rattle.std.specs.Io.KnownBytes.{Keeps}
 use Rattle.clap.specs.Kinds.{IsAmong}
 use Rattle.clap.specs.declared.error.kind.ErrorKind.{ErrorKind}
@@ -8,6 +9,8 @@ use Rattle.toml_span_cli.specs.Options.{Asks, faults}
 use Rattle.toml_span_cli.specs.Say.{Says}
 use Rattle.toml_span_report.specs.Visible.{visible_lines}
 use Rattle.toml_span_check.specs.Run.{Asked, Runs}
+use Rattle.toml_span_places.specs.Dotted.{IsPath}
+use Rattle.toml_span_places.specs.declared.dotted.PathError.{PathError}
 use Rattle.toml_span_cli.specs.declared.help.TheConstants.{CHECK, GET, VERSION}
 use Rattle.toml_span_cli.specs.declared.options.Reader.{Reader}
 use Rattle.toml_span_cli.specs.declared.options.Reader.TheVariants as readers
@@ -29,8 +32,14 @@ Refuses reader kind stdout stdout' out_failed stderr stderr' err_failed status =
     × ((message : List ℕ) × Says stderr stderr' err_failed (visible_lines message) 2 status))
     ⊎ ((status ≡ 4) × Keeps stdout stdout' × Keeps stderr stderr')
 
--- A command with these words. If they are right, it runs on the files that they name. Otherwise no file is read. If an
--- allocation fails, the status is 4.
+-- the path of the value to print can be read, or there is a message that it can't
+abbrev pub SaysOfPath : List ℕ → Option String → Type 0
+SaysOfPath path None = (segments : List (List ℕ)) × IsPath path (Ok segments)
+SaysOfPath path (Some text) =
+    (e : PathError) × IsPath path (Err e) × ((message : List ℕ) × (string_bytes text ≡ visible_lines message))
+
+-- A command with these words. If they are right, and the path can be read, it runs on the files that they name.
+-- Otherwise no file is read. If an allocation fails, the status is 4.
 abbrev pub Starts : Reader → List (List ℕ) → Bool → Bool → Option Asked → Option Asked
     → Option (List ℕ) → Option (List ℕ) → Bool → Option (List ℕ) → Option (List ℕ) → Bool → ℕ → Type 0
 Starts reader words is_terminal is_watched old new stdout stdout' out_failed stderr stderr' err_failed status =
@@ -38,7 +47,14 @@ Starts reader words is_terminal is_watched old new stdout stdout' out_failed std
     × (is_quiet is_fixing : Bool)
     × (faults reader words is_terminal ≡ [])
     × Asks reader words is_terminal format task pointer excludes names is_quiet is_fixing
+    × ((segments : List (List ℕ)) × IsPath pointer (Ok segments))
     × Runs format task pointer excludes names is_watched is_quiet old new stdout stdout' out_failed stderr stderr'
     err_failed status)
     ⊎ ((kind : ErrorKind) × ((kind ≡ OutOfMemory) ⊎ IsAmong kind (faults reader words is_terminal)) × (new ≡ old)
     × Refuses reader kind stdout stdout' out_failed stderr stderr' err_failed status)
+    ⊎ ((format : Format) × (task : Task) × (pointer : List ℕ) × (excludes names : List (List ℕ))
+    × (is_quiet is_fixing : Bool)
+    × (faults reader words is_terminal ≡ [])
+    × Asks reader words is_terminal format task pointer excludes names is_quiet is_fixing
+    × ((e : PathError) × IsPath pointer (Err e)) × (new ≡ old) × Keeps stdout stdout'
+    × ((message : List ℕ) × Says stderr stderr' err_failed (visible_lines message) 2 status))

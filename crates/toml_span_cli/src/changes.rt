@@ -1,6 +1,6 @@
 //! The edits that arguments and scripts describe.
 use crate::commands::Command;
-use crate::options::{NO_POINTER, is_pointer};
+use crate::paths::wrong_path;
 use std::alloc::{AllocError, Global};
 use toml_span::Stop;
 
@@ -60,11 +60,12 @@ pub(crate) fn change_of<'w>(command: Command, words: &[&'w str]) -> Option<Chang
 }
 
 impl<'w> Change<'w> {
-    /// Returns whether each path of the edit is empty or begins with a slash.
-    pub(crate) fn has_pointers(&self) -> bool {
-        match self.task {
-            Task::Move(to) => is_pointer(self.path) && is_pointer(to),
-            _ => is_pointer(self.path),
+    /// Returns `None` if the paths of the edit can be read, otherwise what is wrong with the first one that can't. Fails
+    /// if an allocation fails.
+    pub(crate) fn wrong_path(&self, alloc: Global) -> Result<Option<String>, AllocError> {
+        match (wrong_path(alloc, self.path)?, self.task) {
+            (None, Task::Move(to)) => wrong_path(alloc, to),
+            (wrong, _) => Ok(wrong),
         }
     }
 }
@@ -127,9 +128,11 @@ fn checked<'w>(
     line: &'w str,
 ) -> Result<Change<'w>, Stop<String>> {
     let reason = match line_change(line.trim()) {
-        Some(change) if change.has_pointers() => return Ok(change),
-        Some(_) => NO_POINTER,
-        None => "it must be an edit, as in `set /package/name \"x\"`",
+        Some(change) => match change.wrong_path(alloc)? {
+            Some(reason) => reason,
+            None => return Ok(change),
+        },
+        None => String::from_str(alloc, "it must be an edit, as in `set package.name \"x\"`")?,
     };
     Err(Stop::Fault(format!(in alloc; "{front} {at}: {reason}")?))
 }

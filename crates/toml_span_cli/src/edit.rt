@@ -4,11 +4,11 @@ ghost use Rattle.std.specs.Prelude.{◌≡◌, ◌≤◌, IfOk, false};
 use crate::answers::{Answer, failed, give, printed};
 use crate::arguments::{Arguments, Show, arguments_asked};
 use crate::changes::{Change, change_of, count_of, option_changes, script_changes};
-use crate::commands::{Command, arguments_of, help_of};
+use crate::commands::{Command, help_of};
 use crate::files::{read_file, unedited};
 use crate::help::EDITING;
 use crate::making::new_text;
-use crate::options::NO_POINTER;
+use crate::say::misuse_text;
 use std::alloc::{AllocError, Global};
 use std::io::IsTerminal;
 use toml_span::Stop;
@@ -16,7 +16,7 @@ use toml_span_check::input::{Host, Inputs};
 use toml_span_check::words::is_bytes;
 use toml_span_files::{Failed, Failure, LIMIT, edit_file, unified};
 use toml_span_lines::sink::Sink;
-use toml_span_report::visible::{push_char, visible, visible_lines};
+use toml_span_report::visible::{push_char, visible};
 
 /// Returns a text as it is printed: unchanged or, for a terminal, with escapes for the characters that terminals act
 /// on, except tabs and line ends. Fails if an allocation fails.
@@ -145,13 +145,9 @@ pub(crate) fn edit_help(alloc: Global, command: Command) -> Result<String, Alloc
 
 /// Returns the answer for wrong arguments. `message` says what is wrong. Fails if an allocation fails.
 fn misuse(alloc: Global, command: Command, message: &str) -> Result<Answer, AllocError> {
-    let arguments = arguments_of(command);
-    let text = format!(in alloc;
-        "error: {message}\n\nUsage: toml-span {arguments}\n\nFor more information, try '--help'.\n"
-    )?;
     Ok(Answer {
         out: String::new(alloc),
-        errors: visible_lines(alloc, text.as_str())?,
+        errors: misuse_text(alloc, command, message)?,
         status: 2,
     })
 }
@@ -202,8 +198,10 @@ fn edit_once(
         return miscounted(alloc, command, words.len());
     };
     match change_of(command, rest) {
-        Some(change) if change.has_pointers() => perform(alloc, *file, &[change], asked, host),
-        Some(_) => misuse(alloc, command, NO_POINTER),
+        Some(change) => match change.wrong_path(alloc)? {
+            Some(message) => misuse(alloc, command, message.as_str()),
+            None => perform(alloc, *file, &[change], asked, host),
+        },
         None => miscounted(alloc, command, words.len()),
     }
 }

@@ -92,8 +92,9 @@ Prints one value of a TOML file.
 
 Usage: toml-span get [OPTION].. FILE PATH
 
-PATH is a pointer, as /server/ports/0: keys, and positions in arrays from 0.
-The empty path '' is the whole document. For `-`, standard input is read.
+PATH is a dotted key, as server.ports[0], or a pointer, as /server/ports/0, with
+positions in arrays from 0. The empty path '' is the whole document. For `-`,
+standard input is read.
 
 Options:
   --json           as JSON, floats and dates as strings (the default)
@@ -169,10 +170,11 @@ other bytes.
 
 Usage: toml-span set [OPTION].. FILE PATH VALUE
 
-PATH is a pointer, as /server/ports/0: keys, and positions in arrays from 0.
-VALUE is TOML, so a string needs its quotes: '\"text\"'.
+PATH is a dotted key, as server.ports[0], or a pointer, as /server/ports/0, with
+positions in arrays from 0. VALUE is TOML, so a string needs its quotes:
+'\"text\"'.
 
-  toml-span set Cargo.toml /package/version '\"1.3.0\"'
+  toml-span set Cargo.toml package.version '\"1.3.0\"'
 ";
 
 /// The help of `rename`.
@@ -181,10 +183,10 @@ Renames a key in a TOML file wherever it is written, and keeps all other bytes.
 
 Usage: toml-span rename [OPTION].. FILE PATH NAME
 
-PATH is a pointer to the value of the key, as /dependencies/serde. NAME is
-quoted in the file if TOML requires it.
+PATH is a dotted key, as dependencies.serde, or a pointer, as
+/dependencies/serde. NAME is quoted in the file if TOML requires it.
 
-  toml-span rename Cargo.toml /dependencies/serde serde1
+  toml-span rename Cargo.toml dependencies.serde serde1
 ";
 
 /// The help of `remove`.
@@ -193,10 +195,10 @@ Removes a value with its key, or an array element, from a TOML file.
 
 Usage: toml-span remove [OPTION].. FILE PATH
 
-PATH is a pointer, as /server/ports/0: keys, and positions in arrays from 0.
-A table is removed with all its sections.
+PATH is a dotted key, as server.ports[0], or a pointer, as /server/ports/0, with
+positions in arrays from 0. A table is removed with all its sections.
 
-  toml-span remove Cargo.toml /dependencies/serde
+  toml-span remove Cargo.toml dependencies.serde
 ";
 
 /// The help of `add`.
@@ -205,11 +207,11 @@ Adds a key with a value to a table of a TOML file, and keeps all other bytes.
 
 Usage: toml-span add [OPTION].. FILE PATH KEY VALUE
 
-PATH is a pointer to the table, as /server; the empty path '' names the
-document. KEY is quoted in the file if TOML requires it. VALUE is TOML, so a
-string needs its quotes: '\"text\"'.
+PATH is the dotted key of the table, as server.tls, or a pointer, as
+/server/tls; the empty path '' is the document. KEY is quoted in the file if
+TOML requires it. VALUE is TOML, so a string needs its quotes: '\"text\"'.
 
-  toml-span add Cargo.toml /dependencies log '\"0.4\"'
+  toml-span add Cargo.toml dependencies log '\"0.4\"'
 ";
 
 /// The help of `append`.
@@ -218,10 +220,10 @@ Adds an element at the end of an array in a TOML file.
 
 Usage: toml-span append [OPTION].. FILE PATH VALUE
 
-PATH is a pointer to the array, as /package/keywords. VALUE is TOML, so a string
-needs its quotes: '\"text\"'.
+PATH is the dotted key of the array, as package.keywords, or a pointer, as
+/package/keywords. VALUE is TOML, so a string needs its quotes: '\"text\"'.
 
-  toml-span append Cargo.toml /package/keywords '\"parser\"'
+  toml-span append Cargo.toml package.keywords '\"parser\"'
 ";
 
 /// The help of `insert`.
@@ -230,10 +232,10 @@ Adds an element to an array in a TOML file, before another one.
 
 Usage: toml-span insert [OPTION].. FILE PATH VALUE
 
-PATH is a pointer to the element that will follow, as /package/keywords/0. VALUE
-is TOML, so a string needs its quotes: '\"text\"'.
+PATH names the element that will follow: package.keywords[0], or as a pointer
+/package/keywords/0. VALUE is TOML, so a string needs its quotes: '\"text\"'.
 
-  toml-span insert Cargo.toml /package/keywords/0 '\"toml\"'
+  toml-span insert Cargo.toml 'package.keywords[0]' '\"toml\"'
 ";
 
 /// The help of `move`.
@@ -242,11 +244,11 @@ Moves a value of a TOML file to another path. A line keeps its comments.
 
 Usage: toml-span move [OPTION].. FILE PATH PATH
 
-Both paths are pointers, as /server/ports/0: keys, and positions in arrays from
-0. There must be no value at the second one, except if both are elements of one
-array.
+A PATH is a dotted key, as server.ports[0], or a pointer, as /server/ports/0,
+with positions in arrays from 0. There must be no value at the second one,
+except if both are elements of one array.
 
-  toml-span move Cargo.toml /dependencies/log /dev-dependencies/log
+  toml-span move Cargo.toml dependencies.log dev-dependencies.log
 ";
 
 /// The help of `edit`.
@@ -256,13 +258,13 @@ Makes several edits in a TOML file at once: all of them or none.
 Usage: toml-span edit [OPTION].. FILE [-e EDIT]..
 
 An EDIT is a command that edits, with its arguments except FILE, as
-`set /package/version \"1.3.0\"`. Its last argument is the rest of the line. A
-path or key with blanks needs quotes: `remove '/a b'`. Without `-e`, the edits
-are read from standard input, one on a line; blank lines and lines that begin
-with `#` are ignored.
+`set package.version \"1.3.0\"`. Its last argument is the rest of the line. A
+path or key that contains blanks, or begins with a quote, needs quotes:
+`remove '\"a b\".c'`. Without `-e`, the edits are read from standard input, one
+on a line; blank lines and lines that begin with `#` are ignored.
 
-  toml-span edit Cargo.toml -e 'set /package/edition \"2024\"' \\
-      -e 'remove /dependencies/log'
+  toml-span edit Cargo.toml -e 'set package.edition \"2024\"' \\
+      -e 'remove dependencies.log'
 ";
 
 /// What the help of each command that edits a file ends in.

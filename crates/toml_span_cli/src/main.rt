@@ -17,6 +17,7 @@ mod fmt;
 mod help;
 mod making;
 mod options;
+mod paths;
 mod say;
 mod show;
 mod start;

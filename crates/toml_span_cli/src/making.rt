@@ -1,9 +1,13 @@
 //! Makes edits of the text of a file.
 use crate::changes::{Change, Task};
 use std::alloc::{AllocError, Global};
+use std::borrow::CowStr;
 use std::fmt::Write;
 use toml_span::Stop;
-use toml_span_edit::{Edit, EditError, Edits, Reason, segments, string_text};
+use toml_span_check::encoding::not_utf8_text;
+use toml_span_edit::{
+    Edit, EditError, Edits, Reason, path_segments, segment_names, string_text,
+};
 
 /// The kind of an edit.
 #[derive(Clone, Copy)]
@@ -23,18 +27,21 @@ enum Kind {
 #[derive(Drop)]
 struct Prepared<'w> {
     kind: Kind,
-    path: Vec<&'w str>,
+    path: Vec<CowStr<'w>>,
     /// Where a value is moved to.
-    target: Vec<&'w str>,
+    target: Vec<CowStr<'w>>,
     /// The value, or the new name.
     value: String,
 }
 
-/// Returns the segments of a path, which must be a pointer (see `Change::has_pointers`). Fails if an allocation fails.
-fn segments_of<'w>(alloc: Global, path: &'w str) -> Result<Vec<&'w str>, AllocError> {
-    match segments(alloc, path)? {
-        Some(segments) => Ok(segments),
-        None => Ok(Vec::new(alloc)),
+/// Returns a path's segments. None are lost: all paths can be read (see `Change::wrong_path`).
+fn segments_of<'w>(alloc: Global, path: &'w str) -> Result<Vec<CowStr<'w>>, AllocError> {
+    match path_segments(alloc, path) {
+        Ok(segments) => Ok(segments),
+        Err(stop) => {
+            stop.fault()?;
+            Ok(Vec::new(alloc))
+        }
     }
 }
 
@@ -79,7 +86,7 @@ fn prepare<'w>(
             prepared.value = value_of(alloc, value, is_string)?;
         }
         Task::Add(key, value) => {
-            prepared.path.push(key)?;
+            prepared.path.push(CowStr::Borrowed(key))?;
             prepared.value = value_of(alloc, value, is_string)?;
         }
         Task::Move(to) => prepared.target = segments_of(alloc, to)?,
@@ -103,8 +110,27 @@ fn prepare_all<'w>(
     Ok(list)
 }
 
-/// Returns a prepared edit as an `Edit` of `toml_span_edit`.
-fn edit_of<'w>(prepared: &'w Prepared<'w>) -> Edit<'w> {
+/// The segments of a prepared edit, as `Edit` takes them.
+#[derive(Drop)]
+struct Names<'p> {
+    path: Vec<&'p str>,
+    target: Vec<&'p str>,
+}
+
+/// Returns the segments of prepared edits. Fails if an allocation fails.
+fn names_of<'p>(alloc: Global, list: &'p [Prepared<'_>]) -> Result<Vec<Names<'p>>, AllocError> {
+    let mut names = Vec::new(alloc);
+    for prepared in list {
+        names.push(Names {
+            path: segment_names(alloc, prepared.path.as_slice())?,
+            target: segment_names(alloc, prepared.target.as_slice())?,
+        })?;
+    }
+    Ok(names)
+}
+
+/// Returns a prepared edit with these segments as an `Edit` of `toml_span_edit`.
+fn edit_of<'p>(prepared: &'p Prepared<'_>, names: &'p Names<'p>) -> Edit<'p> {
     let value = prepared.value.as_str();
     let change = match prepared.kind {
         Kind::Set => toml_span_edit::Change::SetOrAdd(value),
@@ -114,23 +140,24 @@ fn edit_of<'w>(prepared: &'w Prepared<'w>) -> Edit<'w> {
         Kind::Add => toml_span_edit::Change::Add(value),
         Kind::Append => toml_span_edit::Change::Append(value),
         Kind::Insert => toml_span_edit::Change::Insert(value),
-        Kind::Move => toml_span_edit::Change::MoveTo(prepared.target.as_slice()),
+        Kind::Move => toml_span_edit::Change::MoveTo(names.target.as_slice()),
     };
     Edit {
-        path: prepared.path.as_slice(),
+        path: names.path.as_slice(),
         change,
     }
 }
 
 /// Makes prepared edits, and returns the new text. Fails with the edit that is refused, or if an allocation fails.
-fn finished<'w>(
+fn finished(
     alloc: Global,
-    text: &'w str,
-    list: &'w [Prepared<'w>],
+    text: &str,
+    list: &[Prepared<'_>],
 ) -> Result<String, Stop<EditError>> {
+    let names = names_of(alloc, list)?;
     let mut edits = Edits::new(alloc, text);
-    for prepared in list {
-        edits.push(edit_of(prepared))?;
+    for (prepared, names) in list.iter().zip(names.as_slice().iter()) {
+        edits.push(edit_of(prepared, names))?;
     }
     edits.finish()
 }
@@ -196,8 +223,12 @@ pub(crate) fn new_text(
     is_string: bool,
     is_forced: bool,
 ) -> Result<String, Stop<String>> {
-    let Ok(text) = str::from_utf8(bytes) else {
-        return Err(Stop::Fault(String::from_str(alloc, "the file is not valid UTF-8")?));
+    let text = match str::from_utf8(bytes) {
+        Ok(text) => text,
+        Err(error) => {
+            let words = not_utf8_text(alloc, bytes, error.valid_up_to())?;
+            return Err(Stop::Fault(words));
+        }
     };
     forced(
         alloc,

@@ -23,9 +23,6 @@ pub(crate) enum Reader {
     Get,
 }
 
-/// What is wrong with a path that is not a valid pointer.
-pub(crate) const NO_POINTER: &str = "PATH must begin with `/`, as in /package/name";
-
 /// What arguments ask for.
 #[derive(Drop)]
 pub(crate) struct Options<'w> {
@@ -55,8 +52,6 @@ enum Mistake {
     Forms,
     /// The path is not valid UTF-8.
     Path,
-    /// The path does not begin with a slash.
-    Slash,
     /// `get` is asked for SARIF, which only `check` can print.
     Sarif,
 }
@@ -225,16 +220,6 @@ fn form_of(matches: &ArgMatches<'_>) -> Result<Option<Form>, Mistake>
     with_form(tagged, is_given(matches, "items"), Form::Items)
 }
 
-/// Returns whether a path is empty or begins with a slash.
-pub(crate) fn is_pointer(path: &str) -> bool
-    ensures { result ≡ spec.is_pointer path.now }
-{
-    match path.as_bytes() {
-        [] => true,
-        [first, ..] => *first == b'/',
-    }
-}
-
 /// Returns the version of TOML with this name, or `None` for any other name.
 fn version_named(name: &str) -> Option<Version>
     ensures { result ≡ spec.version_named name.now }
@@ -257,7 +242,6 @@ fn task_of(reader: Reader, matches: &ArgMatches<'_>) -> Result<Task, Mistake>
             None => Err(Mistake::Version),
         },
         Reader::Get if is_bytes(value_of(matches, "PATH")) => Err(Mistake::Path),
-        Reader::Get if !is_pointer(value_of(matches, "PATH")) => Err(Mistake::Slash),
         Reader::Get => match form_of(matches) {
             Ok(form) => Ok(Task::Show(form.unwrap_or(Form::Plain))),
             Err(mistake) => Err(mistake),
@@ -300,8 +284,7 @@ fn kind_of(mistake: Mistake) -> ErrorKind
     ensures { result ≡ spec.kind_of mistake }
 {
     match mistake {
-        Mistake::Format | Mistake::Color | Mistake::Version | Mistake::Path | Mistake::Slash =>
-            ErrorKind::InvalidValue,
+        Mistake::Format | Mistake::Color | Mistake::Version | Mistake::Path => ErrorKind::InvalidValue,
         Mistake::Forms | Mistake::Sarif => ErrorKind::ArgumentConflict,
     }
 }
@@ -315,7 +298,6 @@ fn message_of(mistake: Mistake) -> &'static str {
         Mistake::Forms =>
             "only one of '--json', '--raw', '--toml', '--tagged' and '--items' can be used",
         Mistake::Path => "PATH is not valid UTF-8",
-        Mistake::Slash => NO_POINTER,
         Mistake::Sarif => "'--format sarif' can only be used with `check`",
     }
 }

@@ -1,5 +1,6 @@
 //! Prints help, and what is wrong with arguments.
-ghost use Rattle.std.specs.Prelude.{◌≡◌, IfOk, false};
+ghost use Rattle.std.specs.Prelude.{◌≡◌, ℕ, List, IfOk, false, string_bytes};
+ghost use Rattle.toml_span_report.specs.Visible.{visible_lines as shown_lines};
 ghost use Rattle.toml_span_cli.specs.Say.{Says, Warns};
 
 use crate::commands::{Command, arguments_of};
@@ -30,6 +31,22 @@ pub(crate) fn quoted_word(alloc: Global, word: &str) -> Result<String, AllocErro
     Ok(out)
 }
 
+/// Returns what is wrong with the arguments of a command, and its usage, as lines that are escaped for a terminal. Fails
+/// if an allocation fails.
+pub(crate) fn misuse_text(
+    alloc: Global,
+    command: Command,
+    message: &str,
+) -> Result<String, AllocError>
+    ensures { IfOk result (λ out. (text : List ℕ) × (string_bytes out ≡ shown_lines text)) }
+{
+    let arguments = arguments_of(command);
+    let text = format!(in alloc;
+        "error: {message}\n\nUsage: toml-span {arguments}\n\nFor more information, try '--help'.\n"
+    )?;
+    visible_lines(alloc, text.as_str())
+}
+
 /// Prints to `errors` that the arguments of a command are wrong, with its usage. `message` says what is wrong. Returns
 /// status 2, or 3 if the write fails. Fails if an allocation fails.
 pub(crate) fn say_misuse<E: Sink>(
@@ -42,10 +59,6 @@ pub(crate) fn say_misuse<E: Sink>(
     ensures { IfOk result (λ status.
         Warns (E.contents errors.old) (E.contents errors.new) (E.failed errors.new) 2 status) }
 {
-    let arguments = arguments_of(command);
-    let text = format!(in alloc;
-        "error: {message}\n\nUsage: toml-span {arguments}\n\nFor more information, try '--help'.\n"
-    )?;
-    let text = visible_lines(alloc, text.as_str())?;
+    let text = misuse_text(alloc, command, message)?;
     Ok(say(errors, text.as_str(), 2))
 }

@@ -5,9 +5,11 @@ ghost use Rattle.toml_span_report.specs.Visible.{visible_lines};
 ghost use Rattle.toml_span_cli.specs.Start.{Refuses, Starts};
 ghost use Rattle.toml_span_cli.specs.Start as spec;
 
+use crate::commands::Command;
 use crate::help::{CHECK, GET, VERSION};
 use crate::options::{Reader, options_of};
-use crate::say::say;
+use crate::paths::wrong_path;
+use crate::say::{misuse_text, say};
 use clap::Error;
 use clap::error::ErrorKind;
 use std::alloc::{AllocError, Global};
@@ -57,6 +59,17 @@ fn mistake(alloc: Global, reader: Reader, words: &[String]) -> Result<String, Al
     visible_lines(alloc, message.as_str())
 }
 
+/// Returns `None` if the path of the value to print can be read, otherwise what is wrong with it, as lines that are
+/// escaped for a terminal. Fails if an allocation fails.
+fn path_mistake(alloc: Global, path: &str) -> Result<Option<String>, AllocError>
+    ensures { IfOk result (spec.SaysOfPath path.now) }
+{
+    match wrong_path(alloc, path)? {
+        Some(message) => Ok(Some(misuse_text(alloc, Command::Get, message.as_str())?)),
+        None => Ok(None),
+    }
+}
+
 /// Prints the help or the version, if the arguments ask for it, otherwise what is wrong with them. `error` is clap's
 /// error for `words`. Returns the exit status.
 fn refuse<O: Sink, E: Sink>(
@@ -84,9 +97,9 @@ fn refuse<O: Sink, E: Sink>(
 }
 
 /// Carries out `check` or `get`: runs on files (see `run`), prints the help or the version with status 0, or prints
-/// what is wrong with the arguments with status 2. `words` are the name of the command or program and its arguments.
-/// `is_terminal` says whether `--color auto` means colors, and `is_watched` is passed on to `run`. Returns the exit
-/// status: 3 if a write fails, 4 if an allocation fails.
+/// what is wrong with the arguments or the path with status 2. `words` are the name of the command or program and its
+/// arguments. `is_terminal` says whether `--color auto` means colors, and `is_watched` is passed on to `run`. Returns
+/// the exit status: 3 if a write fails, 4 if an allocation fails.
 pub(crate) fn start<I: Inputs, O: Sink, E: Sink>(
     alloc: Global,
     reader: Reader,
@@ -105,19 +118,23 @@ pub(crate) fn start<I: Inputs, O: Sink, E: Sink>(
         (E.contents errors.old) (E.contents errors.new) (E.failed errors.new) result }
 {
     match options_of(alloc, reader, words, is_terminal) {
-        Ok(options) => run(
-            alloc,
-            options.format,
-            options.task,
-            options.pointer,
-            options.excludes.as_slice(),
-            options.names.as_slice(),
-            is_watched,
-            options.is_quiet,
-            inputs,
-            out,
-            errors,
-        ),
+        Ok(options) => match path_mistake(alloc, options.pointer) {
+            Ok(None) => run(
+                alloc,
+                options.format,
+                options.task,
+                options.pointer,
+                options.excludes.as_slice(),
+                options.names.as_slice(),
+                is_watched,
+                options.is_quiet,
+                inputs,
+                out,
+                errors,
+            ),
+            Ok(Some(message)) => say(errors, message.as_str(), 2),
+            Err(_) => 4,
+        },
         Err(error) => refuse(alloc, reader, words, &error, out, errors),
     }
 }

@@ -1,3 +1,4 @@
 pub mod Around
 pub mod Elements
 pub mod Steps
+pub mod TaskLemmas

@@ -4,3 +4,4 @@ pub mod Paths
 pub mod Kept
 pub mod Edited
 pub mod Listed
+pub mod Tasks

@@ -26,8 +26,9 @@ mod unchanged;
 
 pub use edits::{Change, Edit, EditError, Edits};
 pub use given::string_text;
-pub use paths::segments;
+pub use paths::path_error_text;
 pub use reason::Reason;
 pub use same::same_tree;
 pub use tasks::{Task, edited};
+pub use toml_span_places::{PathError, PathFault, path_segments, segment_names};
 pub use unchanged::validated;

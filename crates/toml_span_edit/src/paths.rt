@@ -1,22 +1,39 @@
 //! Paths: the segments from the root of a tree to a value.
-ghost use Rattle.std.specs.Prelude.{◌≡◌, map};
+ghost use Rattle.std.specs.Cow.{cow_str_bytes};
+ghost use Rattle.std.specs.Prelude.{◌≡◌, IfOk, Ok, map};
+ghost use Rattle.toml_span_places.specs.Dotted.{IsPath};
 ghost use Rattle.toml_span_tree.specs.Nodes.{step_of};
 ghost use Rattle.toml_span_tree.specs.Pointer.{position_of};
 ghost use Rattle.toml_span_tree.specs.code.Pointer.{PositionIs};
 ghost use Rattle.toml_span_edit.specs.Paths as spec;
 
+use crate::reason::Reason;
 use std::alloc::{AllocError, Global};
+use std::borrow::CowStr;
+use toml_span::Stop;
 use toml_span::value::Step;
+use toml_span_places::{PathError, path_segments};
 
-/// Splits a pointer such as `/a/0` into its segments. The empty pointer has none, and names the root. Returns `None`
-/// for a pointer that is not empty and does not begin with a slash. Fails only if an allocation fails.
-pub fn segments<'p>(alloc: Global, pointer: &'p str) -> Result<Option<Vec<&'p str>>, AllocError> {
-    if pointer.is_empty() {
-        return Ok(Some(Vec::new(alloc)));
-    }
-    match pointer.strip_prefix('/') {
-        Some(rest) => Ok(Some(rest.split('/').collect(alloc)?)),
-        None => Ok(None),
+/// Returns where a path can't be read, and why: `column 3: expected a key`. Columns count characters from 1. Fails if an
+/// allocation fails.
+pub fn path_error_text(alloc: Global, path: &str, error: &PathError) -> Result<String, AllocError> {
+    let before = path.char_indices().filter(|(at, _)| *at < error.at).count();
+    let column = before.saturating_add(1);
+    format!(in alloc; "column {column}: {error}")
+}
+
+/// Returns the segments of a path, which is a pointer such as `/a/0` or a dotted key such as `a[0]`. Fails with
+/// `WrongPath` if it can't be read, or if an allocation fails.
+pub(crate) fn segments_of<'p>(alloc: Global, path: &'p str) -> Result<Vec<CowStr<'p>>, Stop<Reason>>
+    ensures { IfOk result (λ segments. IsPath path.now (Ok (map cow_str_bytes segments.items))) }
+{
+    match path_segments(alloc, path) {
+        Ok(segments) => Ok(segments),
+        Err(Stop::Memory(error)) => Err(Stop::Memory(error)),
+        Err(Stop::Fault(error)) => {
+            let words = path_error_text(alloc, path, &error)?;
+            Err(Stop::Fault(Reason::WrongPath(words)))
+        }
     }
 }
 

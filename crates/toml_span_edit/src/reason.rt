@@ -9,6 +9,8 @@ pub enum Reason {
     NotUtf8,
     /// The document is not valid TOML. This is its error with line and column.
     NoDocument(String),
+    /// The path is neither a pointer nor a dotted key. This is where it can't be read, and why.
+    WrongPath(String),
     /// There is no value at the path.
     Nothing,
     /// The new value is not a TOML value. For a bare word, this is the string that was probably meant, quoted for a
@@ -39,6 +41,7 @@ impl Reason {
             Reason::TooLong => "the file is larger than 16 MiB",
             Reason::NotUtf8 => "the file is not valid UTF-8",
             Reason::NoDocument(_) => "the file is not valid TOML: ",
+            Reason::WrongPath(_) => "the path is wrong at ",
             Reason::Nothing => "there is no value at this path",
             Reason::NoValue(None) =>
                 "the given value is not one TOML value (strings need quotes: `'\"b\"'`)",
@@ -58,11 +61,11 @@ impl Reason {
         }
     }
 
-    /// Returns what follows the reason: the line, column and message of an error, or the string that was probably
-    /// meant. It is empty for other reasons.
+    /// Returns what follows the reason: the place and message of an error, or the string that was probably meant. It is empty for other reasons.
     pub fn detail(&self) -> &str {
         match self {
             Reason::NoDocument(fault) => fault.as_str(),
+            Reason::WrongPath(fault) => fault.as_str(),
             Reason::WouldBeNone(fault) => fault.as_str(),
             Reason::NoValue(Some(string)) => string.as_str(),
             _ => "",

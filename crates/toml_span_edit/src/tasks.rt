@@ -1,12 +1,17 @@
-//! One edit at a pointer, of a document in bytes.
-use crate::edits::{Change, Edit, Edits};
-use crate::paths::segments;
+//! One edit at a path, of a document in bytes.
+ghost use Rattle.std.specs.Prelude.{◌≡◌, IfOk, map, string_bytes};
+ghost use Rattle.toml_span_edit.specs.Tasks as spec;
+
+use crate::edits::{Change, Edit};
+use crate::paths::segments_of;
 use crate::reason::Reason;
+use crate::step::step;
 use std::alloc::{AllocError, Global};
 use toml_span::Stop;
 use toml_span_lines::run::BOUND;
+use toml_span_places::segment_names;
 
-/// What an edit does at the value that a pointer names. Values are written as TOML.
+/// What an edit does at the value that a path names. Values are written as TOML.
 #[derive(Clone, Copy)]
 pub enum Task<'w> {
     /// Replaces the value by this one.
@@ -23,7 +28,10 @@ pub enum Task<'w> {
 fn change_of<'w>(
     path: Vec<&'w str>,
     task: Task<'w>,
-) -> Result<(Vec<&'w str>, Change<'w>), AllocError> {
+) -> Result<(Vec<&'w str>, Change<'w>), AllocError>
+    ensures { IfOk result (λ made. (map (λ s. s.now) made.0.items
+        ≡ spec.path_of (map (λ s. s.now) path.entry.items) task.entry) × (made.1 ≡ spec.change_of task.entry)) }
+{
     let mut path = path;
     let change = match task {
         Task::Set(value) => Change::Set(value),
@@ -37,46 +45,41 @@ fn change_of<'w>(
     Ok((path, change))
 }
 
-/// Carries out a task at the value that a pointer names, and returns the new text. Fails with the reason if the edit is
-/// refused, with `Nothing` if the pointer is not valid, or if an allocation fails.
+/// Carries out a task at the value that a path names, and returns the new text. Fails with the reason if the edit is
+/// refused, or if an allocation fails.
 fn perform(
     alloc: Global,
     text: &str,
-    pointer: &str,
+    path: &str,
     task: Task<'_>,
-) -> Result<String, Stop<Reason>> {
-    let Some(path) = segments(alloc, pointer)? else {
-        return Err(Stop::Fault(Reason::Nothing));
-    };
-    let (path, change) = change_of(path, task)?;
-    let mut edits = Edits::new(alloc, text);
-    edits.push(Edit {
-        path: path.as_slice(),
-        change,
-    })?;
-    match edits.finish() {
-        Ok(new) => Ok(new),
-        Err(Stop::Memory(error)) => Err(Stop::Memory(error)),
-        Err(Stop::Fault(error)) => Err(Stop::Fault(error.reason)),
-    }
+) -> Result<String, Stop<Reason>>
+    ensures { IfOk result (λ new. spec.TaskMade path.now task.entry text.now (string_bytes new)) }
+{
+    let segments = segments_of(alloc, path)?;
+    let names = segment_names(alloc, segments.as_slice())?;
+    let (path, change) = change_of(names, task)?;
+    let path = path.as_slice();
+    step(alloc, text, Edit { path, change })
 }
 
-/// Makes one edit of a document, as `Edits` does, at the value that a pointer such as `/a/b/0` names. Returns the new
-/// text.
+/// Makes one edit of a document, as `Edits` does, at the value that a path names: a pointer such as `/a/b/0`, or a dotted
+/// key such as `a.b[0]`. Returns the new text.
 ///
 /// Fails with `TooLong` for a document of more than 16 MiB, with `NotUtf8` if it is not valid UTF-8, with the reason if
 /// the edit is refused, or if an allocation fails.
 pub fn edited(
     alloc: Global,
     document: &[u8],
-    pointer: &str,
+    path: &str,
     task: Task<'_>,
-) -> Result<String, Stop<Reason>> {
+) -> Result<String, Stop<Reason>>
+    ensures { IfOk result (λ new. spec.TaskMade path.now task.entry document.now (string_bytes new)) }
+{
     if document.len() > BOUND {
         return Err(Stop::Fault(Reason::TooLong));
     }
     match str::from_utf8(document) {
-        Ok(text) => perform(alloc, text, pointer, task),
+        Ok(text) => perform(alloc, text, path, task),
         Err(_) => Err(Stop::Fault(Reason::NotUtf8)),
     }
 }

@@ -33,6 +33,7 @@ pub mod Fields
 pub mod Examples
 pub mod OneText
 pub mod OneAnswer
+pub mod OnePath
 pub mod KeptBytes
 pub mod KeptForms
 pub mod KeptNumbers

@@ -12,6 +12,7 @@ pub mod limits;
 pub mod lines;
 pub mod numbers;
 pub mod parse;
+pub mod paths;
 pub mod reading;
 pub mod shown;
 pub mod starts;

@@ -12,4 +12,4 @@ returns-in_ok-append-in-Text g c =
 pub returns-in-Document : goal.returns-in-Document
 returns-in-Document g c =
     let judges = subst (λ (j : Judged). Judges c.args.format c.args.task c.args.pointer.now c.args.name.now c.args.bytes.now j) c.in-Document.is (c.in_ok-count.ensures c.args.pointer.now) in
-    shows-bytes c.args.format c.args.task c.args.pointer.now c.args.name.now c.args.bytes.now c.in-Document.form _ c.show.result _ _ _ _ _ judges.0 judges.1 c.show.ensures.count c.show.ensures.out
+    shows-bytes c.args.format c.args.task c.args.pointer.now c.args.name.now c.args.bytes.now c.in-Document.form _ c.show.result _ _ _ _ _ judges.0 (judges.1 _ c.in_ok-place-in-Document.ensures) c.show.ensures.count c.show.ensures.out
