@@ -1,4 +1,5 @@
 pub mod Commas
+pub mod EncodingLemmas
 pub mod Endings
 pub mod Errors
 pub mod Fixings

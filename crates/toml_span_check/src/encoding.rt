@@ -1,5 +1,5 @@
 //! The report that a file is not UTF-8.
-ghost use Rattle.std.specs.Prelude.{◌≡◌, ◌++◌, IfOk, IsUtf8, OnOk, length, slice_index, string_bytes, take};
+ghost use Rattle.std.specs.Prelude.{◌≡◌, ◌++◌, IfOk, OnOk, slice_index, string_bytes, take};
 ghost use Rattle.std.specs.Str.{IsValidUpTo};
 ghost use Rattle.toml_span_report.specs.Report.{report_content};
 ghost use Rattle.toml_span_check.specs.Encoding as spec;
@@ -103,9 +103,9 @@ fn not_utf8_report(alloc: Global, bytes: &[u8], at: usize) -> Result<Report, All
 }
 
 /// Returns the bytes before the offset `end`, which are valid UTF-8.
+#[tactic(auto, using(crate::proofs::EncodingLemmas::front_within, crate::proofs::EncodingLemmas::front_is_utf8))]
 fn front_of(bytes: &[u8], end: usize) -> &str
-    requires within { end ≤ length bytes.now }
-    requires utf8 { IsUtf8 (take end bytes.now) }
+    requires { IsValidUpTo bytes.now end }
     ensures { result.now ≡ take end bytes.now }
 {
     match str::from_utf8(&bytes[..end]) {
