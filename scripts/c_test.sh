@@ -1,11 +1,11 @@
 #!/usr/bin/env bash
-# Tests the library for C, C++ and Python: bash scripts/c_test.sh [--unproved] [--times]
+# Tests the library for C, C++ and Python: bash scripts/c_test.sh [--unproved]
 #
 # It installs the library (scripts/c_library.sh), the proved one if there is one, into a folder of its own, and tests:
 # the examples with gcc and clang, pkg-config, CMake and meson; the exports and the layout of the records (abi.txt); the
 # calls under sanitizers (walk.c, edits.c), with each request for memory refused (hold.c), between guard pages (fuzz.c),
 # in threads and with a small stack (threads.c); the wheel, installed without network in a fresh environment. Times are
-# printed, and can fail a check only with --times: on a shared machine they vary. The last line has the counts.
+# printed, and fail no check, since they vary on a shared machine. The last line has the counts.
 source "$(dirname -- "$(readlink -f -- "$0")")/common.sh"
 set +e
 cd -- "$top" || exit
@@ -13,9 +13,6 @@ scratch
 unset TOML_SPAN_LIBRARY PYTHONPATH
 passed=0
 failed=0
-times=shown
-words=()
-for word; do if [ "$word" = --times ]; then times=told; else words+=("$word"); fi; done
 
 # told NAME COMMAND..: runs a command as one check, and counts whether it passes or fails
 told() {
@@ -29,10 +26,8 @@ told() {
     fi
 }
 
-# shown NAME COMMAND..: prints what a command writes, without counting it as a check
-shown() {
-    "${@:2}" 2>&1 | grep -E '^(speed|times):'
-}
+# measured COMMAND..: prints the times that a command measures
+measured() { "$@" 2>&1 | grep -E '^(speed|times):'; }
 
 # has TOOL: whether a tool is installed; prints a line if not
 has() { command -v "$1" >/dev/null || { echo "c_test: there is no $1" && false; }; }
@@ -40,7 +35,7 @@ has() { command -v "$1" >/dev/null || { echo "c_test: there is no $1" && false; 
 for tool in gcc g++ clang clang++ python3; do has "$tool" || failed=$((failed + 1)); done
 # (by a link to the script, in a folder with a blank, relative to the caller's folder, with a misleading CDPATH)
 ln -s "$top/scripts/c_library.sh" "$work/install"
-if ! (cd "$work" && CDPATH=$top bash ./install "${words[@]}" --prefix "the library") >"$work/said"; then
+if ! (cd "$work" && CDPATH=$top bash ./install "$@" --prefix "the library") >"$work/said"; then
     cat "$work/said"
     echo "c_test: the library can't be installed"
     echo "0 passed, 1 failed"
@@ -172,15 +167,15 @@ install_wheel() {
 }
 if command -v python3 >/dev/null; then
     python3 "$tests/documents.py" "$work"
-    $times "times of a fill" "$work/speed" 200 "$work"/*20k.toml
-    $times "times of a fill of 1 MB" "$work/speed" 8 "$work"/*1m.toml
+    measured "$work/speed" 200 "$work"/*20k.toml
+    measured "$work/speed" 8 "$work"/*1m.toml
     told "the wheel" install_wheel
     if has mypy; then told "types of the module" mypy --strict --cache-dir "$work/types" python/src; fi
     cp python/{test_toml_span,example}.py "$tests/times.py" "$work"
     told "tests of the module" "$work/venv/bin/python" "$work/test_toml_span.py" "$runs"
     told "the example in Python" "$work/venv/bin/python" "$work/example.py" examples/c/example.toml
     told "the command in Python" exits 1 "$work/venv/bin/python" -m toml_span "$runs/data/settings.toml"
-    $times "times of the module" "$work/venv/bin/python" "$work/times.py" "$work"
+    measured "$work/venv/bin/python" "$work/times.py" "$work"
 fi
 echo "$passed passed, $failed failed"
 [ "$failed" -eq 0 ]

@@ -7,10 +7,8 @@ A mark says what a block, a list or a table quotes:
 
     ```rust             code: the parts between lines `// ..` follow each other in one file of crates/*/src
     ```text clause FILE paragraphs of crates/FILE, or of any source without FILE, ignoring white space
-    ```text rows        answers of toml_span_rows
-    ```text in FILE     lines of this file
-    ```toml data NAME   the file crates/*/data/NAME
-    ```console run NAME `$ PROGRAM ARGUMENT..` of crates/*/runs/NAME.args, and its output (NAME.stdout, NAME.stderr)
+    ```text in FILE     lines of this file, or of an answer in it (crates/toml_span_rows/stdout)
+    ```console run NAME `$ PROGRAM ARGUMENT..` of crates/*/runs/NAME, and its output
     ```sh               names files that exist
     (indented by four)  the same as `sh`, a line of crates.txt, or lines of a stored output
     <!-- rows: CALL --> a table or a list whose lines begin with the text of a row of this call (`parse 128` without
@@ -19,7 +17,6 @@ A mark says what a block, a list or a table quotes:
     <!-- rules -->      a list of `WORDS. DEFINITIONS; FUNCTIONS; ROWS`: `Module.{A, B}` are in a file Module.antt of
                         specs/, `module::{a, b}` in a file module.rt of src/, and a row is the only one with this text,
                         in which `..` matches anything and `parse 128: ` may be left out; or `none` and a reason
-    <!-- calls -->      a list of CALLS: WORDS: CLAUSES: the names in CLAUSES occur in the contracts of the calls
 
 In all text, paths in code and links must exist, names in code must occur in the sources or in FOREIGN, and a clause
 that is named must belong to its function. docs/LANGUAGE.md has an example of each error that a row of `parse` reports.
@@ -66,10 +63,9 @@ def squeezed(text):
     return f" {' '.join(text.split())} "
 
 
-def position_of(lines, part, start=0):
-    """Returns the index at which these lines follow each other, or None."""
-    fits = (at for at in range(start, len(lines) - len(part) + 1) if lines[at : at + len(part)] == part)
-    return next(fits, None)
+def has_lines(text, lines):
+    """Returns whether these lines follow each other in a text."""
+    return "\n" + "\n".join(lines) + "\n" in f"\n{text}\n"
 
 
 def split_outside_code(text, mark):
@@ -106,12 +102,11 @@ class Sources:
         for path, text in [*code.items(), *specs.items()]:
             name = os.path.basename(path).split(".")[0]
             self.modules[name] = self.modules.get(name, "") + text
-        self.code = {path: [line.strip() for line in text.split("\n")] for path, text in code.items()}
+        self.code = [re.sub(r"(?m)^[ \t]+|[ \t]+$", "", text) for text in code.values()]
         self.quotable = {path: squeezed(text) for path, text in (code | specs | worked).items()}
-        self.answers, self.row_lines = answers(), text_of(f"{ROWS}/stdout").split("\n")
+        self.answers = answers()
         stored = found("crates/*/stdout") + found("crates/*/runs/**/*stdout")
-        self.outputs = [text_of(path).split("\n") for path in stored]
-        self.outputs.append([line.removeprefix("    ") for line in self.row_lines])
+        self.outputs = [*map(text_of, stored), re.sub("(?m)^    ", "", text_of(f"{ROWS}/stdout"))]
         self.heads, self.names = {}, {*FOREIGN}
         for folder in ("crates/*/[!o]*", "crates/*/[!o]*/**/*", "scripts/*", "crates/*"):
             self.names |= {os.path.basename(path).split(".")[0] for path in found(folder)}
@@ -217,11 +212,9 @@ class Page:
             self.rust(at, lines)
         elif kind == ["text", "clause"]:
             self.clauses(at, f"crates/{name}" if name else "", lines)
-        elif kind in (["text", "rows"], ["text", "in"]):
-            self.quoted(at, f"{ROWS}/stdout" if kind[1] == "rows" else name, lines)
-        elif kind == ["toml", "data"]:
-            paths = [*found(f"crates/*/data/{name}"), *found(f"crates/*/runs/data/{name}"), name]
-            self.quoted(at, paths[0], lines, is_whole=True)
+        elif kind in (["text", "in"], ["toml", "in"]):
+            if not os.path.isfile(f"{TOP}/{name}") or not has_lines(text_of(name), lines):
+                self.fault(at, f"{name} does not have these lines")
         elif kind == ["console", "run"]:
             self.run(at, name, lines)
         elif words[:1] == ["sh"]:
@@ -229,25 +222,13 @@ class Page:
         else:
             self.fault(at - 1, f"`{' '.join(words)}` is not a mark: see scripts/pages.py")
 
-    def quoted(self, at, path, lines, is_whole=False):
-        kept = text_of(path).rstrip("\n").split("\n") if os.path.isfile(f"{TOP}/{path}") else []
-        if position_of(kept, lines) is None or is_whole and len(kept) != len(lines):
-            self.fault(at, f"{path} does not have these lines")
-
     def rust(self, at, lines):
         """Checks that the parts between lines `// ..` follow each other in one file."""
-        parts = [[]]
-        for line in map(str.strip, lines):
-            parts = [*parts, []] if line.startswith("// ..") else [*parts[:-1], [*parts[-1], line]]
-        parts = ["\n".join(part).strip("\n").split("\n") for part in parts if any(part)]
-        for source in self.sources.code.values():
-            start = 0
-            for part in parts:
-                place = position_of(source, part, start) if start is not None else None
-                start = place + len(part) if place is not None else None
-            if start is not None:
-                return
-        self.fault(at, "no file of the sources has these lines")
+        parts = re.split(r"(?m)^// \.\..*$", "\n".join(map(str.strip, lines)))
+        parts = [re.escape(it.strip("\n")) for it in parts if it.strip("\n")]
+        quoted = re.compile(f"(?ms)^{'$.*^'.join(parts)}$")
+        if not any(quoted.search(it) for it in self.sources.code):
+            self.fault(at, "no file of the sources has these lines")
 
     def clauses(self, at, path, lines):
         files = self.sources.quotable
@@ -259,7 +240,7 @@ class Page:
     def run(self, at, name, lines):
         command, *said = "\n".join(lines).rstrip("\n").split("\n")
         command = re.sub(r"^\$ \S+ ", "", command)
-        for run in found(f"crates/*/runs/**/{name}.args") + found(f"crates/*/runs/{name}/args"):
+        for run in found(f"crates/*/runs/{name}/args"):
             files = [run.removesuffix("args") + end for end in ("stdout", "stderr")]
             told = "".join(text_of(it) for it in files if os.path.isfile(f"{TOP}/{it}")).rstrip("\n")
             words = text_of(run).splitlines()
@@ -274,7 +255,7 @@ class Page:
             for name in named[1].split():
                 if not re.search(rf"(?m)(^| ){name}(:| |$)", text_of("crates.txt")):
                     self.fault(at, f"crates.txt has no {name}")
-        elif not any(position_of(text, lines) is not None for text in self.sources.outputs):
+        elif not any(has_lines(it, lines) for it in self.sources.outputs):
             self.fault(at, "no stored output has these lines")
 
     def commands(self, at, lines):
@@ -287,15 +268,13 @@ class Page:
 
     def marked(self, at, mark, end):
         kind, _, of = mark.partition(": ")
-        if kind not in ("rules", "rows", "calls"):
+        if kind not in ("rules", "rows"):
             self.fault(at - 1, f"`{mark}` is not a mark: see scripts/pages.py")
         for k in range(at, end):
             line = self.lines[k]
             first, *told = split_outside_code(line.removeprefix("- "), ": ")
             if kind == "rules":
                 self.rule(k, line)
-            elif kind == "calls":
-                self.calls(k, first, told[-1] if told else "")
             elif kind == "rows" and line.startswith("- "):
                 said = re.findall(rf"(?:\b({'|'.join(FIELDS)}) )?`([^`]+)`", told[0] if told else "")
                 self.example(k, of or "parse 128", first, said)
@@ -322,13 +301,6 @@ class Page:
         if not told or words[0] == "error" and ("", " ".join(words[1:3])) not in told:
             self.fault(at, f"what this returns is not said in code: {said}")
         self.shown |= {words[1]} if words[0] == "error" else set()
-
-    def calls(self, at, first, clauses):
-        names = [name for code in codes_in(first) for name in re.findall(r"[A-Za-z_]\w*", code)]
-        contract = self.sources.contracts_of(names)
-        for name in re.findall(r"[A-Za-z_]\w*", " ".join(codes_in(clauses))):
-            if name not in contract:
-                self.fault(at, f"no contract of {', '.join(names)} has `{name}`")
 
     def rule(self, at, line):
         """Checks that the definitions, functions and rows of a line of a list exist."""

@@ -1,10 +1,11 @@
 #!/usr/bin/env bash
 # Tests the scripts for users: toml-span.sh, native.sh, install.sh, package.sh, vendor.sh: bash scripts/scripts_test.sh
 #
-# A row of the table is a case: its name, the expected status, what its output must match (an expression of grep; with !,
-# must not match), and a command. The commands run in order in one folder. `fresh` makes a new repository in a folder
-# with a blank in its name. The toolchain is a fake whose `rt try` compiles C, and FAULT names a step of it that fails;
-# so a case takes milliseconds. The last cases try docs/CI.md with the program and the toolchain that are installed here.
+# A row of the table is a case: its name, the expected status, what its output must match (an expression of grep; with
+# !, must not match), and a command, which may go on in lines that begin with four spaces. The commands run in order in
+# one folder. `fresh` makes a new repository in a folder with a blank in its name. The toolchain is a fake whose
+# `rt try` compiles C, and FAULT names a step of it that fails; so a case takes milliseconds. The last cases try
+# docs/CI.md with the program and the toolchain that are installed here.
 source "$(dirname -- "$(readlink -f -- "$0")")/common.sh"
 set +e
 unset TMPDIR XDG_CACHE_HOME SOURCE_DATE_EPOCH
@@ -65,7 +66,7 @@ for name in native install package vendor; do eval "$name() { bash \"\$repositor
 cli() { bash "$repository/scripts/toml-span.sh" "$@"; }
 tries() { [ "$(wc -l <"$TRIES")" -eq "$1" ]; }
 is_clean() { [ -z "$(find "$repository" "$HOME" -name '.build-*')" ]; }
-object() { mkdir -p "$crate/out" && cc -x c -c -o "$crate/out/toml_span_cli.o" "${1--}"; } # [FILE]: a proved build of it
+object() { mkdir -p "$crate/out" && cc -x c -c -o "$crate/out/toml_span_cli.o" "${1--}"; } # [FILE]: a proved build
 stays() { cp -r prefix before && ! "$@" && diff -r before prefix && rm -r before; } # COMMAND..: fails, changes nothing
 offers() { # WORD..: what bash completes the last one to
     source prefix/share/bash-completion/completions/toml-span
@@ -78,14 +79,16 @@ debian() { # COMMAND..: installs the package in the folder root, runs the comman
     "${dpkg[@]}" -i packages/*.deb && "$@" && "${dpkg[@]}" -P toml-span && [ ! -e root/usr/bin/toml-span ]
 }
 page() { # WORDS: the block of docs/CI.md that has these words
-    awk -v words="$1" 'BEGIN { RS = "```" } index($0, "sh\n") == 1 && index($0, words) { print substr($0, 4) }' "$top/docs/CI.md"
+    awk -v words="$1" 'BEGIN { RS = "```" } index($0, "sh\n") == 1 && index($0, words) { print substr($0, 4) }' \
+        "$top/docs/CI.md"
 }
 committed() { # TEXT: commits a file with the hook of the page
     PATH=$work/real:$real_path && rm -rf committed && mkdir -p 'committed/a b' && cd committed && git init -q .
     page '#!/bin/sh' >.git/hooks/pre-commit && chmod +x .git/hooks/pre-commit && echo "$1" >'a b/c.toml' && git add .
     git -c user.name=n -c user.email=e commit -qm one
 }
-mkdir "$work/real" && ln -s "$(HOME=$real_home PATH=$real_path bash "$top/scripts/native.sh" toml_span_cli)" "$work/real/toml-span"
+mkdir "$work/real"
+ln -s "$(HOME=$real_home PATH=$real_path bash "$top/scripts/native.sh" toml_span_cli)" "$work/real/toml-span"
 
 cd "$work" || exit
 while IFS='|' read -r name expected line command; do
@@ -101,9 +104,10 @@ while IFS='|' read -r name expected line command; do
     wrong=$((wrong + 1))
     echo "scripts: wrong: $name (status $status, expected $expected and ${line:-any output})"
     sed 's/^/    /' "$work/said"
-done <<'CASES'
+done < <(sed -z 's/\n    / /g' <<'CASES'
 the first run builds, and says so|2|^building toml_span_cli without proofs, once|fresh; cli a 'b c'
-a link, from another folder, with CDPATH|2|^\[x\]\[y z\]$|mkdir b; cd b; ln -s "$repository/scripts/toml-span.sh" l; CDPATH=/:.. bash l x 'y z'
+a link, from another folder, with CDPATH|2|^\[x\]\[y z\]$|
+    mkdir b; cd b; ln -s "$repository/scripts/toml-span.sh" l; CDPATH=/:.. bash l x 'y z'
 the next run does not|0|!building|cli && tries 1
 standard error is closed|1|^\[x\]$|fresh; cli x 2>&-
 the program is statically linked|0|statically|file "$(native --static toml_span_cli)"
@@ -120,37 +124,57 @@ nothing is left of these|0||is_clean
 a checkout that can't be written|0|/home/.cache/toml_span/toml_span_cli/|fresh; : >"$crate/out"; native toml_span_cli
 nor the cache|5|name another one in XDG_CACHE_HOME|fresh; : >"$crate/out"; : >"$HOME/.cache"; cli
 two runs at once make one build|0|^waiting for another build|fresh; FAULT=slow cli & sleep 0.5; cli && wait && tries 1
-a build that is stopped leaves nothing|0||fresh; FAULT=slow timeout 1 bash "$repository/scripts/native.sh" toml_span_cli; [ $? -eq 124 ] && is_clean
+a build that is stopped leaves nothing|0||
+    fresh; FAULT=slow timeout 1 bash "$repository/scripts/native.sh" toml_span_cli; [ $? -eq 124 ] && is_clean
 the proved build serves|8||fresh; echo 'int main(void) { return 8; }' | object && cli
 but not if the sources are newer|0||touch -d '+1 hour' "$crate/src/main.rt"; cli
 no such program|5|no program of this repository is named \$'x\\E'|native $'x\e'
-install.sh in a relative folder with a blank|1|built without proofs, statically linked|fresh; install 'a b' && 'a b/bin/toml-span' x
---uninstall leaves no file|0|removed .*/a b/share/man/man1/toml-span-check.1|install --uninstall 'a b' && [ -z "$(find 'a b' -type f)" ]
+install.sh in a relative folder with a blank|1|built without proofs, statically linked|
+    fresh; install 'a b' && 'a b/bin/toml-span' x
+--uninstall leaves no file|0|removed .*/a b/share/man/man1/toml-span-check.1|
+    install --uninstall 'a b' && [ -z "$(find 'a b' -type f)" ]
 by default in HOME/.local, which is not on PATH|0|/.local/bin is not on PATH|install
-the program's help makes a man page|0|^ *toml-span check FILE|install prefix && man -l prefix/share/man/man1/toml-span-check.1
+the program's help makes a man page|0|^ *toml-span check FILE|
+    install prefix && man -l prefix/share/man/man1/toml-span-check.1
 and completions: of a command|0|^help$|offers he
 of its value|0|^a b c$|offers check --format ''
-a build that fails leaves what was there|0|so nothing is installed|echo >>"$crate/src/main.rt"; FAULT=clang stays install prefix
-as does a help without commands|0|no man pages can be made|sed -i 's/Commands:/Words/' "$crate/src/main.rt"; stays install prefix
+a build that fails leaves what was there|0|so nothing is installed|
+    echo >>"$crate/src/main.rt"; FAULT=clang stays install prefix
+as does a help without commands|0|no man pages can be made|
+    sed -i 's/Commands:/Words/' "$crate/src/main.rt"; stays install prefix
 the proved build is installed|0|the proved build, statically linked|fresh; object "$crate/src/main.rt" && install prefix
-a folder in the way|3|bin/toml-span in '.*/prefix' is a folder|rm prefix/bin/*; mkdir prefix/bin/toml-span; install prefix
+a folder in the way|3|bin/toml-span in '.*/prefix' is a folder|
+    rm prefix/bin/*; mkdir prefix/bin/toml-span; install prefix
 PREFIX is in a file|3|/file/.E\[31m' can't be written|: >file; install $'file/\e[31m'
 no HOME|2|HOME is not set: name a folder|HOME='' install
 packages are made|0|packages/toml-span_1.2.3_amd64.deb$|SOURCE_DATE_EPOCH=1700000000 package packages
-and are the same the next time|0||cp -r packages first; sleep 1; SOURCE_DATE_EPOCH=1700000000 package packages && diff -r first packages
+and are the same the next time|0||
+    cp -r packages first; sleep 1; SOURCE_DATE_EPOCH=1700000000 package packages && diff -r first packages
 the tarball runs|1|^\[x\]$|tar -xzf packages/*.tar.gz && toml-span-1.2.3-x86_64-linux/bin/toml-span x
 the Debian package installs, runs and goes|0|^toml-span 1.2.3$|debian root/usr/bin/toml-span --version
-no package of a dynamic program|5|can't be packaged, since it is dynamically linked|fresh; CC=false SOURCE_DATE_EPOCH=1 package packages
-vendor.sh copies what toml_span needs|0|as in `app: toml_span`|vendor 'the app' && grep -qx toml_span: 'the app/crates.txt' && ls 'the app/crates/toml_span/LICENSE-MIT'
-beside other lines and crates, in no folder crates|0|/flat/toml_span$|mkdir -p flat/app/src && : >flat/app/src/main.rt && echo 'app: io' >flat/crates.txt && vendor flat && grep 'app: io' flat/crates.txt
-another version stays|1|has toml_span in another version, so nothing was copied|echo >>flat/toml_span/src/lib.rt; vendor flat toml_span
-or is replaced, and what was proved stays|0||mkdir flat/toml_span/out; vendor --replace flat && cmp {"$repository/crates",flat}/toml_span/src/lib.rt && ls flat/toml_span/out
+no package of a dynamic program|5|can't be packaged, since it is dynamically linked|
+    fresh; CC=false SOURCE_DATE_EPOCH=1 package packages
+vendor.sh copies what toml_span needs|0|as in `app: toml_span`|
+    vendor 'the app' && grep -qx toml_span: 'the app/crates.txt' && ls 'the app/crates/toml_span/LICENSE-MIT'
+beside other lines and crates, in no folder crates|0|/flat/toml_span$|
+    mkdir -p flat/app/src && : >flat/app/src/main.rt && echo 'app: io' >flat/crates.txt && vendor flat &&
+    grep 'app: io' flat/crates.txt
+another version stays|1|has toml_span in another version, so nothing was copied|
+    echo >>flat/toml_span/src/lib.rt; vendor flat toml_span
+or is replaced, and what was proved stays|0||
+    mkdir flat/toml_span/out; vendor --replace flat && cmp {"$repository/crates",flat}/toml_span/src/lib.rt &&
+    ls flat/toml_span/out
 no such library|2|no library is named cli|vendor flat cli
-all that load, serde and places need|0||bash "$top/scripts/vendor.sh" all load serde places && for one in $(tr -d : <all/crates.txt | tr ' ' '\n' | grep toml_span); do ls -d "all/crates/$one" || exit; done
+all that load, serde and places need|0||
+    bash "$top/scripts/vendor.sh" all load serde places && for one in $(tr -d : <all/crates.txt | tr ' ' '\n' |
+    grep toml_span); do ls -d "all/crates/$one" || exit; done
 the hook of docs/CI.md passes files without errors|0||committed 'a = 1'
 and refuses others|1|^./a b/c.toml:2:1: duplicate-key|committed $'a = 1\na = 2'
 the command for CI|123|^a b/c.toml:2:1: duplicate-key|committed $'a = 1\na = 2'; page xargs | sh
-the toolchain that is here builds|7||fresh; PATH=$real_path; printf '#![tactic(auto)]\nuse std::process::ExitCode;\n\nfn main(rt: HostRuntime) -> ExitCode {\n    let _host = rt;\n    ExitCode::from(7)\n}\n' >"$crate/src/main.rt"; cli
+the toolchain that is here builds|7||
+    fresh; PATH=$real_path; printf '#![tactic(auto)]\nuse std::process::ExitCode;\n\nfn main(rt: HostRuntime) ->
+    ExitCode {\n    let _host = rt;\n    ExitCode::from(7)\n}\n' >"$crate/src/main.rt"; cli
 CASES
+)
 echo "scripts: $((count - wrong)) of $count right"
 [ "$wrong" -eq 0 ]

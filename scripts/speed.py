@@ -9,12 +9,12 @@ small programs that cargo and c++ build: the Rust crate toml-span, `DeTable` and
 toml++, from packages of Debian's sid, which apt fetches into a temporary folder, and the crate toml of the toolchain.
 Without documents they are measured on manifests in those packages, too.
 
-A line has, for each byte of the text, the nanoseconds of processor time of a parse and the drop of its tree: `user` is
-the program's own time, `all` includes the system's. It is the difference between a run of one parse and a run of ten
-more (or of a megabyte each, for a shorter text), the best of three rounds. `peak` is the most memory of one parse in MB
-(some 20 MB are this script's own). Of a peer it says how many times as long it took, and its peak. With --instructions
-a line has the instructions of a parse for each byte (valgrind): other load of the machine does not change them. A peer
-that refuses the document has `-`.
+A line has, for each byte of the text, the nanoseconds of processor time of a parse and the drop of its tree, without
+the system's part. It is the difference between a run of one parse and a run of ten more (or of a megabyte each, for a
+shorter text), the best of three rounds. `peak` is the most memory of one parse in MB (some 20 MB are this script's
+own). For a peer it says how many times as long it took, and its peak, or `-` if it refuses the document. With
+--instructions a line has the instructions of a parse for each byte (valgrind): other load of the machine does not
+change them.
 
 --limits runs programs that read standard input (native builds of toml-span and toml_span_show unless they are given) on
 the worst documents at the limit of 128 nested levels, for some minutes. Stack: the least `ulimit -s`, in KB and to
@@ -171,14 +171,6 @@ def documents(given, work):
 # ---- runs
 
 
-def native(crate):
-    """A build of a program."""
-    made = subprocess.run(["bash", f"{TOP}/scripts/native.sh", crate], stdout=subprocess.PIPE, text=True, check=False)
-    if made.returncode:
-        sys.exit(made.returncode)
-    return made.stdout.strip()
-
-
 def ended(command, **how):
     """Returns what a command writes, its status, and its use of resources."""
     with subprocess.Popen(command, **how) as ran:
@@ -189,23 +181,25 @@ def ended(command, **how):
 
 
 def run(program, path, passes):
-    """The seconds of a run, the program's own and all of them, and the most memory that it held in MB; or None if it
-    refuses the document."""
+    """The program's own seconds of a run, and the most memory that it held in MB, or None for an error."""
     said, status, used = ended([program, path, str(passes)], stdout=subprocess.PIPE, text=True)
     if status != 0:
         sys.exit(f"speed: {program} ended with status {status} on {path} and said: {said.strip()}")
-    return [used.ru_utime, used.ru_utime + used.ru_stime, used.ru_maxrss / 1000] if "ok" in said.split() else None
+    return (used.ru_utime, used.ru_maxrss / 1000) if "ok" in said.split() else None
 
 
 def timed(programs, path):
-    """Of each program the nanoseconds a byte, its own and all, and the peak. The programs run in turn."""
-    best = [[float("inf"), float("inf"), 0.0] for _ in programs]
+    """Of each program the nanoseconds a byte and the peak, or None. The programs run in turn."""
+    best = [(float("inf"), 0.0) for _ in programs]
     size = os.path.getsize(path)
     passes = max(PASSES, PASSES * 1_000_000 // size)
     for at, program in [*enumerate(programs)] * ROUNDS:
         few, many = run(program, path, 1), best[at] and run(program, path, 1 + passes)
-        spent = [(more - less) / passes / size * 1e9 for less, more in zip(few or [], many or [])]
-        best[at] = [*map(min, best[at], spent[:2]), max(best[at][2], few[2])] if few and many else None
+        if few and many:
+            spent = (many[0] - few[0]) / passes / size * 1e9
+            best[at] = min(best[at][0], spent), max(best[at][1], few[1])
+        else:
+            best[at] = None
     return best
 
 
@@ -229,8 +223,7 @@ def instructions(programs, path):
 
 def cells_of(own, theirs):
     """The cells of what was measured of a peer: how many times as much as of the own program, and the peak."""
-    ratios = [f"{more / less:.2f}" for less, more in zip(own, theirs)] if theirs else ["-"] * len(own)
-    return ratios[:2] + ([f"{theirs[2]:.0f}"] if theirs and len(own) > 2 else ratios[2:])
+    return [f"{theirs[0] / own[0]:.2f}", *(f"{it:.0f}" for it in theirs[1:])] if theirs else ["-"] * len(own)
 
 
 def peers(work):
@@ -333,7 +326,7 @@ def limits(named):
     """Prints the stack and the memory of each program."""
     programs = [[os.path.abspath(it)] for it in named]
     if not programs:
-        cli, show = native("toml_span_cli"), native("toml_span_show")
+        cli, show = toml_test.native("toml_span_cli"), toml_test.native("toml_span_show")
         programs = [[cli, "check"], [cli, "fmt", "-"], [cli, "get", "--items", "-", ""]]
         programs += [[cli, "get", "--tagged", "-", ""], [show]]
     for program in programs:
@@ -346,9 +339,7 @@ def limits(named):
 
 def asked():
     """The arguments."""
-    head, about = __doc__.split("\n\n", 1)
-    parser = argparse.ArgumentParser(usage="\n       ".join(head.split("\n")[1:]), description=about)
-    parser.formatter_class = argparse.RawTextHelpFormatter
+    parser = argparse.ArgumentParser(description=__doc__, formatter_class=argparse.RawTextHelpFormatter)
     parser.add_argument("--bytes", default="1000000")
     parser.add_argument("--instructions", action="store_true")
     parser.add_argument("--peers", action="store_true")
@@ -365,10 +356,10 @@ def main():
     given = asked()
     if given.limits:
         return limits(given.documents)
-    programs = {"": native("toml_span_bench")}
+    programs = {"": toml_test.native("toml_span_bench")}
     if "/unproved-" in programs[""]:
         print("speed: this is a build without the proofs, not the one that the gate makes", file=sys.stderr)
-    measured, units = timed, ["user ns/byte", "all ns/byte", "peak MB"]
+    measured, units = timed, ["ns/byte", "peak MB"]
     if given.instructions:
         measured, units = instructions, ["instructions/byte"]
     with tempfile.TemporaryDirectory() as work:

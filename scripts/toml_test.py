@@ -43,7 +43,7 @@ def same(wanted, written):
 
 
 def documents(folder):
-    """Each document of the suite that TOML 1.1 does not leave out: its name, its bytes, and its answer if it is valid."""
+    """Each document of the suite that is for TOML 1.1: its name, its bytes, and its answer if it is valid."""
     part = (folder.parent / "version.go").read_text(encoding="utf-8").split('"1.1.0"')[1].split("}")[0]
     out = [name.removesuffix("*") for name in re.findall(r'"([^"]+)"', part)]
     for path in sorted(folder.glob("*alid/**/*.toml")):
@@ -75,6 +75,14 @@ def called(*words, **named):
         return subprocess.run(words, check=True, timeout=900, stdout=subprocess.PIPE, text=True, **named).stdout
     except (OSError, subprocess.SubprocessError):
         return None
+
+
+def native(crate):
+    """Returns a build of a program (scripts/native.sh). Ends with status 2 if there is none."""
+    made = called("bash", TOP / "scripts/native.sh", crate, stdin=subprocess.DEVNULL)
+    if not made:
+        sys.exit(2)
+    return made.strip()
 
 
 class Unreachable(Exception):
@@ -120,11 +128,7 @@ def main(program):
         if why := fetch(Path(work)):
             print(f"toml-test: the suite cannot be fetched: {why}", file=sys.stderr)
             return 2
-        if not program:
-            made = called("bash", TOP / "scripts/native.sh", "toml_span_cli", stdin=subprocess.DEVNULL)
-            if not made:
-                return 2
-            program = [made.strip(), "get", "--tagged", "-", ""]
+        program = program or [native("toml_span_cli"), "get", "--tagged", "-", ""]
         for version in Path(work).glob("sources/**/toml-test/tests/version.toml"):
             return 0 if passes_all(program, version.parent) else 1
         print("toml-test: no suite is in these sources", file=sys.stderr)

@@ -2,9 +2,10 @@
 # Copies the crates that a caller of the library needs: bash scripts/vendor.sh [--replace] DEST [NAME]..
 #
 # NAME is a library of this repository, in full or without `toml_span_` (report, serde, load, places); the default is
-# toml_span. Each is copied, together with the libraries of this repository that it uses, as sources, definitions, proofs
-# and licenses, to DEST/crates, or to DEST if the crates there are not in a folder `crates`. Their lines are added to
-# DEST/crates.txt. The script prints what it copied, and then what to write in the caller's own line of crates.txt.
+# toml_span. Each is copied, together with the libraries of this repository that it uses, as sources, definitions,
+# proofs and licenses, to DEST/crates, or to DEST if the crates there are not in a folder `crates`. Their lines are
+# added to DEST/crates.txt. The script prints what it copied, and then what to write in the caller's own line of
+# crates.txt.
 #
 # If another version of a crate is there already, that is an error, and nothing is copied. With --replace it is replaced
 # (its out/ stays). `vendor.sh --list CRATE..` copies nothing: it prints the lines of crates.txt for these crates and

@@ -15,7 +15,7 @@ import sys
 import tempfile
 import urllib.parse
 
-TOP = os.path.dirname(os.path.dirname(os.path.realpath(__file__)))
+CRATES = os.path.dirname(os.path.dirname(os.path.realpath(__file__)))
 HIDDEN = "\u061c\u200e\u200f\u2028\u2029\u202a\u202b\u202c\u202d\u202e\u2066\u2067\u2068\u2069"
 CLASH = b"port = 80\nport = 81\n"
 FILES = {
@@ -117,7 +117,7 @@ def result(fault, text):
 
 def all_codes():
     """Returns the codes of all errors that a row reports, and those of whole files."""
-    with open(f"{TOP}/crates/toml_span_rows/stdout", encoding="utf-8") as rows:
+    with open(f"{CRATES}/toml_span_rows/stdout", encoding="utf-8") as rows:
         told = re.findall(r"(?m)^parse .*\n    error ([a-z-]+) ", rows.read())
     return sorted({*told, "too-many-errors", "newer-toml", "not-utf-8", "too-long"})
 
