@@ -70,9 +70,10 @@ pub extern "C" fn toml_span_message(
     }
 }
 
-/// Writes the report of a document's error, with source lines and marks, as much as fits. `name` is the name of the
-/// file, `length` the length of the whole report. Returns the status of `toml_span_parse`, or 2 if the name is not
-/// valid UTF-8. If that is not 1, nothing is written.
+/// Writes the report of the error in `text`, with source lines and marks, as much as fits into `out`, and sets `length`
+/// to the length of the whole report. `name` is the name of the file. Returns the status of `toml_span_parse`, or 2 if
+/// the name is not valid UTF-8. Unless the status is 1, which means that there is an error, `out` and `length` are
+/// unchanged.
 #[unsafe(no_mangle)]
 pub extern "C" fn toml_span_report(
     alloc: Global,

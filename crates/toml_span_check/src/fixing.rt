@@ -45,7 +45,8 @@ fn is_safe(repairs: &[Repair]) -> bool
     }
 }
 
-/// Returns the start of the first replacement, and the length of its new text.
+/// Returns the start of the first replacement in the list, and the length of its new text; two zeros if the list is
+/// empty.
 fn first_place(repairs: &[Repair]) -> (usize, usize)
     ensures { result.0 + result.1 ≡ spec.reach (map repair_of repairs.now) }
 {

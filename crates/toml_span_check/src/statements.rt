@@ -62,7 +62,8 @@ fn begin(text: &str, line: usize) -> Open {
     }
 }
 
-/// Returns what is open after the byte at `at`, which is not in a string or comment.
+/// Returns what is open after the byte at `at`, if `open` is what was open before it. The byte must not be inside a
+/// string or comment.
 fn outside(text: &str, open: Open, at: usize) -> Open {
     let mut next = open;
     match byte_at(text, at) {

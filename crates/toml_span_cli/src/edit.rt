@@ -34,7 +34,8 @@ pub(crate) fn shown(alloc: Global, text: String, is_terminal: bool) -> Result<St
     Ok(out)
 }
 
-/// Returns the answer for edits that were refused with a message, `stop`. Fails if an allocation failed or fails.
+/// Returns the answer for edits that were refused with the message in `stop`. Fails if `stop` is a failed allocation,
+/// or if an allocation fails.
 fn refused(alloc: Global, file: &str, stop: Stop<String>) -> Result<Answer, AllocError> {
     let reason = stop.fault()?;
     failed(alloc, "error: cannot edit ", file, reason.as_str(), 1)

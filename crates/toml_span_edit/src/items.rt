@@ -116,8 +116,8 @@ fn cut_to_line_end(
 
 /// Plans to remove the last items of a list, and one comma. `items` is the span of these items, and `before` that of
 /// the item before them. The closing bracket or brace at the offset `close` must be on the line where the items end.
-/// Removes the comma between `before` and the items if they are on one line; otherwise the comma after the items, if
-/// there is one. Fails if an allocation fails.
+/// The comma is that between `before` and the items if there is no line end or comment between them; otherwise it is
+/// the comma after the items, if there is one. Fails if an allocation fails.
 fn cut_last(
     text: &str,
     before: Option<Span>,

@@ -75,7 +75,8 @@ fn items_but(items: &[Value<'_>], at: usize, others: &[Value<'_>]) -> bool
     same_items(&items[..at], &others[..at]) && same_items(&items[at + 1..], &others[at + 1..])
 }
 
-/// Returns whether two arrays are equal except for the elements at the position that a segment spells.
+/// Returns whether two arrays are equal except for the elements at the position that a segment spells, and whether they
+/// have such elements. Returns `false` if the segment does not spell a position.
 fn array_but(array: &Array<'_>, segment: &str, others: &Array<'_>) -> bool
     ensures { result ≡ spec.at_position (λ i. spec.items_but i (items_view array.now.items)
         (items_view others.now.items)) (position_of segment.now) }

@@ -102,7 +102,7 @@ fn count_of(severity: Severity, reports: &[Report]) -> usize
     count
 }
 
-/// Appends a count with its word, such as `3 errors`, after a comma unless it is the first. `word` is the singular.
+/// Appends a count with its word, such as `3 errors`, after a comma unless `line` is empty. `word` is the singular.
 /// Appends nothing if the count is 0. Fails if an allocation fails.
 fn push_count(line: &mut String, count: usize, word: &str) -> Result<(), AllocError>
     ensures { OnOk result (string_bytes line.new ≡ spec.with_count (string_bytes line.old) count word.now) }

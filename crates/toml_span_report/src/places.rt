@@ -133,7 +133,8 @@ pub(crate) fn span_end(text: &str, span: Span) -> usize
 /// Returns the line and the column of the offset `at`, both counted from 1, the column in characters, as editors show
 /// them. An offset inside a character, or beyond the text, is moved back to the nearest character boundary.
 ///
-/// `toml_span::line_and_byte` counts columns in bytes, as `Error::line_info` does, which counts from 0.
+/// `toml_span::line_and_byte` also counts from 1, but columns in bytes. `Error::line_info` counts columns in bytes,
+/// too, and from 0.
 pub fn line_column(text: &str, at: usize) -> (usize, usize)
     ensures line { result.0 ≡ spec.line_number text.now (spec.place text.now at) }
     ensures column { result.1 ≡ spec.column text.now (spec.place text.now at) }

@@ -43,7 +43,7 @@ impl<'v> Row<'v> {
     }
 
     /// Converts an error of a reader to a misfit, with the span of the piece at which the read stopped and the path to
-    /// its value. If there was no next piece, the misfit is at the root. Passes a failed allocation on.
+    /// its value. If no piece was left to read, the misfit is at the root. Passes a failed allocation on.
     pub fn stopped(&self, alloc: Global, stop: Stop<Misread>) -> Stop<Misfit>
         ensures place { (n : Node) → pieces_in self.now ≡ pieces n → HasOneEach n → IsAt n result }
         ensures reported { (n : Node) → pieces_in self.now ≡ pieces n → IsStopOf n stop result }

@@ -224,7 +224,7 @@ fn plain<'a>(text: &'a str, start: usize, digits: usize, end: usize) -> Option<F
     }
 }
 
-/// Recognizes the mistake in an invalid number.
+/// Recognizes the mistake in an invalid number that contains the offset `at`. Returns `None` if it is no typical one.
 #[tactic(auto, unfolding(crate::specs::found::Numbers::number))]
 pub(crate) fn number<'a>(text: &'a str, at: usize) -> Option<Finding<'a>>
     ensures { option_map finding_content result ≡ spec.number text.now at }

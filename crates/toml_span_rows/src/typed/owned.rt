@@ -8,11 +8,11 @@ use toml_span::de_helpers::parse_with;
 use toml_span::{DeserError, Deserialize, Stop, Value, read_table};
 use toml_span_load::{LoadError, TextFile};
 
-/// A name.
+/// A string that is not empty.
 #[derive(Debug, Drop)]
 pub struct Name(String);
 
-/// Reads a name.
+/// Returns a name with this text. Fails with a message if the text is empty, or if an allocation fails.
 fn name_of(alloc: Global, text: &str) -> Result<Name, Stop<&'static str>> {
     if text.is_empty() {
         return Err(Stop::Fault("a name must not be empty"));
