@@ -7,6 +7,7 @@ use Rattle.toml_span_laws.specs.Again.{moved, assigned_again, assignment_again, 
 use Rattle.toml_span_read.proofs.SpanLaws.{value_lies}
 use Rattle.toml_span_read.proofs.Moves.{Copied}
 use Rattle.toml_span_laws.proofs.AgainValues.{value_copied}
+use Rattle.toml_span_laws.proofs.Complete.{few}
 use Rattle.toml_span_laws.proofs.SpelledLine.{assigned, document}
 use Rattle.toml_span_lex.specs.declared.span.Span.{Span}
 use Rattle.toml_span_tree.specs.Node.{Scalar, text as text_scalar, integer, float, boolean, datetime}
@@ -20,9 +21,6 @@ again_length text i j on within = grind (arith, nat_tests, common_steps)
 
 again_copied : (text : List ℕ) (i j : ℕ) → i ≤ j → j ≤ length text → Copied text (assigned_again text i j) i 4 (length (assigned_again text i j)) 0
 again_copied text i j on within = grind (arith, nat_tests, common_steps)
-
-pub few : (v : ParsedValue) (text : List ℕ) (limit d i j : ℕ) → Spells v text limit d i j → d ≤ limit
-few (parsed x s) text limit d i j h = h.0
 
 abbrev x_key : SimpleKey
 x_key = record { name = codes "x"; span = record { start = 0; end = 1 } }

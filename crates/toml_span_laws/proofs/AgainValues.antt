@@ -83,21 +83,30 @@ module _ {a b : List ℕ} {s t : ℕ} (w : Copied a b s t (length b) 0) where
         (date_on i r.0 k u (omega arith) r.1 h.0, candidate i j k l u v h.1, h.2, h.3 ∙ same_range w i j k l (omega arith) u v, spans w u v h.4));
   }
 
-abbrev moved_part : ℕ → ℕ → SimpleKey → SimpleKey
+abbrev pub moved_part : ℕ → ℕ → SimpleKey → SimpleKey
 moved_part s t p = record { name = p.name; span = moved_span s t p.span }
 
 -- ---- keys that go through earlier values
 
-abbrev moved_assignment : ℕ → ℕ → ParsedAssignment → ParsedAssignment
+abbrev pub moved_assignment : ℕ → ℕ → ParsedAssignment → ParsedAssignment
 moved_assignment s t e = record { parts = moved_parts s t e.parts; value = moved s t e.value; extent = moved_span s t e.extent }
 
-path_moved : (s t : ℕ) (ps : List SimpleKey) → part_names (moved_parts s t ps) ≡ part_names ps
+pub path_moved : (s t : ℕ) (ps : List SimpleKey) → part_names (moved_parts s t ps) ≡ part_names ps
 path_moved s t [] = refl
 path_moved s t (p ∷ ps) = ap (λ (ns : List (List ℕ)). p.name ∷ ns) (path_moved s t ps)
 
-none_moved : (s t : ℕ) (names : List (List ℕ)) (es : List ParsedAssignment) → NoneAt names es → NoneAt names (map (moved_assignment s t) es)
-none_moved s t names [] h = tt
-none_moved s t names (e ∷ es) (h, more) = ((λ x. h (sym (path_moved s t e.parts) ∙ x)), none_moved s t names es more)
+-- the names of the parts of each key
+abbrev pub paths : List ParsedAssignment → List (List (List ℕ))
+paths es = map (λ e. part_names e.parts) es
+
+none_same : (names : List (List ℕ)) (es fs : List ParsedAssignment) → paths es ≡ paths fs → NoneAt names es → NoneAt names fs
+none_same names [] [] same h = tt
+none_same names [] (f ∷ fs) same h = absurd (cc)
+none_same names (e ∷ es) [] same h = absurd (cc)
+none_same names (e ∷ es) (f ∷ fs) same (h, more) = ((λ x. h (cc)), none_same names es fs (cc) more)
+
+pub paths_more : (es fs : List ParsedAssignment) (e f : ParsedAssignment) → paths es ≡ paths fs → part_names f.parts ≡ part_names e.parts → paths (es ++ (e ∷ [])) ≡ paths (fs ++ (f ∷ []))
+paths_more es fs e f same names = cc (map-append (λ g. part_names g.parts) es (e ∷ []), map-append (λ g. part_names g.parts) fs (f ∷ []))
 
 -- a list with the same names as one that is split
 record CutAt (ps xs : List SimpleKey) (y : SimpleKey) (ys : List SimpleKey) : Type 0 where
@@ -117,19 +126,19 @@ cut_alike (p ∷ ps) (x ∷ xs) y ys e =
     let c = cut_alike ps xs y ys cc in
     record { before = p ∷ c.before; here = c.here; after = c.after; is = cc (c.is); first = cc; path = cc; last = c.last }
 
-through_moved : (s t : ℕ) (ps qs : List SimpleKey) (es : List ParsedAssignment) → part_names qs ≡ part_names ps → NoneThrough ps es → NoneThrough qs (map (moved_assignment s t) es)
-through_moved s t ps qs es m h outer p rest e = grind (arith, nat_tests, common_steps, cut_alike ps outer p rest, none_moved s t (part_names (outer ++ (p ∷ []))) es)
+through_same : (ps qs : List SimpleKey) (es fs : List ParsedAssignment) → part_names qs ≡ part_names ps → paths es ≡ paths fs → NoneThrough ps es → NoneThrough qs fs
+through_same ps qs es fs m same h outer p rest e = grind (arith, nat_tests, common_steps, cut_alike ps outer p rest, none_same (part_names (outer ++ (p ∷ []))) es fs)
 
 none_of : (ps : List SimpleKey) → part_names ps ≡ [] → ps ≡ []
 none_of [] e = refl
 none_of (p ∷ ps) e = absurd (cc)
 
-clear_moved : (s t : ℕ) (es : List ParsedAssignment) (next : ParsedAssignment) → Clear es next → Clear (map (moved_assignment s t) es) (moved_assignment s t next)
-clear_moved s t es next h inner last e =
-    let c = cut_alike next.parts inner last [] (sym (ap (λ (l : List SimpleKey). part_names l) e) ∙ path_moved s t next.parts) in
-    through_moved s t c.before inner es (sym c.first) (h c.before c.here (subst (λ (l : List SimpleKey). next.parts ≡ c.before ++ (c.here ∷ l)) (none_of c.after c.last) c.is))
+pub clear_same : (es fs : List ParsedAssignment) (e f : ParsedAssignment) → paths es ≡ paths fs → part_names f.parts ≡ part_names e.parts → Clear es e → Clear fs f
+clear_same es fs e f same names h inner last x =
+    let c = cut_alike e.parts inner last [] (sym (ap (λ (l : List SimpleKey). part_names l) x) ∙ names) in
+    through_same c.before inner es fs (sym c.first) same (h c.before c.here (subst (λ (l : List SimpleKey). e.parts ≡ c.before ++ (c.here ∷ l)) (none_of c.after c.last) c.is))
 
-length_moved : (s t : ℕ) (ss : List SimpleKey) → length (moved_parts s t ss) ≡ length ss
+pub length_moved : (s t : ℕ) (ss : List SimpleKey) → length (moved_parts s t ss) ≡ length ss
 length_moved s t ss = length-map ss _
 
 -- ---- keys and values
@@ -138,7 +147,7 @@ module _ {a b : List ℕ} {s t : ℕ} (w : Copied a b s t (length b) 0) where
   abbrev To : (ℕ → ℕ → Type 0) → (ℕ → ℕ → Type 0) → Type 0
   To R S = Moves (At s t (length b) 0) R S
 
-  key : (p : SimpleKey) → To (SpellsSimpleKey p a) (SpellsSimpleKey (moved_part s t p) b)
+  pub key : (p : SimpleKey) → To (SpellsSimpleKey p a) (SpellsSimpleKey (moved_part s t p) b)
   key p = either (also (worded w is_keylike p.name) (λ i j k l o u v h z. spans w u v z)) (record {
     on = λ i j h. (string w p.span h.0 p.name _).on i j h.1;
     to = λ i j k l u v h. (h.0, (string w p.span h.0 p.name _).to i j k l u v h.1);
@@ -148,7 +157,7 @@ module _ {a b : List ℕ} {s t : ℕ} (w : Copied a b s t (length b) 0) where
   onward [] = also nothing (λ i j k l o u v e h. no_dot w u h)
   onward (p ∷ ps) = said (λ i j h. (h.0, h.2, (h.1, h.3, h.4))) (λ k l h. (h.0, h.2.0, h.1, h.2.1, h.2.2)) (in_sequence (dot w) (in_sequence (key p) (onward ps)))
 
-  dotted : (ps : List SimpleKey) → To (SpellsKey ps a) (SpellsKey (moved_parts s t ps) b)
+  pub dotted : (ps : List SimpleKey) → To (SpellsKey ps a) (SpellsKey (moved_parts s t ps) b)
   dotted [] = record { on = λ i j h. absurd h; to = λ i j k l u v h. absurd h }
   dotted (p ∷ ps) = in_sequence (key p) (onward ps)
 
@@ -171,19 +180,20 @@ module _ {a b : List ℕ} {s t : ℕ} (w : Copied a b s t (length b) 0) where
     inner_copied : (x : ParsedInner) (span : Span) (limit c d : ℕ) → c ≤ d → To (InnerWith SpellsScalar x span a limit d) (InnerWith SpellsScalar (moved_inner s t x) (moved_span s t span) b limit c)
     inner_copied (scalar x) span limit c d q = scalar_copied w x span
     inner_copied (array vs) span limit c d q = opened 91 span (items_copied vs limit (c + 1) (d + 1) (omega arith))
-    inner_copied (inline ps) span limit c d q = opened 123 span (pairs_copied ps [] limit (c + 1) (d + 1) (omega arith))
+    inner_copied (inline ps) span limit c d q = opened 123 span (pairs_copied ps [] [] limit (c + 1) (d + 1) (omega arith) refl)
 
-    items_copied : (vs : ParsedItems) (limit c d : ℕ) → c ≤ d → To (ItemsWith SpellsScalar vs a limit d) (ItemsWith SpellsScalar (moved_items s t vs) b limit c)
+    pub items_copied : (vs : ParsedItems) (limit c d : ℕ) → c ≤ d → To (ItemsWith SpellsScalar vs a limit d) (ItemsWith SpellsScalar (moved_items s t vs) b limit c)
     items_copied no_items limit c d q = first w (λ x. x) 93 nothing
     items_copied (item v vs) limit c d q =
         in_sequence (value_copied v limit c d q) (either (given (λ z. ap (λ (r : ParsedItems). moved_items s t r) z) (closes w 93)) (in_sequence (sign w 44) (items_copied vs limit c d q)))
 
-    pairs_copied : (ps : ParsedPairs) (es : List ParsedAssignment) (limit c d : ℕ) → c ≤ d → To (PairsWith SpellsScalar ps es a limit d) (PairsWith SpellsScalar (moved_pairs s t ps) (map (moved_assignment s t) es) b limit c)
-    pairs_copied no_pairs es limit c d q = first w (λ x. x) 125 nothing
-    pairs_copied (pair ss v x ps) es limit c d q =
+    pub pairs_copied : (ps : ParsedPairs) (es fs : List ParsedAssignment) (limit c d : ℕ) → c ≤ d → paths es ≡ paths fs → To (PairsWith SpellsScalar ps es a limit d) (PairsWith SpellsScalar (moved_pairs s t ps) fs b limit c)
+    pairs_copied no_pairs es fs limit c d q same = first w (λ x. x) 125 nothing
+    pairs_copied (pair ss v x ps) es fs limit c d q same =
         let e : ParsedAssignment = record { parts = ss; value = v; extent = x } in
-        let more : To (PairsWith SpellsScalar ps (es ++ (e ∷ [])) a limit d) (PairsWith SpellsScalar (moved_pairs s t ps) (map (moved_assignment s t) es ++ (moved_assignment s t e ∷ [])) b limit c) =
-        subst (λ (fs : List ParsedAssignment). To (PairsWith SpellsScalar ps (es ++ (e ∷ [])) a limit d) (PairsWith SpellsScalar (moved_pairs s t ps) fs b limit c)) (map-append (moved_assignment s t) es (e ∷ [])) (pairs_copied ps (es ++ (e ∷ [])) limit c d q) in
+        let f = moved_assignment s t e in
+        let names = path_moved s t ss in
         said (λ i j h. (h.0, h.1, (h.2, h.3))) (λ k l h. (h.0, h.1, h.2.0, h.2.1))
         (in_sequence (front ss v x limit c d (value_copied v limit (c + length (moved_parts s t ss)) (d + length ss) (omega (arith, length_moved s t ss))))
-        (given (λ z. clear_moved s t es e z) (either (given (λ z. ap (λ (r : ParsedPairs). moved_pairs s t r) z) (closes w 125)) (in_sequence (sign w 44) more))))
+        (given (λ z. clear_same es fs e f same names z)
+        (either (given (λ z. ap (λ (r : ParsedPairs). moved_pairs s t r) z) (closes w 125)) (in_sequence (sign w 44) (pairs_copied ps (es ++ (e ∷ [])) (fs ++ (f ∷ [])) limit c d q (paths_more es fs e f same names))))))

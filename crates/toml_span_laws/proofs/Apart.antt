@@ -48,7 +48,7 @@ pairs-join R (x ∷ xs) ys l r across =
     (λ d h. elim (in-cases d xs ys h) [ inl left ↦ l.0 d left | inr right ↦ across x d (inl refl) right ], pairs-join R xs ys l.1 r (λ c d h. across c d (inr h)))
 
 -- each claim is in the list that holds all of them
-each-in : (cs : Claims) (l : List Claim) → ((c : Claim) → IsIn c (all_claims cs) → IsIn c l) → Each (λ c. IsIn c l) cs
+pub each-in : (cs : Claims) (l : List Claim) → ((c : Claim) → IsIn c (all_claims cs) → IsIn c l) → Each (λ c. IsIn c l) cs
 unfolding all_claims
 each-in no_claims l f = tt
 each-in (claimed c cs) l f = (f c (inl refl), each-in cs l (λ d h. f d (inr h)))

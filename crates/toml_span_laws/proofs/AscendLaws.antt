@@ -85,15 +85,15 @@ document_sections bs text limit x = rw x.all (first_sections x.first x.rest text
 -- ---- the starts of headers, keys, arrays and inline tables
 
 -- between i and j (exclusive) the numbers ascend
-abbrev Rising : List ℕ → ℕ → ℕ → Type 0
+abbrev pub Rising : List ℕ → ℕ → ℕ → Type 0
 Rising [] i j = i ≤ j
 Rising (n ∷ ns) i j = (i ≤ n) × Rising ns (n + 1) j
 
-rising_wide : (ns : List ℕ) (h i j k : ℕ) → h ≤ i → j ≤ k → Rising ns i j → Rising ns h k
+pub rising_wide : (ns : List ℕ) (h i j k : ℕ) → h ≤ i → j ≤ k → Rising ns i j → Rising ns h k
 rising_wide [] h i j k a b r = omega (arith, a, b, r)
 rising_wide (n ∷ ns) h i j k a b (x, r) = (omega arith, rising_wide ns (n + 1) (n + 1) j k (omega arith) b r)
 
-rising_on : (ns ms : List ℕ) (i j k : ℕ) → Rising ns i j → Rising ms j k → Rising (ns ++ ms) i k
+pub rising_on : (ns ms : List ℕ) (i j k : ℕ) → Rising ns i j → Rising ms j k → Rising (ns ++ ms) i k
 rising_on [] ms i j k r s = rising_wide ms i j k k r (omega arith) s
 rising_on (n ∷ ns) ms i j k (x, r) s = (x, rising_on ns ms (n + 1) j k r s)
 

@@ -136,11 +136,14 @@ parsed_assignment_complete e text limit left skipped i a n b j k few s h t v x =
     inl ((e.parts, a), key_complete e.parts false text limit i a k few, (n, s, inl (same_byte _ 61 h, (b, t, inl ((e.value, j), under, ap (λ z. Ok (record { parts = e.parts; value = e.value; extent = z }, j)) x)))))
 
 -- the pair, if its value is read
-pair_given : (e : ParsedAssignment) (text : List ℕ) (limit left d i j : ℕ) → (p : SpellsPair e text limit d i j) → read.value text limit (left - length e.parts) zero p.1 (Ok (e.value, j))
+pub pair_given : (e : ParsedAssignment) (text : List ℕ) (limit left d i j : ℕ) → (p : SpellsPair e text limit d i j) → read.value text limit (left - length e.parts) zero p.1 (Ok (e.value, j))
     → read.keyval text limit (MaximalGap text) (read.value text limit left) i (Ok (e, j))
 pair_given e text limit left d i j (a, b, k, few, s, h, x) v = parsed_assignment_complete e text limit left (MaximalGap text) i a s.at b j k few s.before s.here s.after v x
 
 -- ---- values
+
+pub few : (v : ParsedValue) (text : List ℕ) (limit d i j : ℕ) → Spells v text limit d i j → d ≤ limit
+few (parsed x s) text limit d i j h = h.0
 
 no_bracket : (v : ParsedValue) (text : List ℕ) (limit d i j : ℕ) → Spells v text limit d i j → (get_or text i 0 == 93) ≡ false
 no_bracket (parsed (scalar s) x) text limit d i j h = not_at (λ c. begins_bare c || opens_string c) (get_or text i 0) 93 (scalar_byte s x text i j h.1) refl
@@ -186,7 +189,7 @@ mutual
 
 -- ---- lines
 
-assignment_complete : (e : ParsedAssignment) (text : List ℕ) (limit i j : ℕ) → AssignmentWith SpellsScalar e text limit i j → read.keyval text limit (MaximalRun is_blank text) (read.value text limit (limit + 1)) i (Ok (e, j))
+pub assignment_complete : (e : ParsedAssignment) (text : List ℕ) (limit i j : ℕ) → AssignmentWith SpellsScalar e text limit i j → read.keyval text limit (MaximalRun is_blank text) (read.value text limit (limit + 1)) i (Ok (e, j))
 assignment_complete e text limit i j h =
     let n : ℕ = length e.parts in
     let v = value_complete e.value text limit (limit + 1 - n) n h.from j refl h.spelled in
@@ -216,16 +219,16 @@ pub header_complete : (ps : List SimpleKey) (double : Bool) (text : List ℕ) (l
 header_complete ps false text limit i j h = inr (h.front.opens.1, heading_complete ps false text limit i (i + 1) j h h.front.opens.2)
 header_complete ps true text limit i j h = inl (same_byte _ 91 h.front.opens.1, heading_complete ps true text limit i (i + 2) j h h.front.opens.2)
 
-header_byte : (ps : List SimpleKey) (double : Bool) (text : List ℕ) (limit i j : ℕ) → SpellsHeader ps double text limit i j → get_or text i 0 ≡ 91
+pub header_byte : (ps : List SimpleKey) (double : Bool) (text : List ℕ) (limit i j : ℕ) → SpellsHeader ps double text limit i j → get_or text i 0 ≡ 91
 header_byte ps double text limit i j h = grind (arith, nat_tests, common_steps)
 
 -- ---- sections and the document
 
-section_complete : (b : ParsedSection) (text : List ℕ) (limit i j : ℕ) → SpellsSection b text limit i j → read.ends_lines text j ≡ true → read.section text limit i (Ok (b, j))
+pub section_complete : (b : ParsedSection) (text : List ℕ) (limit i j : ℕ) → SpellsSection b text limit i j → read.ends_lines text j ≡ true → read.section text limit i (Ok (b, j))
 section_complete b text limit i j s t =
     grind (arith, nat_tests, common_steps, header_complete b.header b.array text limit i s.end s.header, lines_complete b.assignments text limit s.end j s.lines t)
 
-sections_stop : (bs : List ParsedSection) (text : List ℕ) (limit i : ℕ) → SectionsWith SpellsScalar bs text limit i → read.ends_lines text i ≡ true
+pub sections_stop : (bs : List ParsedSection) (text : List ℕ) (limit i : ℕ) → SectionsWith SpellsScalar bs text limit i → read.ends_lines text i ≡ true
 sections_stop [] text limit i e = rw (same_byte i (length text) e) refl
 sections_stop (b ∷ bs) text limit i (j, s, r) = rw (header_byte b.header b.array text limit i s.end s.header, or_true) refl
 

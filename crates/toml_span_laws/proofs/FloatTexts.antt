@@ -11,6 +11,7 @@ use Rattle.toml_span.proofs.Grafts.{same_step-eq, same_step-self}
 use Rattle.toml_span.proofs.Ordered.{one-each}
 use Rattle.toml_span_read.specs.Again.{IsScalarText, HasFloatTexts, ItemsHaveFloatTexts, MembersHaveFloatTexts}
 use Rattle.toml_span_laws.proofs.CleanedFloats.{cleaned_spells}
+use Rattle.toml_span_read.specs.Data.{ParsedSection}
 use Rattle.toml_span_laws.proofs.ReadAgain.{HasScalar, tree-scalar}
 
 -- ---- a property that no path contradicts holds for the tree
@@ -66,9 +67,9 @@ mutual
 
 -- ---- a spelled value has its text
 
-scalar-text : (t : List ℕ) (limit : ℕ) (s : Scalar) (span : Span) → HasScalar t limit s span → IsScalarText s
-scalar-text t limit s span h = grind (arith, nat_tests, common_steps, cleaned_spells)
+scalar-text : (t : List ℕ) (limit : ℕ) (bs : List ParsedSection) (s : Scalar) (span : Span) → HasScalar t limit bs s span → IsScalarText s
+scalar-text t limit bs s span h = grind (arith, nat_tests, common_steps, cleaned_spells)
 
 pub tree-texts : (t : List ℕ) (limit : ℕ) (root : Value) → IsTree t limit root → HasFloatTexts (view root)
 tree-texts t limit root h =
-    texts (view root) (one-each (view root) h.2.ordered) (λ p x s is e. scalar-text t limit s x.span (tree-scalar t limit root p x s h is e))
+    texts (view root) (one-each (view root) h.2.ordered) (λ p x s is e. (let (bs, has, tree, z) = tree-scalar t limit root p x s h is e in scalar-text t limit bs s x.span z))

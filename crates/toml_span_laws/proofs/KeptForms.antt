@@ -35,7 +35,7 @@ piece_forward text i j (inl h) = omega (arith, h.1)
 piece_forward text i j (inr (inl h)) = omega (arith, line_forward text i j h)
 piece_forward text i j (inr (inr h)) = h.1.forward
 
-pieces_forward : (text : List ℕ) (i j : ℕ) (ks : List ℕ) → GapBy text i ks j → i ≤ j
+pub pieces_forward : (text : List ℕ) (i j : ℕ) (ks : List ℕ) → GapBy text i ks j → i ≤ j
 pieces_forward text i j [] h = omega arith
 pieces_forward text i j (k ∷ ks) h = omega (arith, piece_forward text i k h.0, pieces_forward text k j ks h.1)
 

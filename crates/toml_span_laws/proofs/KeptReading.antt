@@ -18,7 +18,7 @@ use Rattle.toml_span_read.specs.declared.fault.Fault.{Fault}
 use Rattle.toml_span_read.specs.declared.fault.FaultKind.TheVariants as kinds
 use Rattle.toml_span_read.specs.declared.fault.ExpectedToken.{ExpectedToken}
 use Rattle.toml_span_read.specs.declared.fault.ExpectedToken.TheVariants as expected_tokens
-use Rattle.toml_span_read.specs.Data.{SimpleKey, ParsedInner, ParsedAssignment, parsed_span, from_to, headerless_section}
+use Rattle.toml_span_read.specs.Data.{SimpleKey, ParsedValue, ParsedInner, ParsedAssignment, ParsedSection, parsed_span, from_to, headerless_section}
 use Rattle.toml_span_read.specs.Faults.{fault_at, token_fault, found_of, begins_bare, opens_nested}
 use Rattle.toml_span_read.specs.Gaps.{MaximalGap, Tail, NoTail}
 use Rattle.toml_span_read.specs.Read.{Reading, after, skipping, choice, LoopStep, on, done, Loop, ends, stops, goes_on, NextToken, token, text_end, no_token, IsNextToken, wanted, missing, key_result, one_too_many, Parts, onward, string_of, ValueEnd, Elements, array_end, Pairs, table_end, HeaderEnd, ParsedSections}
@@ -528,11 +528,14 @@ module _ (a : List ℕ) where
   abbrev StateEnds : {X : Type 0} → X × ℕ → ℕ → Type 0
   StateEnds (x, m) j = j ≡ m
 
+  line_stays : (limit i : ℕ) → Stays PairEnds i (λ b. read.keyval b limit (MaximalRun is_blank b) (read.value b limit (limit + 1)) i)
+  line_stays limit i = keyval_stays limit (λ b. MaximalRun is_blank b) blanks_kept (λ i j k x y. (let e = run_unique is_blank a i j k x y in omega arith)) (λ b. read.value b limit (limit + 1)) (value_stays limit (limit + 1)) i
+
   assignment_stays : (limit : ℕ) (s : Pairs) → Stays (Turned StateEnds) s.1 (λ b. read.next_assignment b limit s)
   assignment_stays limit (es, i) =
       stays_choice (λ n p b w. (let l = p.here in rw (ne_eqb i (length a) (λ x. omega (arith, w.in_a)), ne_eqb i (length b) (λ x. omega (arith, w.in_b)), w.byte i l) refl))
       (λ t. stays_ok (done (es, i)) i (omega arith) refl)
-      (λ t. stays_after (keyval_stays limit (λ b. MaximalRun is_blank b) blanks_kept (λ i j k x y. (let e = run_unique is_blank a i j k x y in omega arith)) (λ b. read.value b limit (limit + 1)) (value_stays limit (limit + 1)) i)
+      (λ t. stays_after (line_stays limit i)
       (λ (e, m) j p. (
       let rest : Stays (LineEnds m) j (λ b. read.tail b m) = earlier (omega (arith, p.0)) (tail_stays m) in
       stays_after rest
@@ -577,6 +580,31 @@ module _ (a : List ℕ) where
       stays_choice (λ n p b w. (let l = p.here in ne_eqb i (length a) (λ x. omega (arith, w.in_a)) ∙ sym (ne_eqb i (length b) (λ x. omega (arith, w.in_b)))))
       (λ t. stays_ok (done bs) i (omega arith) tt)
       (λ t. stays_after (section_stays limit i) (λ (s, m) j e. stays_ok (on (bs ++ (s ∷ []), m)) j (omega arith) e))
+
+  -- ---- what is read before the end of these bytes
+
+  on_kept : {A : Type 0} {P : A → ℕ → Type 0} {i : ℕ} {m : List ℕ → Reading A} → Stays P i m → (x : A) → m a (Ok x) → (b : List ℕ) (n : ℕ) → ((j : ℕ) → P x j → Past a n j) → Same a b n → m b (Ok x)
+  on_kept s x h b n past w = let (j, p, k) = s.found (Ok x) h in (k n (past j p)).1 b w
+
+  pub value_on : (limit left i j n : ℕ) (v : ParsedValue) (b : List ℕ) → read.value a limit left zero i (Ok (v, j)) → Past a n j → Same a b n → read.value b limit left zero i (Ok (v, j))
+  value_on limit left i j n v b h past w = on_kept (value_stays limit left zero i) (v, j) h b n (λ k p. rw p.0 past) w
+
+  pub pair_on : (limit left i j n : ℕ) (e : ParsedAssignment) (b : List ℕ) → read.keyval a limit (MaximalGap a) (read.value a limit left) i (Ok (e, j)) → Past a n j → Same a b n
+      → read.keyval b limit (MaximalGap b) (read.value b limit left) i (Ok (e, j))
+  pair_on limit left i j n e b h past w = on_kept (keyval_stays limit MaximalGap gap_kept (past_blanks a) (λ t. read.value t limit left) (value_stays limit left) i) (e, j) h b n (λ k p. rw p.0 past) w
+
+  pub assignment_on : (limit i j n : ℕ) (e : ParsedAssignment) (b : List ℕ) → read.keyval a limit (MaximalRun is_blank a) (read.value a limit (limit + 1)) i (Ok (e, j)) → Past a n j → Same a b n
+      → read.keyval b limit (MaximalRun is_blank b) (read.value b limit (limit + 1)) i (Ok (e, j))
+  assignment_on limit i j n e b h past w = on_kept (line_stays limit i) (e, j) h b n (λ k p. rw p.0 past) w
+
+  pub key_on : (limit i j k n : ℕ) (ps : List SimpleKey) (b : List ℕ) → read.key false a limit [] i (Ok (ps, j)) → MaximalRun is_blank a j k → Past a n k → Same a b n → read.key false b limit [] i (Ok (ps, j))
+  key_on limit i j k n ps b h blank past w = on_kept (key_stays false limit [] i) (ps, j) h b n (λ l r. (let e : l ≡ k = run_unique is_blank a j l k r blank in rw e past)) w
+
+  pub header_on : (limit i n : ℕ) (x : HeaderEnd) (b : List ℕ) → read.header a limit i (Ok x) → Past a n x.end → Same a b n → read.header b limit i (Ok x)
+  header_on limit i n x b h past w = on_kept (header_stays limit i) x h b n (λ k e. rw e past) w
+
+  pub section_on : (limit i j n : ℕ) (x : ParsedSection) (b : List ℕ) → read.section a limit i (Ok (x, j)) → Past a n j → Same a b n → read.section b limit i (Ok (x, j))
+  section_on limit i j n x b h past w = on_kept (section_stays limit i) (x, j) h b n (λ k e. rw e past) w
 
   -- ---- the document, where the place after a byte order mark depends only on these bytes, too
 

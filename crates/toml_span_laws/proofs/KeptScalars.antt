@@ -49,7 +49,7 @@ number_stops (text_scalar v) text i j h = absurd h
 number_stops (boolean d) text i j h = absurd h
 number_stops (datetime d) text i j h = absurd h
 
-candidate_stops : (text : List ℕ) (i j : ℕ) → IsCandidate text i j → (i ≤ j) × (is_keylike (get_or text j 0) ≡ false)
+pub candidate_stops : (text : List ℕ) (i j : ℕ) → IsCandidate text i j → (i ≤ j) × (is_keylike (get_or text j 0) ≡ false)
 candidate_stops text i j (inl (r, h)) = (r.forward, no_date_keylike (get_or text j 0) (stops_with is_date_byte text i j refl r))
 candidate_stops text i j (inr (r, h, s)) = (omega (arith, s.forward), no_date_keylike (get_or text j 0) (stops_with is_date_byte text (i + 11) j refl s))
 

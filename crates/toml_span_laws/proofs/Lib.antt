@@ -23,6 +23,14 @@ pub mod AfterValues
 pub mod SpelledClaims
 pub mod ReadAgain
 pub mod WrittenOver
+pub mod MovedLines
+pub mod PlainParsed
+pub mod Replacing
+pub mod Remade
+pub mod ScalarEnds
+pub mod ScalarsApart
+pub mod PlainClaims
+pub mod PlainTrees
 pub mod CleanedFloats
 pub mod FloatTexts
 pub mod SpelledLine

@@ -26,7 +26,7 @@ further : (p q : Path) (o : Option At) → ((x : At) → reached (p ++ q) x ≡ 
     → option_and_then (reached (p ++ q)) o ≡ option_and_then (reached q) (option_and_then (reached p) o)
 further p q o on = grind (arith, nat_tests, common_steps)
 
-reached-on : (p q : Path) (x : At) → reached (p ++ q) x ≡ option_and_then (reached q) (reached p x)
+pub reached-on : (p q : Path) (x : At) → reached (p ++ q) x ≡ option_and_then (reached q) (reached p x)
 reached-on [] q x = refl
 reached-on (s ∷ p) q x = further p q (at_step s (inner_of x.1)) (λ y. reached-on p q y)
 

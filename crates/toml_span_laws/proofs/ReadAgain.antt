@@ -12,7 +12,7 @@ use Rattle.toml_span_read.specs.Grammar.{SpellsDocument}
 pub use Rattle.toml_span_laws.proofs.AgainLaws.{at-span, scalar-again}
 use Rattle.toml_span.specs.Claims.{Claim, parsed_inner, value_shape, claims, Claims, no_claims, claimed, scope, followed, value_claims}
 use Rattle.toml_span.specs.Flat.{flat}
-use Rattle.toml_span.specs.Parsing.{IsTree}
+use Rattle.toml_span.specs.Parsing.{IsTree, IsTreeOf, HasOutcome, resolved}
 use Rattle.toml_span.proofs.EachClaim.{flat-decides}
 use Rattle.toml_span_laws.proofs.SpelledClaims.{Spelled, OfText, document-of_text, AllSpelled, Assigns, Makes, document-spelled}
 use Rattle.toml_span.specs.declared.claims.ClaimKind.TheVariants.{Assigned}
@@ -25,25 +25,25 @@ use Rattle.toml_span_laws.proofs.StringLaws.{span_cuts, unchanged}
 -- ---- the flat document
 
 -- the text spells this scalar, with this span
-abbrev pub HasScalar : List ℕ → ℕ → Scalar → Span → Type 0
-HasScalar text limit s span = Spelled text limit (parsed (scalar s) span)
+abbrev pub HasScalar : List ℕ → ℕ → List ParsedSection → Scalar → Span → Type 0
+HasScalar text limit bs s span = Spelled text limit bs (parsed (scalar s) span)
 
-of-value : (text : List ℕ) (limit : ℕ) (s : Scalar) (v : ParsedValue) (span : Span) → Spelled text limit v → value_shape (parsed_inner v) ≡ shape_scalar s → span ≡ parsed_span v → HasScalar text limit s span
-of-value text limit s (parsed (scalar t) at) span h e f = let same : t ≡ s = cc in rw (f, sym same) h
-of-value text limit s (parsed (array vs) at) span h e f = absurd (cc)
-of-value text limit s (parsed (inline ps) at) span h e f = absurd (cc)
+of-value : (text : List ℕ) (limit : ℕ) (bs : List ParsedSection) (s : Scalar) (v : ParsedValue) (span : Span) → Spelled text limit bs v → value_shape (parsed_inner v) ≡ shape_scalar s → span ≡ parsed_span v → HasScalar text limit bs s span
+of-value text limit bs s (parsed (scalar t) at) span h e f = let same : t ≡ s = cc in rw (f, sym same) h
+of-value text limit bs s (parsed (array vs) at) span h e f = absurd (cc)
+of-value text limit bs s (parsed (inline ps) at) span h e f = absurd (cc)
 
-scalar-claimed : (text : List ℕ) (limit : ℕ) (c : Claim) (s : Scalar) → OfText text limit c → c.place.shape ≡ shape_scalar s → HasScalar text limit s c.place.span
-scalar-claimed text limit c s (inl a) is = of-value text limit s a.value c.place.span a.spelled (sym a.shape ∙ is) a.span
-scalar-claimed text limit c s (inr made) is = absurd (made.shape s is)
+scalar-claimed : (text : List ℕ) (limit : ℕ) (bs : List ParsedSection) (c : Claim) (s : Scalar) → OfText text limit bs c → c.place.shape ≡ shape_scalar s → HasScalar text limit bs s c.place.span
+scalar-claimed text limit bs c s (inl a) is = of-value text limit bs s a.value c.place.span a.spelled (sym a.shape ∙ is) a.span
+scalar-claimed text limit bs c s (inr made) is = absurd (made.shape s is)
 
 pub flat-scalar : (text : List ℕ) (limit n : ℕ) (bs : List ParsedSection) (p : Path) (x : Place) (s : Scalar) → SpellsDocument bs text limit → flat n (claims bs) p ≡ Some x → x.shape ≡ shape_scalar s
-    → HasScalar text limit s x.span
+    → HasScalar text limit bs s x.span
 unfolding flat
 flat-scalar text limit n bs [] x s h at is = grind (arith, nat_tests, common_steps)
 flat-scalar text limit n bs (t ∷ p) x s h at is =
-    let d = flat-decides (OfText text limit) n (claims bs) t p x (document-of_text bs text limit h) at in
-    subst (λ (y : Place). HasScalar text limit s y.span) d.place (scalar-claimed text limit d.claim s d.holds (ap (λ y. y.shape) d.place ∙ is))
+    let d = flat-decides (OfText text limit bs) n (claims bs) t p x (document-of_text bs text limit h) at in
+    subst (λ (y : Place). HasScalar text limit bs s y.span) d.place (scalar-claimed text limit bs d.claim s d.holds (ap (λ y. y.shape) d.place ∙ is))
 
 pub flat-again : (text : List ℕ) (limit n : ℕ) (bs : List ParsedSection) (p : Path) (x : Place) (s : Scalar) → SpellsDocument bs text limit → flat n (claims bs) p ≡ Some x → x.shape ≡ shape_scalar s
     → ScalarReadsAgain text limit s x.span
@@ -53,9 +53,9 @@ flat-again text limit n bs p x s h at is =
 -- ---- the tree
 
 pub tree-scalar : (text : List ℕ) (limit : ℕ) (root : Value) (p : Path) (x : Place) (s : Scalar) → IsTree text limit root → place_at p (view root) ≡ Some x → x.shape ≡ shape_scalar s
-    → HasScalar text limit s x.span
+    → (bs : List ParsedSection) × HasOutcome text limit (resolved bs) × IsTreeOf bs (length text) root × HasScalar text limit bs s x.span
 tree-scalar text limit root p x s h at is =
-    let (bs, has, tree) = h in flat-scalar text limit (length text) bs p x s (document_sound bs text limit has.0) (sym (tree.shows p) ∙ at) is
+    let (bs, has, tree) = h in (bs, has, tree, flat-scalar text limit (length text) bs p x s (document_sound bs text limit has.0) (sym (tree.shows p) ∙ at) is)
 
 pub tree-again : (text : List ℕ) (limit : ℕ) (root : Value) (p : Path) (x : Place) (s : Scalar) → IsTree text limit root → place_at p (view root) ≡ Some x → x.shape ≡ shape_scalar s
     → ScalarReadsAgain text limit s x.span
@@ -64,23 +64,23 @@ tree-again text limit root p x s h at is =
 
 -- ---- the claims after a claim are those of its value
 
-spelled-again : (text : List ℕ) (limit : ℕ) (v : ParsedValue) → Spelled text limit v → ValueReadsAgain text limit v
-spelled-again text limit (parsed (scalar s) span) h = scalar-again s span text limit h.depth h.from h.to h.deep h.spells
-spelled-again text limit (parsed (array vs) span) h = at-span (parsed (array vs) span) text limit h.depth h.from h.to h.deep h.spells h.spells.1.1
-spelled-again text limit (parsed (inline ps) span) h = at-span (parsed (inline ps) span) text limit h.depth h.from h.to h.deep h.spells h.spells.1.1
+spelled-again : (text : List ℕ) (limit : ℕ) (bs : List ParsedSection) (v : ParsedValue) → Spelled text limit bs v → ValueReadsAgain text limit v
+spelled-again text limit bs (parsed (scalar s) span) h = scalar-again s span text limit h.depth h.from h.to h.deep h.spells
+spelled-again text limit bs (parsed (array vs) span) h = at-span (parsed (array vs) span) text limit h.depth h.from h.to h.deep h.spells h.spells.1.1
+spelled-again text limit bs (parsed (inline ps) span) h = at-span (parsed (inline ps) span) text limit h.depth h.from h.to h.deep h.spells h.spells.1.1
 
-claim-again : (text : List ℕ) (limit : ℕ) (c : Claim) (cs : Claims) → ((a : Assigns text limit c) × (rest : Claims) × (cs ≡ followed (value_claims a.value c.path) rest)) ⊎ Makes c → c.info.kind ≡ Assigned
+claim-again : (text : List ℕ) (limit : ℕ) (bs : List ParsedSection) (c : Claim) (cs : Claims) → ((a : Assigns text limit bs c) × (rest : Claims) × (cs ≡ followed (value_claims a.value c.path) rest)) ⊎ Makes c → c.info.kind ≡ Assigned
     → (v : ParsedValue) × (rest : Claims) × ValueReadsAgain text limit v × (c.place.shape ≡ value_shape (parsed_inner v)) × (c.place.span ≡ parsed_span v) × (cs ≡ followed (value_claims v c.path) rest)
-claim-again text limit c cs (inl (a, rest, beyond)) is = (a.value, rest, spelled-again text limit a.value a.spelled, a.shape, a.span, beyond)
-claim-again text limit c cs (inr made) is = absurd (made.kind is)
+claim-again text limit bs c cs (inl (a, rest, beyond)) is = (a.value, rest, spelled-again text limit bs a.value a.spelled, a.shape, a.span, beyond)
+claim-again text limit bs c cs (inr made) is = absurd (made.kind is)
 
-all-again : (text : List ℕ) (limit : ℕ) (cs : Claims) → AllSpelled text limit cs → AssignsAgain text limit cs
-all-again text limit no_claims h = tt
-all-again text limit (claimed c cs) h = (claim-again text limit c cs h.0, all-again text limit cs h.1)
-all-again text limit (scope inner cs) h = (all-again text limit inner h.0, all-again text limit cs h.1)
+all-again : (text : List ℕ) (limit : ℕ) (bs : List ParsedSection) (cs : Claims) → AllSpelled text limit bs cs → AssignsAgain text limit cs
+all-again text limit bs no_claims h = tt
+all-again text limit bs (claimed c cs) h = (claim-again text limit bs c cs h.0, all-again text limit bs cs h.1)
+all-again text limit bs (scope inner cs) h = (all-again text limit bs inner h.0, all-again text limit bs cs h.1)
 
 pub document-again : (bs : List ParsedSection) (text : List ℕ) (limit : ℕ) → SpellsDocument bs text limit → AssignsAgain text limit (claims bs)
-document-again bs text limit h = all-again text limit (claims bs) (document-spelled bs text limit h)
+document-again bs text limit h = all-again text limit bs (claims bs) (document-spelled bs text limit h)
 
 -- ---- two quotes with nothing between them
 
@@ -90,8 +90,8 @@ two-quotes multi text i j from to v begins fits before two = grind (arith, nat_t
 
 -- ---- each string
 
-shows : (text : List ℕ) (limit : ℕ) (v : List ℕ) (span : Span) → HasScalar text limit (text_scalar v) span → ShowsString text v span
-shows text limit v span h =
+shows : (text : List ℕ) (limit : ℕ) (bs : List ParsedSection) (v : List ℕ) (span : Span) → HasScalar text limit bs (text_scalar v) span → ShowsString text v span
+shows text limit bs v span h =
     let (source, multi, s) = h.spells.1 in
     let f = content_fits (get_or text h.from 0) multi text v s.from s.to h.to s.content_is in
     record {
@@ -106,11 +106,12 @@ shows text limit v span h =
 
 pub flat-string : (text : List ℕ) (limit n : ℕ) (bs : List ParsedSection) (p : Path) (x : Place) (v : List ℕ) → SpellsDocument bs text limit → flat n (claims bs) p ≡ Some x
     → x.shape ≡ shape_scalar (text_scalar v) → ShowsString text v x.span
-flat-string text limit n bs p x v h at is = shows text limit v x.span (flat-scalar text limit n bs p x (text_scalar v) h at is)
+flat-string text limit n bs p x v h at is = shows text limit bs v x.span (flat-scalar text limit n bs p x (text_scalar v) h at is)
 
 pub tree-string : (text : List ℕ) (limit : ℕ) (root : Value) (p : Path) (x : Place) (v : List ℕ) → IsTree text limit root → place_at p (view root) ≡ Some x
     → x.shape ≡ shape_scalar (text_scalar v) → ShowsString text v x.span
-tree-string text limit root p x v h at is = shows text limit v x.span (tree-scalar text limit root p x (text_scalar v) h at is)
+tree-string text limit root p x v h at is =
+    let (bs, has, tree, z) = tree-scalar text limit root p x (text_scalar v) h at is in shows text limit bs v x.span z
 
 -- ---- strings that are equal to their text
 

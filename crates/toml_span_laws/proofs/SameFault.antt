@@ -25,7 +25,7 @@ use Rattle.toml_span_laws.proofs.KeptReading.{document_found}
 
 -- ---- a text that begins with another character than ASCII or a byte order mark
 
-high_byte : (text : List ℕ) (c m : ℕ) → CharAt text 0 c m → 128 ≤ c → 128 ≤ get_or text 0 0
+pub high_byte : (text : List ℕ) (c m : ℕ) → CharAt text 0 c m → 128 ≤ c → 128 ≤ get_or text 0 0
 high_byte text c m (inl x) l = absurd (omega (arith, x.1))
 high_byte text c m (inr x) l = elim (cases_lt (get_or text 0 0) 128) [
   | inl low ↦ absurd (omega (arith, char_from_byte text (drop m text) c x.2 low (char_within text 0 c m (inr x))))
@@ -54,7 +54,7 @@ high_document text limit c m h l n =
 
 -- ---- the same fault
 
-first_kept : (a : List ℕ) → ((c m : ℕ) → CharAt a 0 c m → 128 ≤ c → c ≡ 65279) → (i n : ℕ) (b : List ℕ) → FirstPlace a i → Past a n i → Same a b n → FirstPlace b i
+pub first_kept : (a : List ℕ) → ((c m : ℕ) → CharAt a 0 c m → 128 ≤ c → c ≡ 65279) → (i n : ℕ) (b : List ℕ) → FirstPlace a i → Past a n i → Same a b n → FirstPlace b i
 first_kept a low i n b (inl h) p w = inl (char w 0 65279 i p.here h)
 first_kept a low i n b (inr (z, inl e)) p w = absurd (omega (arith, w.in_a, e, p.here))
 first_kept a low i n b (inr (z, inr (c, m, h, none))) p w = inr (z, inr (c, m, kept h, none))

@@ -14,7 +14,7 @@ use Rattle.toml_span_read.proofs.GapStarts.{no_gap, key_starts, value_starts, no
 use Rattle.toml_span_laws.specs.Again.{SpellsAssignment}
 
 -- the first byte of a key
-key_byte : (s : SimpleKey) (text : List ℕ) (i j : ℕ) → SpellsSimpleKey s text i j → (i < length text) × (get_or text i 0 < 128)
+pub key_byte : (s : SimpleKey) (text : List ℕ) (i j : ℕ) → SpellsSimpleKey s text i j → (i < length text) × (get_or text i 0 < 128)
 key_byte s text i j h = grind (arith, nat_tests, common_steps)
 
 -- there is no byte order mark
@@ -27,7 +27,7 @@ first_place s text j key =
     let bytes : text ≡ c ∷ drop 1 text = drop_more text 0 0 b.0 in
     inr (refl, inr (c, 1, inr (rw g.1 refl, omega arith, (rw (encode_ascii c b.1) bytes)), λ e. omega arith))
 
-no_blank : (text : List ℕ) (i : ℕ) → begins_gap text i ≡ false → is_blank (get_or text i 0) ≡ false
+pub no_blank : (text : List ℕ) (i : ℕ) → begins_gap text i ≡ false → is_blank (get_or text i 0) ≡ false
 no_blank text i h = (or_parts (is_blank (get_or text i 0)) (get_or text i 0 == 10) (or_parts (is_blank (get_or text i 0) || get_or text i 0 == 10) _ (or_parts _ (get_or text i 0 == 35) h).0).0).0
 
 -- the assignment

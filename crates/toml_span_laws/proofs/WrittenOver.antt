@@ -1,37 +1,28 @@
 -- A value that is written over a scalar is read there, and what comes after it is moved.
-use Rattle.toml_span_lex.proofs.Common.{◌≡◌, ℕ, ◌+◌, ◌-◌, ◌<◌, ◌≤◌, true, Some, List, ◌++◌, length, get_or, take, drop, arith, subst, sym, ◌∙◌, refl, ap, nat_tests, common_steps, length-take, length-drop, length-append, get_or_past}
+use Rattle.toml_span_lex.proofs.Common.{◌≡◌, ℕ, ◌+◌, ◌-◌, ◌≤◌, true, Some, List, length, take, drop, arith, option_map, subst, sym, refl, ap, ◌∙◌, length-take}
 use Rattle.toml_span_lex.specs.declared.span.Span.{Span}
 use Rattle.toml_span_tree.specs.Node.{Node, Scalar}
 use Rattle.toml_span_tree.specs.Path.{Path, Place, shape_scalar, place_at}
 use Rattle.toml_span_tree.specs.Value.{view, is_whole}
 use Rattle.toml_span_tree.specs.declared.value.Value.{Value}
 use Rattle.toml_span_read.specs.Again.{HasFloatTexts, HasValue, IsWithin, ReadsAsValue, parts_off}
-use Rattle.toml_span_read.specs.Data.{ParsedValue, parsed, scalar}
-use Rattle.toml_span_read.specs.Grammar.{Spells}
-use Rattle.toml_span_read.proofs.Moves.{Copied, At}
-use Rattle.toml_span.specs.Parsing.{IsTree}
-use Rattle.toml_span_laws.specs.Again.{moved, with_part, TakesAnother}
+use Rattle.toml_span_read.specs.Data.{ParsedValue, parsed, scalar, ParsedSection}
+use Rattle.toml_span_read.specs.Grammar.{Spells, SpellsScalar}
+use Rattle.toml_span_read.proofs.NumberLemmas.{same_byte}
 use Rattle.toml_span_read.proofs.SpanLaws.{value_lies}
+use Rattle.toml_span.specs.Parsing.{IsTree, IsTreeOf, HasOutcome, resolved}
+use Rattle.toml_span_laws.specs.Again.{moved, with_part, TakesAnother}
+use Rattle.toml_span_laws.specs.Replaced.{IsDocumentWith, TakesScalar}
 use Rattle.toml_span_laws.proofs.AgainValues.{value_copied}
+use Rattle.toml_span_laws.proofs.Answered.{sections-one}
+use Rattle.toml_span_laws.proofs.Complete.{document_complete}
+use Rattle.toml_span_laws.proofs.PlainClaims.{plain_place, resolves_alike, flat_alike}
+use Rattle.toml_span_laws.proofs.PlainParsed.{unchanged, changed_at, plain, plain_sections}
+use Rattle.toml_span_laws.proofs.PlainTrees.{tree_put}
 use Rattle.toml_span_laws.proofs.ReadAgain.{HasScalar, tree-scalar}
-
--- ---- the new text
-
-part_length : (text part : List ℕ) (i j : ℕ) → i ≤ j → j ≤ length text → length (with_part text i j part) ≡ (i + length part) + (length text - j)
-part_length text part i j on within = grind (arith, nat_tests, common_steps)
-
-part_byte : (text part : List ℕ) (i j k m : ℕ) → i ≤ j → j ≤ length text → j ≤ k → k + (i + length part) ≡ m + j → get_or text k 0 ≡ get_or (with_part text i j part) m 0
-part_byte text part i j k m on within after e = grind (arith, nat_tests, common_steps)
-
-part_copied : (text part : List ℕ) (i j : ℕ) → i ≤ j → j ≤ length text → Copied text (with_part text i j part) j (i + length part) (length (with_part text i j part)) 0
-part_copied text part i j on within =
-    let n = part_length text part i j on within in
-    record {
-      same = λ k m a e l. part_byte text part i j k m on within a e;
-      fits = omega arith;
-      within = omega arith;
-      next = get_or_past (with_part text i j part) (length (with_part text i j part)) 0 (omega arith);
-    }
+use Rattle.toml_span_laws.proofs.ScalarEnds.{scalar_some}
+use Rattle.toml_span_laws.proofs.ScalarsApart.{tree_scalars_apart}
+use Rattle.toml_span_laws.proofs.Replacing.{Hole, to, part_length, part_copied}
 
 -- ---- the new value
 
@@ -54,8 +45,8 @@ later text part v i j limit depth k l on within after h =
     (record { after = omega (arith, lies.1); moved = omega (arith, lies.1); inside = omega (arith, lies.1, lies.2) })
     h
 
-takes : (text : List ℕ) (limit : ℕ) (s : Scalar) (span : Span) → HasScalar text limit s span → TakesAnother text s span
-takes text limit s span h =
+abbrev takes : (text : List ℕ) (limit : ℕ) (bs : List ParsedSection) (s : Scalar) (span : Span) → HasScalar text limit bs s span → TakesAnother text s span
+takes text limit bs s span h =
     let lies = value_lies (parsed (scalar s) span) text limit h.depth h.from h.to h.spells in
     record {
       i = h.from;
@@ -67,4 +58,37 @@ takes text limit s span h =
 
 pub tree-takes : (text : List ℕ) (limit : ℕ) (root : Value) (path : Path) (place : Place) (s : Scalar) → IsTree text limit root → place_at path (view root) ≡ Some place → place.shape ≡ shape_scalar s
     → TakesAnother text s place.span
-tree-takes text limit root path place s tree at is = takes text limit s place.span (tree-scalar text limit root path place s tree at is)
+tree-takes text limit root path place s tree at is = let (bs, has, of, h) = tree-scalar text limit root path place s tree at is in takes text limit bs s place.span h
+
+-- ---- the new document
+
+alike : (from : ℕ) (x s : Scalar) (span at : Span) → from ≡ span.start → plain unchanged (parsed (scalar x) at) ≡ plain (changed_at from x) (parsed (scalar s) span)
+alike from x s span at e = rw (same_byte span.start from (sym e)) refl
+
+pub tree-takes-scalar : (text : List ℕ) (limit : ℕ) (root : Value) (path : Path) (place : Place) (s : Scalar) → IsTree text limit root → place_at path (view root) ≡ Some place → place.shape ≡ shape_scalar s
+    → TakesScalar text limit root path s place.span
+tree-takes-scalar text limit root path place s tree at is =
+    let (bs, has, of, h) = tree-scalar text limit root path place s tree at is in
+    record {
+      takes = takes text limit bs s place.span h;
+      document = λ part x span z. remade bs has of h part x span z;
+    }
+  where
+    remade : (bs : List ParsedSection) → HasOutcome text limit (resolved bs) → IsTreeOf bs (length text) root → (h : HasScalar text limit bs s place.span) → (part : List ℕ) (x : Scalar) (span : Span)
+        → SpellsScalar x span (with_part text h.from h.to part) h.from (h.from + length part) → IsDocumentWith path x root (with_part text h.from h.to part) limit
+    remade bs has of h part x span z =
+        let lies = value_lies (parsed (scalar s) place.span) text limit h.depth h.from h.to h.spells in
+        let hole : Hole text = record { i = h.from; j = h.to; part = part; from = place.span.start; new = x; on = lies.0.0; before = scalar_some s place.span text h.from h.to h.spells.1; within = lies.2 } in
+        let end : h.from + length part ≡ to hole h.to = omega arith in
+        let new = h.puts hole (omega arith) (omega arith) (parsed (scalar x) span) (h.spells.0, (rw end at z)) (alike place.span.start x s place.span span refl) in
+        let b : List ℕ = with_part text h.from h.to part in
+        let found = document_complete new.sections b limit new.spelled in (
+          new.sections,
+          (found, resolves_alike unchanged (changed_at place.span.start x) new.sections bs new.alike has.1),
+          λ other (ds, (read, resolves), shown). (
+              let one : ds ≡ new.sections = sections-one b limit ds new.sections read found in
+              let same : plain_sections unchanged ds ≡ plain_sections (changed_at place.span.start x) bs = ap (λ l. plain_sections unchanged l) one ∙ new.alike in
+              tree_put (view root) (view other) path place s x at is (λ p y t there shape start. tree_scalars_apart text limit root p path y place t s tree there at shape is start)
+              (λ p. ap (λ o. option_map (plain_place unchanged) o) (shown.shows p) ∙ (flat_alike unchanged (changed_at place.span.start x) ds bs same (length b) (length text) p ∙ sym (ap (λ o. option_map (plain_place (changed_at place.span.start x)) o) (of.shows p))))
+              of.ordered shown.ordered),
+        )

@@ -1,5 +1,6 @@
 pub mod Places
 pub mod Again
+pub mod Replaced
 pub mod Undated
 pub mod Clashing
 pub mod Document

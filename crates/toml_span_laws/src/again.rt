@@ -8,6 +8,7 @@ ghost use Rattle.toml_span_read.specs.Data.{ParsedValue, ParsedSection};
 ghost use Rattle.toml_span_read.specs.Grammar.{Spells, SpellsDocument};
 ghost use Rattle.toml_span.specs.Parsing.{IsTree};
 ghost use Rattle.toml_span_read.specs.Again.{HasFloatTexts, IsWithin, ReadsAsKey, ReadsAsValue};
+ghost use Rattle.toml_span_laws.specs.Replaced.{TakesScalar};
 ghost use Rattle.toml_span_laws.specs.Again.{SpellsAgain, SpellsAssignment, SectionsReadAgain, TakesAnother};
 
 /// The text that spells a value spells it again elsewhere: after `x = ` it is a document of one assignment, with the
@@ -36,6 +37,14 @@ pub fn written_over()
     ensures { (text : List ℕ) (limit : ℕ) (root : Value) (path : Path) (place : Place) (s : Scalar)
         → IsTree text limit root → place_at path (view root) ≡ Some place → place.shape ≡ shape_scalar s
         → TakesAnother text s place.span }
+{}
+
+/// A scalar of a tree can be replaced by any scalar: a text that spells another one in its place, and is otherwise the
+/// same, is a document, so `parse` does not refuse it. Its tree is the old one with the new scalar, except for spans.
+pub fn scalar_replaced()
+    ensures { (text : List ℕ) (limit : ℕ) (root : Value) (path : Path) (place : Place) (s : Scalar)
+        → IsTree text limit root → place_at path (view root) ≡ Some place → place.shape ≡ shape_scalar s
+        → TakesScalar text limit root path s place.span }
 {}
 
 /// A key, ` = ` and a value, each of which can be read wherever it occurs, are a document of one assignment of this

@@ -3,8 +3,7 @@ use Rattle.toml_span_read.specs.Data.{ParsedValue}
 use Rattle.toml_span_read.specs.Grammar.{Spells}
 use Rattle.toml_span_read.specs.Read as read
 use Rattle.toml_span_read.proofs.ReadSound.{value_sound}
-use Rattle.toml_span_laws.proofs.AgainLaws.{few}
-use Rattle.toml_span_laws.proofs.Complete.{value_complete}
+use Rattle.toml_span_laws.proofs.Complete.{few, value_complete}
 use Rattle.toml_span_laws.proofs.values.values_are_read.Goals as goal
 
 spelled : (text : List ℕ) (limit d i j : ℕ) (v : ParsedValue) → read.value text limit ((limit + 1) - d) 0 i (Ok (v, j)) → Spells v text limit d i j
