@@ -1,6 +1,7 @@
 -- What the program does with its arguments.
 use Rattle.std.specs.Prelude.{◌≡◌, ◌≢◌, ◌⊎◌, ℕ, Bool, true, false, List, [], Option, Some, None, Ok, Err, String}
 use Rattle.std.specs.Prelude.{string_bytes}
+use Rattle.std.specs.Global.{Global}
 use Rattle.std.specs.Io.KnownBytes.{Keeps}
 use Rattle.clap.specs.Kinds.{IsAmong}
 use Rattle.clap.specs.declared.error.kind.ErrorKind.{ErrorKind}
@@ -33,7 +34,7 @@ Refuses reader kind stdout stdout' out_failed stderr stderr' err_failed status =
     ⊎ ((status ≡ 4) × Keeps stdout stdout' × Keeps stderr stderr')
 
 -- the path of the value to print can be read, or there is a message that it can't
-abbrev pub SaysOfPath : List ℕ → Option String → Type 0
+abbrev pub SaysOfPath : List ℕ → Option (String Global) → Type 0
 SaysOfPath path None = (segments : List (List ℕ)) × IsPath path (Ok segments)
 SaysOfPath path (Some text) =
     (e : PathError) × IsPath path (Err e) × ((message : List ℕ) × (string_bytes text ≡ visible_lines message))

@@ -5,9 +5,7 @@ use std::borrow::CowStr;
 use std::fmt::Write;
 use toml_span::Stop;
 use toml_span_check::encoding::not_utf8_text;
-use toml_span_edit::{
-    Edit, EditError, Edits, Reason, path_segments, segment_names, string_text,
-};
+use toml_span_edit::{Edit, EditError, Edits, Reason, path_segments, segment_names, string_text};
 
 /// The kind of an edit.
 #[derive(Clone, Copy)]
@@ -23,13 +21,22 @@ enum Kind {
     Move,
 }
 
+/// A change with the segments of its paths.
+#[derive(Drop)]
+struct Located<'w> {
+    change: Change<'w>,
+    path: Vec<CowStr<'w>>,
+    /// Where a value is moved to. Empty for any other change.
+    target: Vec<CowStr<'w>>,
+}
+
 /// An edit in the form that the library takes.
 #[derive(Drop)]
 struct Prepared<'w> {
     kind: Kind,
-    path: Vec<CowStr<'w>>,
+    path: Vec<&'w str>,
     /// Where a value is moved to.
-    target: Vec<CowStr<'w>>,
+    target: Vec<&'w str>,
     /// The value, or the new name.
     value: String,
 }
@@ -68,30 +75,51 @@ fn kind_of(task: Task<'_>) -> Kind {
     }
 }
 
+/// Returns a change with the segments of its paths. Fails if an allocation fails.
+fn locate<'w>(alloc: Global, change: &Change<'w>) -> Result<Located<'w>, AllocError> {
+    let target = match change.task {
+        Task::Move(to) => segments_of(alloc, to)?,
+        _ => Vec::new(alloc),
+    };
+    Ok(Located {
+        change: *change,
+        path: segments_of(alloc, change.path)?,
+        target,
+    })
+}
+
+/// Returns changes with the segments of their paths. Fails if an allocation fails.
+fn locate_all<'w>(alloc: Global, changes: &[Change<'w>]) -> Result<Vec<Located<'w>>, AllocError> {
+    let mut list = Vec::new(alloc);
+    for change in changes {
+        list.push(locate(alloc, change)?)?;
+    }
+    Ok(list)
+}
+
 /// Prepares an edit for the library. If `is_string`, its value is a text rather than TOML. Fails if an allocation
 /// fails.
 fn prepare<'w>(
     alloc: Global,
-    change: &'w Change<'_>,
+    located: &'w Located<'_>,
     is_string: bool,
 ) -> Result<Prepared<'w>, AllocError> {
     let mut prepared = Prepared {
-        kind: kind_of(change.task),
-        path: segments_of(alloc, change.path)?,
-        target: Vec::new(alloc),
+        kind: kind_of(located.change.task),
+        path: segment_names(alloc, located.path.as_slice())?,
+        target: segment_names(alloc, located.target.as_slice())?,
         value: String::new(alloc),
     };
-    match change.task {
+    match located.change.task {
         Task::Set(value) | Task::Append(value) | Task::Insert(value) => {
             prepared.value = value_of(alloc, value, is_string)?;
         }
         Task::Add(key, value) => {
-            prepared.path.push(CowStr::Borrowed(key))?;
+            prepared.path.push(key)?;
             prepared.value = value_of(alloc, value, is_string)?;
         }
-        Task::Move(to) => prepared.target = segments_of(alloc, to)?,
         Task::Rename(name) => prepared.value = String::from_str(alloc, name)?,
-        Task::Remove => {}
+        Task::Move(_) | Task::Remove => {}
     }
     Ok(prepared)
 }
@@ -100,7 +128,7 @@ fn prepare<'w>(
 /// fails.
 fn prepare_all<'w>(
     alloc: Global,
-    changes: &'w [Change<'_>],
+    changes: &'w [Located<'_>],
     is_string: bool,
 ) -> Result<Vec<Prepared<'w>>, AllocError> {
     let mut list = Vec::new(alloc);
@@ -110,27 +138,8 @@ fn prepare_all<'w>(
     Ok(list)
 }
 
-/// The segments of a prepared edit, as `Edit` takes them.
-#[derive(Drop)]
-struct Names<'p> {
-    path: Vec<&'p str>,
-    target: Vec<&'p str>,
-}
-
-/// Returns the segments of prepared edits. Fails if an allocation fails.
-fn names_of<'p>(alloc: Global, list: &'p [Prepared<'_>]) -> Result<Vec<Names<'p>>, AllocError> {
-    let mut names = Vec::new(alloc);
-    for prepared in list {
-        names.push(Names {
-            path: segment_names(alloc, prepared.path.as_slice())?,
-            target: segment_names(alloc, prepared.target.as_slice())?,
-        })?;
-    }
-    Ok(names)
-}
-
-/// Returns a prepared edit with these segments as an `Edit` of `toml_span_edit`.
-fn edit_of<'p>(prepared: &'p Prepared<'_>, names: &'p Names<'p>) -> Edit<'p> {
+/// Returns a prepared edit as an `Edit` of `toml_span_edit`.
+fn edit_of<'w>(prepared: &'w Prepared<'w>) -> Edit<'w> {
     let value = prepared.value.as_str();
     let change = match prepared.kind {
         Kind::Set => toml_span_edit::Change::SetOrAdd(value),
@@ -140,24 +149,23 @@ fn edit_of<'p>(prepared: &'p Prepared<'_>, names: &'p Names<'p>) -> Edit<'p> {
         Kind::Add => toml_span_edit::Change::Add(value),
         Kind::Append => toml_span_edit::Change::Append(value),
         Kind::Insert => toml_span_edit::Change::Insert(value),
-        Kind::Move => toml_span_edit::Change::MoveTo(names.target.as_slice()),
+        Kind::Move => toml_span_edit::Change::MoveTo(prepared.target.as_slice()),
     };
     Edit {
-        path: names.path.as_slice(),
+        path: prepared.path.as_slice(),
         change,
     }
 }
 
 /// Makes prepared edits, and returns the new text. Fails with the edit that is refused, or if an allocation fails.
-fn finished(
+fn finished<'w>(
     alloc: Global,
-    text: &str,
-    list: &[Prepared<'_>],
+    text: &'w str,
+    list: &'w [Prepared<'w>],
 ) -> Result<String, Stop<EditError>> {
-    let names = names_of(alloc, list)?;
     let mut edits = Edits::new(alloc, text);
-    for (prepared, names) in list.iter().zip(names.as_slice().iter()) {
-        edits.push(edit_of(prepared, names))?;
+    for prepared in list {
+        edits.push(edit_of(prepared))?;
     }
     edits.finish()
 }
@@ -230,10 +238,7 @@ pub(crate) fn new_text(
             return Err(Stop::Fault(words));
         }
     };
-    forced(
-        alloc,
-        text,
-        prepare_all(alloc, changes, is_string)?,
-        is_forced,
-    )
+    let located = locate_all(alloc, changes)?;
+    let list = prepare_all(alloc, located.as_slice(), is_string)?;
+    forced(alloc, text, list, is_forced)
 }

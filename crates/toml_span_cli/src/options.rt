@@ -284,7 +284,8 @@ fn kind_of(mistake: Mistake) -> ErrorKind
     ensures { result ≡ spec.kind_of mistake }
 {
     match mistake {
-        Mistake::Format | Mistake::Color | Mistake::Version | Mistake::Path => ErrorKind::InvalidValue,
+        Mistake::Format | Mistake::Color | Mistake::Version | Mistake::Path =>
+            ErrorKind::InvalidValue,
         Mistake::Forms | Mistake::Sarif => ErrorKind::ArgumentConflict,
     }
 }

@@ -1,5 +1,5 @@
 -- One edit at a path.
-use Rattle.toml_span_lex.proofs.Common.{◌≡◌, ℕ, List, map, Result, Ok, Err, IfOk, String, Global, string_bytes, subst}
+use Rattle.toml_span_lex.proofs.Common.{◌≡◌, ℕ, List, Bor, map, Result, Ok, Err, IfOk, String, Global, string_bytes, subst}
 use Rattle.toml_span_places.specs.Dotted.{IsPath}
 use Rattle.toml_span_edit.specs.Edited.{EditMade}
 use Rattle.toml_span_edit.specs.Paths.{Path}
@@ -21,3 +21,6 @@ pub in_document : {E : Type 0} (path : List ℕ) (t : Task) (text document : Lis
     IfOk result (λ new. TaskMade path t document (string_bytes new))
 in_document path t text document is (Ok new) h = subst (λ (x : List ℕ). TaskMade path t x (string_bytes new)) is h
 in_document path t text document is (Err x) h = h
+
+abbrev pub names_of : List (Bor (List ℕ)) → Path
+names_of names = map (λ s. s.now) names

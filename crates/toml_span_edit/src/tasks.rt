@@ -47,12 +47,7 @@ fn change_of<'w>(
 
 /// Carries out a task at the value that a path names, and returns the new text. Fails with the reason if the edit is
 /// refused, or if an allocation fails.
-fn perform(
-    alloc: Global,
-    text: &str,
-    path: &str,
-    task: Task<'_>,
-) -> Result<String, Stop<Reason>>
+fn perform(alloc: Global, text: &str, path: &str, task: Task<'_>) -> Result<String, Stop<Reason>>
     ensures { IfOk result (λ new. spec.TaskMade path.now task.entry text.now (string_bytes new)) }
 {
     let segments = segments_of(alloc, path)?;

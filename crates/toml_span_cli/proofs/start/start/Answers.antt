@@ -1,14 +1,27 @@
-use Rattle.toml_span_lex.proofs.Common.{inl, inr, refl, arith, nat_tests, common_steps, Keeps-refl}
+use Rattle.std.specs.Prelude.{Option, Some, Err, String, string_bytes}
+use Rattle.std.specs.Global.{Global}
+use Rattle.toml_span_lex.proofs.Common.{◌≡◌, List, ℕ, inl, inr, refl, subst, ◌∙◌, arith, nat_tests, common_steps, Keeps-refl}
+use Rattle.clap.specs.declared.error.kind.ErrorKind.TheVariants.{OutOfMemory}
+use Rattle.toml_span_report.specs.Visible.{visible_lines}
+use Rattle.toml_span_places.specs.Dotted.{IsPath}
+use Rattle.toml_span_places.specs.declared.dotted.PathError.{PathError}
+use Rattle.toml_span_cli.specs.Say.{Says}
+use Rattle.toml_span_cli.specs.Start.{SaysOfPath}
 use Rattle.toml_span_cli.proofs.start.start.Goals as goal
 
-pub returns-in-None : goal.returns-in-None
-returns-in-None g c = ?
+pub returns-in-Ok-None : goal.returns-in-Ok-None
+returns-in-Ok-None g c = grind (arith, nat_tests, common_steps)
 
-pub returns-in-Some : goal.returns-in-Some
-returns-in-Some g c = ?
+-- the message says that the path is wrong
+wrong-path : (path : List ℕ) (o : Option (String Global)) (text : String Global) → o ≡ Some text → SaysOfPath path o
+    → (e : PathError) × IsPath path (Err e) × ((message : List ℕ) × (string_bytes text ≡ visible_lines message))
+wrong-path path o text is h = subst (λ (x : Option (String Global)). SaysOfPath path x) is h
 
-pub returns-in-Err : goal.returns-in-Err
-returns-in-Err g c = ?
+pub returns-in-Ok-Some : goal.returns-in-Ok-Some
+returns-in-Ok-Some g c =
+    let (e, wrong, (message, is)) = wrong-path _ _ _ c.in-Ok-Some.field-0-is c.in-Ok-Some.ensures in
+    let says = subst (λ (text : List ℕ). Says (g.E.Sink.contents c.args.errors.now) (g.E.Sink.contents c.say.new.writer) (g.E.Sink.failed c.say.new.writer) text 2 c.say.result) (c.as_str.ensures.value ∙ is) c.say.ensures in
+    inr (inr (_, _, _, _, _, _, _, c.in-Ok.ensures.fails, c.in-Ok.ensures.ok, (e, wrong), refl, Keeps-refl _, (message, says)))
 
-pub returns-in-Err-2 : goal.returns-in-Err-2
-returns-in-Err-2 g c = inr (inl (_, c.in-Err.ensures.fails, refl, c.refuse.ensures))
+pub returns-in-Ok : goal.returns-in-Ok
+returns-in-Ok g c = inr (inl (OutOfMemory, inl refl, refl, inr (inr (inr (refl, Keeps-refl _, Keeps-refl _)))))
