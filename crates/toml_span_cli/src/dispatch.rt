@@ -18,6 +18,7 @@ use crate::words::{is_file, is_help, is_version};
 use std::alloc::{AllocError, Global};
 use std::fs;
 use toml_span_check::input::Host;
+use toml_span_check::schemas::NoSchemas;
 use toml_span_lines::sink::Sink;
 use toml_span_report::nearest;
 
@@ -140,6 +141,7 @@ fn perform<O: Sink, E: Sink>(
             is_coloured,
             is_watched,
             host,
+            &mut NoSchemas,
             out,
             errors,
         )),

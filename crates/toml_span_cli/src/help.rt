@@ -53,6 +53,15 @@ Options:
                    files that have fixes are replaced, standard input is not
   --toml VERSION   1.0, 1.1 or auto [default: auto]; auto means 1.0 for files
                    named `pyproject.toml`, which pip reads, and 1.1 for others
+  --schema FILE    check against this JSON Schema; without it, a comment such as
+                   `#:schema ./app.schema.json` before the first statement of a
+                   file names its schema
+  --catalog FILE   take the other schemas from a catalog in SchemaStore's
+                   format, which has their `fileMatch` and `url`
+  --schema-map URL=FILE
+                   read this file instead of the URL of a schema; nothing is
+                   fetched; can be repeated
+  --no-formats     ignore the keyword `format` of schemas
   --exclude GLOB   leave out what matches in directories: a name, or with a `/`
                    a path, as in a `.gitignore` file; can be repeated
   --quiet          print nothing; only the exit status tells the result
@@ -62,7 +71,7 @@ Options:
 Exit status:
   0  all files are valid
   1  a file has an error
-  2  a file can't be read, or the arguments are wrong
+  2  a file or a schema can't be read, or the arguments are wrong
   3  output can't be written
   4  out of memory
 ";

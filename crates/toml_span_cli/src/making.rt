@@ -5,9 +5,7 @@ use std::borrow::CowStr;
 use std::fmt::Write;
 use toml_span::Stop;
 use toml_span_check::encoding::not_utf8_text;
-use toml_span_edit::{
-    Edit, EditError, Edits, Reason, path_segments, segment_names, string_text,
-};
+use toml_span_edit::{Edit, EditError, Edits, Reason, path_segments, segment_names, string_text};
 
 /// The kind of an edit.
 #[derive(Clone, Copy)]
@@ -149,11 +147,7 @@ fn edit_of<'p>(prepared: &'p Prepared<'_>, names: &'p Names<'p>) -> Edit<'p> {
 }
 
 /// Makes prepared edits, and returns the new text. Fails with the edit that is refused, or if an allocation fails.
-fn finished(
-    alloc: Global,
-    text: &str,
-    list: &[Prepared<'_>],
-) -> Result<String, Stop<EditError>> {
+fn finished(alloc: Global, text: &str, list: &[Prepared<'_>]) -> Result<String, Stop<EditError>> {
     let names = names_of(alloc, list)?;
     let mut edits = Edits::new(alloc, text);
     for (prepared, names) in list.iter().zip(names.as_slice().iter()) {
