@@ -10,6 +10,7 @@ use crate::edit::{edit, edit_help};
 use crate::explain::explain;
 use crate::fmt::fmt;
 use crate::help::{HELP, VERSION};
+use crate::lsp::lsp;
 use crate::options::Reader;
 use crate::say::{quoted_word, say, say_misuse};
 use crate::show::show;
@@ -145,6 +146,7 @@ fn perform<O: Sink, E: Sink>(
         )),
         Command::Fmt => fmt(alloc, words, host, out, errors),
         Command::Show => show(alloc, words, host, out, errors),
+        Command::Lsp => lsp(alloc, words, host, out, errors),
         Command::Explain => explain(alloc, words, out, errors),
         Command::Help => help(alloc, words, out, errors),
         Command::Set

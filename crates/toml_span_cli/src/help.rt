@@ -20,6 +20,7 @@ Commands:
   insert   add an element before another one
   move     move a value to another path
   edit     make several edits at once
+  lsp      run the language server for an editor
   explain  print what an error code means
   help     print this help, or the help of a command
 
@@ -160,6 +161,28 @@ Exit status:
   1  a file is not valid TOML, or with --check or --diff: a file would change
   2  a file can't be read, or the arguments are wrong
   3  a result can't be written
+  4  out of memory
+";
+
+/// The help of `lsp`.
+pub(crate) const LSP: &str = "\
+Runs the language server for an editor, on standard input and output.
+
+Usage: toml-span lsp
+
+The server speaks version 3.17 of the Language Server Protocol: errors with
+their fixes, completion, hovers, outlines, renames and formatting. An editor
+starts it; `docs/EDITORS.md` says how to set that up.
+
+Options:
+  --stdio     the same as without it
+  -h, --help  print this help
+
+Exit status:
+  0  the editor has shut the server down
+  1  the input has ended without that
+  2  the input has something else than messages, or the arguments are wrong
+  3  a read or a write has failed
   4  out of memory
 ";
 

@@ -15,6 +15,7 @@ mod explain;
 mod files;
 mod fmt;
 mod help;
+mod lsp;
 mod making;
 mod options;
 mod paths;
