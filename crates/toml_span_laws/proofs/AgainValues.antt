@@ -1,5 +1,5 @@
 -- Numbers, dates and values in a part of a text are also in its copy.
-use Rattle.toml_span_lex.proofs.Common.{◌≡◌, ℕ, ◌+◌, ◌-◌, ◌<◌, ◌≤◌, Bool, true, false, List, length, get_or, arith, inl, inr, sym, ◌∙◌, refl, ◌==◌, ◌&&◌, false≢true, and_parts, and_from, false_from_ne_true, nat_tests, common_steps, [], ◌∷◌, ◌++◌, map, ap, subst, map-append, length-map}
+use Rattle.toml_span_lex.proofs.Common.{◌≡◌, ℕ, ◌+◌, ◌-◌, ◌<◌, ◌≤◌, Bool, true, false, List, length, get_or, arith, inl, inr, sym, ◌∙◌, refl, ◌==◌, ◌&&◌, false≢true, and_parts, and_from, false_from_ne_true, nat_tests, common_steps, [], ◌∷◌, ◌++◌, map, ap, subst, map-append, length-map, Option, None}
 use Rattle.toml_span_lex.specs.declared.span.Span.{Span}
 use Rattle.toml_span_lex.specs.Bytes.{is_keylike, MaximalRun}
 use Rattle.toml_span_tree.specs.Node.{Scalar, text as text_scalar, integer, float, boolean, datetime}
@@ -14,7 +14,8 @@ use Rattle.toml_span_laws.proofs.AgainStrings.{runs, worded, gap, sign, closes, 
 use Rattle.toml_span_read.specs.Gaps.{Separator, MaximalGap}
 use Rattle.toml_span_read.specs.Keys.{SpellsSimpleKey, Onward, SpellsKey}
 use Rattle.toml_span_read.specs.Data.{SimpleKey, ParsedValue, parsed, ParsedInner, scalar, array, inline, ParsedItems, no_items, item, ParsedPairs, no_pairs, pair, ParsedAssignment, from_to}
-use Rattle.toml_span_read.specs.Earlier.{part_names, NoneAt, NoneThrough, Clear}
+use Rattle.toml_span_read.specs.Earlier.{part_names, value_at, crossed, crossing}
+use Rattle.toml_span_read.proofs.EarlierLemmas.{clear_from, clear_to}
 
 -- ---- numbers, booleans and dates
 
@@ -95,39 +96,19 @@ path_moved : (s t : ℕ) (ps : List SimpleKey) → part_names (moved_parts s t p
 path_moved s t [] = refl
 path_moved s t (p ∷ ps) = ap (λ (ns : List (List ℕ)). p.name ∷ ns) (path_moved s t ps)
 
-none_moved : (s t : ℕ) (names : List (List ℕ)) (es : List ParsedAssignment) → NoneAt names es → NoneAt names (map (moved_assignment s t) es)
-none_moved s t names [] h = tt
-none_moved s t names (e ∷ es) (h, more) = ((λ x. h (sym (path_moved s t e.parts) ∙ x)), none_moved s t names es more)
+none_moved : (s t : ℕ) (names : List (List ℕ)) (es : List ParsedAssignment) → value_at es names ≡ None → value_at (map (moved_assignment s t) es) names ≡ None
+unfolding value_at
+none_moved s t names [] h = refl
+none_moved s t names (e ∷ es) h = grind (arith, nat_tests, common_steps, path_moved s t e.parts, none_moved s t names es)
 
--- a list with the same names as one that is split
-record CutAt (ps xs : List SimpleKey) (y : SimpleKey) (ys : List SimpleKey) : Type 0 where
-  before : List SimpleKey
-  here : SimpleKey
-  after : List SimpleKey
-  is : ps ≡ before ++ (here ∷ after)
-  first : part_names before ≡ part_names xs
-  path : part_names (before ++ (here ∷ [])) ≡ part_names (xs ++ (y ∷ []))
-  last : part_names after ≡ part_names ys
+crossed_moved : (s t : ℕ) (f g : List (List ℕ) → Option Span) (ps : List SimpleKey) → ((names : List (List ℕ)) → f names ≡ None → g names ≡ None) → crossed f ps ≡ None → crossed g (moved_parts s t ps) ≡ None
+unfolding crossed
+crossed_moved s t f g [] none h = refl
+crossed_moved s t f g (p ∷ []) none h = refl
+crossed_moved s t f g (p ∷ q ∷ rest) none h = grind (arith, nat_tests, common_steps, none (p.name ∷ []), crossed_moved s t (λ names. f (p.name ∷ names)) (λ names. g (p.name ∷ names)) (q ∷ rest) (λ names. none (p.name ∷ names)))
 
-cut_alike : (ps xs : List SimpleKey) (y : SimpleKey) (ys : List SimpleKey) → part_names (xs ++ (y ∷ ys)) ≡ part_names ps → CutAt ps xs y ys
-cut_alike [] [] y ys e = absurd (cc)
-cut_alike [] (x ∷ xs) y ys e = absurd (cc)
-cut_alike (p ∷ ps) [] y ys e = record { before = []; here = p; after = ps; is = refl; first = refl; path = cc; last = cc }
-cut_alike (p ∷ ps) (x ∷ xs) y ys e =
-    let c = cut_alike ps xs y ys cc in
-    record { before = p ∷ c.before; here = c.here; after = c.after; is = cc (c.is); first = cc; path = cc; last = c.last }
-
-through_moved : (s t : ℕ) (ps qs : List SimpleKey) (es : List ParsedAssignment) → part_names qs ≡ part_names ps → NoneThrough ps es → NoneThrough qs (map (moved_assignment s t) es)
-through_moved s t ps qs es m h outer p rest e = grind (arith, nat_tests, common_steps, cut_alike ps outer p rest, none_moved s t (part_names (outer ++ (p ∷ []))) es)
-
-none_of : (ps : List SimpleKey) → part_names ps ≡ [] → ps ≡ []
-none_of [] e = refl
-none_of (p ∷ ps) e = absurd (cc)
-
-clear_moved : (s t : ℕ) (es : List ParsedAssignment) (next : ParsedAssignment) → Clear es next → Clear (map (moved_assignment s t) es) (moved_assignment s t next)
-clear_moved s t es next h inner last e =
-    let c = cut_alike next.parts inner last [] (sym (ap (λ (l : List SimpleKey). part_names l) e) ∙ path_moved s t next.parts) in
-    through_moved s t c.before inner es (sym c.first) (h c.before c.here (subst (λ (l : List SimpleKey). next.parts ≡ c.before ++ (c.here ∷ l)) (none_of c.after c.last) c.is))
+clear_moved : (s t : ℕ) (es : List ParsedAssignment) (next : ParsedAssignment) → crossing es next ≡ None → crossing (map (moved_assignment s t) es) (moved_assignment s t next) ≡ None
+clear_moved s t es next h = clear_from _ _ (crossed_moved s t (value_at es) _ next.parts (λ names. none_moved s t names es) (clear_to es next h))
 
 length_moved : (s t : ℕ) (ss : List SimpleKey) → length (moved_parts s t ss) ≡ length ss
 length_moved s t ss = length-map ss _
