@@ -8,8 +8,8 @@ use Rattle.toml_span_check.specs.Sarif.{hex_digit}
 use Rattle.toml_span_check.specs.declared.encoding.Encoding.{Encoding}
 use Rattle.toml_span_check.specs.declared.encoding.Encoding.TheVariants.{LittleEndian, BigEndian, Windows1252, Latin1}
 
--- The encoding that a file seems to have, whose byte at this offset is not UTF-8: UTF-16 by the byte order mark, or else
--- Windows-1252 by a byte that is no character of Latin-1.
+-- The encoding that a file seems to have, whose byte at this offset is not UTF-8: UTF-16 by the byte order mark, or
+-- else Windows-1252 by a byte that is no character of Latin-1.
 abbrev pub encoding_of : List ℕ → ℕ → Encoding
 encoding_of bytes at =
     if slice_index bytes 0 == 255 && slice_index bytes 1 == 254 then LittleEndian

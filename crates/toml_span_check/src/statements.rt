@@ -333,7 +333,8 @@ pub(crate) fn is_clash(kind: &ErrorKind<'_>) -> bool {
     )
 }
 
-/// Returns whether the line that begins at `line` is a marker of a merge conflict, which begins with seven of this byte.
+/// Returns whether the line that begins at `line` is a marker of a merge conflict, which begins with seven of this
+/// byte.
 fn is_marker(text: &str, line: usize, byte: u8) -> bool {
     (0..7usize).all(|at| byte_at(text, line.saturating_add(at)) == byte)
 }

@@ -60,8 +60,8 @@ pub(crate) fn change_of<'w>(command: Command, words: &[&'w str]) -> Option<Chang
 }
 
 impl<'w> Change<'w> {
-    /// Returns `None` if the paths of the edit can be read, otherwise what is wrong with the first one that can't. Fails
-    /// if an allocation fails.
+    /// Returns `None` if the paths of the edit can be read, otherwise what is wrong with the first one that can't.
+    /// Fails if an allocation fails.
     pub(crate) fn wrong_path(&self, alloc: Global) -> Result<Option<String>, AllocError> {
         match (wrong_path(alloc, self.path)?, self.task) {
             (None, Task::Move(to)) => wrong_path(alloc, to),

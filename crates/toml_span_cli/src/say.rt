@@ -31,8 +31,8 @@ pub(crate) fn quoted_word(alloc: Global, word: &str) -> Result<String, AllocErro
     Ok(out)
 }
 
-/// Returns what is wrong with the arguments of a command, and its usage, as lines that are escaped for a terminal. Fails
-/// if an allocation fails.
+/// Returns what is wrong with the arguments of a command, and its usage, as lines that are escaped for a terminal.
+/// Fails if an allocation fails.
 pub(crate) fn misuse_text(
     alloc: Global,
     command: Command,

@@ -14,8 +14,8 @@ use toml_span::Stop;
 use toml_span::value::Step;
 use toml_span_places::{PathError, path_segments};
 
-/// Returns where a path can't be read, and why: `column 3: expected a key`. Columns count characters from 1. Fails if an
-/// allocation fails.
+/// Returns where a path can't be read, and why: `column 3: expected a key`. Columns count characters from 1. Fails if
+/// an allocation fails.
 pub fn path_error_text(alloc: Global, path: &str, error: &PathError) -> Result<String, AllocError> {
     let before = path.char_indices().filter(|(at, _)| *at < error.at).count();
     let column = before.saturating_add(1);

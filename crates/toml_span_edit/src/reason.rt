@@ -61,7 +61,8 @@ impl Reason {
         }
     }
 
-    /// Returns what follows the reason: the place and message of an error, or the string that was probably meant. It is empty for other reasons.
+    /// Returns what follows the reason: the place and message of an error, or the string that was probably meant. It is
+    /// empty for other reasons.
     pub fn detail(&self) -> &str {
         match self {
             Reason::NoDocument(fault) => fault.as_str(),

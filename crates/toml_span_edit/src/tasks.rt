@@ -57,8 +57,8 @@ fn perform(alloc: Global, text: &str, path: &str, task: Task<'_>) -> Result<Stri
     step(alloc, text, Edit { path, change })
 }
 
-/// Makes one edit of a document, as `Edits` does, at the value that a path names: a pointer such as `/a/b/0`, or a dotted
-/// key such as `a.b[0]`. Returns the new text.
+/// Makes one edit of a document, as `Edits` does, at the value that a path names: a pointer such as `/a/b/0`, or a
+/// dotted key such as `a.b[0]`. Returns the new text.
 ///
 /// Fails with `TooLong` for a document of more than 16 MiB, with `NotUtf8` if it is not valid UTF-8, with the reason if
 /// the edit is refused, or if an allocation fails.
