@@ -268,8 +268,9 @@ pub(crate) fn add(
     Ok(())
 }
 
-/// Returns the end of the last section of the table at a path, and the text of the table's header without brackets. For
-/// the root, that is the end of the text and an empty string. Returns `None` unless headers alone define the table.
+/// Returns the end of the last section whose header names the table at a path or a table in it, and the part of that
+/// header that spells the path. For the root, returns the end of the text and an empty string. Returns `None` unless
+/// headers alone define the table.
 /// Fails if an allocation fails.
 pub(crate) fn section_place<'s>(
     document: Document<'s, '_>,

@@ -35,8 +35,8 @@ impl<'de> TableHelper<'de> {
         self.read_or_miss(name, value)
     }
 
-    /// Reads a field as `read_optional` does, under its name or, if that is absent, under an old name, as `read_either`
-    /// does.
+    /// Reads an optional field under its name or, if that is absent, under an old name. Both names together are an
+    /// error, as for `read_either`; all else is as for `read_optional`.
     pub fn read_optional_either<T: Deserialize<'de>>(
         &mut self,
         name: &'de str,
