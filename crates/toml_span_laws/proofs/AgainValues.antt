@@ -1,5 +1,5 @@
 -- Numbers, dates and values in a part of a text are also in its copy.
-use Rattle.toml_span_lex.proofs.Common.{◌≡◌, ℕ, ◌+◌, ◌-◌, ◌<◌, ◌≤◌, Bool, true, false, List, length, get_or, arith, inl, inr, sym, ◌∙◌, refl, ◌==◌, ◌&&◌, false≢true, and_parts, and_from, false_from_ne_true, nat_tests, common_steps, [], ◌∷◌, ◌++◌, map, ap, subst, map-append, length-map}
+use Rattle.toml_span_lex.proofs.Common.{◌≡◌, ℕ, ◌+◌, ◌-◌, ◌<◌, ◌≤◌, Bool, true, false, List, length, get_or, arith, inl, inr, sym, ◌∙◌, refl, ◌==◌, ◌&&◌, false≢true, and_parts, and_from, false_from_ne_true, nat_tests, common_steps, [], ◌∷◌, ◌++◌, map, ap, subst, map-append, length-map, Option, None}
 use Rattle.toml_span_lex.specs.declared.span.Span.{Span}
 use Rattle.toml_span_lex.specs.Bytes.{is_keylike, MaximalRun}
 use Rattle.toml_span_tree.specs.Node.{Scalar, text as text_scalar, integer, float, boolean, datetime}
@@ -14,7 +14,8 @@ use Rattle.toml_span_laws.proofs.AgainStrings.{runs, worded, gap, sign, closes, 
 use Rattle.toml_span_read.specs.Gaps.{Separator, MaximalGap}
 use Rattle.toml_span_read.specs.Keys.{SpellsSimpleKey, Onward, SpellsKey}
 use Rattle.toml_span_read.specs.Data.{SimpleKey, ParsedValue, parsed, ParsedInner, scalar, array, inline, ParsedItems, no_items, item, ParsedPairs, no_pairs, pair, ParsedAssignment, from_to}
-use Rattle.toml_span_read.specs.Earlier.{part_names, NoneAt, NoneThrough, Clear}
+use Rattle.toml_span_read.specs.Earlier.{part_names, value_at, crossed, crossing}
+use Rattle.toml_span_read.proofs.EarlierLemmas.{clear_from, clear_to}
 
 -- ---- numbers, booleans and dates
 
@@ -99,44 +100,29 @@ path_moved s t (p ∷ ps) = ap (λ (ns : List (List ℕ)). p.name ∷ ns) (path_
 abbrev pub paths : List ParsedAssignment → List (List (List ℕ))
 paths es = map (λ e. part_names e.parts) es
 
-none_same : (names : List (List ℕ)) (es fs : List ParsedAssignment) → paths es ≡ paths fs → NoneAt names es → NoneAt names fs
-none_same names [] [] same h = tt
+none_same : (names : List (List ℕ)) (es fs : List ParsedAssignment) → paths es ≡ paths fs → value_at es names ≡ None → value_at fs names ≡ None
+unfolding value_at
+none_same names [] [] same h = refl
 none_same names [] (f ∷ fs) same h = absurd (cc)
 none_same names (e ∷ es) [] same h = absurd (cc)
-none_same names (e ∷ es) (f ∷ fs) same (h, more) = ((λ x. h (cc)), none_same names es fs (cc) more)
+none_same names (e ∷ es) (f ∷ fs) same h = grind (arith, nat_tests, common_steps, none_same names es fs)
 
 pub paths_more : (es fs : List ParsedAssignment) (e f : ParsedAssignment) → paths es ≡ paths fs → part_names f.parts ≡ part_names e.parts → paths (es ++ (e ∷ [])) ≡ paths (fs ++ (f ∷ []))
 paths_more es fs e f same names = cc (map-append (λ g. part_names g.parts) es (e ∷ []), map-append (λ g. part_names g.parts) fs (f ∷ []))
 
--- a list with the same names as one that is split
-record CutAt (ps xs : List SimpleKey) (y : SimpleKey) (ys : List SimpleKey) : Type 0 where
-  before : List SimpleKey
-  here : SimpleKey
-  after : List SimpleKey
-  is : ps ≡ before ++ (here ∷ after)
-  first : part_names before ≡ part_names xs
-  path : part_names (before ++ (here ∷ [])) ≡ part_names (xs ++ (y ∷ []))
-  last : part_names after ≡ part_names ys
+crossed_same : (f g : List (List ℕ) → Option Span) (ps qs : List SimpleKey) → ((names : List (List ℕ)) → f names ≡ None → g names ≡ None) → part_names qs ≡ part_names ps → crossed f ps ≡ None → crossed g qs ≡ None
+unfolding crossed
+crossed_same f g ps [] none same h = refl
+crossed_same f g ps (q ∷ []) none same h = refl
+crossed_same f g [] (q ∷ r ∷ rest) none same h = absurd (cc)
+crossed_same f g (p ∷ []) (q ∷ r ∷ rest) none same h = absurd (cc)
+crossed_same f g (p ∷ o ∷ more) (q ∷ r ∷ rest) none same h =
+    let e : q.name ≡ p.name = cc in
+    let below : (names : List (List ℕ)) → f (p.name ∷ names) ≡ None → g (q.name ∷ names) ≡ None = λ names n. none (q.name ∷ names) (rw e n) in
+    grind (arith, nat_tests, common_steps, below [], crossed_same (λ names. f (p.name ∷ names)) (λ names. g (q.name ∷ names)) (o ∷ more) (r ∷ rest) below)
 
-cut_alike : (ps xs : List SimpleKey) (y : SimpleKey) (ys : List SimpleKey) → part_names (xs ++ (y ∷ ys)) ≡ part_names ps → CutAt ps xs y ys
-cut_alike [] [] y ys e = absurd (cc)
-cut_alike [] (x ∷ xs) y ys e = absurd (cc)
-cut_alike (p ∷ ps) [] y ys e = record { before = []; here = p; after = ps; is = refl; first = refl; path = cc; last = cc }
-cut_alike (p ∷ ps) (x ∷ xs) y ys e =
-    let c = cut_alike ps xs y ys cc in
-    record { before = p ∷ c.before; here = c.here; after = c.after; is = cc (c.is); first = cc; path = cc; last = c.last }
-
-through_same : (ps qs : List SimpleKey) (es fs : List ParsedAssignment) → part_names qs ≡ part_names ps → paths es ≡ paths fs → NoneThrough ps es → NoneThrough qs fs
-through_same ps qs es fs m same h outer p rest e = grind (arith, nat_tests, common_steps, cut_alike ps outer p rest, none_same (part_names (outer ++ (p ∷ []))) es fs)
-
-none_of : (ps : List SimpleKey) → part_names ps ≡ [] → ps ≡ []
-none_of [] e = refl
-none_of (p ∷ ps) e = absurd (cc)
-
-pub clear_same : (es fs : List ParsedAssignment) (e f : ParsedAssignment) → paths es ≡ paths fs → part_names f.parts ≡ part_names e.parts → Clear es e → Clear fs f
-clear_same es fs e f same names h inner last x =
-    let c = cut_alike e.parts inner last [] (sym (ap (λ (l : List SimpleKey). part_names l) x) ∙ names) in
-    through_same c.before inner es fs (sym c.first) same (h c.before c.here (subst (λ (l : List SimpleKey). e.parts ≡ c.before ++ (c.here ∷ l)) (none_of c.after c.last) c.is))
+pub clear_same : (es fs : List ParsedAssignment) (e f : ParsedAssignment) → paths es ≡ paths fs → part_names f.parts ≡ part_names e.parts → crossing es e ≡ None → crossing fs f ≡ None
+clear_same es fs e f same names h = clear_from _ _ (crossed_same (value_at es) (value_at fs) e.parts f.parts (λ ns. none_same ns es fs same) names (clear_to es e h))
 
 pub length_moved : (s t : ℕ) (ss : List SimpleKey) → length (moved_parts s t ss) ≡ length ss
 length_moved s t ss = length-map ss _

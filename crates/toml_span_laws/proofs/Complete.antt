@@ -6,6 +6,7 @@ use Rattle.toml_span_lex.specs.Tokens.{string, RunAt, keylike}
 use Rattle.toml_span_lex.specs.declared.span.Span.{Span}
 use Rattle.toml_span_lex.proofs.Unique.{or_true}
 use Rattle.toml_span_tree.specs.Node.{Scalar, text as text_scalar, integer, float, boolean, datetime, finite, infinite, not_a_number}
+use Rattle.toml_span_read.proofs.EarlierLemmas.{added_clear}
 use Rattle.toml_span_read.specs.declared.fault.ExpectedToken.{ExpectedToken}
 use Rattle.toml_span_read.specs.Data.{ParsedValue, parsed, scalar, array, inline, ParsedItems, no_items, item, onto, ParsedPairs, no_pairs, pair, pairs_onto, ParsedAssignment, ParsedSection, from_to, headerless_section, SimpleKey}
 use Rattle.toml_span_read.specs.Dates.{begins_date}
@@ -181,9 +182,9 @@ mutual
       let none = no_brace ss text i p.0 p.2 in
       let kv = pair_given f text limit left d i m p (value_complete v text limit (left - length ss) (d + length ss) p.1 m (omega arith) p.5) in
       elim o [
-        | inl (z, c) ↦ ends (acc, i) _ (inr (none, inl ((f, m), kv, inl (acc ++ (f ∷ []), inl (clear, refl), rw (z, ← pairs_onto_more acc f no_pairs) (closes 125 _ text m j _ (read.table_end (acc ++ (f ∷ []))) refl c)))))
+        | inl (z, c) ↦ ends (acc, i) _ (inr (none, inl ((f, m), kv, inl (acc ++ (f ∷ []), added_clear _ _ clear, rw (z, ← pairs_onto_more acc f no_pairs) (closes 125 _ text m j _ (read.table_end (acc ++ (f ∷ []))) refl c)))))
         | inr (q, c, r) ↦
-            goes_on (acc, i) (acc ++ (f ∷ []), q) _ (inr (none, inl ((f, m), kv, inl (acc ++ (f ∷ []), inl (clear, refl), comma 125 _ text m q _ (read.table_end (acc ++ (f ∷ []))) c))))
+            goes_on (acc, i) (acc ++ (f ∷ []), q) _ (inr (none, inl ((f, m), kv, inl (acc ++ (f ∷ []), added_clear _ _ clear, comma 125 _ text m q _ (read.table_end (acc ++ (f ∷ []))) c))))
             (rw (pairs_onto_more acc f ps) at (pairs_complete ps (acc ++ (f ∷ [])) text limit left d q j e r))
       ]
 
@@ -198,7 +199,7 @@ assignment_complete e text limit i j h =
 assignments_complete : (es acc : List ParsedAssignment) (text : List ℕ) (limit i j : ℕ) → AssignmentsWith SpellsScalar es acc text limit i j → read.ends_lines text j ≡ true → Loop (read.next_assignment text limit) (acc, i) (Ok (acc ++ es, j))
 assignments_complete [] acc text limit i j e t = ends (acc, i) _ (inl (rw e at t, rw (e, append-nil acc) refl))
 assignments_complete (e ∷ es) acc text limit i j (m, n, k, h, t, clear, g, r) s =
-    goes_on (acc, i) (acc ++ (e ∷ []), k) _ (inr (grind (arith, nat_tests, common_steps), inl ((e, m), assignment_complete e text limit i m h, inl (n, inl (n, t, refl), inl (acc ++ (e ∷ []), inl (clear, refl), (k, g, refl))))))
+    goes_on (acc, i) (acc ++ (e ∷ []), k) _ (inr (grind (arith, nat_tests, common_steps), inl ((e, m), assignment_complete e text limit i m h, inl (n, inl (n, t, refl), inl (acc ++ (e ∷ []), added_clear _ _ clear, (k, g, refl))))))
     (rw (append_assoc acc (e ∷ []) es) at (assignments_complete es (acc ++ (e ∷ [])) text limit k j r s))
 
 lines_complete : (es : List ParsedAssignment) (text : List ℕ) (limit i j : ℕ) → SpellsLines es text limit i j → read.ends_lines text j ≡ true → read.assignment_lines text limit i (Ok (es, j))

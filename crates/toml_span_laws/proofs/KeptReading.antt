@@ -1,6 +1,6 @@
 -- What is read of a text, and each fault, depend only on the bytes up to the end of what is read or reported, and two
 -- more.
-use Rattle.toml_span_lex.proofs.Common.{◌≡◌, ℕ, zero, suc, ◌+◌, ◌<◌, ◌≤◌, ◌⊎◌, Bool, true, false, List, [], ◌∷◌, ◌++◌, length, get_or, arith, inl, inr, refl, sym, ap, ◌∙◌, ◌==◌, ◌||◌, Result, Ok, Err, nat_tests, common_steps, false≢true, get_or_past, if◌then◌else◌}
+use Rattle.toml_span_lex.proofs.Common.{◌≡◌, ℕ, zero, suc, ◌+◌, ◌<◌, ◌≤◌, ◌⊎◌, Option, None, Some, option_map_or, Bool, true, false, List, [], ◌∷◌, ◌++◌, length, get_or, arith, inl, inr, refl, sym, ap, ◌∙◌, ◌==◌, ◌||◌, Result, Ok, Err, nat_tests, common_steps, false≢true, get_or_past, if◌then◌else◌}
 use Rattle.std.proofs.lemmas.Bool.{ne_eqb}
 use Rattle.toml_span_lex.specs.declared.span.Span.{Span}
 use Rattle.toml_span_lex.specs.declared.tokens.Error.{Error}
@@ -14,6 +14,8 @@ use Rattle.toml_span_lex.specs.Tokens.{Lexeme, whitespace, newline, comment, pun
 use Rattle.toml_span_lex.proofs.Within.{token_within, fault_within}
 use Rattle.toml_span_lex.proofs.Unique.{run_unique}
 use Rattle.toml_span_tree.specs.Node.{Scalar}
+use Rattle.toml_span_read.specs.Earlier.{crossing}
+use Rattle.toml_span_read.proofs.EarlierLemmas.{fault_to}
 use Rattle.toml_span_read.specs.declared.fault.Fault.{Fault}
 use Rattle.toml_span_read.specs.declared.fault.FaultKind.TheVariants as kinds
 use Rattle.toml_span_read.specs.declared.fault.ExpectedToken.{ExpectedToken}
@@ -404,17 +406,13 @@ module _ (a : List ℕ) where
       (λ t. stays_missing expected_tokens.Equals n)))
 
   added_stays : (es : List ParsedAssignment) (e : ParsedAssignment) (m j : ℕ) → (parsed_span e.value).end ≤ m → m ≤ (parsed_span e.value).end + 3 → (j ≡ m) ⊎ Tail a m j → Stays (λ fs k. k ≡ j) j (λ b. read.added es e)
-  added_stays es e m j l k o = record { found = added_found }
+  added_stays es e m j l k o = go (crossing es e) refl
     where
-      added_found : (r : Result (List ParsedAssignment) Fault) → read.added es e r → Found (λ fs k. k ≡ j) j (λ b. read.added es e) r
-      added_found r (inl (clear, is)) = (j, rw is refl, λ n reach. (let p : Past a n j = rw is at reach in (p, λ b w. inl (clear, is))))
-      added_found r (inr (fault, crossing, is)) = (
-        j,
-        rw (is, crossing.fault_is) (m, l, k, o),
-        λ n reach. (
-            let q : n ≡ j + 2 = rw (is, crossing.fault_is) at reach in
-            (past_two (omega arith), λ b w. inr (fault, crossing, is))),
-      )
+      go : (x : Option Fault) → crossing es e ≡ x → Stays (λ fs k. k ≡ j) j (λ b r. r ≡ option_map_or (λ fault. Err fault) x (Ok (es ++ (e ∷ []))))
+      go None is = stays_ok _ j (omega arith) refl
+      go (Some fault) is =
+          let f = fault_to es e fault is in
+          stays_err fault j (rw f.is (m, l, k, o)) (λ n reach. (let q : n ≡ j + 2 = rw f.is at reach in past_two (omega arith)))
 
   separator_stays : {X A : Type 0} {P : A → ℕ → Type 0} (close : ℕ) (expected : ExpectedToken) (m : ℕ) (next : ℕ → X × ℕ) (end : ℕ → A) → ((p : ℕ) → p ≡ (next p).1) → ((k : ℕ) → P (end k) k)
       → Stays (Turned P) m (λ b. read.separator close expected b m next end)

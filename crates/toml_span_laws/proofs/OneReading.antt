@@ -12,7 +12,7 @@ use Rattle.toml_span_read.specs.declared.fault.Fault.{Fault}
 use Rattle.toml_span_read.specs.Read.{Reading, after, NextToken, token, text_end, no_token, IsNextToken, choice, LoopStep, on, done, Loop, ends, stops, goes_on, key_result, Parts, onward, ValueEnd, Elements, Pairs, ParsedSections}
 use Rattle.toml_span_lex.specs.Bytes.{is_blank, is_printed, MaximalRun}
 use Rattle.toml_span_read.specs.Gaps.{GapPiece, begins_gap, GapBy, MaximalGap, Dot, NoDot, Skipped, Tail, NoTail}
-use Rattle.toml_span_read.specs.Data.{SimpleKey, ParsedAssignment}
+use Rattle.toml_span_read.specs.Data.{SimpleKey}
 use Rattle.toml_span_read.specs.Read as read
 use Rattle.toml_span_read.proofs.NumberLemmas.{same_byte}
 use Rattle.toml_span_lex.specs.Text.{LineEnd, NoLineEnd, CharAt}
@@ -20,7 +20,6 @@ use Rattle.toml_span_lex.specs.Text.{FirstPlace}
 use Rattle.toml_span_lex.proofs.Unique.{run_unique, line_unique}
 use Rattle.toml_span_read.specs.declared.fault.ExpectedToken.{ExpectedToken}
 use Rattle.toml_span_read.specs.Dates.{is_date_byte, continues_date}
-use Rattle.toml_span_laws.proofs.EarlierLaws.{clear_crossing, crossing_one}
 
 pub one_after : {A B : Type 0} {m : Reading A} {f : A → Reading B} → One m → ((a : A) → One (f a)) → One (after m f)
 one_after one each = grind (arith, nat_tests, common_steps)
@@ -165,13 +164,10 @@ parsed_assignment_one text limit skipped value i unique one =
     one_after (key_one false text limit [] i) (λ (ps, a). one_given (unique a)
     (λ n. one_choice (one_given (unique (n + 1)) (λ b. one_after (one (length ps) b) (λ f. one_is))) (one_standing text n)))
 
-joined_one : (es : List ParsedAssignment) (e : ParsedAssignment) → One (read.added es e)
-joined_one es e = one_either (one_where one_is) (one_given (crossing_one es e) (λ f. one_is)) (λ r s clear f. clear_crossing es e f.0 clear.0 f.1)
-
 pair_one : (text : List ℕ) (limit : ℕ) (value : ℕ → ℕ → Reading ValueEnd) → ((n b : ℕ) → One (value n b)) → (s : Pairs) → One (read.next_pair text limit value s)
 pair_one text limit value one (es, i) =
     one_choice one_is
-    (one_after (parsed_assignment_one text limit _ value i (gap_unique text) one) (λ (e, m). one_after (joined_one es e) (λ fs. separator_one _ _ text m _ (read.table_end fs))))
+    (one_after (parsed_assignment_one text limit _ value i (gap_unique text) one) (λ (e, m). one_after one_is (λ fs. separator_one _ _ text m _ (read.table_end fs))))
 
 pub value_one : (text : List ℕ) (limit left n i : ℕ) → One (read.value text limit left n i)
 unfolding read.value
@@ -192,7 +188,7 @@ assignment_one text limit i = parsed_assignment_one text limit _ (read.value tex
 
 line_one : (text : List ℕ) (limit : ℕ) (s : Pairs) → One (read.next_assignment text limit s)
 line_one text limit (es, i) =
-    one_choice one_is (one_after (assignment_one text limit i) (λ (e, m). one_after (tail_one text m) (λ n. one_after (joined_one es e) (λ fs. one_given (gap_unique text n) (λ k. one_is)))))
+    one_choice one_is (one_after (assignment_one text limit i) (λ (e, m). one_after (tail_one text m) (λ n. one_after one_is (λ fs. one_given (gap_unique text n) (λ k. one_is)))))
 
 lines_one : (text : List ℕ) (limit i : ℕ) → One (read.assignment_lines text limit i)
 lines_one text limit i = one_given (gap_unique text i) (λ k. one_loop (read.next_assignment text limit) (line_one text limit) ([], k))

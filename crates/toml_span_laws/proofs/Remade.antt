@@ -1,10 +1,10 @@
 -- What is around a scalar that is replaced: with what is written in its place it is a document again.
-use Rattle.toml_span_lex.proofs.Common.{◌≡◌, ℕ, ◌+◌, ◌-◌, ◌<◌, ◌≤◌, ◌⊎◌, true, false, List, [], ◌∷◌, ◌++◌, map, length, get_or, arith, inl, inr, refl, sym, ap, ◌∙◌, false≢true, get_or_past, map-append, nat_tests, common_steps}
+use Rattle.toml_span_lex.proofs.Common.{◌≡◌, ℕ, ◌+◌, ◌-◌, ◌<◌, ◌≤◌, ◌⊎◌, true, false, None, List, [], ◌∷◌, ◌++◌, map, length, get_or, arith, inl, inr, refl, sym, ap, ◌∙◌, false≢true, get_or_past, map-append, nat_tests, common_steps}
 use Rattle.toml_span_lex.specs.declared.span.Span.{Span}
 use Rattle.toml_span_lex.specs.Bytes.{is_printed}
 use Rattle.toml_span_lex.specs.Text.{FirstPlace}
 use Rattle.toml_span_read.specs.Data.{SimpleKey, ParsedValue, parsed, scalar, array, inline, ParsedItems, no_items, item, ParsedPairs, no_pairs, pair, ParsedAssignment, ParsedSection, from_to, last_end, headerless_section}
-use Rattle.toml_span_read.specs.Earlier.{Clear}
+use Rattle.toml_span_read.specs.Earlier.{crossing}
 use Rattle.toml_span_read.specs.Gaps.{GapBy, MaximalGap, Separator, Closes, Tail}
 use Rattle.toml_span_read.specs.Grammar.{Spells, SpellsScalar, ItemsWith, PairsWith, AssignmentWith, AssignmentsWith, SectionWith, SectionsWith, SpellsDocument}
 use Rattle.toml_span_read.specs.Keys.{SpellsKey}
@@ -142,7 +142,7 @@ module _ (a : List ℕ) (limit : ℕ) (bs : List ParsedSection) where
       put h (omega arith) r (parsed (inline ys) (from_to i (to h j))) (least, (test (same h) (λ c. c) 123 i (omega arith) here, refl, k, gap (same h) (i + 1) k p g, x)) (ap (λ z. parsed (inline z) no_span) e)
 
   pub in_pair : (ss : List SimpleKey) (v : ParsedValue) (x : Span) (ps : ParsedPairs) (es : List ParsedAssignment) (d i y z m j : ℕ) → SpellsKey ss a i y → length ss ≤ limit → Separator 61 a y z → is_printed (get_or a z 0) ≡ true
-      → Clear es (record { parts = ss; value = v; extent = x }) → m ≤ j → j ≤ length a
+      → crossing es (record { parts = ss; value = v; extent = x }) ≡ None → m ≤ j → j ≤ length a
       → ((ps ≡ no_pairs) × Closes 125 a m j) ⊎ ((p : ℕ) × Separator 44 a m p × PairsWith SpellsScalar ps (es ++ (record { parts = ss; value = v; extent = x } ∷ [])) a limit d p j)
       → PutsPairs d es (pair ss v x ps) i j → PutsValue (d + length ss) v z m
   in_pair ss v x ps es d i y z m j key least c seen clear on fits rest put h l r u g e =
@@ -167,7 +167,7 @@ module _ (a : List ℕ) (limit : ℕ) (bs : List ParsedSection) where
         (either (given (λ q. ap (λ (w : ParsedPairs). moved_pairs s t w) q) (closes w 125)) (in_sequence (sign w 44) (pairs_copied w ps (es ++ (f ∷ [])) (es ++ (k ∷ [])) limit d d same_depth (paths_more es es f k refl refl)))).to m j (to h m) (to h j) (after h m r (omega arith)) (after h j (omega arith) fits) rest,
       ) (cc (e, pairs_moved s t ps, left))
 
-  pub in_later_pair : (e : ParsedAssignment) (ps : ParsedPairs) (es : List ParsedAssignment) (d i m p j : ℕ) → SpellsPair e a limit d i m → Clear es e → Separator 44 a m p
+  pub in_later_pair : (e : ParsedAssignment) (ps : ParsedPairs) (es : List ParsedAssignment) (d i m p j : ℕ) → SpellsPair e a limit d i m → crossing es e ≡ None → Separator 44 a m p
       → PutsPairs d es (pair e.parts e.value e.extent ps) i j → PutsPairs d (es ++ (e ∷ [])) ps p j
   in_later_pair e ps es d i m p j x clear c put h past r ys z q =
       let (y, from, key, least, sign, spells, extent) = x in
@@ -185,7 +185,7 @@ module _ (a : List ℕ) (limit : ℕ) (bs : List ParsedSection) where
 
   -- ---- lines
 
-  pub in_line : (e : ParsedAssignment) (es before : List ParsedAssignment) (i m n k j : ℕ) → (x : AssignmentWith SpellsScalar e a limit i m) → Tail a m n → Clear before e → MaximalGap a n k
+  pub in_line : (e : ParsedAssignment) (es before : List ParsedAssignment) (i m n k j : ℕ) → (x : AssignmentWith SpellsScalar e a limit i m) → Tail a m n → crossing before e ≡ None → MaximalGap a n k
       → AssignmentsWith SpellsScalar es (before ++ (e ∷ [])) a limit k j → k ≤ j → j ≤ length a → PutsLines before (e ∷ es) i j → PutsValue (length e.parts) e.value x.from m
   in_line e es before i m n k j x end clear g rest on fits put h l r u y q =
       let s : ℕ = h.j in
@@ -219,7 +219,7 @@ module _ (a : List ℕ) (limit : ℕ) (bs : List ParsedSection) where
         (lines_copied w (whole h) es (before ++ (e ∷ [])) (before ++ (f ∷ [])) limit (paths_more before before e f refl refl)).to k j (to h k) (to h j) (after h k (omega arith) (omega arith)) (after h j (omega arith) fits) rest,
       ) (cc (q, assignments_moved s t es, left))
 
-  pub in_later_line : (e : ParsedAssignment) (es before : List ParsedAssignment) (i m n k j : ℕ) → AssignmentWith SpellsScalar e a limit i m → Tail a m n → Clear before e → MaximalGap a n k
+  pub in_later_line : (e : ParsedAssignment) (es before : List ParsedAssignment) (i m n k j : ℕ) → AssignmentWith SpellsScalar e a limit i m → Tail a m n → crossing before e ≡ None → MaximalGap a n k
       → PutsLines before (e ∷ es) i j → PutsLines (before ++ (e ∷ [])) es k j
   in_later_line e es before i m n k j x end clear g put h past r ys z q =
       let lies = value_lies e.value a limit (length e.parts) x.from m x.spelled in

@@ -1,10 +1,11 @@
 -- At each offset in a text each form is read, or there is a fault.
-use Rattle.toml_span_lex.proofs.Common.{◌≡◌, ℕ, zero, suc, ◌+◌, ◌<◌, ◌≤◌, Bool, true, false, List, length, arith, inl, inr, refl, Result, Ok, Err, nat_tests, common_steps, [], ◌∷◌, ◌++◌, get_or, Some, None, Option, ◌==◌, ◌||◌, is_some, if◌then◌else◌, codes, IsUtf8, IsCharBoundary, bytes_eq, or_parts}
+use Rattle.toml_span_lex.proofs.Common.{◌≡◌, ℕ, zero, suc, ◌+◌, ◌<◌, ◌≤◌, Bool, true, false, List, length, arith, inl, inr, refl, Result, Ok, Err, nat_tests, common_steps, [], ◌∷◌, ◌++◌, get_or, Some, None, Option, option_map_or, ◌==◌, ◌||◌, is_some, if◌then◌else◌, codes, IsUtf8, IsCharBoundary, bytes_eq, or_parts}
 use Rattle.toml_span_lex.specs.declared.span.Span.{Span}
 use Rattle.toml_span_lex.specs.Laws.{SomethingStands}
 use Rattle.toml_span_lex.specs.Tokens.{keylike, string}
 pub use Rattle.toml_span_lex.proofs.One.{One, one_is, one_where, one_given, one_either}
 use Rattle.toml_span_lex.proofs.Within.{token_within}
+use Rattle.toml_span_read.specs.Earlier.{crossing}
 use Rattle.toml_span_read.specs.declared.fault.Fault.{Fault}
 use Rattle.toml_span_read.specs.Read.{Reading, after, NextToken, token, text_end, no_token, IsNextToken, choice, LoopStep, on, done, Loop, ends, stops, goes_on, run_at, number_or_word, next_section, key_result, string_of, Parts, onward, skipping, missing, ValueEnd, Elements, Pairs, ParsedSections, HeaderEnd}
 use Rattle.toml_span_lex.specs.Bytes.{is_blank, is_keylike, MaximalRun}
@@ -26,7 +27,6 @@ use Rattle.toml_span_read.proofs.NumberLemmas.{bool_cases, byte_is, run_is}
 use Rattle.toml_span_read.proofs.NumberReads.{Starts, number_advances}
 use Rattle.toml_span_read.proofs.Places.{run_some, after_byte}
 use Rattle.toml_span_laws.specs.code.Judged.{Onto, Judged}
-use Rattle.toml_span_laws.proofs.EarlierLaws.{every_key}
 
 -- ---- there is a result
 
@@ -203,7 +203,7 @@ assignment_sure text limit skipped value i all skips sure b =
     (sure_missing expected_tokens.Equals text n all f.1)))
 
 joined_sure : (es : List ParsedAssignment) (e : ParsedAssignment) → Sure (λ fs. Unit {0}) (read.added es e)
-joined_sure es e = elim (every_key es e) [ inl clear ↦ (Ok (es ++ (e ∷ [])), inl (clear, refl), tt) | inr c ↦ (Err c.0, inr (c.0, c.1, refl), tt) ]
+joined_sure es e = elim (crossing es e) as (λ o. Sure (λ fs. Unit {0}) (λ r. r ≡ option_map_or (λ fault. Err fault) o (Ok (es ++ (e ∷ []))))) [ None ↦ (_, refl, tt) | Some fault ↦ (_, refl, tt) ]
 
 pair_sure : (text : List ℕ) (limit h : ℕ) (value : ℕ → ℕ → Reading ValueEnd) → AllJudged text → ((n b : ℕ) → IsCharBoundary text b → Sure (Ends text (b + 1)) (value n b)) → (s : Pairs) → Onto text h s.1
     → Sure (Turned (Onto text h) (Ends text h) s.1) (read.next_pair text limit value s)

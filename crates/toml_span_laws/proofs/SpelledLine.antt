@@ -1,14 +1,16 @@
 -- The spellings of a key and a value, with an equals sign between them, are a document of one assignment.
-use Rattle.toml_span_lex.proofs.Common.{◌≡◌, ℕ, ◌+◌, ◌<◌, ◌≤◌, true, false, List, [], ◌∷◌, ◌++◌, length, get_or, drop, arith, inr, sym, ◌∙◌, refl, ap, subst, append-nil, append_assoc, length-append, codes, ◌==◌, ◌||◌, or_parts, drop_more, get_or_past, encode_ascii, len_utf8_ascii, nat_tests, common_steps}
+use Rattle.toml_span_lex.proofs.Common.{◌≡◌, ℕ, ◌+◌, ◌<◌, ◌≤◌, true, false, List, [], ◌∷◌, ◌++◌, length, get_or, None, drop, arith, inr, sym, ◌∙◌, refl, ap, subst, append-nil, append_assoc, length-append, codes, ◌==◌, ◌||◌, or_parts, drop_more, get_or_past, encode_ascii, len_utf8_ascii, nat_tests, common_steps}
 use Rattle.toml_span_lex.specs.Bytes.{is_blank}
 use Rattle.toml_span_lex.specs.Text.{FirstPlace}
 use Rattle.toml_span_tree.specs.Node.{Node, node}
 use Rattle.toml_span_tree.specs.Value.{is_whole}
 use Rattle.toml_span_read.specs.Data.{ParsedValue, ParsedAssignment, from_to, headerless_section, SimpleKey}
+use Rattle.toml_span_read.specs.Earlier.{crossed, crossing}
 use Rattle.toml_span_read.specs.Gaps.{begins_gap, MaximalGap, Tail}
 use Rattle.toml_span_read.specs.Grammar.{Spells, SpellsDocument, AssignmentWith, SpellsScalar}
 use Rattle.toml_span_read.specs.Keys.{SpellsSimpleKey}
 use Rattle.toml_span_read.specs.Again.{ReadsAsKey, ReadsAsValue, HasFloatTexts, IsWithin}
+use Rattle.toml_span_read.proofs.EarlierLemmas.{clear_from}
 use Rattle.toml_span_read.proofs.Parts.{Part, same_part, back, tail, here, whole}
 use Rattle.toml_span_read.proofs.GapStarts.{no_gap, key_starts, value_starts, nothing, blank_run}
 use Rattle.toml_span_laws.specs.Again.{SpellsAssignment}
@@ -67,6 +69,11 @@ no_more b l e =
     let past : get_or b l 0 ≡ 0 = get_or_past b l 0 (omega arith) in
     ((l, grind (arith, nat_tests, common_steps), inr (e, refl)), record { ends = []; pieces = refl; forward = omega arith; stops = rw past refl })
 
+-- the first key goes through no value
+first_clear : (s : SimpleKey) (v : ParsedValue) (text : List ℕ) → crossing [] (pair text s v) ≡ None
+unfolding crossed
+first_clear s v text = clear_from [] _ refl
+
 pub document : (s : SimpleKey) (v : ParsedValue) (text : List ℕ) (limit a : ℕ) → SpellsSimpleKey s text 0 a → AssignmentWith SpellsScalar (pair text s v) text limit 0 (length text) → SpellsDocument (headerless_section (pair text s v ∷ [])) text limit
 document s v text limit a k line =
     let more = no_more text (length text) refl in
@@ -76,7 +83,7 @@ document s v text limit a k line =
       first = pair text s v ∷ [];
       rest = [];
       begins = first_place s text a k;
-      lines = (0, nothing text 0 (no_gap text 0 (key_starts s text 0 a k)), (length text, length text, length text, line, more.0, (λ inner last e outer p rest q. tt), more.1, refl));
+      lines = (0, nothing text 0 (no_gap text 0 (key_starts s text 0 a k)), (length text, length text, length text, line, more.0, first_clear s v text, more.1, refl));
       sections = refl;
       all = refl;
     }

@@ -1,9 +1,11 @@
 -- The way of each key from the table of its section: a key of that section goes through none of its values, and a
 -- dotted key that goes through a value is never the first clash.
-use Rattle.toml_span_lex.proofs.Common.{◌≡◌, ℕ, suc, ◌+◌, List, [], ◌∷◌, ◌++◌, length, map, refl, sym, ap, ◌∙◌, subst, append_assoc, append-nil, inl, inr, ⊤, append_cancel_left, arith, nat_tests, common_steps, ◌<◌, ◌≤◌, ◌⊎◌, Bool, true, false, if◌then◌else◌}
+use Rattle.toml_span_lex.proofs.Common.{◌≡◌, ℕ, suc, ◌+◌, List, [], ◌∷◌, ◌++◌, length, map, refl, sym, ap, ◌∙◌, subst, append_assoc, append-nil, inl, inr, ⊤, append_cancel_left, arith, nat_tests, common_steps, ◌<◌, ◌≤◌, ◌⊎◌, None, Bool, true, false, if◌then◌else◌}
 use Rattle.toml_span_tree.specs.Path.{Path, key}
 use Rattle.toml_span_read.specs.Data.{ParsedValue, parsed, scalar, array, inline, ParsedItems, no_items, item, ParsedPairs, no_pairs, pair, ParsedAssignment, ParsedSection, headerless_section, SimpleKey}
-use Rattle.toml_span_read.specs.Earlier.{Clear, NoneAt, part_names}
+use Rattle.toml_span_read.specs.Earlier.{crossed, crossing, value_at, part_names}
+use Rattle.toml_span_read.proofs.EarlierLemmas.{clear_to, crossed_clear}
+use Rattle.toml_span_read.proofs.EarlierKnows.{none-before, none-last}
 use Rattle.toml_span_read.specs.Grammar.{Spells, SpellsDocument, SpellsLines, ItemsWith, PairsWith, AssignmentsWith, SectionsWith, SpellsScalar}
 use Rattle.toml_span_read.specs.Keys.{SpellsKey}
 use Rattle.toml_span.specs.declared.claims.ClaimKind.TheVariants.{Dotted, Assigned, StandardTable}
@@ -18,7 +20,6 @@ use Rattle.toml_span.specs.declared.claims.HeaderInfo.{HeaderInfo}
 use Rattle.toml_span.specs.Clashes.{clash_kind}
 use Rattle.toml_span.specs.Flat.{all_claims, by_header}
 use Rattle.toml_span_laws.specs.Order.{claim_start}
-use Rattle.toml_span_laws.proofs.EarlierLaws.{front_last}
 use Rattle.toml_span_laws.proofs.FirstPair.{clash-blames, free-of, pair-late}
 use Rattle.toml_span_laws.proofs.SpelledClaims.{Headed, header-headed}
 use Rattle.toml_span_laws.proofs.Order.{document-rises}
@@ -60,15 +61,7 @@ keys parts = map key (part_names parts)
 
 -- The path is not that of an assignment, except for these.
 abbrev pub Bars : Path → List ParsedAssignment → Path → Type 0
-Bars base es p = (names : List (List ℕ)) → NoneAt names es → p ≡ base ++ map key names → ⊥
-
-none-before : (names : List (List ℕ)) (es : List ParsedAssignment) (next : ParsedAssignment) → NoneAt names (es ++ (next ∷ [])) → NoneAt names es
-none-before names [] next none = tt
-none-before names (e ∷ es) next none = (none.0, none-before names es next none.1)
-
-none-last : (names : List (List ℕ)) (es : List ParsedAssignment) (next : ParsedAssignment) → NoneAt names (es ++ (next ∷ [])) → part_names next.parts ≡ names → ⊥
-none-last names [] next none is = none.0 is
-none-last names (e ∷ es) next none is = none-last names es next none.1 is
+Bars base es p = (names : List (List ℕ)) → value_at es names ≡ None → p ≡ base ++ map key names → ⊥
 
 -- a way to the path from a table at which a section begins
 pub record Traced (R : List Claim → Path → Type 0) (l : List Claim) (p : Path) : Type 0 where
@@ -85,7 +78,7 @@ traced-on : (R : List Claim → Path → Type 0) (laws : Bases R) (l more : List
 traced-on R laws l more p t = record { base = t.base; root = laws.more l more t.base t.root; way = way-on l more t.base p t.way }
 
 -- after claims that do not assign, except for one that assigns this
-known-on : (R : List Claim → Path → Type 0) (laws : Bases R) (base : Path) (es fs : List ParsedAssignment) (l more : List Claim) → Known R base es l → ((names : List (List ℕ)) → NoneAt names fs → NoneAt names es)
+known-on : (R : List Claim → Path → Type 0) (laws : Bases R) (base : Path) (es fs : List ParsedAssignment) (l more : List Claim) → Known R base es l → ((names : List (List ℕ)) → value_at fs names ≡ None → value_at es names ≡ None)
     → ((c : Claim) → IsIn c more → c.info.kind ≡ Assigned → Traced R (l ++ more) c.path × Bars base fs c.path) → Known R base fs (l ++ more)
 unfolding traced-on
 known-on R laws base es fs l more known wide new c here is = elim (in-cases c l more here) [
@@ -97,12 +90,10 @@ known-on R laws base es fs l more known wide new c here is = elim (in-cases c l 
 
 -- ---- a key that goes through no value
 
-not-clear : (base : Path) (es : List ParsedAssignment) (next : ParsedAssignment) (outer : List SimpleKey) (k m : SimpleKey) (more : List SimpleKey) (p : Path) → Clear es next → next.parts ≡ outer ++ (k ∷ m ∷ more)
+not-clear : (base : Path) (es : List ParsedAssignment) (next : ParsedAssignment) (outer : List SimpleKey) (k m : SimpleKey) (more : List SimpleKey) (p : Path) → crossing es next ≡ None → next.parts ≡ outer ++ (k ∷ m ∷ more)
     → Bars base es p → p ≡ base ++ keys (outer ++ (k ∷ [])) → ⊥
 not-clear base es next outer k m more p clear is bars on =
-    let (rest, last, split) = front_last m more in
-    let whole : next.parts ≡ (outer ++ (k ∷ rest)) ++ (last ∷ []) = is ∙ ap (λ l. outer ++ (k ∷ l)) split ∙ sym (append_assoc outer (k ∷ rest) (last ∷ [])) in
-    bars (part_names (outer ++ (k ∷ []))) (clear (outer ++ (k ∷ rest)) last whole outer k rest refl) on
+    bars (part_names (outer ++ (k ∷ []))) (crossed_clear (value_at es) outer k m more (ap (crossed (value_at es)) (sym is) ∙ clear_to es next clear)) on
 
 key-names : (xs ys : List (List ℕ)) → map key xs ≡ map key ys → xs ≡ ys
 key-names [] [] h = refl
@@ -134,7 +125,7 @@ part-at : (base p : Path) (outer : List SimpleKey) (k : SimpleKey) → p ≡ bas
 part-at base p outer k on = grind (arith, nat_tests, common_steps)
 
 key-walk : (R : List Claim → Path → Type 0) (laws : Bases R) (base : Path) (es : List ParsedAssignment) (next : ParsedAssignment) (outer parts : List SimpleKey) (v : ParsedValue) (inside : Path → Claims) (l : List Claim) (p : Path)
-    → Clear es next → R l base → next.parts ≡ outer ++ parts → p ≡ base ++ keys outer → Along (IsDotted l) base p → Known R base es l
+    → crossing es next ≡ None → R l base → next.parts ≡ outer ++ parts → p ≡ base ++ keys outer → Along (IsDotted l) base p → Known R base es l
     → ((q : Path) → own (inside q) ≡ []) → ((q : Path) (m : List Claim) → Guarded m (inside q)) → Walked R base (es ++ (next ∷ [])) l (key_claims p parts v inside)
 unfolding key_claims
 key-walk R laws base es next outer [] v inside l p clear root is on way known none inner = record {
@@ -181,7 +172,7 @@ abbrev IsAt : Path → List Claim → Path → Type 0
 IsAt p l q = q ≡ p
 
 -- a key with this base, whose walk begins
-begun : (R : List Claim → Path → Type 0) (laws : Bases R) (base : Path) (es : List ParsedAssignment) (next : ParsedAssignment) (l : List Claim) → Clear es next → R l base → Known R base es l
+begun : (R : List Claim → Path → Type 0) (laws : Bases R) (base : Path) (es : List ParsedAssignment) (next : ParsedAssignment) (l : List Claim) → crossing es next ≡ None → R l base → Known R base es l
     → ((q : Path) (m : List Claim) → Guarded m (value_claims next.value q)) → Walked R base (es ++ (next ∷ [])) l (key_claims base next.parts next.value (value_claims next.value))
 begun R laws base es next l clear root known inner =
     key-walk R laws base es next [] next.parts next.value (value_claims next.value) l base clear root refl (sym (append-nil base)) (along-base (IsDotted l) base) known

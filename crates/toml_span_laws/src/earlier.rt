@@ -1,26 +1,30 @@
 //! Laws about dotted keys that go through earlier values.
-ghost use Rattle.std.specs.Prelude.{◌≡◌, ◌⊎◌, List};
-ghost use Rattle.toml_span_read.specs.declared.fault.Fault.{Fault};
-ghost use Rattle.toml_span_read.specs.Data.{ParsedAssignment};
-ghost use Rattle.toml_span_read.specs.Earlier.{Clear, Crossing};
+ghost use Rattle.std.specs.Prelude.{◌≡◌, ◌≢◌, List, [], ◌∷◌, ◌++◌, Some, None};
+ghost use Rattle.std.specs.List.{AllByRecursion};
+ghost use Rattle.toml_span_read.specs.declared.fault.FaultKind.TheVariants as kinds;
+ghost use Rattle.toml_span_read.specs.Data.{ParsedAssignment, SimpleKey, parsed_span, from_to};
+ghost use Rattle.toml_span_read.specs.Earlier.{crossing, last_span, part_names};
 
-/// Each key either goes through an earlier value, which is a fault, or through none.
-pub fn every_key_is_judged()
-    ensures { (earlier : List ParsedAssignment) (next : ParsedAssignment) → Clear earlier next
-        ⊎ ((fault : Fault) × Crossing earlier next fault) }
+/// If a key goes through no earlier value, no earlier key has the names of its first parts, unless of all its parts.
+pub fn clear_keys_pass_no_value()
+    ensures { (earlier : List ParsedAssignment) (next : ParsedAssignment) (outer rest : List SimpleKey)
+        (part more : SimpleKey)
+        → crossing earlier next ≡ None → next.parts ≡ outer ++ (part ∷ more ∷ rest)
+        → AllByRecursion (λ e. part_names e.parts ≢ part_names (outer ++ (part ∷ []))) earlier }
 {}
 
-/// A key that goes through no earlier value does not have this fault.
-pub fn clear_or_crossing()
-    ensures { (earlier : List ParsedAssignment) (next : ParsedAssignment) (fault : Fault) → Clear earlier next
-        → Crossing earlier next fault
-        → ⊥ }
-{}
-
-/// A key that goes through earlier values has one fault: the outermost part that names such a value determines its span
-/// and the value.
-pub fn one_crossing()
-    ensures { (earlier : List ParsedAssignment) (next : ParsedAssignment) (one other : Fault)
-        → Crossing earlier next one
-        → Crossing earlier next other → one ≡ other }
+/// If an earlier key has the names of the first parts of a key, the first of these keys and the last of these parts
+/// determine the fault, unless the parts before that one already lead to a value.
+pub fn first_value_met_is_the_fault()
+    ensures { (before after : List ParsedAssignment) (found next : ParsedAssignment) (outer rest : List SimpleKey)
+        (part more : SimpleKey)
+        → next.parts ≡ outer ++ (part ∷ more ∷ rest)
+        → crossing (before ++ (found ∷ after))
+        (record { parts = outer ++ (part ∷ []); value = next.value; extent = next.extent }) ≡ None
+        → AllByRecursion (λ e. part_names e.parts ≢ part_names (outer ++ (part ∷ []))) before
+        → part_names found.parts ≡ part_names (outer ++ (part ∷ []))
+        → crossing (before ++ (found ∷ after)) next ≡ Some (record {
+          kind = kinds.DottedKeyInvalidType (last_span found.parts);
+          span = from_to part.span.start (parsed_span next.value).end;
+        }) }
 {}

@@ -1,11 +1,12 @@
 -- The spelling of a value is read again.
-use Rattle.toml_span_lex.proofs.Common.{◌≡◌, ℕ, ◌+◌, ◌<◌, ◌≤◌, ◌⊎◌, Bool, true, false, Result, Ok, Err, IfOk, OnOk, String, string_bytes, List, [], ◌∷◌, ◌++◌, length, get_or, arith, inl, inr, sym, ◌∙◌, refl, ap, subst, append_assoc, codes, IsUtf8, slice_range, Global, list_all, false≢true, and_parts, nat_tests, common_steps}
+use Rattle.toml_span_lex.proofs.Common.{◌≡◌, ℕ, ◌+◌, ◌<◌, ◌≤◌, ◌⊎◌, Bool, true, false, Result, Ok, Err, IfOk, OnOk, String, string_bytes, List, Option, None, [], ◌∷◌, ◌++◌, length, get_or, arith, inl, inr, sym, ◌∙◌, refl, ap, subst, append_assoc, codes, IsUtf8, slice_range, Global, list_all, false≢true, and_parts, nat_tests, common_steps}
 use Rattle.toml_span_lex.specs.Bytes.{is_keylike}
 use Rattle.toml_span_lex.specs.declared.span.Span.{Span}
 use Rattle.toml_span_tree.specs.Float.{float_text}
 use Rattle.toml_span_tree.specs.Node.{Scalar, text as text_scalar, integer, float, boolean, datetime, FloatValue, finite, infinite, not_a_number, Node, node, Inner, taken, Items, no_items, item, Members, no_members, member, scalar as scalar_node, array as array_node, table as table_node}
 use Rattle.toml_span_tree.specs.Value.{is_whole, holds_whole, all_whole, all_members_whole}
 use Rattle.toml_span_read.specs.Data.{ParsedValue, parsed, ParsedInner, scalar, array, inline, ParsedItems, no_items as none_read, item as item_read, ParsedPairs, no_pairs, pair, ParsedAssignment, from_to, SimpleKey}
+use Rattle.toml_span_read.specs.Earlier.{crossed, crossing, value_at}
 use Rattle.toml_span_read.specs.Dates.{begins_date, is_date_byte}
 use Rattle.toml_span_read.specs.Gaps.{begins_gap, MaximalGap, Separator, Closes}
 use Rattle.toml_span_read.specs.Grammar.{truth_text, SpellsScalar, Spells, InnerWith, ItemsWith, PairsWith}
@@ -17,6 +18,7 @@ use Rattle.toml_span_read.specs.Again.{parts_off, HasValue, HoldsValue, HaveValu
 use Rattle.toml_span_places.specs.Quoted.{key_text}
 use Rattle.toml_span_places.specs.Spelled.{scalar_text, value_text, inner_text, items_text, members_text}
 use Rattle.toml_span_places.specs.code.Spelled.{IsHeldScalar, IsHeld, IsHeldInner, AreHeld, MembersHeld}
+use Rattle.toml_span_read.proofs.EarlierLemmas.{clear_from}
 use Rattle.toml_span_read.proofs.Parts.{Part, between, same_part, front, back, tail, here, next, range, within, whole}
 use Rattle.toml_span_places.proofs.QuotedAgain.{off_parts, run_again, string_again, key_again}
 use Rattle.toml_span_read.proofs.GapStarts.{NoGap, no_gap, no_gap_is, value_starts, key_starts, nothing, blank_run}
@@ -199,6 +201,14 @@ joined_items n ns text rest limit d i j first others held can p =
     let (vs, f, more) = others text rest limit d m j held can (back (value_text n) (items_text false ns ++ (93 ∷ [])) q) in
     (item_read v vs, (m, h, more), (e, f), value_starts v text limit d i m h)
 
+crossed_alone : (f : List (List ℕ) → Option Span) (p : SimpleKey) → crossed f (p ∷ []) ≡ None
+unfolding crossed
+crossed_alone f p = refl
+
+-- a key of one part goes through no value
+one_part : (es : List ParsedAssignment) (e : ParsedAssignment) (p : SimpleKey) → e.parts ≡ p ∷ [] → crossing es e ≡ None
+one_part es e p is = clear_from es e (subst (λ (ps : List SimpleKey). crossed (value_at es) ps ≡ None) (sym is) (crossed_alone (value_at es) p))
+
 -- a pair, and those after it
 joined_pairs : (name : List ℕ) (key : Span) (n : Node) (ms : Members) (text rest : List ℕ) (es : List ParsedAssignment) (limit d i j : ℕ) → IsUtf8 name → d + 1 ≤ limit
     → ((b : ℕ) → Part text (value_text n) ((members_text false ms ++ (125 ∷ [])) ++ rest) b (b + length (value_text n)) → ValueAt text n limit (d + 1) b (b + length (value_text n))) → AfterPair ms → MembersHeld ms → MembersCanBeSpelled limit d ms
@@ -217,7 +227,7 @@ joined_pairs name key n ms text rest es limit d i j utf8 few first others held c
     let here : ParsedAssignment = record { parts = s ∷ []; value = v; extent = from_to i m } in
     let (ps, g, more) = others text rest (es ++ (here ∷ [])) limit d m j held can (back (value_text n) (members_text false ms ++ (125 ∷ [])) r) in (
       pair (s ∷ []) v (from_to i m) ps,
-      (m, (f.end, b, f.key, omega arith, f.sign, h, refl), (λ inner last at outer p rest f. grind (arith, nat_tests, common_steps)), more),
+      (m, (f.end, b, f.key, omega arith, f.sign, h, refl), one_part es here s refl, more),
       (refl, e, g),
       no_gap text i (key_starts s text i a k),
     )

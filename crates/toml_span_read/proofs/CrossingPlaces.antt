@@ -1,11 +1,14 @@
 -- The span of the fault of a key that goes through an earlier value.
-use Rattle.toml_span_lex.proofs.Common.{ℕ, ◌+◌, ◌-◌, ◌≤◌, List, [], ◌∷◌, ◌++◌, length, arith, Ok, Err}
+use Rattle.toml_span_lex.proofs.Common.{ℕ, ◌≡◌, ◌+◌, ◌-◌, ◌≤◌, List, [], ◌∷◌, length, arith, nat_tests, common_steps, Ok, Err, Option, Some}
+use Rattle.toml_span_lex.specs.declared.span.Span.{Span}
 use Rattle.std.specs.List.{AllByRecursion}
 use Rattle.toml_span_lex.specs.declared.stop.Stop.{Stop}
+use Rattle.toml_span_lex.specs.declared.stop.Stop.TheVariants as stops
 use Rattle.toml_span_lex.specs.Bytes.{is_blank, MaximalRun}
 use Rattle.toml_span_read.specs.declared.fault.Fault.{Fault}
 use Rattle.toml_span_read.specs.declared.value.Assignment.{Assignment}
 use Rattle.toml_span_read.specs.Data.{ParsedValue, parsed, ParsedAssignment, parsed_assignment, parsed_span, SimpleKey}
+use Rattle.toml_span_read.specs.Earlier.{value_at, crossed, crossing}
 use Rattle.toml_span_read.specs.Gaps.{MaximalGap}
 use Rattle.toml_span_read.specs.Grammar.{Spells}
 use Rattle.toml_span_read.specs.Places.{Ascend}
@@ -13,6 +16,7 @@ use Rattle.toml_span_read.specs.Read as read
 use Rattle.toml_span_read.specs.Read.{Reading, ValueEnd}
 use Rattle.toml_span_read.specs.code.Earlier.{AddsClear}
 use Rattle.toml_span_read.specs.code.Faults.{IsPlacedStop}
+use Rattle.toml_span_read.proofs.EarlierLemmas.{fault_to}
 use Rattle.toml_span_read.proofs.KeyOrder.{dotted_ascend}
 use Rattle.toml_span_read.proofs.InsideLemmas.{ascend_forward}
 use Rattle.toml_span_read.proofs.ReadSound.{PartsSound, assignment_sound, value_sound}
@@ -54,9 +58,20 @@ pub assignment_spanned : (e : ParsedAssignment) (text : List ℕ) (limit i j : �
 assignment_spanned e text limit i j h =
     parsed_assignment_spanned e text limit 0 (MaximalRun is_blank text) (read.value text limit (limit + 1)) i j (λ a b g. g.forward) (λ n v a b g. value_sound (limit + 1) text limit 0 n (omega arith) v a b g) h
 
-part_before : (n : ℕ) (outer : List SimpleKey) (p : SimpleKey) (rest : List SimpleKey) → StartBefore n (outer ++ (p ∷ rest)) → p.span.start ≤ n
-part_before n [] p rest h = h.0
-part_before n (q ∷ outer) p rest h = part_before n outer p rest h.1
+crossed_before : (n : ℕ) (f : List (List ℕ) → Option Span) (parts : List SimpleKey) (start : ℕ) (first : Span) → crossed f parts ≡ Some (start, first) → StartBefore n parts → start ≤ n
+unfolding crossed
+crossed_before n f [] start first met h = cc
+crossed_before n f (p ∷ []) start first met h = cc
+crossed_before n f (p ∷ q ∷ rest) start first met h = grind (arith, nat_tests, common_steps, crossed_before n (λ names. f (p.name ∷ names)) (q ∷ rest) start first)
+
+crossing_within : (earlier : List ParsedAssignment) (next : ParsedAssignment) (fault : Fault) (j : ℕ) → IsSpanned next j → crossing earlier next ≡ Some fault → (fault.span.start ≤ fault.span.end) × (fault.span.end ≤ j)
+crossing_within earlier next fault j h met =
+    let m = fault_to earlier next fault met in
+    let before = crossed_before h.0 (value_at earlier) next.parts m.start m.first m.met h.1 in
+    rw m.is (omega arith, h.3)
 
 pub crossing_placed : (stop : Stop Fault) (text : List ℕ) (old new : List Assignment) (next : Assignment) (j : ℕ) → j ≤ length text → IsSpanned (parsed_assignment next) j → AddsClear old new next (Err stop) → IsPlacedStop text stop
-crossing_placed stop text old new next j w h c = grind (arith, part_before)
+crossing_placed (stops.Memory e) text old new next j w h c = tt
+crossing_placed (stops.Fault fault) text old new next j w h c =
+    let (forward, within) = crossing_within _ (parsed_assignment next) fault j h c in
+    record { within = omega (arith, w); forward = forward }

@@ -1,7 +1,9 @@
 -- The tree of the earlier values, one level at a time.
 use Rattle.toml_span_lex.proofs.Common.{common_steps, nat_tests, ◌≡◌, ℕ, ◌-◌, ◌≤◌, ◌++◌, length, take, drop, get_or, arith, Bool, true, false, cond, List, [], ◌∷◌, map, Option, Some, None, option_map, is_some, BTreeMap, Ordering, is_eq, nat_cmp, refl, sym, ap, ◌∙◌, rules, unwrap_or, cow_str_bytes, slice_cmp, set_value, insert_entry, cases_Bool, false≢true, nat_list_cmp_total, none-some}
 use Rattle.toml_span_read.specs.Data.{SimpleKey, simple_key}
-use Rattle.toml_span_read.proofs.EarlierLemmas.{through_none, through_more}
+use Rattle.toml_span_read.proofs.EarlierLemmas.{crossed_more, crossed_none}
+use Rattle.std.proofs.Math.Path.{fun_ext}
+use Rattle.std.specs.Option.{option_or}
 use Rattle.std.proofs.lemmas.Map.Made.{lookup-map_values}
 use Rattle.std.specs.Cmp.{tied_itself}
 use Rattle.std.specs.FinMap.{nat_cmp-IsAntisymmetric, slice_cmp-IsAntisymmetric}
@@ -11,8 +13,8 @@ use Rattle.toml_span_read.specs.declared.earlier.Node.{Node as Tree, the_lemmas}
 use Rattle.toml_span_read.specs.declared.earlier.Node.TheViews.{roll-Node, out-Node}
 use Rattle.toml_span_read.specs.declared.earlier.Node.TheFolds.{fold-roll-Node}
 use Rattle.toml_span_read.specs.declared.earlier.Node.TheOpen.{Node-F}
-use Rattle.toml_span_read.specs.code.Earlier.{is_named, child, no_spans, below, Holds, holds_step, holds, Puts, PutsBelow, HoldsNone, FindsOutermost}
-use Rattle.toml_span_read.specs.Earlier.{part_names}
+use Rattle.toml_span_read.specs.code.Earlier.{is_named, child, no_spans, below, Holds, holds_step, holds, Puts, PutsBelow}
+use Rattle.toml_span_read.specs.Earlier.{part_names, crossed}
 
 -- the order of keys
 abbrev pub key_cmp : Key → Key → Ordering
@@ -140,22 +142,20 @@ parts-first xs key d some same = grind (arith, nat_tests, common_steps)
 
 -- ---- the outermost value
 
-pub finds-missing : (n : Tree) (p : SimpleKey) (ps : List SimpleKey) → child p.name (out-Node n).below.entries ≡ None → FindsOutermost (holds n) (p ∷ ps) None
-finds-missing n p ps missing =
-    through_more (λ names. holds n names ≡ None) p ps (holds-under n p.name [] None missing)
-    (λ outer q rest e. holds-under n p.name (part_names (outer ++ (q ∷ []))) None missing)
+-- the first part leads to a child, or there is none
+crosses : (n : Tree) (p : SimpleKey) (ps : List SimpleKey) (last : SimpleKey) (o : Option Tree) → child p.name (out-Node n).below.entries ≡ o
+    → crossed (holds n) (p ∷ (ps ++ (last ∷ []))) ≡ option_or (option_map (λ first. (p.span.start, first)) (below (option_map holds o) [])) (crossed (below (option_map holds o)) (ps ++ (last ∷ [])))
+crosses n p ps last o is =
+    crossed_more (holds n) p ps last
+    ∙ ap (λ (f : Holds). option_or (option_map (λ first. (p.span.start, first)) (f [])) (crossed f (ps ++ (last ∷ [])))) (fun_ext (λ names. holds-under n p.name names o is))
 
-pub finds-here : (n : Tree) (p : SimpleKey) (ps : List SimpleKey) (x : Tree) (first : Span) → child p.name (out-Node n).below.entries ≡ Some x → (out-Node x).value ≡ Some first
-    → FindsOutermost (holds n) (p ∷ ps) (Some (p.span.start, first))
-finds-here n p ps x first found value =
-    ([], p, ps, refl, through_none (λ names. holds n names ≡ None), holds-under n p.name [] (Some x) found ∙ holds-value x ∙ value, refl)
+pub finds-missing : (n : Tree) (p : SimpleKey) (ps : List SimpleKey) (last : SimpleKey) → child p.name (out-Node n).below.entries ≡ None → None ≡ crossed (holds n) (p ∷ (ps ++ (last ∷ [])))
+finds-missing n p ps last missing = sym (crosses n p ps last None missing ∙ crossed_none no_spans (ps ++ (last ∷ [])) (length (ps ++ (last ∷ []))) (λ names l. refl) (omega arith))
 
-none-under : (n : Tree) (p : SimpleKey) (ps : List SimpleKey) (x : Tree) → child p.name (out-Node n).below.entries ≡ Some x → (out-Node x).value ≡ None
-    → HoldsNone (holds x) ps → HoldsNone (holds n) (p ∷ ps)
-none-under n p ps x found value h = through_more (λ names. holds n names ≡ None) p ps (grind (arith, holds-under, holds-value)) (λ outer q rest e. grind (arith, holds-under))
+pub finds-here : (n : Tree) (p : SimpleKey) (ps : List SimpleKey) (last : SimpleKey) (x : Tree) (first : Span) → child p.name (out-Node n).below.entries ≡ Some x → (out-Node x).value ≡ Some first
+    → Some (p.span.start, first) ≡ crossed (holds n) (p ∷ (ps ++ (last ∷ [])))
+finds-here n p ps last x first found value = sym (crosses n p ps last (Some x) found ∙ rw (holds-value x ∙ value))
 
-pub finds-below : (n : Tree) (p : SimpleKey) (ps : List SimpleKey) (x : Tree) (r : Option (ℕ × Span)) → child p.name (out-Node n).below.entries ≡ Some x → (out-Node x).value ≡ None
-    → FindsOutermost (holds x) ps r → FindsOutermost (holds n) (p ∷ ps) r
-finds-below n p ps x None found value h = none-under n p ps x found value h
-finds-below n p ps x (Some s) found value (outer, q, rest, key, none, at, start) =
-    (p ∷ outer, q, rest, ap (λ l. p ∷ l) key, none-under n p outer x found value none, holds-under n p.name (part_names (outer ++ (q ∷ []))) (Some x) found ∙ at, start)
+pub finds-below : (n : Tree) (p : SimpleKey) (ps : List SimpleKey) (last : SimpleKey) (x : Tree) → child p.name (out-Node n).below.entries ≡ Some x → (out-Node x).value ≡ None
+    → crossed (holds x) (ps ++ (last ∷ [])) ≡ crossed (holds n) (p ∷ (ps ++ (last ∷ [])))
+finds-below n p ps last x found value = sym (crosses n p ps last (Some x) found ∙ rw (holds-value x ∙ value))

@@ -9,7 +9,7 @@ use Rattle.toml_span_read.specs.declared.fault.ExpectedToken.TheVariants as expe
 use Rattle.toml_span_read.specs.declared.fault.Fault.{Fault}
 use Rattle.toml_span_read.specs.Data.{ParsedValue, ParsedInner, array as array_node, inline as inline_node, ParsedItems, no_items, item, ParsedPairs, no_pairs, pair as pair_node, ParsedAssignment, onto, pairs_onto, ParsedSection, from_to, headerless_section}
 use Rattle.toml_span_read.specs.Dates.{begins_date}
-use Rattle.toml_span_read.specs.Earlier.{Clear}
+use Rattle.toml_span_read.proofs.EarlierLemmas.{is_added}
 use Rattle.toml_span_read.specs.Faults.{begins_bare, begins_number}
 use Rattle.toml_span_read.specs.Gaps.{MaximalGap, Separator, Closes, Tail}
 use Rattle.toml_span_read.specs.Grammar.{SpellsScalar, Spells, SpellsLines, OpensHeader, ClosesHeader, SpellsHeader, SpellsSection, SpellsDocument, ItemsWith, PairsWith, AssignmentWith, AssignmentsWith, SectionsWith}
@@ -161,10 +161,6 @@ pair_spelled : (e : ParsedAssignment) (text : List ℕ) (limit d : ℕ) (value :
 pair_spelled e text limit d value i j sound h =
     let r = assignment_sound e text limit (MaximalGap text) value i j h in
     (r.key_end, r.from, r.key, r.few, record { at = r.at; before = r.before; here = r.here; after = r.after }, sound (length e.parts) e.value r.from j r.given, r.extent)
-
--- what is added comes after the others
-is_added : (es fs : List ParsedAssignment) (e : ParsedAssignment) → read.added es e (Ok fs) → Clear es e × (fs ≡ es ++ (e ∷ []))
-is_added es fs e h = grind (arith)
 
 pair_kept : (text : List ℕ) (limit d k : ℕ) (value : ℕ → ℕ → Reading ValueEnd) → PartsSound text limit d value → (s : Pairs) (t : LoopStep Pairs (ParsedInner × ℕ)) → PairsFrom text limit d k s → read.next_pair text limit value s (Ok t)
     → Kept (PairsFrom text limit d k) (Members text limit d k) t

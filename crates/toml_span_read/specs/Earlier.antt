@@ -1,7 +1,10 @@
 -- Dotted keys that go through values of earlier assignments.
-use Rattle.std.specs.Prelude.{◌≡◌, ℕ, List, [], ◌∷◌, ◌++◌, map}
+use Rattle.std.specs.Prelude.{ℕ, List, [], ◌∷◌, map, find, fold, Option, None, option_map}
+use Rattle.std.specs.Cmp.Lexicographic.{pointwise}
+use Rattle.std.specs.Option.{option_or}
+use Rattle.std.specs.Str.{bytes_eq}
 use Rattle.toml_span_lex.specs.declared.span.Span.{Span}
-use Rattle.toml_span_read.specs.Data.{SimpleKey, ParsedAssignment, parsed_span}
+use Rattle.toml_span_read.specs.Data.{SimpleKey, ParsedAssignment, parsed_span, from_to}
 use Rattle.toml_span_read.specs.declared.fault.Fault.{Fault}
 use Rattle.toml_span_read.specs.declared.fault.FaultKind.TheVariants as kinds
 
@@ -9,47 +12,26 @@ use Rattle.toml_span_read.specs.declared.fault.FaultKind.TheVariants as kinds
 abbrev pub part_names : List SimpleKey → List (List ℕ)
 part_names parts = map (λ p. p.name) parts
 
--- No assignment's key has exactly these names.
-abbrev pub NoneAt : List (List ℕ) → List ParsedAssignment → Type 0
-NoneAt names [] = Unit {0}
-NoneAt names (e ∷ es) = (part_names e.parts ≡ names → ⊥) × NoneAt names es
+-- the span of the last part of a key, which has at least one part
+abbrev pub last_span : List SimpleKey → Span
+last_span parts = fold (λ span p. p.span) (from_to 0 0) parts
 
--- Of the assignments whose keys have exactly these names, the earliest has a key whose last part has this span.
-pub record EarliestAt (names : List (List ℕ)) (assignments : List ParsedAssignment) (first : Span) : Type 0 where
-  pub before : List ParsedAssignment
-  pub found : ParsedAssignment
-  pub after : List ParsedAssignment
-  pub inner : List SimpleKey
-  pub last : SimpleKey
-  pub stands : assignments ≡ before ++ (found ∷ after)
-  pub none_before : NoneAt names before
-  pub same : part_names found.parts ≡ names
-  pub key : found.parts ≡ inner ++ (last ∷ [])
-  pub span : first ≡ last.span
+-- the span of the last part of the first key that has exactly these names
+unfoldable pub value_at : List ParsedAssignment → List (List ℕ) → Option Span
+value_at es names =
+    option_map (λ e. last_span e.parts) (find (λ e. pointwise bytes_eq (part_names e.parts) names) es)
 
--- No assignment's key has the names of a prefix of these parts, nor of all of them.
-abbrev pub NoneThrough : List SimpleKey → List ParsedAssignment → Type 0
-NoneThrough parts assignments =
-    (outer : List SimpleKey) (p : SimpleKey) (rest : List SimpleKey) → parts ≡ outer ++ (p ∷ rest)
-    → NoneAt (part_names (outer ++ (p ∷ []))) assignments
+-- where the first part of a key that leads to a value starts, and that value. The last part of the key is not counted.
+unfoldable pub crossed : (List (List ℕ) → Option Span) → List SimpleKey → Option (ℕ × Span)
+crossed value (p ∷ q ∷ rest) =
+    option_or (option_map (λ first. (p.span.start, first)) (value (p.name ∷ [])))
+    (crossed (λ names. value (p.name ∷ names)) (q ∷ rest))
+crossed value parts = None
 
--- No part of the next key before the last leads to the path of an earlier value.
-abbrev pub Clear : List ParsedAssignment → ParsedAssignment → Type 0
-Clear earlier next =
-    (inner : List SimpleKey) (last : SimpleKey) → next.parts ≡ inner ++ (last ∷ []) → NoneThrough inner earlier
-
--- A part of the next key before the last leads to the path of an earlier value, no part before it does, and this is the
--- fault.
-pub record Crossing (earlier : List ParsedAssignment) (next : ParsedAssignment) (fault : Fault) : Type 0 where
-  pub outer : List SimpleKey
-  pub part : SimpleKey
-  pub more : SimpleKey
-  pub rest : List SimpleKey
-  pub first : Span
-  pub key : next.parts ≡ outer ++ (part ∷ more ∷ rest)
-  pub outermost : NoneThrough outer earlier
-  pub met : EarliestAt (part_names (outer ++ (part ∷ []))) earlier first
-  pub fault_is : fault ≡ record {
-    kind = kinds.DottedKeyInvalidType first;
-    span = record { start = part.span.start; end = (parsed_span next.value).end };
-  }
+-- the fault of an assignment whose key goes through the value of an earlier one
+unfoldable pub crossing : List ParsedAssignment → ParsedAssignment → Option Fault
+crossing earlier next =
+    option_map (λ (start, first). record {
+      kind = kinds.DottedKeyInvalidType first;
+      span = from_to start (parsed_span next.value).end;
+    }) (crossed (value_at earlier) next.parts)

@@ -1,7 +1,7 @@
 -- The grammar of values, lines and the document (TOML 1.1, "Overall Structure", "Key/Value Pair", "Array",
 -- "Inline Table", "Table", "Array of Tables").
 use Rattle.std.specs.Prelude.{◌≡◌, ℕ, ◌+◌, ◌≤◌, ◌⊎◌, Bool, true, false, ◌==◌, List, [], ◌∷◌, ◌++◌, length, slice_index}
-use Rattle.std.specs.Prelude.{slice_range, codes}
+use Rattle.std.specs.Prelude.{slice_range, codes, None}
 use Rattle.toml_span_lex.specs.declared.span.Span.{Span}
 use Rattle.toml_span_lex.specs.Bytes.{is_keylike, left_bracket, right_bracket, is_blank, MaximalRun, comma, equals}
 use Rattle.toml_span_lex.specs.Bytes.{left_brace, right_brace}
@@ -17,7 +17,7 @@ use Rattle.toml_span_read.specs.Keys.{SpellsKey}
 use Rattle.toml_span_read.specs.Data.{SimpleKey, ParsedValue, parsed, ParsedInner, scalar, ParsedItems, no_items, item}
 use Rattle.toml_span_read.specs.Data.{headerless_section, from_to, last_end, ParsedPairs, no_pairs, pair}
 use Rattle.toml_span_read.specs.Data.{ParsedAssignment, array as array_node, inline as inline_node, ParsedSection}
-use Rattle.toml_span_read.specs.Earlier.{Clear}
+use Rattle.toml_span_read.specs.Earlier.{crossing}
 
 -- ---- values
 
@@ -88,7 +88,7 @@ abbrev mutual
       (m : ℕ)
       × ((a b : ℕ) × SpellsKey ss t i a × (length ss ≤ limit) × Separator equals t a b
       × SpellsWith S v t limit (d + length ss) b m × (extent ≡ from_to i m))
-      × Clear es (record { parts = ss; value = v; extent = extent })
+      × (crossing es (record { parts = ss; value = v; extent = extent }) ≡ None)
       × (((ps ≡ no_pairs) × Closes right_brace t m j)
       ⊎ ((p : ℕ) × Separator comma t m p
       × PairsWith S ps (es ++ (record { parts = ss; value = v; extent = extent } ∷ [])) t limit d p j))
@@ -116,8 +116,8 @@ pub record AssignmentWith (S : Scalars) (ev : ParsedAssignment) (text : List ℕ
 abbrev pub AssignmentsWith : Scalars → List ParsedAssignment → List ParsedAssignment → List ℕ → ℕ → ℕ → ℕ → Type 0
 AssignmentsWith S [] earlier text limit i j = j ≡ i
 AssignmentsWith S (ev ∷ evs) earlier text limit i j =
-    (m n k : ℕ) × AssignmentWith S ev text limit i m × Tail text m n × Clear earlier ev × MaximalGap text n k
-    × AssignmentsWith S evs (earlier ++ (ev ∷ [])) text limit k j
+    (m n k : ℕ) × AssignmentWith S ev text limit i m × Tail text m n × (crossing earlier ev ≡ None)
+    × MaximalGap text n k × AssignmentsWith S evs (earlier ++ (ev ∷ [])) text limit k j
 
 -- From i to j there are blank lines, then these assignments.
 abbrev pub LinesWith : Scalars → List ParsedAssignment → List ℕ → ℕ → ℕ → ℕ → Type 0

@@ -7,6 +7,7 @@
 -- agree.
 use Rattle.std.specs.Prelude.{◌≡◌, ℕ, zero, suc, ◌+◌, ◌⊎◌, Bool, true, false, ◌||◌, ◌==◌, List, [], ◌∷◌, ◌++◌, length}
 use Rattle.std.specs.Prelude.{if◌then◌else◌, slice_index, slice_range, codes, is_some, Result, Ok, Err}
+use Rattle.std.specs.Option.{option_map_or}
 use Rattle.std.specs.Str.{bytes_eq}
 use Rattle.toml_span_lex.specs.Bytes.{is_blank, MaximalRun, comma, equals, left_bracket, right_bracket, left_brace}
 use Rattle.toml_span_lex.specs.Bytes.{right_brace}
@@ -25,7 +26,7 @@ use Rattle.toml_span_read.specs.declared.fault.ExpectedToken.TheVariants as expe
 use Rattle.toml_span_read.specs.declared.fault.Fault.{Fault}
 use Rattle.toml_span_read.specs.declared.fault.FaultKind.TheVariants as kinds
 use Rattle.toml_span_read.specs.declared.fault.FoundToken.TheVariants as found_tokens
-use Rattle.toml_span_read.specs.Earlier.{Clear, Crossing}
+use Rattle.toml_span_read.specs.Earlier.{crossing}
 use Rattle.toml_span_read.specs.Faults.{fault_at, found_of, token_fault, wanted_fault, opens_nested, begins_bare}
 use Rattle.toml_span_read.specs.Faults.{begins_number}
 use Rattle.toml_span_read.specs.Gaps.{MaximalGap, Dot, NoDot, Tail, NoTail}
@@ -236,7 +237,7 @@ keyval text limit skipped value i =
 
 -- the pairs es and then e, or the fault that the key of e goes through the value of one of them
 abbrev pub added : List ParsedAssignment → ParsedAssignment → Reading (List ParsedAssignment)
-added es e r = (Clear es e × (r ≡ Ok (es ++ (e ∷ [])))) ⊎ ((fault : Fault) × Crossing es e fault × (r ≡ Err fault))
+added es e = gives (option_map_or (λ fault. Err fault) (crossing es e) (Ok (es ++ (e ∷ []))))
 
 -- the pairs or assignments read so far, and the offset at which another one or their end is expected
 abbrev pub Pairs : Type 0

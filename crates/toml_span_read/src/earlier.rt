@@ -1,7 +1,7 @@
 //! Finds keys that go through earlier values of their section or inline table.
 ghost use Rattle.std.specs.Prelude.{◌≡◌, ◌≤◌, ◌+◌, ◌++◌, ◌∷◌, [], map, length, OnOk, Some, unwrap_or};
 ghost use Rattle.std.specs.Cow.{cow_str_bytes};
-ghost use Rattle.toml_span_read.specs.Data.{parsed_span, parsed_assignment, simple_key, parts};
+ghost use Rattle.toml_span_read.specs.Data.{SimpleKey, parsed_span, parsed_assignment, simple_key, parts};
 ghost use Rattle.toml_span_read.specs.Earlier as spec;
 ghost use Rattle.toml_span_read.specs.code.Earlier as code;
 
@@ -93,7 +93,8 @@ fn put_child<'de>(
 /// Finds the first of these parts whose path has a value. Returns the offset of that part, and the span of the key of
 /// that value.
 fn crossing<'de>(node: &Node<'de>, inner: &[Key<'de>]) -> Option<(usize, Span)>
-    ensures { code.FindsOutermost (code.holds node.now) (map simple_key inner.now) result }
+    ensures { (last : SimpleKey)
+        → result ≡ spec.crossed (code.holds node.now) (map simple_key inner.now ++ (last ∷ [])) }
 {
     let [part, rest @ ..] = inner else {
         return None;

@@ -10,10 +10,10 @@ use Rattle.toml_span_lex.specs.declared.key.Key.{Key}
 use Rattle.toml_span_lex.specs.declared.span.Span.{Span}
 use Rattle.toml_span_lex.specs.declared.stop.Stop.{Stop}
 use Rattle.toml_span_lex.specs.declared.stop.Stop.TheVariants as stops
-use Rattle.toml_span_read.specs.Data.{SimpleKey, ParsedAssignment, parsed_assignment}
+use Rattle.toml_span_read.specs.Data.{ParsedAssignment, parsed_assignment}
 use Rattle.toml_span_read.specs.declared.earlier.Node.TheOpen.{Node-F}
 use Rattle.toml_span_read.specs.declared.earlier.Node.{Node as Tree, fold-Node}
-use Rattle.toml_span_read.specs.Earlier.{part_names, NoneAt, EarliestAt, Clear, Crossing}
+use Rattle.toml_span_read.specs.Earlier.{value_at, crossing}
 use Rattle.toml_span_read.specs.declared.earlier.Earlier.{Earlier}
 use Rattle.toml_span_read.specs.declared.fault.Fault.{Fault}
 use Rattle.toml_span_read.specs.declared.value.Assignment.{Assignment}
@@ -59,46 +59,28 @@ PutsBelow name under old new =
     × (new [] ≡ old [])
     × ((other : List ℕ) (names : List (List ℕ)) → (other ≡ name → ⊥) → new (other ∷ names) ≡ old (other ∷ names))
 
--- The tree stores nothing at the path of any prefix of these parts.
-abbrev pub HoldsNone : Holds → List SimpleKey → Type 0
-HoldsNone tree parts =
-    (outer : List SimpleKey) (p : SimpleKey) (rest : List SimpleKey) → parts ≡ outer ++ (p ∷ rest)
-    → tree (part_names (outer ++ (p ∷ []))) ≡ None
-
--- The first part to whose path the tree stores a span starts at `found.0`, and that span is `found.1`.
-abbrev pub FindsOutermost : Holds → List SimpleKey → Option (ℕ × Span) → Type 0
-FindsOutermost tree parts None = HoldsNone tree parts
-FindsOutermost tree parts (Some found) =
-    (outer : List SimpleKey) × (p : SimpleKey) × (rest : List SimpleKey)
-    × (parts ≡ outer ++ (p ∷ rest)) × HoldsNone tree outer × (tree (part_names (outer ++ (p ∷ []))) ≡ Some found.1)
-    × (found.0 ≡ p.span.start)
-
--- The result is that of the earliest assignment at this path, if there is one.
-abbrev pub IsEarliestAt : List (List ℕ) → List ParsedAssignment → Option Span → Type 0
-IsEarliestAt names assignments None = NoneAt names assignments
-IsEarliestAt names assignments (Some first) = EarliestAt names assignments first
-
 -- Each key has more than n parts.
 abbrev pub EachLonger : ℕ → List ParsedAssignment → Type 0
 EachLonger n [] = Unit {0}
 EachLonger n (e ∷ es) = (n < length e.parts) × EachLonger n es
 
--- No key has fewer inner parts than `fewest`. The tree stores, at each path, that of the earliest of the first `known`
--- assignments.
+-- No key has fewer inner parts than `fewest`. The tree stores the values of the first `known` assignments.
 pub record Knows (earlier : Earlier) (assignments : List ParsedAssignment) : Type 0 where
   pub fewest : EachLonger earlier.fewest assignments
   pub within : earlier.known ≤ length assignments
-  pub tree : (names : List (List ℕ)) → IsEarliestAt names (take earlier.known assignments) (holds earlier.tree names)
+  pub tree : holds earlier.tree ≡ value_at (take earlier.known assignments)
 
 -- The next key goes through no earlier value, and is counted; or it goes through one, and this is the fault.
 abbrev pub ChecksNext : Earlier → List ParsedAssignment → ParsedAssignment → Result (Option Fault) AllocError → Type 0
-ChecksNext new assignments next (Ok None) = Clear assignments next × Knows new (assignments ++ (next ∷ []))
-ChecksNext new assignments next (Ok (Some fault)) = Crossing assignments next fault
+ChecksNext new assignments next (Ok None) =
+    (crossing assignments next ≡ None) × Knows new (assignments ++ (next ∷ []))
+ChecksNext new assignments next (Ok (Some fault)) = crossing assignments next ≡ Some fault
 ChecksNext new assignments next (Err e) = Unit {0}
 
 -- The assignment is appended to the earlier ones, or its key goes through the value of one of them.
 abbrev pub AddsClear : List Assignment → List Assignment → Assignment → Result (Unit {0}) (Stop Fault) → Type 0
 AddsClear old new next (Ok done) =
-    (new ≡ old ++ (next ∷ [])) × Clear (map parsed_assignment old) (parsed_assignment next)
+    (new ≡ old ++ (next ∷ [])) × (crossing (map parsed_assignment old) (parsed_assignment next) ≡ None)
 AddsClear old new next (Err (stops.Memory e)) = Unit {0}
-AddsClear old new next (Err (stops.Fault fault)) = Crossing (map parsed_assignment old) (parsed_assignment next) fault
+AddsClear old new next (Err (stops.Fault fault)) =
+    crossing (map parsed_assignment old) (parsed_assignment next) ≡ Some fault

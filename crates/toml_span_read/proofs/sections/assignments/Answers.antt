@@ -6,6 +6,7 @@ use Rattle.toml_span_read.specs.Read.{ends, goes_on, stops as stops_there}
 use Rattle.toml_span_read.specs.code.Values.{assignment_found}
 use Rattle.toml_span_read.proofs.FaultPlaces.{so_told}
 use Rattle.toml_span_read.proofs.BorrowLemmas.{joined_more}
+use Rattle.toml_span_read.proofs.EarlierLemmas.{added_clear, added_fault}
 use Rattle.toml_span_read.proofs.CrossingPlaces.{assignment_spanned, crossing_placed}
 use Rattle.toml_span_read.proofs.LineRead.{goes_further, lines_stop}
 use Rattle.toml_span_read.proofs.MemoryLemmas.{forms_keep}
@@ -40,7 +41,7 @@ pub returns-in-Err-add_clear-clause-lines : goal.returns-in-Err-add_clear-clause
 returns-in-Err-add_clear-clause-lines c =
     let go = goes_further c.args.text.now c.lines.at (omega arith) (search rules) in
     so_told _ _ c.in-Err-add_clear.stop c.in-Err-add_clear.ensures.adds (λ e h. c.lines.invariant.whole (Err e) (stops_there _ e
-    (inr (go, inl (assignment_found c.in-Ok.read, c.in-Ok.ensures.pair, inl (_, c.in-Ok-next_line.ensures.rest, inr (e, inr (e, h, refl), refl)))))))
+    (inr (go, inl (assignment_found c.in-Ok.read, c.in-Ok.ensures.pair, inl (_, c.in-Ok-next_line.ensures.rest, inr (e, added_fault _ _ e h, refl)))))))
 
 pub returns-in-Err-add_clear-clause-read : goal.returns-in-Err-add_clear-clause-read
 returns-in-Err-add_clear-clause-read c =
@@ -62,7 +63,7 @@ lines-preserved c =
       borrows = joined_more (IsWrittenRight c.args.text.now) assignment_written c.lines.found.items c.add_clear.new.values.items c.in-Ok.read.0 a.0 i.borrows v.borrows;
       knows = c.in_default.ensures.knows;
       whole = rw (map_end parsed_assignment c.lines.found.items c.add_clear.new.values.items c.in-Ok.read.0 a.0)
-          (λ r more. i.whole r (goes_on _ _ r (inr (go, inl (assignment_found c.in-Ok.read, v.pair, inl (_, t.rest, inl (_, inl (a.1, refl), (_, g.run, refl)))))) more));
+          (λ r more. i.whole r (goes_on _ _ r (inr (go, inl (assignment_found c.in-Ok.read, v.pair, inl (_, t.rest, inl (_, added_clear _ _ a.1, (_, g.run, refl)))))) more));
     }
 
 pub returns-clause-lines : goal.returns-clause-lines

@@ -6,6 +6,7 @@ use Rattle.toml_span_read.specs.code.Values.{value_found, assignment_found}
 use Rattle.toml_span_read.specs.Faults.{opens_nested}
 use Rattle.toml_span_read.specs.Borrowed.{IsWrittenRight, written, assignment_written}
 use Rattle.toml_span_read.proofs.BorrowLemmas.{joined_more, assignment_right}
+use Rattle.toml_span_read.proofs.EarlierLemmas.{added_clear, added_fault}
 use Rattle.toml_span_read.proofs.CrossingPlaces.{crossing_placed, pair_spanned}
 use Rattle.toml_span_read.proofs.KeyLemmas.{handed_on, parts_length}
 use Rattle.toml_span_read.proofs.FaultPlaces.{so_told}
@@ -93,7 +94,7 @@ inline_table-pairs-preserved t c =
       boundary = s.1.boundary;
       borrows = joined_more (IsWrittenRight c.args.text.now) assignment_written c.pairs.pairs.items c.add_clear.new.values.items c.in-Ok.found.0 a.0 c.pairs.invariant.borrows v.borrows;
       knows = c.in_default.ensures.knows;
-      from = rw more (λ r rest. c.pairs.invariant.from r (goes_on _ _ r (inr (search rules, inl (assignment_found c.in-Ok.found, v.pair, inl (_, inl (a.1, refl), (s.0.at, s.0.before, inl (rw s.0.here refl, (_, s.0.after, refl))))))) rest));
+      from = rw more (λ r rest. c.pairs.invariant.from r (goes_on _ _ r (inr (search rules, inl (assignment_found c.in-Ok.found, v.pair, inl (_, added_clear _ _ a.1, (s.0.at, s.0.before, inl (rw s.0.here refl, (_, s.0.after, refl))))))) rest));
     }
 
 pub inline_table-returns-in-Err-clause-value : goal.inline_table-returns-in-Err-clause-value
@@ -108,7 +109,7 @@ inline_table-returns-in-Err-add_clear-clause-advances t c =
 pub inline_table-returns-in-Err-add_clear-clause-value : goal.inline_table-returns-in-Err-add_clear-clause-value
 inline_table-returns-in-Err-add_clear-clause-value t c =
     so_told _ _ c.in-Err-add_clear.stop c.in-Err-add_clear.ensures.adds
-    (λ e h. c.pairs.invariant.from (Err e) (stops_there _ e (inr (search rules, inl (assignment_found c.in-Ok.found, c.in-Ok.ensures.pair, inr (e, inr (e, h, refl), refl))))))
+    (λ e h. c.pairs.invariant.from (Err e) (stops_there _ e (inr (search rules, inl (assignment_found c.in-Ok.found, c.in-Ok.ensures.pair, inr (e, added_fault _ _ e h, refl))))))
 
 pub inline_table-returns-in-Closed-clause-borrows : goal.inline_table-returns-in-Closed-clause-borrows
 inline_table-returns-in-Closed-clause-borrows t c =
@@ -122,7 +123,7 @@ inline_table-returns-in-Closed-clause-value t c =
     let s = c.in-Closed.ensures.0 in
     rw (c.inline_of-in-Closed.ensures.parsed_value, more)
     (c.pairs.invariant.from (Ok (read.table_end _ _)) (ends _ _
-    (inr (search rules, inl (assignment_found c.in-Ok.found, c.in-Ok.ensures.pair, inl (_, inl (a.1, refl), (s.at, s.before, inr (rw s.here refl, inl (rw s.here refl, rw s.ends refl)))))))))
+    (inr (search rules, inl (assignment_found c.in-Ok.found, c.in-Ok.ensures.pair, inl (_, added_clear _ _ a.1, (s.at, s.before, inr (rw s.here refl, inl (rw s.here refl, rw s.ends refl)))))))))
 
 pub inline_table-returns-in-Neither-clause-value : goal.inline_table-returns-in-Neither-clause-value
 inline_table-returns-in-Neither-clause-value t c =
@@ -132,7 +133,7 @@ inline_table-returns-in-Neither-clause-value t c =
       inl (
         assignment_found c.in-Ok.found,
         c.in-Ok.ensures.pair,
-        inl (_, inl (c.in_default.ensures.adds.1, refl), (c.in-Neither.here, n.before, inr (n.no_comma, inr (n.no_bracket, (s, stands, ap (λ y. Err y) is))))),
+        inl (_, added_clear _ _ c.in_default.ensures.adds.1, (c.in-Neither.here, n.before, inr (n.no_comma, inr (n.no_bracket, (s, stands, ap (λ y. Err y) is))))),
       ),
     ))))
 
