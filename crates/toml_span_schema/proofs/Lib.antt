@@ -1,0 +1,6 @@
+pub mod Differ
+pub mod Expressions
+pub mod Judged
+pub mod Monotone
+pub mod Remainders
+pub mod Views

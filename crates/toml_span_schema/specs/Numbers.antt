@@ -1,0 +1,131 @@
+-- Numbers as decimal texts write them, without rounding.
+use Rattle.std.specs.Prelude.{ℕ, ◌+◌, ◌-◌, ◌*◌, ◌^◌, ◌%◌, min, nat_lt, nat_le, ◌==◌, List, [], ◌∷◌, ◌++◌, length}
+use Rattle.std.specs.Prelude.{slice_range, Bool, true, false, ◌&&◌, ◌||◌, if◌then◌else◌, Option, Some, None}
+use Rattle.std.specs.Cmp.Lexicographic.{slice_cmp}
+use Rattle.std.specs.Fmt.{signed_decimal}
+use Rattle.std.specs.Ordering.{nat_cmp, ordering_then}
+use Rattle.std.specs.Str.Parse.{digits_value}
+use Rattle.std.specs.declared.cmp.Ordering.{Ordering}
+use Rattle.std.specs.declared.cmp.Ordering.TheVariants.{Less, Equal, Greater}
+use Rattle.fast_float.specs.Text.{scan}
+use Rattle.toml_span_tree.specs.Node.{FloatValue, finite, infinite, not_a_number, Inner, scalar, integer, float}
+use Rattle.toml_span_schema.specs.declared.numbers.Decimal.{Decimal}
+use Rattle.toml_span_schema.specs.declared.numbers.Number.{Number}
+use Rattle.toml_span_schema.specs.declared.numbers.Number.TheVariants.{Finite, Infinite, NotANumber}
+
+-- The number 0.d1d2d3.. times the power of ten `point - 2^65`, or its negative. The first and the last digit are not 0, so
+-- that each number has one form; zero has no digits.
+pub record Plain : Type 0 where
+  pub negative : Bool
+  pub point : ℕ
+  pub digits : List ℕ
+
+-- a number of TOML
+pub data Quantity : Type 0 where
+  exact : Plain → Quantity
+  endless : Bool → Quantity
+  no_number : Quantity
+
+abbrev pub plain : Decimal → Plain
+plain d = record { negative = d.negative; point = d.point; digits = d.digits.items }
+
+abbrev pub quantity : Number → Quantity
+quantity (Finite d) = exact (plain d)
+quantity (Infinite negative) = endless negative
+quantity NotANumber = no_number
+
+-- 2^65 and the value of an exponent, which is cut off at 10^15
+abbrev pub raised : List ℕ → Bool → ℕ
+raised digits negative =
+    if negative then 36893488147419103232 - min (digits_value 10 digits) 1000000000000000
+    else 36893488147419103232 + min (digits_value 10 digits) 1000000000000000
+
+-- how many zeros digits begin with
+abbrev pub leading_zeros : List ℕ → ℕ
+leading_zeros [] = 0
+leading_zeros (d ∷ ds) = if d == 48 then leading_zeros ds + 1 else 0
+
+-- the length of digits without the zeros at their end
+abbrev pub significant : List ℕ → ℕ
+significant [] = 0
+significant (d ∷ ds) = if nat_lt 0 (significant ds) then significant ds + 1 else (if d == 48 then 0 else 1)
+
+abbrev pub nothing : Plain
+nothing = record { negative = false; point = 0; digits = [] }
+
+-- 0.d1d2d3.. times the power of ten `point - 2^65`, in its one form
+abbrev pub normal : Bool → ℕ → List ℕ → Plain
+normal negative point digits =
+    if nat_le (significant digits) (leading_zeros digits) then nothing
+    else record { negative = negative; point = point - leading_zeros digits; digits = slice_range digits (leading_zeros digits) (significant digits) }
+
+-- what digits with a point and an exponent write
+abbrev pub unsigned_of : Bool → List ℕ → Plain
+unsigned_of negative text =
+    normal negative (raised (scan text).exponent (scan text).exponent_negative + length (scan text).whole)
+    ((scan text).whole ++ (scan text).fraction)
+
+-- what a decimal text writes
+abbrev pub decimal_of : List ℕ → Plain
+decimal_of [] = unsigned_of false []
+decimal_of (c ∷ cs) = if c == 45 then unsigned_of true cs else unsigned_of false (c ∷ cs)
+
+abbrev pub is_zero : Plain → Bool
+is_zero p = length p.digits == 0
+
+-- whether there is no fraction
+abbrev pub is_whole : Plain → Bool
+is_whole p = is_zero p || nat_le (length p.digits + 36893488147419103232) p.point
+
+-- 0 for a number below zero, 1 for zero, 2 for a number above
+abbrev pub sign : Plain → ℕ
+sign p = if is_zero p then 1 else (if p.negative then 0 else 2)
+
+-- the order of two numbers above zero: the larger power of ten, or at the same power the digits that come later in the
+-- order of a dictionary
+abbrev pub compare_sizes : Plain → Plain → Ordering
+compare_sizes a b = ordering_then (nat_cmp a.point b.point) (slice_cmp nat_cmp a.digits b.digits)
+
+-- the order of two numbers below zero, two zeros, or two numbers above zero
+abbrev pub compare_alike : Plain → Plain → Ordering
+compare_alike a b = if sign a == 2 then compare_sizes a b else (if sign a == 0 then compare_sizes b a else Equal)
+
+abbrev pub compare : Plain → Plain → Ordering
+compare a b = ordering_then (nat_cmp (sign a) (sign b)) (compare_alike a b)
+
+-- The order of a number and a limit. NaN has none.
+abbrev pub compare_quantity : Quantity → Plain → Option Ordering
+compare_quantity (exact p) limit = Some (compare p limit)
+compare_quantity (endless true) limit = Some Less
+compare_quantity (endless false) limit = Some Greater
+compare_quantity no_number limit = None
+
+-- the value of digits that follow those of a number
+abbrev pub value_after : ℕ → List ℕ → ℕ
+value_after n [] = n
+value_after n (d ∷ ds) = value_after (n * 10 + (d - 48)) ds
+
+-- the power of ten of the last digit, and 2^66
+abbrev pub exponent : Plain → ℕ
+exponent p = p.point + 36893488147419103232 - length p.digits
+
+-- Whether a number is a multiple of `size` times a power of ten. Its last digit is not 0, so it is none if it has more
+-- decimals.
+abbrev pub is_multiple : Plain → ℕ → ℕ → Bool
+is_multiple p size power =
+    is_zero p || (nat_le power (exponent p) && (value_after 0 p.digits * 10 ^ (exponent p - power)) % size == 0)
+
+abbrev pub is_multiple_quantity : Quantity → ℕ → ℕ → Bool
+is_multiple_quantity (exact p) size power = is_multiple p size power
+is_multiple_quantity _ size power = false
+
+abbrev pub float_quantity : FloatValue → Quantity
+float_quantity (finite text) = exact (decimal_of text)
+float_quantity (infinite negative) = endless negative
+float_quantity (not_a_number negative) = no_number
+
+-- the number that a value is
+abbrev pub quantity_in : Inner → Option Quantity
+quantity_in (scalar (integer z)) = Some (exact (decimal_of (signed_decimal z)))
+quantity_in (scalar (float x)) = Some (float_quantity x)
+quantity_in _ = None

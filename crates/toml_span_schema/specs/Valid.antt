@@ -1,0 +1,173 @@
+-- When a value is valid against a compiled schema, keyword by keyword in the words of the standard.
+--
+-- A verdict is `Some true`, `Some false`, or None where the subschemas nest deeper than a limit: such a value is neither
+-- valid nor invalid.
+use Rattle.std.specs.Prelude.{ℕ, zero, suc, ◌+◌, ◌==◌, nat_le, List, [], ◌∷◌, Bool, true, false, ◌&&◌, not}
+use Rattle.std.specs.Prelude.{Option, Some, None, option_map, option_and_then, if◌then◌else◌, string_bytes, String, slice_get}
+use Rattle.std.specs.declared.alloc.Global.{Global}
+use Rattle.toml_span_tree.specs.Node.{Node, Inner, array, Items, no_items, item}
+use Rattle.toml_span_tree.specs.Value.{inner_of}
+use Rattle.toml_span_schema.specs.Applied.{schemas_for}
+use Rattle.toml_span_schema.specs.Asserted.{asserted}
+use Rattle.toml_span_schema.specs.Parts.{Part, entry, element, value_of, parts_of, has_key, names_of, is_entry, same_bool}
+use Rattle.toml_span_schema.specs.declared.keyword.Keyword.{Keyword}
+use Rattle.toml_span_schema.specs.declared.keyword.Keyword.TheVariants as keyword
+use Rattle.toml_span_schema.specs.declared.keyword.Placed.{Placed}
+use Rattle.toml_span_schema.specs.declared.keyword.Node.{Node as Compiled}
+use Rattle.toml_span_schema.specs.declared.schema.Schema.{Schema}
+
+abbrev pub Verdict : Type 0
+Verdict = Option Bool
+
+-- both verdicts; the second counts only if the first is true
+abbrev pub both : Verdict → Verdict → Verdict
+both None v = None
+both (Some false) v = Some false
+both (Some true) v = v
+
+-- either verdict; the second counts only if the first is false
+abbrev pub either : Verdict → Verdict → Verdict
+either None v = None
+either (Some true) v = Some true
+either (Some false) v = v
+
+-- one more, if a verdict is true
+abbrev pub counted : Verdict → Option ℕ → Option ℕ → Option ℕ
+counted None more same = None
+counted (Some true) more same = more
+counted (Some false) more same = same
+
+-- whether all elements pass
+abbrev pub every : {A : Type 0} → (A → Verdict) → List A → Verdict
+every f [] = Some true
+every f (x ∷ xs) = both (f x) (every f xs)
+
+-- whether an element passes
+abbrev pub any : {A : Type 0} → (A → Verdict) → List A → Verdict
+any f [] = Some false
+any f (x ∷ xs) = either (f x) (any f xs)
+
+-- n and the number of elements that pass
+abbrev pub count : {A : Type 0} → (A → Verdict) → ℕ → List A → Option ℕ
+count f n [] = Some n
+count f n (x ∷ xs) = counted (f x) (count f (n + 1) xs) (count f n xs)
+
+-- if there is an element, whether it passes
+abbrev pub optional : {A : Type 0} → (A → Verdict) → Verdict → Option A → Verdict
+optional f otherwise None = otherwise
+optional f otherwise (Some x) = f x
+
+-- What is known of subschemas, by their positions: whether a value is valid against one, and whether one evaluates a part
+-- of a value.
+pub record Judge : Type 0 where
+  pub valid : ℕ → Node → Verdict
+  pub evaluates : ℕ → Node → Part → Verdict
+
+-- the elements of an array
+abbrev pub elements : Items → List Node
+elements no_items = []
+elements (item n ns) = n ∷ elements ns
+
+-- `contains` with `minContains` and `maxContains`: how many elements are valid. Values that are no arrays are valid.
+abbrev pub contains_enough : Judge → ℕ → ℕ → ℕ → Inner → Verdict
+contains_enough j k least most (array ns) =
+    option_map (λ c. nat_le least c && nat_le c most) (count (λ n. j.valid k n) 0 (elements ns))
+contains_enough j k least most _ = Some true
+
+-- `unevaluatedItems` and `unevaluatedProperties`: whether a part of the kind is evaluated by the other keywords, or valid
+abbrev pub allows_part : Judge → Bool → ℕ × ℕ → Node → Part → Verdict
+allows_part j entries nodes n part =
+    if same_bool (is_entry part) entries
+    then either (j.evaluates nodes.0 n part) (j.valid nodes.1 (value_of part))
+    else Some true
+
+-- valid against the subschema of each key that the value has
+abbrev pub dependents_allow : Judge → List (String Global × ℕ) → Node → Verdict
+dependents_allow j es n = every (λ e. if has_key n (string_bytes e.0) then j.valid e.1 n else Some true) es
+
+-- each part is valid against the subschemas for its position or its name
+abbrev pub parts_allow : Schema → Judge → Keyword → List Part → Verdict
+parts_allow s j k ps = every (λ p. every (λ m. j.valid m (value_of p)) (schemas_for s k p)) ps
+
+-- each part of the kind is evaluated by the other keywords, or valid
+abbrev pub unevaluated_allow : Judge → Bool → ℕ × ℕ → Node → Verdict
+unevaluated_allow j entries nodes n = every (λ p. allows_part j entries nodes n p) (parts_of n)
+
+-- Whether a keyword allows a value that applies no subschema to the value itself.
+unfoldable pub allows_inside : Schema → Judge → Keyword → Node → Verdict
+-- each key, as a string, is valid
+allows_inside s j (keyword.PropertyNames k) n = every (λ name. j.valid k name) (names_of n)
+allows_inside s j (keyword.Contains k least most evaluates) n = contains_enough j k least most (inner_of n)
+allows_inside s j (keyword.Items prefix rest) n = parts_allow s j (keyword.Items prefix rest) (parts_of n)
+allows_inside s j (keyword.Properties named matching rest) n =
+    parts_allow s j (keyword.Properties named matching rest) (parts_of n)
+allows_inside s j (keyword.UnevaluatedItems beside k) n = unevaluated_allow j false (beside, k) n
+allows_inside s j (keyword.UnevaluatedProperties beside k) n = unevaluated_allow j true (beside, k) n
+allows_inside s j k n = Some (asserted s k n)
+
+-- Whether a keyword allows a value.
+unfoldable pub allows : Schema → Judge → Keyword → Node → Verdict
+-- valid against all, any, exactly one or none of the subschemas
+allows s j (keyword.AllOf ks) n = every (λ k. j.valid k n) ks.items
+allows s j (keyword.AnyOf ks) n = any (λ k. j.valid k n) ks.items
+allows s j (keyword.OneOf ks) n = option_map (λ c. c == 1) (count (λ k. j.valid k n) 0 ks.items)
+allows s j (keyword.Not k) n = option_map not (j.valid k n)
+-- valid against `then` if it is valid against `if`, else against `else`
+allows s j (keyword.If c consequent alternative) n =
+    option_and_then (λ b. optional (λ k. j.valid k n) (Some true) (if b then consequent else alternative)) (j.valid c n)
+allows s j (keyword.DependentSchemas es) n = dependents_allow j es.items n
+allows s j k n = allows_inside s j k n
+
+-- a value is valid against a subschema, and that evaluates a part of it
+abbrev pub covers : Judge → ℕ → Node → Part → Verdict
+covers j k n part = both (j.valid k n) (j.evaluates k n part)
+
+abbrev pub is_evaluated_element : Judge → ℕ → Part → Verdict
+is_evaluated_element j k (element i n) = j.valid k n
+is_evaluated_element j k (entry name span n) = Some false
+
+-- a value is valid against the subschema of a key that it has, and that evaluates a part of it
+abbrev pub dependents_cover : Judge → List (String Global × ℕ) → Node → Part → Verdict
+dependents_cover j es n part = any (λ e. if has_key n (string_bytes e.0) then covers j e.1 n part else Some false) es
+
+abbrev pub is_nonempty : List ℕ → Bool
+is_nonempty [] = false
+is_nonempty (k ∷ ks) = true
+
+-- Whether a keyword that allows a value evaluates a part of it.
+unfoldable pub reaches : Schema → Judge → Keyword → Node → Part → Verdict
+reaches s j (keyword.AllOf ks) n part = any (λ k. covers j k n part) ks.items
+reaches s j (keyword.AnyOf ks) n part = any (λ k. covers j k n part) ks.items
+reaches s j (keyword.OneOf ks) n part = any (λ k. covers j k n part) ks.items
+reaches s j (keyword.If c consequent alternative) n part =
+    option_and_then (λ b. either (if b then j.evaluates c n part else Some false)
+    (optional (λ k. covers j k n part) (Some false) (if b then consequent else alternative))) (j.valid c n)
+reaches s j (keyword.DependentSchemas es) n part = dependents_cover j es.items n part
+reaches s j (keyword.Contains k least most evaluates) n part =
+    if evaluates then is_evaluated_element j k part else Some false
+reaches s j (keyword.Items prefix rest) n part = Some (is_nonempty (schemas_for s (keyword.Items prefix rest) part))
+reaches s j (keyword.Properties named matching rest) n part =
+    Some (is_nonempty (schemas_for s (keyword.Properties named matching rest) part))
+reaches s j (keyword.UnevaluatedItems beside k) n part = Some (not (is_entry part))
+reaches s j (keyword.UnevaluatedProperties beside k) n part = Some (is_entry part)
+reaches s j k n part = Some false
+
+abbrev pub keywords_in : Option Compiled → List Placed
+keywords_in None = []
+keywords_in (Some k) = k.keywords.items
+
+-- the keywords of a subschema
+abbrev pub keywords : Schema → ℕ → List Placed
+keywords s k = keywords_in (slice_get s.nodes.items k)
+
+-- What holds of the subschemas, if at most this many nest.
+unfoldable pub judged : Schema → ℕ → Judge
+judged s zero = record { valid = λ k n. None; evaluates = λ k n part. None }
+judged s (suc depth) = record {
+  valid = λ k n. every (λ p. allows s (judged s depth) p.keyword n) (keywords s k);
+  evaluates = λ k n part. any (λ p. reaches s (judged s depth) p.keyword n part) (keywords s k);
+}
+
+-- A value is valid against a schema if it is against its first node.
+abbrev pub valid : Schema → ℕ → Node → Verdict
+valid s depth n = (judged s depth).valid 0 n

@@ -1,0 +1,166 @@
+//! The subschemas that a keyword applies to the values inside a value.
+ghost use Rattle.std.specs.Prelude.{◌≡◌, ◌++◌, IfOk, OnOk, map};
+ghost use Rattle.toml_span_tree.specs.Value.{inner_of, members_view, view};
+ghost use Rattle.toml_span_schema.specs.Applied.{at_or_rest, matches, matching_for, otherwise, schemas_for};
+ghost use Rattle.toml_span_schema.specs.Parts.{has_key, has_name, name_values, names_of, part_of};
+ghost use Rattle.std.specs.BTreeMap.{get_by_text};
+ghost use Rattle.std.specs.List.{slice_get};
+ghost use Rattle.std.specs.Prelude.{option_to_list};
+
+use crate::keyword::Keyword;
+use crate::listed::Part;
+use crate::schema::Schema;
+use std::alloc::{AllocError, Global};
+use std::borrow::CowStr;
+use std::collections::BTreeMap;
+use toml_span_tree::{Table, Value, ValueInner};
+
+/// Returns whether a text has a match of a regular expression.
+pub(crate) fn matches(
+    alloc: Global,
+    schema: &Schema,
+    pattern: usize,
+    text: &str,
+) -> Result<bool, AllocError>
+    ensures { IfOk result (λ r. r ≡ matches schema.now pattern text.now) }
+{
+    match schema.patterns.get(pattern) {
+        Some(regex) => {
+            let mut matcher = regex.matcher(alloc)?;
+            Ok(matcher.is_match(text))
+        }
+        None => Ok(false),
+    }
+}
+
+/// Appends the subschemas of `patternProperties` whose regular expressions match this name.
+fn push_matching(
+    alloc: Global,
+    schema: &Schema,
+    list: &mut Vec<usize>,
+    matching: &[(usize, usize)],
+    name: &str,
+) -> Result<(), AllocError>
+    ensures { OnOk result (list.new.items ≡ list.old.items ++ matching_for schema.now matching.now name.now) }
+{
+    for property in matching {
+        if matches(alloc, schema, property.0, name)? {
+            list.push(property.1)?;
+        }
+    }
+    Ok(())
+}
+
+/// Returns the subschema of `properties` for this name, if there is one, and those of `patternProperties`. If there is
+/// none, returns that of `additionalProperties`, if there is one.
+fn for_entry(
+    alloc: Global,
+    schema: &Schema,
+    named: &BTreeMap<String, usize>,
+    matching: &[(usize, usize)],
+    rest: Option<usize>,
+    name: &str,
+) -> Result<Vec<usize>, AllocError>
+    ensures { IfOk result (λ list. list.items ≡ otherwise
+        (option_to_list (get_by_text named.now name.now) ++ matching_for schema.now matching.now name.now) rest) }
+{
+    let mut list = Vec::new(alloc);
+    if let Some(own) = named.get(name) {
+        list.push(*own)?;
+    }
+    push_matching(alloc, schema, &mut list, matching, name)?;
+    if list.is_empty() {
+        if let Some(rest) = rest {
+            list.push(rest)?;
+        }
+    }
+    Ok(list)
+}
+
+/// Returns the subschema of `prefixItems` for an element, or that of `items`, if there is one.
+fn for_element(
+    alloc: Global,
+    prefix: &[usize],
+    rest: Option<usize>,
+    at: usize,
+) -> Result<Vec<usize>, AllocError>
+    ensures { IfOk result (λ list. list.items ≡ at_or_rest (slice_get prefix.now at) rest) }
+{
+    let mut list = Vec::new(alloc);
+    match prefix.get(at) {
+        Some(own) => list.push(*own)?,
+        None => {
+            if let Some(rest) = rest {
+                list.push(rest)?;
+            }
+        }
+    }
+    Ok(list)
+}
+
+/// Returns the subschemas that `properties` or `items` and their kin apply to a part of a value.
+#[tactic(auto, unfolding(crate::specs::Applied::schemas_for))]
+pub(crate) fn schemas_for(
+    alloc: Global,
+    schema: &Schema,
+    keyword: &Keyword,
+    part: Part<'_, '_>,
+) -> Result<Vec<usize>, AllocError>
+    ensures { IfOk result (λ list. list.items ≡ schemas_for schema.now keyword.now (part_of part.entry)) }
+{
+    match (keyword, part) {
+        (Keyword::Items(prefix, rest), Part::Element(at, _)) => {
+            for_element(alloc, prefix.as_slice(), *rest, at)
+        }
+        (Keyword::Properties(named, matching, rest), Part::Member(key, _)) => {
+            let name = key.name.as_ref();
+            for_entry(alloc, schema, named, matching.as_slice(), *rest, name)
+        }
+        _ => Ok(Vec::new(alloc)),
+    }
+}
+
+/// Returns the keys of a table as strings, with their spans; nothing of another value.
+pub(crate) fn names<'v>(alloc: Global, value: &'v Value<'_>) -> Result<Vec<Value<'v>>, AllocError>
+    ensures { IfOk result (λ list. map view list.items ≡ names_of (view value.now)) }
+{
+    let mut list = Vec::new(alloc);
+    if let Some(table) = value.as_table() {
+        push_names(&mut list, table)?;
+    }
+    Ok(list)
+}
+
+/// Appends the keys of a table as strings, with their spans.
+fn push_names<'v>(list: &mut Vec<Value<'v>>, table: &'v Table<'_>) -> Result<(), AllocError>
+    ensures { OnOk result (map view list.new.items
+        ≡ map view list.old.items ++ name_values (members_view table.now.entries)) }
+{
+    for (key, _value) in table.iter() {
+        let name = ValueInner::String(CowStr::Borrowed(key.name.as_ref()));
+        list.push(Value::with_span(name, key.span))?;
+    }
+    Ok(())
+}
+
+/// Returns whether a table has this key.
+fn has_entry(table: &Table<'_>, name: &str) -> bool
+    ensures { result ≡ has_name name.now (members_view table.now.entries) }
+{
+    for (key, _value) in table.iter() {
+        if key.name.as_ref() == name {
+            return true;
+        }
+    }
+    false
+}
+
+/// Returns whether a value is a table with this key.
+pub(crate) fn has_key(value: &Value<'_>, name: &str) -> bool
+    ensures { result ≡ has_key (view value.now) name.now }
+{
+    match value.as_table() {
+        Some(table) => has_entry(table, name),
+        None => false,
+    }
+}

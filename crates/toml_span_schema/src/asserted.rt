@@ -1,0 +1,217 @@
+//! The keywords without subschemas.
+ghost use Rattle.std.specs.Prelude.{◌≡◌, IfOk, length};
+ghost use Rattle.toml_span_tree.specs.Value.{float_value, inner_of, items_view, view};
+ghost use Rattle.toml_span_schema.specs.Asserted.{allows_items, allows_kind, allows_number};
+ghost use Rattle.toml_span_schema.specs.Asserted.{allows_table_of, allows_text, asserted};
+ghost use Rattle.toml_span_schema.specs.Asserted.{characters, has_all, has_dependents};
+ghost use Rattle.toml_span_schema.specs.Asserted.{has_type, is_at_least, is_at_most};
+ghost use Rattle.toml_span_schema.specs.Asserted.{is_whole_float};
+ghost use Rattle.toml_span_schema.specs.Numbers.{quantity};
+
+use crate::applied::{has_key, matches};
+use crate::canonical::{all_differ, canonical};
+use crate::decimal::number_in;
+use crate::error::CheckError;
+use crate::formats::fits_leap_second;
+use crate::keyword::{Keyword, Types};
+use crate::numbers::{Decimal, Number};
+use crate::patterns::is_pattern;
+use crate::schema::Schema;
+use std::alloc::{AllocError, Global};
+use std::cmp::Ordering;
+use toml_span_tree::{FloatText, Value, ValueInner};
+
+/// Returns whether a float has no fraction.
+fn is_whole(alloc: Global, float: &FloatText) -> Result<bool, AllocError>
+    ensures { IfOk result (λ r. r ≡ is_whole_float (float_value float.now)) }
+{
+    match float {
+        FloatText::Finite(text) => Ok(Decimal::parse(alloc, text.as_str())?.is_whole()),
+        _ => Ok(false),
+    }
+}
+
+/// Returns whether a value is of one of some types. Dates and times are strings.
+fn has_type(alloc: Global, types: Types, value: &Value<'_>) -> Result<bool, AllocError>
+    ensures { IfOk result (λ r. r ≡ has_type types (inner_of (view value.now))) }
+{
+    if value.is_taken() {
+        return Ok(false);
+    }
+    match value.as_ref() {
+        ValueInner::String(_) | ValueInner::Datetime(_) => Ok(types.string),
+        ValueInner::Integer(_) => Ok(types.number || types.integer),
+        ValueInner::Float(float) => { Ok(types.number || types.whole && is_whole(alloc, float)?) }
+        ValueInner::Boolean(_) => Ok(types.boolean),
+        ValueInner::Array(_) => Ok(types.array),
+        ValueInner::Table(_) => Ok(types.object),
+    }
+}
+
+/// Returns whether a keyword of numbers allows a number; other keywords allow any.
+#[tactic(auto, unfolding(crate::specs::Asserted::allows_number))]
+fn allows_number(keyword: &Keyword, number: &Number) -> Result<bool, CheckError>
+    ensures { IfOk result (λ r. r ≡ allows_number keyword.now (quantity number.now)) }
+{
+    match keyword {
+        Keyword::Minimum(limit) => Ok(is_at_least(number.compare(limit))),
+        Keyword::ExclusiveMinimum(limit) => Ok(number.compare(limit) == Some(Ordering::Greater)),
+        Keyword::Maximum(limit) => Ok(is_at_most(number.compare(limit))),
+        Keyword::ExclusiveMaximum(limit) => Ok(number.compare(limit) == Some(Ordering::Less)),
+        Keyword::MultipleOf(size, power) => match number {
+            Number::Finite(number) => number.is_multiple_of(*size, *power),
+            _ => Ok(false),
+        },
+        _ => Ok(true),
+    }
+}
+
+/// Returns whether a number is greater than a limit or equal.
+fn is_at_least(order: Option<Ordering>) -> bool
+    ensures { result ≡ is_at_least order }
+{
+    match order {
+        Some(Ordering::Greater | Ordering::Equal) => true,
+        _ => false,
+    }
+}
+
+/// Returns whether a number is less than a limit or equal.
+fn is_at_most(order: Option<Ordering>) -> bool
+    ensures { result ≡ is_at_most order }
+{
+    match order {
+        Some(Ordering::Less | Ordering::Equal) => true,
+        _ => false,
+    }
+}
+
+/// Returns the number of characters.
+fn characters(text: &str) -> u64
+    ensures { result ≡ characters text.now }
+{
+    text.chars().count() as u64
+}
+
+/// Returns whether a keyword of strings allows a text; other keywords allow any.
+#[tactic(auto, unfolding(crate::specs::Asserted::allows_text))]
+fn allows_text(
+    alloc: Global,
+    schema: &Schema,
+    keyword: &Keyword,
+    text: &str,
+) -> Result<bool, CheckError>
+    ensures { IfOk result (λ r. r ≡ allows_text schema.now keyword.now text.now) }
+{
+    match keyword {
+        Keyword::MinLength(least) => Ok(*least <= characters(text)),
+        Keyword::MaxLength(most) => Ok(characters(text) <= *most),
+        Keyword::Pattern(pattern) => Ok(matches(alloc, schema, *pattern, text)?),
+        Keyword::Format(pattern, most, leap) => {
+            if !schema.formats {
+                return Ok(true);
+            }
+            let matched = matches(alloc, schema, *pattern, text)?;
+            Ok(matched && characters(text) <= *most && (!*leap || fits_leap_second(text)))
+        }
+        Keyword::RegexFormat => Ok(!schema.formats || is_pattern(alloc, text)?),
+        _ => Ok(true),
+    }
+}
+
+/// Returns whether a keyword of arrays allows these elements; other keywords allow any.
+#[tactic(auto, using(crate::proofs::Views::arrays), unfolding(crate::specs::Asserted::allows_items))]
+fn allows_items(alloc: Global, keyword: &Keyword, values: &[Value<'_>]) -> Result<bool, CheckError>
+    ensures { IfOk result (λ r. r ≡ allows_items keyword.now (items_view values.now)) }
+{
+    match keyword {
+        Keyword::MinItems(least) => Ok(*least <= values.len() as u64),
+        Keyword::MaxItems(most) => Ok(values.len() as u64 <= *most),
+        Keyword::UniqueItems => all_differ(alloc, values),
+        _ => Ok(true),
+    }
+}
+
+/// Returns whether a table has all of some keys.
+fn has_all(value: &Value<'_>, names: &[String]) -> bool
+    ensures { result ≡ has_all (view value.now) names.now }
+{
+    for name in names {
+        if !has_key(value, name.as_str()) {
+            return false;
+        }
+    }
+    true
+}
+
+/// Returns whether a table has the keys that its other keys require.
+fn has_dependents(value: &Value<'_>, required: &[(String, Vec<String>)]) -> bool
+    ensures { result ≡ has_dependents (view value.now) required.now }
+{
+    for entry in required {
+        if has_key(value, entry.0.as_str()) && !has_all(value, entry.1.as_slice()) {
+            return false;
+        }
+    }
+    true
+}
+
+/// Returns whether a keyword of objects allows a table with this many entries; other keywords allow any.
+#[tactic(auto, unfolding(crate::specs::Asserted::allows_table_of))]
+fn allows_table(keyword: &Keyword, value: &Value<'_>, count: usize) -> bool
+    ensures { result ≡ allows_table_of keyword.now count (view value.now) }
+{
+    match keyword {
+        Keyword::MinProperties(least) => *least <= count as u64,
+        Keyword::MaxProperties(most) => count as u64 <= *most,
+        Keyword::Required(names) => has_all(value, names.as_slice()),
+        Keyword::DependentRequired(required) => has_dependents(value, required.as_slice()),
+        _ => true,
+    }
+}
+
+/// Returns whether a keyword without subschemas allows a value. Keywords of one type allow all values of others.
+#[tactic(auto, unfolding(crate::specs::Asserted::asserted))]
+pub(crate) fn asserted(
+    alloc: Global,
+    schema: &Schema,
+    keyword: &Keyword,
+    value: &Value<'_>,
+) -> Result<bool, CheckError>
+    ensures { IfOk result (λ r. r ≡ asserted schema.now keyword.now (view value.now)) }
+{
+    match keyword {
+        Keyword::Never => Ok(false),
+        Keyword::Type(types) => Ok(has_type(alloc, *types, value)?),
+        Keyword::Enum(values, _) => {
+            let text = canonical(alloc, value)?;
+            Ok(values.contains(text.as_str()))
+        }
+        _ => allows_kind(alloc, schema, keyword, value),
+    }
+}
+
+/// Returns whether a keyword for values of one type allows a value.
+#[tactic(auto, unfolding(crate::specs::Asserted::allows_kind))]
+fn allows_kind(
+    alloc: Global,
+    schema: &Schema,
+    keyword: &Keyword,
+    value: &Value<'_>,
+) -> Result<bool, CheckError>
+    ensures { IfOk result (λ r. r ≡ allows_kind schema.now keyword.now (view value.now) (inner_of (view value.now))) }
+{
+    if value.is_taken() {
+        return Ok(true);
+    }
+    match value.as_ref() {
+        ValueInner::String(text) => allows_text(alloc, schema, keyword, text.as_ref()),
+        ValueInner::Datetime(date) => allows_text(alloc, schema, keyword, date.text()),
+        ValueInner::Array(array) => allows_items(alloc, keyword, array.as_slice()),
+        ValueInner::Table(table) => Ok(allows_table(keyword, value, table.len())),
+        _ => match number_in(alloc, value)? {
+            Some(number) => allows_number(keyword, &number),
+            None => Ok(true),
+        },
+    }
+}

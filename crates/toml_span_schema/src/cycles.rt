@@ -1,0 +1,141 @@
+//! References that lead back without a step into the value.
+
+use crate::error::SchemaError;
+use crate::keyword::{Keyword, Node};
+use std::alloc::{AllocError, Global};
+
+/// Appends the subschemas that a keyword applies to the same value.
+fn push_in_place(list: &mut Vec<usize>, keyword: &Keyword) -> Result<(), AllocError> {
+    match keyword {
+        Keyword::AllOf(nodes) | Keyword::AnyOf(nodes) | Keyword::OneOf(nodes) => {
+            list.extend_from_slice(nodes.as_slice())?;
+        }
+        Keyword::Not(node) => list.push(*node)?,
+        Keyword::If(condition, yes, no) => {
+            list.push(*condition)?;
+            push_optional(list, *yes)?;
+            push_optional(list, *no)?;
+        }
+        Keyword::DependentSchemas(schemas) => {
+            for entry in schemas.as_slice() {
+                list.push(entry.1)?;
+            }
+        }
+        Keyword::UnevaluatedItems(beside, _) | Keyword::UnevaluatedProperties(beside, _) => {
+            list.push(*beside)?;
+        }
+        _ => {}
+    }
+    Ok(())
+}
+
+/// Appends a subschema, if there is one.
+fn push_optional(list: &mut Vec<usize>, node: Option<usize>) -> Result<(), AllocError> {
+    if let Some(node) = node {
+        list.push(node)?;
+    }
+    Ok(())
+}
+
+/// Returns the subschemas that a schema applies to the same value.
+fn in_place(alloc: Global, node: &Node) -> Result<Vec<usize>, AllocError> {
+    let mut list = Vec::new(alloc);
+    for placed in node.keywords.as_slice() {
+        push_in_place(&mut list, &placed.keyword)?;
+    }
+    Ok(list)
+}
+
+/// What is known of a node while chains are counted.
+#[derive(Drop)]
+struct Chain {
+    /// The number of its subschemas whose chains are not known yet.
+    open: usize,
+    /// The longest chain of those that are known.
+    length: usize,
+    /// The nodes that apply it to the same value.
+    users: Vec<usize>,
+}
+
+/// Notes a user of each of some nodes.
+fn push_users(chains: &mut Vec<Chain>, used: &[usize], user: usize) -> Result<(), AllocError> {
+    for at in used {
+        if let Some(chain) = chains.get_mut(*at) {
+            chain.users.push(user)?;
+        }
+    }
+    Ok(())
+}
+
+/// Returns the chains of some nodes, of which none is known yet.
+fn chains_of(alloc: Global, nodes: &[Node]) -> Result<Vec<Chain>, AllocError> {
+    let mut chains = Vec::new(alloc);
+    for _node in nodes {
+        chains.push(Chain {
+            open: 0,
+            length: 0,
+            users: Vec::new(alloc),
+        })?;
+    }
+    for (i, node) in nodes.iter().enumerate() {
+        let used = in_place(alloc, node)?;
+        push_users(&mut chains, used.as_slice(), i)?;
+        if let Some(chain) = chains.get_mut(i) {
+            chain.open = used.len();
+        }
+    }
+    Ok(chains)
+}
+
+/// Tells the users of a node its chain, and lists those whose chains are known by that.
+fn settle(
+    alloc: Global,
+    chains: &mut Vec<Chain>,
+    known: &mut Vec<usize>,
+    at: usize,
+) -> Result<usize, AllocError> {
+    let Some(chain) = chains.get(at) else {
+        return Ok(0);
+    };
+    let length = chain.length;
+    for user in Vec::from_slice(alloc, chain.users.as_slice())?.as_slice() {
+        if let Some(other) = chains.get_mut(*user) {
+            other.length = other.length.max(length.saturating_add(1));
+            other.open = other.open.saturating_sub(1);
+            if other.open == 0 {
+                known.push(*user)?;
+            }
+        }
+    }
+    Ok(length)
+}
+
+/// Returns the maximum number of steps from schema to subschema at one value. Fails with `Cycle` if there is none.
+pub(crate) fn longest_chain(alloc: Global, nodes: &[Node]) -> Result<usize, SchemaError> {
+    let mut chains = chains_of(alloc, nodes)?;
+    let mut known = Vec::new(alloc);
+    for (i, chain) in chains.as_slice().iter().enumerate() {
+        if chain.open == 0 {
+            known.push(i)?;
+        }
+    }
+    let mut longest = 0usize;
+    for at in 0..nodes.len() {
+        let Some(node) = known.get(at).copied() else {
+            return Err(cycle(alloc, nodes, chains.as_slice())?);
+        };
+        longest = longest.max(settle(alloc, &mut chains, &mut known, node)?);
+    }
+    Ok(longest)
+}
+
+/// Returns the error that names a node whose chain is not known.
+fn cycle(alloc: Global, nodes: &[Node], chains: &[Chain]) -> Result<SchemaError, AllocError> {
+    let mut place = String::new(alloc);
+    for (node, chain) in nodes.iter().zip(chains.iter()) {
+        if chain.open > 0 {
+            place = String::from_str(alloc, node.place.as_str())?;
+        }
+    }
+    Ok(SchemaError::Cycle { place })
+}

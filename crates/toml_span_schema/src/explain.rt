@@ -1,0 +1,388 @@
+//! What is reported of a value that is not valid.
+
+use crate::applied::{has_key, names, schemas_for};
+use crate::error::CheckError;
+use crate::keyword::{Keyword, Placed};
+use crate::listed::{Part, parts};
+use crate::report::start_of;
+use crate::schema::Schema;
+use crate::words::{code_of, message_of};
+use std::alloc::{AllocError, Global};
+use toml_span_lex::span::Span;
+use toml_span_report::{Report, nearest};
+use toml_span_tree::Value;
+
+/// The most reports of one alternative that are shown.
+const MOST_SHOWN: usize = 100;
+
+impl Schema {
+    /// Appends what is wrong with a value.
+    #[cycle(explain)]
+    pub(crate) fn explain(
+        &self,
+        alloc: Global,
+        left: &mut u64,
+        depth: usize,
+        node: usize,
+        value: &Value<'_>,
+        reports: &mut Vec<Report>,
+    ) -> Result<(), CheckError> {
+        if depth == 0 {
+            return Err(CheckError::TooDeep);
+        }
+        for placed in self.keywords(node) {
+            if !self.allows(alloc, left, depth - 1, &placed.keyword, value)? {
+                self.explain_keyword(alloc, left, depth - 1, node, placed, value, reports)?;
+            }
+        }
+        Ok(())
+    }
+
+    /// Appends why a keyword refuses a value.
+    #[cycle(explain)]
+    fn explain_keyword(
+        &self,
+        alloc: Global,
+        left: &mut u64,
+        depth: usize,
+        node: usize,
+        placed: &Placed,
+        value: &Value<'_>,
+        reports: &mut Vec<Report>,
+    ) -> Result<(), CheckError> {
+        let before = reports.len();
+        match &placed.keyword {
+            Keyword::AllOf(nodes) => {
+                for other in nodes.as_slice() {
+                    self.explain(alloc, left, depth, *other, value, reports)?;
+                }
+            }
+            Keyword::AnyOf(nodes) | Keyword::OneOf(nodes) => {
+                let nodes = nodes.as_slice();
+                self.explain_best(alloc, left, depth, node, placed, nodes, value, reports)?;
+            }
+            Keyword::If(condition, yes, no) => {
+                let holds = self.is_valid(alloc, left, depth, *condition, value)?;
+                if let Some(branch) = if holds { *yes } else { *no } {
+                    self.explain(alloc, left, depth, branch, value, reports)?;
+                }
+            }
+            Keyword::DependentSchemas(entries) => {
+                for entry in entries.as_slice() {
+                    if has_key(value, entry.0.as_str()) {
+                        self.explain(alloc, left, depth, entry.1, value, reports)?;
+                    }
+                }
+            }
+            _ => self.explain_inside(alloc, left, depth, node, placed, value, reports)?,
+        }
+        if reports.len() == before {
+            reports.push(self.report(alloc, node, placed, value, value.span)?)?;
+        }
+        Ok(())
+    }
+
+    /// Appends why a keyword refuses what is inside a value.
+    #[cycle(explain)]
+    fn explain_inside(
+        &self,
+        alloc: Global,
+        left: &mut u64,
+        depth: usize,
+        node: usize,
+        placed: &Placed,
+        value: &Value<'_>,
+        reports: &mut Vec<Report>,
+    ) -> Result<(), CheckError> {
+        match &placed.keyword {
+            Keyword::Items(_, _) | Keyword::Properties(_, _, _) => {
+                self.explain_members(alloc, left, depth, node, placed, value, reports)
+            }
+            Keyword::UnevaluatedItems(beside, other)
+            | Keyword::UnevaluatedProperties(beside, other) => {
+                let nodes = (*beside, *other);
+                self.explain_rest(alloc, left, depth, node, placed, nodes, value, reports)
+            }
+            Keyword::Required(wanted) => {
+                Ok(self.explain_missing(alloc, node, placed, wanted.as_slice(), value, reports)?)
+            }
+            Keyword::PropertyNames(schema) => {
+                for name in names(alloc, value)?.as_slice() {
+                    self.explain(alloc, left, depth, *schema, name, reports)?;
+                }
+                Ok(())
+            }
+            _ => Ok(()),
+        }
+    }
+
+    /// Appends why the parts of a value that `nodes.0` does not evaluate are not valid against `nodes.1`.
+    #[cycle(explain)]
+    fn explain_rest(
+        &self,
+        alloc: Global,
+        left: &mut u64,
+        depth: usize,
+        node: usize,
+        placed: &Placed,
+        nodes: (usize, usize),
+        value: &Value<'_>,
+        reports: &mut Vec<Report>,
+    ) -> Result<(), CheckError> {
+        let entries = matches!(&placed.keyword, Keyword::UnevaluatedProperties(_, _));
+        for part in parts(alloc, value)?.as_slice() {
+            if !self.allows_part(alloc, left, depth, entries, nodes, value, *part)? {
+                self.explain_part(alloc, left, depth, node, placed, nodes.1, *part, reports)?;
+            }
+        }
+        Ok(())
+    }
+
+    /// Appends why a part of a value is not valid against a subschema of a keyword.
+    #[cycle(explain)]
+    fn explain_part(
+        &self,
+        alloc: Global,
+        left: &mut u64,
+        depth: usize,
+        node: usize,
+        placed: &Placed,
+        schema: usize,
+        part: Part<'_, '_>,
+        reports: &mut Vec<Report>,
+    ) -> Result<(), CheckError> {
+        match part {
+            Part::Member(key, _) if self.is_never(schema) => {
+                let name = key.name.as_ref();
+                reports.push(self.unknown_key(alloc, node, placed, name, key.span)?)?;
+                Ok(())
+            }
+            Part::Element(_, element) if self.is_never(schema) => {
+                reports.push(self.report(alloc, node, placed, element, element.span)?)?;
+                Ok(())
+            }
+            _ => self.explain(alloc, left, depth, schema, part.value(), reports),
+        }
+    }
+
+    /// Appends why the members of a table don't match `properties` and its kin.
+    #[cycle(explain)]
+    fn explain_members(
+        &self,
+        alloc: Global,
+        left: &mut u64,
+        depth: usize,
+        node: usize,
+        placed: &Placed,
+        value: &Value<'_>,
+        reports: &mut Vec<Report>,
+    ) -> Result<(), CheckError> {
+        for part in parts(alloc, value)?.as_slice() {
+            for schema in schemas_for(alloc, self, &placed.keyword, *part)?.as_slice() {
+                self.explain_part(alloc, left, depth, node, placed, *schema, *part, reports)?;
+            }
+        }
+        Ok(())
+    }
+
+    /// Appends what is wrong with a value by the alternative that fits it best.
+    #[cycle(explain)]
+    fn explain_best(
+        &self,
+        alloc: Global,
+        left: &mut u64,
+        depth: usize,
+        node: usize,
+        placed: &Placed,
+        nodes: &[usize],
+        value: &Value<'_>,
+        reports: &mut Vec<Report>,
+    ) -> Result<(), CheckError> {
+        let mut best = Vec::new(alloc);
+        let mut least = usize::MAX;
+        for other in nodes {
+            let mut found = Vec::new(alloc);
+            self.explain(alloc, left, depth, *other, value, &mut found)?;
+            let distance = distance(found.as_slice(), value.span);
+            if !found.is_empty() && distance < least {
+                least = distance;
+                best = found;
+            }
+        }
+        if best.is_empty() || best.len() > MOST_SHOWN {
+            reports.push(self.report(alloc, node, placed, value, value.span)?)?;
+            return Ok(());
+        }
+        let note = self.note_of(alloc, node, placed)?;
+        for report in best {
+            reports.push(report.note(note.as_str())?)?;
+        }
+        Ok(())
+    }
+
+    /// Appends a report for each key that a table lacks.
+    fn explain_missing(
+        &self,
+        alloc: Global,
+        node: usize,
+        placed: &Placed,
+        wanted: &[String],
+        value: &Value<'_>,
+        reports: &mut Vec<Report>,
+    ) -> Result<(), AllocError> {
+        for name in wanted {
+            if !has_key(value, name.as_str()) {
+                let message = format!(in alloc; "missing key `{name}`")?;
+                let report = Report::error(alloc, "schema-required", message.as_str())?;
+                let report = report.primary(value.span, "")?;
+                reports.push(self.with_notes(alloc, report, node, placed)?)?;
+            }
+        }
+        Ok(())
+    }
+
+    /// Returns the report of a key that is not allowed.
+    fn unknown_key(
+        &self,
+        alloc: Global,
+        node: usize,
+        placed: &Placed,
+        name: &str,
+        span: Span,
+    ) -> Result<Report, AllocError> {
+        let message = format!(in alloc; "unknown key `{name}`")?;
+        let report = Report::error(alloc, "schema-additional-properties", message.as_str())?;
+        let report = report.primary(span, "")?;
+        let mut known = Vec::new(alloc);
+        if let Keyword::Properties(named, _, _) = &placed.keyword {
+            for (other, _node) in named.iter() {
+                known.push(other.as_str())?;
+            }
+        }
+        let report = match nearest(alloc, name, known.as_slice())? {
+            Some(meant) => {
+                let help = format!(in alloc; "did you mean `{meant}`?")?;
+                suggest_word(report.help(help.as_str())?, span, meant, meant)?
+            }
+            None => report,
+        };
+        self.with_notes(alloc, report, node, placed)
+    }
+
+    /// Returns the report that a keyword refuses a value.
+    fn report(
+        &self,
+        alloc: Global,
+        node: usize,
+        placed: &Placed,
+        value: &Value<'_>,
+        span: Span,
+    ) -> Result<Report, AllocError> {
+        let message = message_of(alloc, placed, value)?;
+        let code = code_of(alloc, placed.name)?;
+        let report = Report::error(alloc, code.as_str(), message.as_str())?.primary(span, "")?;
+        let report = match (value.as_str(), &placed.keyword) {
+            (Some(text), Keyword::Enum(_, words)) => {
+                meant_word(alloc, report, text, words.as_slice(), span)?
+            }
+            _ => report,
+        };
+        self.with_notes(alloc, report, node, placed)
+    }
+
+    /// Adds notes with the keyword's place in the schema and the schema's title.
+    fn with_notes(
+        &self,
+        alloc: Global,
+        report: Report,
+        node: usize,
+        placed: &Placed,
+    ) -> Result<Report, AllocError> {
+        let note = self.note_of(alloc, node, placed)?;
+        self.with_title(report.note(note.as_str())?, node)
+    }
+
+    /// Adds a note with the title of a schema, if it has one.
+    pub(crate) fn with_title(&self, report: Report, node: usize) -> Result<Report, AllocError> {
+        match self.nodes.get(node).and_then(|node| node.title.as_ref()) {
+            Some(title) => report.note(title.as_str()),
+            None => Ok(report),
+        }
+    }
+
+    /// Returns the note that names a keyword's place in the schema.
+    fn note_of(&self, alloc: Global, node: usize, placed: &Placed) -> Result<String, AllocError> {
+        let place = match self.nodes.get(node) {
+            Some(node) => node.place.as_str(),
+            None => "",
+        };
+        let name = placed.name;
+        format!(in alloc; "required by `{place}/{name}` in the schema")
+    }
+
+    /// Returns whether a schema allows nothing.
+    fn is_never(&self, node: usize) -> bool {
+        match self.keywords(node) {
+            [placed] => matches!(&placed.keyword, Keyword::Never),
+            _ => false,
+        }
+    }
+}
+
+/// Returns how badly an alternative fits: a wrong type or a wrong constant directly in the value counts most.
+fn distance(reports: &[Report], span: Span) -> usize {
+    let mut sum = 0usize;
+    for report in reports {
+        let own = start_of(report) == span.start;
+        let weight = match report.code.as_str() {
+            "schema-type" if own => 10_000,
+            "schema-const" | "schema-enum" => 1_000,
+            "schema-required" | "schema-additional-properties" => 10,
+            _ => 1,
+        };
+        sum = sum.saturating_add(weight);
+    }
+    sum
+}
+
+/// Adds the word that a misspelt one probably means, and the replacement at `span`.
+fn meant_word(
+    alloc: Global,
+    report: Report,
+    text: &str,
+    words: &[String],
+    span: Span,
+) -> Result<Report, AllocError> {
+    let mut known = Vec::new(alloc);
+    for word in words {
+        known.push(word.as_str())?;
+    }
+    match nearest(alloc, text, known.as_slice())? {
+        Some(meant) => {
+            let help = format!(in alloc; "did you mean `{meant}`?")?;
+            let report = report.help(help.as_str())?;
+            let quoted = format!(in alloc; "\"{meant}\"")?;
+            suggest_word(report, span, meant, quoted.as_str())
+        }
+        None => Ok(report),
+    }
+}
+
+/// Suggests a replacement for a misspelt word, if the word that is meant needs no escapes.
+fn suggest_word(report: Report, span: Span, meant: &str, text: &str) -> Result<Report, AllocError> {
+    if is_plain(meant) {
+        report.suggest(span, text)
+    } else {
+        Ok(report)
+    }
+}
+
+/// Returns whether a word may be a bare key.
+fn is_plain(word: &str) -> bool {
+    for c in word.chars() {
+        if !c.is_ascii_alphanumeric() && c != '-' && c != '_' {
+            return false;
+        }
+    }
+    !word.is_empty()
+}

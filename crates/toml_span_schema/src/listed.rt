@@ -1,0 +1,92 @@
+//! The values directly inside a value.
+ghost use Rattle.std.specs.Prelude.{◌≡◌, ◌++◌, IfOk, OnOk, map, option_map};
+ghost use Rattle.toml_span_tree.specs.Value.{items_view, members_view, view};
+ghost use Rattle.toml_span_schema.specs.Parts.{elements_from, entries_of, is_entry, part_of};
+ghost use Rattle.toml_span_schema.specs.Parts.{parts_of, same_bool, value_of};
+
+use std::alloc::{AllocError, Global};
+use toml_span_lex::key::Key;
+use toml_span_tree::{Table, Value, ValueInner};
+
+/// A value directly inside another: an entry of a table with its key, or an element of an array with its position.
+#[derive(Clone, Copy)]
+pub(crate) enum Part<'v, 'de> {
+    Member(&'v Key<'de>, &'v Value<'de>),
+    Element(usize, &'v Value<'de>),
+}
+
+impl<'v, 'de> Part<'v, 'de> {
+    pub(crate) fn value(&self) -> &'v Value<'de>
+        ensures { view result.now ≡ value_of (part_of self.now) }
+    {
+        match self {
+            Part::Member(_, value) => *value,
+            Part::Element(_, value) => *value,
+        }
+    }
+
+    /// Returns whether this is an entry of a table.
+    pub(crate) fn is_entry(&self) -> bool
+        ensures { result ≡ is_entry (part_of self.now) }
+    {
+        match self {
+            Part::Member(_, _) => true,
+            Part::Element(_, _) => false,
+        }
+    }
+
+    /// Returns whether this is an entry of a table, with `entries`, or an element of an array, without it.
+    pub(crate) fn is_of(&self, entries: bool) -> bool
+        ensures { result ≡ same_bool (is_entry (part_of self.now)) entries }
+    {
+        if self.is_entry() { entries } else { !entries }
+    }
+}
+
+/// Lists the values directly inside a value: the elements of an array in order, the entries of a table in the order of
+/// their names. Fails if an allocation fails.
+pub(crate) fn parts<'v, 'de>(
+    alloc: Global,
+    value: &'v Value<'de>,
+) -> Result<Vec<Part<'v, 'de>>, AllocError>
+    ensures { IfOk result (λ list. map part_of list.items ≡ parts_of (view value.now)) }
+{
+    let mut list = Vec::new(alloc);
+    if value.is_taken() {
+        return Ok(list);
+    }
+    match value.as_ref() {
+        ValueInner::Array(array) => push_elements(&mut list, array.as_slice())?,
+        ValueInner::Table(table) => push_members(&mut list, table)?,
+        _ => {}
+    }
+    Ok(list)
+}
+
+/// Appends the elements of an array.
+fn push_elements<'v, 'de>(
+    list: &mut Vec<Part<'v, 'de>>,
+    array: &'v [Value<'de>],
+) -> Result<(), AllocError>
+    ensures { OnOk result (map part_of list.new.items
+        ≡ map part_of list.old.items ++ elements_from 0 (items_view array.now)) }
+{
+    for (i, value) in array.iter().enumerate() {
+        list.push(Part::Element(i, value))?;
+    }
+    Ok(())
+}
+
+/// Appends the entries of a table.
+fn push_members<'v, 'de>(
+    list: &mut Vec<Part<'v, 'de>>,
+    table: &'v Table<'de>,
+) -> Result<(), AllocError>
+    ensures { OnOk result (map part_of list.new.items
+        ≡ map part_of list.old.items ++ entries_of (members_view table.now.entries)) }
+{
+    for (key, value) in table.iter() {
+        list.push(Part::Member(key, value))?;
+    }
+    Ok(())
+}

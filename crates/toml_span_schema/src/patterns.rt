@@ -1,0 +1,165 @@
+//! Regular expressions as JSON Schema writes them.
+ghost use Rattle.std.specs.Prelude.{◌≡◌, ◌++◌, ◌==◌, ◌&&◌, ◌||◌, ◌∷◌, [], not, if◌then◌else◌, IfOk, OnOk};
+ghost use Rattle.std.specs.Prelude.{string_bytes};
+ghost use Rattle.std.specs.Char.{encode_utf8};
+ghost use Rattle.std.specs.Option.{is_some};
+ghost use Rattle.std.specs.Str.{chars};
+ghost use Rattle.regex.specs.Patterns.{default_config};
+ghost use Rattle.regex_syntax.specs.Grammar.{read};
+ghost use Rattle.toml_span_schema.specs.Patterns.{character, escape, in_class_after, is_pattern, plain_character};
+ghost use Rattle.toml_span_schema.specs.Patterns.{translated};
+
+use crate::error::{CheckError, SchemaError};
+use regex::{Error, Regex};
+use regex_syntax::ErrorKind;
+use std::alloc::{AllocError, Global};
+
+/// Appends what an escape of ECMA-262 means in the syntax of `regex`: `\d` and `\w` are ASCII there.
+fn push_escape(out: &mut String, c: char) -> Result<(), AllocError>
+    ensures { OnOk result (string_bytes out.new ≡ string_bytes out.old ++ escape c) }
+{
+    match c {
+        'd' => out.push_str("[0-9]"),
+        'D' => out.push_str("[^0-9]"),
+        'w' => out.push_str("[0-9A-Za-z_]"),
+        'W' => out.push_str("[^0-9A-Za-z_]"),
+        's' => out.push_str("[\\s\\x{FEFF}]"),
+        'S' => out.push_str("[^\\s\\x{FEFF}]"),
+        // Not escapes of ECMA-262: what follows keeps the text from being read as one.
+        'A' | 'z' | 'Z' | 'a' => out.push_str("(?!)"),
+        _ => push_escaped(out, c),
+    }
+}
+
+/// Appends a backslash and a character.
+fn push_escaped(out: &mut String, c: char) -> Result<(), AllocError>
+    ensures { OnOk result (string_bytes out.new ≡ string_bytes out.old ++ (92 ∷ [] ++ encode_utf8 c)) }
+{
+    out.push('\\')?;
+    out.push(c)
+}
+
+/// Returns whether a character inside brackets needs a backslash to mean itself.
+fn is_special(c: char) -> bool
+    ensures { result ≡ (c == 91 || c == 38 || c == 126) }
+{
+    c == '[' || c == '&' || c == '~'
+}
+
+/// Appends what a character without a backslash before it means. `in_class` says whether it is inside brackets.
+fn push_plain(out: &mut String, in_class: bool, c: char) -> Result<(), AllocError>
+    ensures { OnOk result (string_bytes out.new ≡ string_bytes out.old ++ plain_character in_class c) }
+{
+    if c == '\\' {
+        Ok(())
+    } else if in_class && is_special(c) {
+        push_escaped(out, c)
+    } else {
+        out.push(c)
+    }
+}
+
+/// Appends what a character of ECMA-262 means in the syntax of `regex`. `escaped` says whether a backslash is before
+/// it, `in_class` whether it is inside brackets.
+fn push_character(
+    out: &mut String,
+    escaped: bool,
+    in_class: bool,
+    c: char,
+) -> Result<(), AllocError>
+    ensures { OnOk result (string_bytes out.new ≡ string_bytes out.old ++ character escaped in_class c) }
+{
+    if escaped {
+        push_escape(out, c)
+    } else {
+        push_plain(out, in_class, c)
+    }
+}
+
+/// Returns whether what follows a character is inside brackets.
+fn in_class_after(escaped: bool, in_class: bool, c: char) -> bool
+    ensures { result ≡ in_class_after escaped in_class c }
+{
+    if escaped {
+        in_class
+    } else if c == '[' {
+        true
+    } else if c == ']' {
+        false
+    } else {
+        in_class
+    }
+}
+
+/// Returns whether a character is a backslash that escapes the next one.
+fn escapes_next(escaped: bool, c: char) -> bool
+    ensures { result ≡ (not escaped && c == 92) }
+{
+    !escaped && c == '\\'
+}
+
+/// Appends the backslash at the end of a regular expression, if there is one.
+fn push_end(out: &mut String, escaped: bool) -> Result<(), AllocError>
+    ensures { OnOk result (string_bytes out.new ≡ string_bytes out.old ++ (if escaped then 92 ∷ [] else [])) }
+{
+    if escaped { out.push('\\') } else { Ok(()) }
+}
+
+/// Returns a regular expression of ECMA-262 in the syntax of `regex`.
+fn translated(alloc: Global, pattern: &str) -> Result<String, AllocError>
+    ensures { IfOk result (λ t. string_bytes t ≡ translated pattern.now) }
+{
+    let mut out = String::new(alloc);
+    let mut escaped = false;
+    let mut in_class = false;
+    for c in pattern.chars() {
+        push_character(&mut out, escaped, in_class, c)?;
+        in_class = in_class_after(escaped, in_class, c);
+        escaped = escapes_next(escaped, c);
+    }
+    push_end(&mut out, escaped)?;
+    Ok(out)
+}
+
+/// Compiles a regular expression. `place` is where it is in the schema.
+pub(crate) fn compile_pattern(
+    alloc: Global,
+    pattern: &str,
+    place: &str,
+) -> Result<Regex, SchemaError> {
+    let text = translated(alloc, pattern)?;
+    match Regex::new(alloc, text.as_str()) {
+        Ok(regex) => Ok(regex),
+        Err(Error::OutOfMemory) => Err(SchemaError::OutOfMemory),
+        Err(_) => Err(SchemaError::Pattern {
+            place: String::from_str(alloc, place)?,
+        }),
+    }
+}
+
+/// Returns whether the crate `regex` reads a text as a regular expression. Fails with `TooLong` if it is one that is
+/// too large or nests too deep.
+fn is_read(alloc: Global, text: &str) -> Result<bool, CheckError>
+    ensures { IfOk result (λ r. r ≡ is_some (read default_config (chars text.now))) }
+{
+    match Regex::new(alloc, text) {
+        Ok(regex) => {
+            drop(regex);
+            Ok(true)
+        }
+        Err(Error::Syntax(error)) => match error.kind {
+            ErrorKind::NestLimitExceeded => Err(CheckError::TooLong),
+            _ => Ok(false),
+        },
+        Err(Error::OutOfMemory) => Err(CheckError::OutOfMemory),
+        Err(_) => Err(CheckError::TooLong),
+    }
+}
+
+/// Returns whether a text is a regular expression of ECMA-262. Fails like `is_read`.
+pub(crate) fn is_pattern(alloc: Global, text: &str) -> Result<bool, CheckError>
+    ensures { IfOk result (λ r. r ≡ is_pattern text.now) }
+{
+    let text = translated(alloc, text)?;
+    is_read(alloc, text.as_str())
+}

@@ -1,0 +1,97 @@
+//! JSON pointers, which name places in a document.
+
+use json::Value as Json;
+use std::alloc::{AllocError, Global};
+
+/// Appends a step to a pointer, with `~` and `/` escaped.
+pub(crate) fn push_step(pointer: &mut String, name: &str) -> Result<(), AllocError> {
+    pointer.push('/')?;
+    for c in name.chars() {
+        match c {
+            '~' => pointer.push_str("~0")?,
+            '/' => pointer.push_str("~1")?,
+            _ => pointer.push(c)?,
+        }
+    }
+    Ok(())
+}
+
+/// Returns a pointer followed by a step.
+pub(crate) fn with_step(alloc: Global, pointer: &str, name: &str) -> Result<String, AllocError> {
+    let mut made = String::from_str(alloc, pointer)?;
+    push_step(&mut made, name)?;
+    Ok(made)
+}
+
+/// Returns a pointer followed by a position.
+pub(crate) fn with_position(alloc: Global, pointer: &str, at: usize) -> Result<String, AllocError> {
+    format!(in alloc; "{pointer}/{at}")
+}
+
+/// Returns a name without the escapes of a pointer.
+fn unescaped(alloc: Global, step: &str) -> Result<String, AllocError> {
+    let mut name = String::new(alloc);
+    let mut after_tilde = false;
+    for c in step.chars() {
+        match (after_tilde, c) {
+            (true, '1') => name.push('/')?,
+            (true, _) => name.push('~')?,
+            (false, '~') => {}
+            (false, _) => name.push(c)?,
+        }
+        after_tilde = !after_tilde && c == '~';
+    }
+    Ok(name)
+}
+
+/// Returns the number that a step writes, if it is one.
+fn position_in(step: &str) -> Option<usize> {
+    match fast_float::parse_u64(step.as_bytes()) {
+        Ok(at) => Some(at as usize),
+        Err(_) => None,
+    }
+}
+
+/// Returns the value one step inside a value.
+fn inside<'v, 'a>(
+    alloc: Global,
+    value: &'v Json<'a>,
+    step: &str,
+) -> Result<Option<&'v Json<'a>>, AllocError> {
+    if let Json::Array(_) = value {
+        return match position_in(step) {
+            Some(at) => Ok(value.at(at)),
+            None => Ok(None),
+        };
+    }
+    let name = unescaped(alloc, step)?;
+    Ok(value.get(name.as_str()))
+}
+
+/// Returns the value that is some steps inside a value.
+fn walked<'v, 'a>(
+    alloc: Global,
+    value: &'v Json<'a>,
+    steps: &[&str],
+) -> Result<Option<&'v Json<'a>>, AllocError> {
+    let [step, rest @ ..] = steps else {
+        return Ok(Some(value));
+    };
+    match inside(alloc, value, *step)? {
+        Some(next) => walked(alloc, next, rest),
+        None => Ok(None),
+    }
+}
+
+/// Returns the value that a pointer names.
+pub(crate) fn pointed<'v, 'a>(
+    alloc: Global,
+    root: &'v Json<'a>,
+    pointer: &str,
+) -> Result<Option<&'v Json<'a>>, AllocError> {
+    let mut steps = Vec::new(alloc);
+    for step in pointer.split('/').skip(1) {
+        steps.push(step)?;
+    }
+    walked(alloc, root, steps.as_slice())
+}

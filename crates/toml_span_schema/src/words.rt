@@ -1,0 +1,70 @@
+//! The messages of reports.
+
+use crate::keyword::{Keyword, Placed};
+use std::alloc::{AllocError, Global};
+use toml_span_tree::Value;
+
+/// Returns the code of a keyword's reports: `schema-min-length` for `minLength`.
+pub(crate) fn code_of(alloc: Global, name: &str) -> Result<String, AllocError> {
+    let mut code = String::from_str(alloc, "schema-")?;
+    for c in name.chars() {
+        match c {
+            'A'..='Z' => {
+                code.push('-')?;
+                code.push(c.to_ascii_lowercase())?;
+            }
+            '$' => {}
+            _ => code.push(c)?,
+        }
+    }
+    Ok(code)
+}
+
+/// Returns how a message about a keyword begins.
+fn start_of(keyword: &Keyword) -> &'static str {
+    match keyword {
+        Keyword::Type(_) => "expected",
+        Keyword::Enum(_, _) => "expected",
+        Keyword::Minimum(_) => "the number must be at least",
+        Keyword::ExclusiveMinimum(_) => "the number must be greater than",
+        Keyword::Maximum(_) => "the number must be at most",
+        Keyword::ExclusiveMaximum(_) => "the number must be less than",
+        Keyword::MultipleOf(_, _) => "the number must be a multiple of",
+        Keyword::MinLength(_) => "the minimum length in characters is",
+        Keyword::MaxLength(_) => "the maximum length in characters is",
+        Keyword::Pattern(_) => "the string must match the regular expression",
+        Keyword::Format(_, _, _) | Keyword::RegexFormat => "the string must have the format",
+        Keyword::MinItems(_) => "the minimum number of elements is",
+        Keyword::MaxItems(_) => "the maximum number of elements is",
+        Keyword::MinProperties(_) => "the minimum number of keys is",
+        Keyword::MaxProperties(_) => "the maximum number of keys is",
+        Keyword::UniqueItems => "the elements must differ from one another",
+        Keyword::Contains(_, _, _, _) =>
+            "the number of elements that match `contains` is not allowed",
+        Keyword::Not(_) => "the value must not match the schema `not`",
+        Keyword::AnyOf(_) => "the value matches none of the alternatives",
+        Keyword::OneOf(_) => "the value must match exactly one of the alternatives",
+        Keyword::DependentRequired(_) => "a key is missing that another key requires",
+        Keyword::Never => "no value is allowed here",
+        Keyword::UnevaluatedItems(_, _) => "an element is not allowed",
+        _ => "the value does not match the schema",
+    }
+}
+
+/// Returns the message that a keyword refuses a value.
+pub(crate) fn message_of(
+    alloc: Global,
+    placed: &Placed,
+    value: &Value<'_>,
+) -> Result<String, AllocError> {
+    let mut message = String::from_str(alloc, start_of(&placed.keyword))?;
+    if !placed.shown.is_empty() {
+        message.push(' ')?;
+        message.push_str(placed.shown.as_str())?;
+    }
+    if let Keyword::Type(_) = placed.keyword {
+        message.push_str(", found ")?;
+        message.push_str(value.type_str())?;
+    }
+    Ok(message)
+}
