@@ -134,7 +134,7 @@ module _ {a b : List ℕ} {n : ℕ} (w : Same a b n) where
   hex_fault start i m j (errors.InvalidEscapeValue at k v) l h = (h.0, h.1, h.2 ∙ value (i + 1) m (omega (arith, h.4)), hex (i + 1) j (omega arith) h.3, h.4, h.5)
   hex_fault start i m j e l h = absurd h
 
-  escape : (i c j : ℕ) → j ≤ n → IsEscape a i c j → IsEscape b i c j
+  pub escape : (i c j : ℕ) → j ≤ n → IsEscape a i c j → IsEscape b i c j
   escape i c j l (inl (h, x, y)) = inl ((rw (w.byte i (omega arith)) at h), omega (arith, w.in_b), y)
   escape i c j l (inr (h, x, y)) =
       let some : i < n = omega (arith, y.1) in
@@ -162,7 +162,7 @@ module _ {a b : List ℕ} {n : ℕ} (w : Same a b n) where
     stops = λ x. ws false j l (g.stops (omega (arith, w.in_a)));
   }
 
-  dropped : (i j : ℕ) → j + 1 < n → IsDropped a i j → IsDropped b i j
+  pub dropped : (i j : ℕ) → j + 1 < n → IsDropped a i j → IsDropped b i j
   dropped i j l (k, m, blank, end, more) =
       let f = line_forward a k m end in
       (k, m, run is_blank i k (omega (arith, more.forward)) blank, line k m (omega (arith, more.forward)) end, gap m j l more)
@@ -189,7 +189,7 @@ module _ {a b : List ℕ} {n : ℕ} (w : Same a b n) where
       let f = Cut-forward q multi a p.1 j ps h.1 in
       (piece q multi i p.1 p.0 (omega arith) h.0, cut q multi ps p.1 j l h.1)
 
-  content_same : (q : ℕ) (multi : Bool) (ps : List (Piece × ℕ)) (i j : ℕ) → j ≤ n → Cut q multi a i ps j → content a i ps ≡ content b i ps
+  pub content_same : (q : ℕ) (multi : Bool) (ps : List (Piece × ℕ)) (i j : ℕ) → j ≤ n → Cut q multi a i ps j → content a i ps ≡ content b i ps
   content_same q multi [] i j l h = refl
   content_same q multi (p ∷ ps) i j l h =
       let f = Cut-forward q multi a p.1 j ps h.1 in
@@ -235,7 +235,7 @@ module _ {a b : List ℕ} {n : ℕ} (w : Same a b n) where
   opens : (i : ℕ) → i + 2 < n → opens_multi a i ≡ opens_multi b i
   opens i l = rw (w.byte i (omega arith), w.byte (i + 1) (omega arith), w.byte (i + 2) l) refl
 
-  begins : (multi : Bool) (i from : ℕ) → from + 1 < n → ContentFrom multi a i from → ContentFrom multi b i from
+  pub begins : (multi : Bool) (i from : ℕ) → from + 1 < n → ContentFrom multi a i from → ContentFrom multi b i from
   begins false i from l h = h
   begins true i from l (inl h) = inl (line (i + 3) from (omega arith) h)
   begins true i from l (inr (h, e)) = inr (no_line (i + 3) (omega arith) h, e)

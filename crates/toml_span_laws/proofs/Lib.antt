@@ -20,6 +20,8 @@ pub mod Scoped
 pub mod OneScope
 pub mod ThroughValue
 pub mod AfterValues
+pub mod Literal
+pub mod ScalarTexts
 pub mod SpelledClaims
 pub mod ReadAgain
 pub mod WrittenOver

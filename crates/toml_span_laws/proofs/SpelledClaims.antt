@@ -15,6 +15,7 @@ use Rattle.toml_span_read.specs.Grammar.{Spells, SpellsDocument, ItemsWith, Pair
 use Rattle.toml_span.proofs.Grafts.{followed-assoc}
 use Rattle.toml_span.proofs.EachClaim.{Each}
 use Rattle.toml_span_laws.proofs.AfterValues.{after_closes, after_separator, after_tail}
+use Rattle.toml_span_laws.proofs.Literal.{NoQuoteBefore, after_gap, after_blanks}
 use Rattle.toml_span_laws.proofs.PlainParsed.{assignments_on}
 use Rattle.toml_span_laws.proofs.Remade.{PutsValue, PutsItems, PutsPairs, PutsLines, PutsSections, in_array, in_first, in_later, in_table, in_pair, in_later_pair, in_line, in_later_line, in_section, in_later_section, sections_fit, before_headers, in_sections, items_printed, items_end, pairs_end}
 use Rattle.toml_span_laws.proofs.Replacing.{value_printed}
@@ -45,14 +46,15 @@ header-headed P h all e p (k ∷ l ∷ more) =
 
 -- ---- one claim
 
--- The text from one offset to another spells the value, and what follows does not continue it. With another value there,
--- the text is a document too, if that value differs only in a scalar.
+-- The text from one offset to another spells the value, no quote is directly before it, and what follows does not
+-- continue it. With another value there, the text is a document too, if that value differs only in a scalar.
 pub record Spelled (text : List ℕ) (limit : ℕ) (bs : List ParsedSection) (v : ParsedValue) : Type 0 where
   pub depth : ℕ
   pub from : ℕ
   pub to : ℕ
   pub deep : 1 ≤ depth
   pub spells : Spells v text limit depth from to
+  pub clear : NoQuoteBefore text from
   pub off : parts_off (drop to text) ≡ true
   pub puts : PutsValue text limit bs depth v from to
 
@@ -127,13 +129,13 @@ mutual
   value-of_text : (v : ParsedValue) (p : Path) (text : List ℕ) (limit : ℕ) (bs : List ParsedSection) (d i j : ℕ) → 1 ≤ d → Spells v text limit d i j → PutsValue text limit bs d v i j → AllSpelled text limit bs (value_claims v p)
   value-of_text (parsed (scalar s) span) p text limit bs d i j deep h puts = tt
   value-of_text (parsed (array vs) span) p text limit bs d i j deep (few, (here, e, k, gap, h)) puts =
-      (items-of_text vs 0 p text limit bs (d + 1) k j (omega arith) h (in_array text limit bs vs span d i k j few here gap (items_printed vs text limit (d + 1) k j h) puts), tt)
+      (items-of_text vs 0 p text limit bs (d + 1) k j (omega arith) h (after_gap text 91 i k here refl gap (items_printed vs text limit (d + 1) k j h)) (in_array text limit bs vs span d i k j few here gap (items_printed vs text limit (d + 1) k j h) puts), tt)
   value-of_text (parsed (inline ps) span) p text limit bs d i j deep (few, (here, e, k, gap, h)) puts =
       (pairs-of_text ps [] p text limit bs (d + 1) k j (omega arith) h (in_table text limit bs ps span d i k j few here gap puts), tt)
 
-  items-of_text : (vs : ParsedItems) (n : ℕ) (p : Path) (text : List ℕ) (limit : ℕ) (bs : List ParsedSection) (d i j : ℕ) → 1 ≤ d → ItemsWith SpellsScalar vs text limit d i j → PutsItems text limit bs d vs i j → AllSpelled text limit bs (item_claims vs n p)
-  items-of_text no_items n p text limit bs d i j deep h puts = tt
-  items-of_text (item v vs) n p text limit bs d i j deep (m, h, then) puts =
+  items-of_text : (vs : ParsedItems) (n : ℕ) (p : Path) (text : List ℕ) (limit : ℕ) (bs : List ParsedSection) (d i j : ℕ) → 1 ≤ d → ItemsWith SpellsScalar vs text limit d i j → NoQuoteBefore text i → PutsItems text limit bs d vs i j → AllSpelled text limit bs (item_claims vs n p)
+  items-of_text no_items n p text limit bs d i j deep h clear puts = tt
+  items-of_text (item v vs) n p text limit bs d i j deep (m, h, then) clear puts =
       let end = items_end vs text limit d m j then in
       let here = in_first text limit bs v vs d i m j end.0 end.1 then puts in
       element-of_text v (with_position p n) (item_claims vs (suc n) p) text limit bs
@@ -143,13 +145,14 @@ mutual
         to = m;
         deep = deep;
         spells = h;
+        clear = clear;
         off = elim then [ inl c ↦ after_closes 93 text m j (refl, refl) (λ e. absurd (omega arith)) c.1 | inr c ↦ after_separator 44 text m c.0 (refl, refl) (λ e. absurd (omega arith)) c.1 ];
         puts = here;
       })
       (value-of_text v (with_position p n) text limit bs d i m deep h here)
       (elim then [
         | inl (e, close) ↦ rw e tt
-        | inr (k, comma, rest) ↦ items-of_text vs (suc n) p text limit bs d k j deep rest (in_later text limit bs v vs d i m k j h comma (items_printed vs text limit d k j rest) puts)
+        | inr (k, comma, rest) ↦ items-of_text vs (suc n) p text limit bs d k j deep rest (after_gap text 44 comma.at k comma.here refl comma.after (items_printed vs text limit d k j rest)) (in_later text limit bs v vs d i m k j h comma (items_printed vs text limit d k j rest) puts)
       ])
 
   pairs-of_text : (ps : ParsedPairs) (es : List ParsedAssignment) (p : Path) (text : List ℕ) (limit : ℕ) (bs : List ParsedSection) (d i j : ℕ) → 1 ≤ d → PairsWith SpellsScalar ps es text limit d i j → PutsPairs text limit bs d es ps i j
@@ -167,6 +170,7 @@ mutual
         to = m;
         deep = omega arith;
         spells = h;
+        clear = after_gap text 61 sign.at b sign.here refl sign.after (value_printed v text limit (d + length ss) b m h);
         off = elim then [ inl c ↦ after_closes 125 text m j (refl, refl) (λ e. absurd (omega arith)) c.1 | inr c ↦ after_separator 44 text m c.0 (refl, refl) (λ e. absurd (omega arith)) c.1 ];
         puts = here;
       })
@@ -190,7 +194,7 @@ assignments-of_text (e ∷ es) before p text limit bs i j (m, n, k, h, tail, cle
     let on = assignments_on es (before ++ (e ∷ [])) text limit k j rest in
     let here = in_line text limit bs e es before i m n k j h tail clear gap rest on fits puts in
     spelled-followed text limit bs (key_claims p e.parts e.value (value_claims e.value)) (assignments_claims es p)
-    (key-of_text text limit bs p e.parts e.value (record { depth = length e.parts; from = h.from; to = m; deep = deep; spells = h.spelled; off = after_tail text m n tail; puts = here })
+    (key-of_text text limit bs p e.parts e.value (record { depth = length e.parts; from = h.from; to = m; deep = deep; spells = h.spelled; clear = after_blanks text 61 h.sign.at h.from h.sign.here refl h.sign.after; off = after_tail text m n tail; puts = here })
     (λ q. value-of_text e.value q text limit bs (length e.parts) h.from m deep h.spelled here))
     (assignments-of_text es (before ++ (e ∷ [])) p text limit bs k j rest fits (in_later_line text limit bs e es before i m n k j h tail clear gap puts))
 

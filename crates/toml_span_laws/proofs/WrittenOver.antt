@@ -1,7 +1,7 @@
 -- A value that is written over a scalar is read there, and what comes after it is moved.
-use Rattle.toml_span_lex.proofs.Common.{◌≡◌, ℕ, ◌+◌, ◌-◌, ◌≤◌, true, Some, List, length, take, drop, arith, option_map, subst, sym, refl, ap, ◌∙◌, length-take}
+use Rattle.toml_span_lex.proofs.Common.{◌≡◌, ℕ, ◌+◌, ◌-◌, ◌≤◌, true, Some, List, length, take, drop, arith, option_map, slice_range, subst, sym, refl, ap, ◌∙◌, length-take}
 use Rattle.toml_span_lex.specs.declared.span.Span.{Span}
-use Rattle.toml_span_tree.specs.Node.{Node, Scalar}
+use Rattle.toml_span_tree.specs.Node.{Node, node, Scalar, scalar as scalar_node}
 use Rattle.toml_span_tree.specs.Path.{Path, Place, shape_scalar, place_at}
 use Rattle.toml_span_tree.specs.Value.{view, is_whole}
 use Rattle.toml_span_tree.specs.declared.value.Value.{Value}
@@ -11,11 +11,14 @@ use Rattle.toml_span_read.specs.Grammar.{Spells, SpellsScalar}
 use Rattle.toml_span_read.proofs.NumberLemmas.{same_byte}
 use Rattle.toml_span_read.proofs.SpanLaws.{value_lies}
 use Rattle.toml_span.specs.Parsing.{IsTree, IsTreeOf, HasOutcome, resolved}
-use Rattle.toml_span_laws.specs.Again.{moved, with_part, TakesAnother}
+use Rattle.toml_span_laws.specs.Again.{moved, with_part, ReadsAsScalar, TakesAnother}
+use Rattle.toml_span_places.specs.Literals.{literal_span}
 use Rattle.toml_span_laws.specs.Replaced.{IsDocumentWith, TakesScalar}
 use Rattle.toml_span_laws.proofs.AgainValues.{value_copied}
 use Rattle.toml_span_laws.proofs.Answered.{sections-one}
 use Rattle.toml_span_laws.proofs.Complete.{document_complete}
+use Rattle.toml_span_laws.proofs.Literal.{scalar_literal}
+use Rattle.toml_span_laws.proofs.ScalarTexts.{scalar_text_reads}
 use Rattle.toml_span_laws.proofs.PlainClaims.{plain_place, resolves_alike, flat_alike}
 use Rattle.toml_span_laws.proofs.PlainParsed.{unchanged, changed_at, plain, plain_sections}
 use Rattle.toml_span_laws.proofs.PlainTrees.{tree_put}
@@ -71,9 +74,18 @@ tree-takes-scalar text limit root path place s tree at is =
     let (bs, has, of, h) = tree-scalar text limit root path place s tree at is in
     record {
       takes = takes text limit bs s place.span h;
+      literal = scalar_literal s place.span text h.from h.to h.clear h.spells.1;
       document = λ part x span z. remade bs has of h part x span z;
+      reads = λ part x r. (let (span, z) = scalar_placed bs h part x r in remade bs has of h part x span z);
     }
   where
+    scalar_placed : (bs : List ParsedSection) (h : HasScalar text limit bs s place.span) (part : List ℕ) (x : Scalar) → ReadsAsScalar x part → (span : Span) × SpellsScalar x span (with_part text h.from h.to part) h.from (h.from + length part)
+    scalar_placed bs h part x r =
+        let lies = value_lies (parsed (scalar s) place.span) text limit h.depth h.from h.to h.spells in
+        let (span, z) = r (take h.from text) (drop h.to text) h.off in
+        let e : length (take h.from text) ≡ h.from = omega (arith, length-take h.from text, lies.1, lies.2) in
+        (span, subst (λ (k : ℕ). SpellsScalar x span (with_part text h.from h.to part) k (k + length part)) e z)
+
     remade : (bs : List ParsedSection) → HasOutcome text limit (resolved bs) → IsTreeOf bs (length text) root → (h : HasScalar text limit bs s place.span) → (part : List ℕ) (x : Scalar) (span : Span)
         → SpellsScalar x span (with_part text h.from h.to part) h.from (h.from + length part) → IsDocumentWith path x root (with_part text h.from h.to part) limit
     remade bs has of h part x span z =
@@ -92,3 +104,13 @@ tree-takes-scalar text limit root path place s tree at is =
               (λ p. ap (λ o. option_map (plain_place unchanged) o) (shown.shows p) ∙ (flat_alike unchanged (changed_at place.span.start x) ds bs same (length b) (length text) p ∙ sym (ap (λ o. option_map (plain_place (changed_at place.span.start x)) o) (of.shows p))))
               of.ordered shown.ordered),
         )
+
+-- ---- the text of the literal
+
+pub tree-text-reads : (text : List ℕ) (limit : ℕ) (root : Value) (path : Path) (place : Place) (s : Scalar) → IsTree text limit root → place_at path (view root) ≡ Some place → place.shape ≡ shape_scalar s
+    → ReadsAsScalar s (slice_range text (literal_span text (node (scalar_node s) place.span)).start (literal_span text (node (scalar_node s) place.span)).end)
+tree-text-reads text limit root path place s tree at is =
+    let (bs, has, of, h) = tree-scalar text limit root path place s tree at is in
+    let lies = value_lies (parsed (scalar s) place.span) text limit h.depth h.from h.to h.spells in
+    let e = scalar_literal s place.span text h.from h.to h.clear h.spells.1 in
+    subst (λ (l : Span). ReadsAsScalar s (slice_range text l.start l.end)) (sym e) (scalar_text_reads s place.span text h.from h.to lies.1 lies.2 h.spells.1)

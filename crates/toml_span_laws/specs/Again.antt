@@ -9,7 +9,7 @@ use Rattle.toml_span_read.specs.Data.{parsed_span, ParsedSection}
 use Rattle.toml_span_read.specs.Earlier.{part_names}
 use Rattle.toml_span_tree.specs.Value.{is_whole}
 use Rattle.toml_span_read.specs.Grammar.{Spells, SpellsScalar, SpellsDocument}
-use Rattle.toml_span_read.specs.Again.{HasFloatTexts, HasValue, IsWithin, ReadsAsValue}
+use Rattle.toml_span_read.specs.Again.{HasFloatTexts, HasValue, IsWithin, ReadsAsValue, parts_off}
 
 -- a span, moved by the distance between `from` and `to`
 abbrev pub moved_span : ℕ → ℕ → Span → Span
@@ -113,6 +113,14 @@ pub record TakesAnother (t : List ℕ) (s : Scalar) (span : Span) : Type 0 where
   pub later : (v : ParsedValue) (part : List ℕ) (limit depth k l : ℕ) → j ≤ k → Spells v t limit depth k l
       → Spells (moved j (i + length part) v) (with_part t i j part) limit depth ((k + (i + length part)) - j)
       ((l + (i + length part)) - j)
+
+-- Wherever this part occurs in a text, it is this scalar, from its first byte to its last, unless what follows may
+-- continue it.
+abbrev pub ReadsAsScalar : Scalar → List ℕ → Type 0
+ReadsAsScalar s part =
+    (before after : List ℕ) → parts_off after ≡ true
+    → (span : Span)
+    × SpellsScalar s span (before ++ (part ++ after)) (length before) (length before + length part)
 
 -- ---- forms that are spelled
 

@@ -1,5 +1,5 @@
 -- A document in which one scalar is replaced by another one.
-use Rattle.std.specs.Prelude.{◌≡◌, ℕ, ◌+◌, List, length}
+use Rattle.std.specs.Prelude.{◌≡◌, ℕ, ◌+◌, List, length, slice_range}
 use Rattle.toml_span_lex.specs.declared.span.Span.{Span}
 use Rattle.toml_span_tree.specs.Node.{Scalar, Node, node, Inner, taken, scalar, array, table, Items, no_items, item}
 use Rattle.toml_span_tree.specs.Node.{Members, no_members, member}
@@ -9,7 +9,8 @@ use Rattle.toml_span_tree.specs.declared.value.Value.{Value}
 use Rattle.toml_span_read.specs.Data.{ParsedSection}
 use Rattle.toml_span_read.specs.Grammar.{SpellsScalar}
 use Rattle.toml_span.specs.Parsing.{IsTree, HasOutcome, resolved}
-use Rattle.toml_span_laws.specs.Again.{with_part, TakesAnother}
+use Rattle.toml_span_places.specs.Literals.{literal_span}
+use Rattle.toml_span_laws.specs.Again.{with_part, ReadsAsScalar, TakesAnother}
 
 -- the span 0..0
 abbrev pub no_span : Span
@@ -34,6 +35,11 @@ abbrev mutual
   members_without no_members = no_members
   members_without (member name key n ms) = member name no_span (without_spans n) (members_without ms)
 
+-- the text of a scalar's literal, which has this span in the tree
+abbrev pub literal_text : List ℕ → Scalar → Span → List ℕ
+literal_text t s span =
+    slice_range t (literal_span t (node (scalar s) span)).start (literal_span t (node (scalar s) span)).end
+
 -- The text is a document, and its tree is the other one with this scalar at the path, except for spans.
 abbrev pub IsDocumentWith : Path → Scalar → Value → List ℕ → ℕ → Type 0
 IsDocumentWith path s root t limit =
@@ -42,9 +48,12 @@ IsDocumentWith path s root t limit =
     → without_spans (view other) ≡ without_spans (put path (node (scalar s) no_span) (view root)))
 
 -- The text has this scalar, with this span, and its tree has it at the path. With a part that spells another scalar in
--- its place, the text is a document too: the same one, except for that scalar and for spans.
+-- place of its literal, quotes included, the text is a document too: the same one, except for that scalar and for spans.
 pub record TakesScalar (t : List ℕ) (limit : ℕ) (root : Value) (path : Path) (s : Scalar) (span : Span) : Type 0 where
   pub takes : TakesAnother t s span
+  pub literal : literal_span t (node (scalar s) span) ≡ record { start = takes.i; end = takes.j }
   pub document : (part : List ℕ) (x : Scalar) (at : Span)
       → SpellsScalar x at (with_part t takes.i takes.j part) takes.i (takes.i + length part)
+      → IsDocumentWith path x root (with_part t takes.i takes.j part) limit
+  pub reads : (part : List ℕ) (x : Scalar) → ReadsAsScalar x part
       → IsDocumentWith path x root (with_part t takes.i takes.j part) limit

@@ -23,8 +23,8 @@ pub fn read_within_wider()
         → ReadsDocument text wider result → AreRead (map parsed_section found.items) result }
 {}
 
-/// In the sections of a document, each header and each key has at most as many parts as the limit allows, and no value
-/// is nested deeper.
+/// In the sections of a document, each header and each key has at most as many parts as the limit allows, and each
+/// value is nested within the limit.
 pub fn sections_within_the_limit()
     ensures { (text : List ℕ) (limit : ℕ) (sections : List Section)
         → SpellsDocument (map parsed_section sections) text limit

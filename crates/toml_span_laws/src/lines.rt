@@ -23,7 +23,7 @@ pub fn documents_are_read()
         → read.document text limit (Ok sections) ↔ SpellsDocument sections text limit }
 {}
 
-/// The text spells each section that is read, with a header or before the first one, within the limit and inside the
+/// The text spells each section that is read, with a header or before the first header, within the limit and inside the
 /// text.
 pub fn sections_are_read()
     ensures section { (text : List ℕ) (limit i j : ℕ) (s : Section) → slice_index text i ≡ left_bracket
@@ -70,8 +70,9 @@ pub fn header_or_fault()
         → SpellsHeader ps array text limit i j → read.header text limit i (Err fault) → ⊥ }
 {}
 
-/// A gap that ends at the beginning of a line, or at the blanks there, consists of whole lines, which are blank or have
-/// only a comment, and then of spaces and tabs.
+/// A gap that ends at the end of the text, or at a character other than a control character, consists of lines that are
+/// blank or have only a comment, and then of spaces and tabs. Conversely, such lines, spaces and tabs are a gap if
+/// nothing of a gap follows them.
 pub fn blank_lines()
     ensures before { (text : List ℕ) (i j : ℕ) → MaximalGap text i j → AfterLines text j
         → (ends : List ℕ) × (k : ℕ) × BlankLines text i ends k × MaximalRun is_blank text k j }

@@ -28,8 +28,8 @@ pub fn one_number()
         → (s ≡ t) × (j ≡ k) }
 {}
 
-/// The fault of a number is one of the table: that mistake is in the literal, and the span is the one that the table
-/// gives it.
+/// The fault of a number is one of those that `NumberFault` lists: the literal has this mistake, and the span is the
+/// one in the list.
 pub fn number_faults()
     ensures { (text : List ℕ) (i : ℕ) (fault : Fault)
         → (is_keylike (slice_index text i) || slice_index text i == plus) ≡ true → number text i ≡ Err fault

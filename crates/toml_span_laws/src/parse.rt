@@ -131,9 +131,10 @@ pub fn scalars_read_again()
         → ScalarReadsAgain text limit s place.span }
 {}
 
-/// In a document, and in its tree, the span of a string is the text between the quotes, and the value is what that text
-/// denotes. The span of an empty single-line string is its first quote instead. If the text at the span has neither
-/// backslashes nor carriage returns, the value is that text, or is empty.
+/// In a document, and in its tree, the span of a string is the text between the quotes, without a line end directly
+/// after three opening quotes, and the value is what that text denotes. The span of an empty single-line string is its
+/// first quote instead. If the text at the span has neither backslashes nor carriage returns, the value is that text,
+/// or is empty.
 pub fn strings_show_the_text()
     ensures flat { (text : List ℕ) (limit n : ℕ) (sections : List ParsedSection) (path : Path) (place : Place)
         (value : List ℕ)
@@ -148,8 +149,8 @@ pub fn strings_show_the_text()
         → (value ≡ []) ⊎ (value ≡ slice_range text place.span.start place.span.end) }
 {}
 
-/// The text at the span of an assigned value that is not a string, arrays and inline tables included, spells that value
-/// again. The claims that are made inside it follow directly.
+/// The text at the span of an assigned array, inline table or scalar other than a string spells that value again. The
+/// claims that are made inside the value come directly after its own claim.
 pub fn brackets_read_again()
     ensures { (text : List ℕ) (limit : ℕ) (sections : List ParsedSection) → SpellsDocument sections text limit
         → AssignsAgain text limit (claims sections) }
@@ -198,8 +199,8 @@ pub fn pointers_name_places()
         → (pointed pointer (view root) ≡ Some m) ↔ PointsAt pointer (flat (length text) (claims sections)) m }
 {}
 
-/// `TableHelper::new` succeeds on a value if and only if the flat document has a table there. The helper has the
-/// entries of that table.
+/// `TableHelper::new` succeeds on a value if and only if the flat document has a table at the path of the value. The
+/// helper has the entries of that table.
 pub fn helper_opens_on_a_table()
     ensures some { (places : Path → Option Place) (m : Node) → IsValueOf places m → ((s : State) × OpensTable m (Ok s))
         ↔ (option_map (λ x. x.shape) (places []) ≡ Some shape_table) }
@@ -208,7 +209,7 @@ pub fn helper_opens_on_a_table()
 {}
 
 /// `required` reads the value that shows the places of the flat document below the key. It fails with `MissingField` if
-/// and only if the flat document has nothing there. The helper remains one for its table.
+/// and only if the flat document has nothing there. Afterwards, the helper is still one for its table.
 pub fn required_reads_the_document<'de, T: Deserialize<'de>>()
     ensures reads { (places : Path → Option Place) (name : List ℕ) (before after : State)
         (answer : Result T (Stop Error)) → IsOver places before → Requires T.reads name before answer after
@@ -218,8 +219,8 @@ pub fn required_reads_the_document<'de, T: Deserialize<'de>>()
         → IsOver places after }
 {}
 
-/// `optional` does the same, except that it returns `None` and keeps no error if and only if the flat document has
-/// nothing there.
+/// `optional` reads like `required`, but if and only if the flat document has nothing below the key, it returns `None`
+/// and keeps no error.
 pub fn optional_reads_the_document<'de, T: Deserialize<'de>>()
     ensures reads { (places : Path → Option Place) (name : List ℕ) (before after : State)
         (answer : Result (Option T) AllocError) → IsOver places before → Tries T.reads name before answer after

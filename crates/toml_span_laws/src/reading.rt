@@ -38,8 +38,7 @@ pub fn reading_gives(text: &str)
     let _ = first_place(text);
 }
 
-/// The name that an error gives a token, where another one is expected, is the one that the tokenizer's own errors give
-/// it.
+/// The error `Wanted` calls a token by the same name as the errors of the tokenizer do.
 pub fn one_wording()
     ensures { (token : Lexeme) → found_words (found_of token) ≡ words token }
 {}

@@ -9,7 +9,7 @@ ghost use Rattle.toml_span_lines.specs.Lines.{error_line};
 ghost use Rattle.toml_span_lines.specs.Run.{IsAnswer, Runs};
 ghost use Rattle.toml_span_lines.specs.Shown.{ShowsDocument, ShowsRefusal, ShowsPlaces};
 
-/// Places have at most one text as their lines.
+/// At most one text has the lines of given places.
 pub fn one_text()
     ensures { (places : Path → Option Place) (text other : List ℕ) → ShowsPlaces places text → ShowsPlaces places other
         → text ≡ other }

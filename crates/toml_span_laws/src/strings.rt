@@ -7,28 +7,32 @@ ghost use Rattle.toml_span_read.specs.declared.strings.StringToken.{StringToken}
 ghost use Rattle.toml_span_laws.specs.Places.{CutsContent};
 ghost use Rattle.toml_span_read.specs.code.Strings.{StringReads};
 
-/// The span of a string or quoted key is everything between its quotes, unless it is empty and on a single line.
+/// Unless it is empty and on a single line, the span of a string or quoted key is everything between its quotes, except
+/// for a line end directly after three opening quotes.
 pub fn span_is_the_content()
     ensures { (text : List ℕ) (i j : ℕ) (span : Span) (source value : List ℕ) (multi : Bool)
         → IsString text i j span source value multi → (IsEmptyOnOneLine i j → ⊥)
         → CutsContent text i j span value multi }
 {}
 
-/// If that has no carriage return and, between `"`, no backslash, the value of the string is the text at its span.
+/// Unless a string is empty and on a single line, its value is the text at its span if that text has no carriage return
+/// and, between `"`, no backslash.
 pub fn unchanged_is_the_text()
     ensures { (text : List ℕ) (i j : ℕ) (span : Span) (source value : List ℕ) (multi : Bool)
         → IsString text i j span source value multi → (IsEmptyOnOneLine i j → ⊥)
         → (HasChange (slice_index text i) text span.start span.end → ⊥) → value ≡ slice_range text span.start span.end }
 {}
 
-/// A string that is read is borrowed if and only if its value is the text at its span.
+/// Unless it is empty and on a single line, a string that is read is borrowed if and only if its value is the text at
+/// its span.
 pub fn borrowed_is_the_text()
     ensures { (text : List ℕ) (i : ℕ) (token : StringToken) → StringReads text i (Ok token)
         → (IsEmptyOnOneLine i token.end → ⊥) → IsBorrowedStr token.content
         ↔ (cow_str_bytes token.content ≡ slice_range text token.span.start token.span.end) }
 {}
 
-/// A string that is read is borrowed if and only if it has no carriage return and, between `"`, no backslash.
+/// Unless it is empty and on a single line, a string that is read is borrowed if and only if the text at its span has
+/// no carriage return and, between `"`, no backslash.
 pub fn borrowed_where_unchanged()
     ensures { (text : List ℕ) (i : ℕ) (token : StringToken) → StringReads text i (Ok token)
         → (IsEmptyOnOneLine i token.end → ⊥) → IsBorrowedStr token.content
