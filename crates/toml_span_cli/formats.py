@@ -4,8 +4,8 @@
 The checker (PROGRAM with the arguments that come before an option) runs on files with awkward names and contents. The
 script derives what `--format github` and `--format sarif` must write from `--format json`, with lines and columns that
 it counts itself: lines that are escaped in the way that GitHub's runner undoes, and a document with the members of the
-SARIF 2.1.0 schema. The rules of the document must be the codes of all errors that a row of toml_span_rows reports, and
-the two of files that are not text. No line of `--format short` may be a command.
+SARIF 2.1.0 schema. The rules of the document must be the codes of all errors that a row of toml_span_rows reports, the
+two of files that are not text, and those of schemas. No line of `--format short` may be a command.
 """
 import json
 import os
@@ -116,10 +116,12 @@ def result(fault, text):
 
 
 def all_codes():
-    """Returns the codes of all errors that a row reports, and those of whole files."""
+    """Returns the codes of all errors that a row reports, those of whole files, and those of schemas."""
     with open(f"{CRATES}/toml_span_rows/stdout", encoding="utf-8") as rows:
         told = re.findall(r"(?m)^parse .*\n    error ([a-z-]+) ", rows.read())
-    return sorted({*told, "too-many-errors", "newer-toml", "not-utf-8", "too-long"})
+    with open(f"{CRATES}/toml_span_cli/src/schema_pages.rt", encoding="utf-8") as pages:
+        schemas = re.findall(r'(?m)^ +"(schema[a-z-]*)",$', pages.read())
+    return sorted({*told, *schemas, "too-many-errors", "newer-toml", "not-utf-8", "too-long"})
 
 
 def check(program, names):

@@ -1,6 +1,7 @@
 -- One more file with its report.
 use Rattle.toml_span_lex.proofs.Common.{◌≡◌, ◌<◌, ◌+◌, ◌⊎◌, ℕ, Bool, false, List, [], ◌∷◌, ◌++◌, map, take, drop, get_or, length, Option, Result, Ok, Err, IsErrAnd, refl, sym, ap, subst, inl, inr, ◌∙◌, append_assoc, take-append-drop, string_bytes, suc, arith, length-append, take_more, map-append, Appends-trans, nat_tests, common_steps}
 use Rattle.std.proofs.lemmas.List.{append-nil}
+use Rattle.toml_span_check.specs.Schemas.{Says}
 use Rattle.toml_span_check.specs.declared.answer.Task.{Task}
 use Rattle.toml_span_check.specs.declared.answer.Task.TheVariants.{Check, Show}
 use Rattle.toml_span_check.specs.declared.faults.Format.{Format}
@@ -27,24 +28,24 @@ pub finds-more : (excludes names more : List (List ℕ)) (name : List ℕ) (old 
     FindsAll excludes names old mid files → more ≡ names ++ name ∷ [] → Finds mid new (excludes, name, found) → all ≡ files ++ found → FindsAll excludes more old new all
 finds-more excludes names more name old mid new files found all before n search a = rw (n, a) (one_more names old mid new files name found before search)
 
-pub prints-start : (format : Format) (task : Task) (pointer : List ℕ) (log : Option Asked) (out errors : List ℕ) → out ≡ [] → errors ≡ [] →
-    Collects format task pointer [] log log out errors 0 none_wrong
-prints-start format task pointer log out errors none silent =
+pub prints-start : (says : Says) (format : Format) (task : Task) (pointer : List ℕ) (log : Option Asked) (out errors : List ℕ) → out ≡ [] → errors ≡ [] →
+    Collects says format task pointer [] log log out errors 0 none_wrong
+prints-start says format task pointer log out errors none silent =
     record { readings = []; asked = refl; logged = logs-none log; gathered = rw (none, silent) nothing }
 
-gathers-more : (format : Format) (task : Task) (pointer : List ℕ) (rs : List Reading) (name : List ℕ) (reading : Result (List ℕ) (List ℕ)) (t u : TextsOf) →
-    Gathered format task pointer rs t.0 t.1 t.2 t.3 → Adds format task pointer name reading t u → Gathered format task pointer (rs ++ (name, reading) ∷ []) u.0 u.1 u.2 u.3
-gathers-more format task pointer rs name (Ok bytes) t u stdout a = rw (a.2, a.3, a.4, a.5) (answered rs t.0 t.1 t.2 t.3 name bytes a.0 stdout a.1)
-gathers-more format task pointer rs name (Err reason) t u stdout a = rw (a.0, a.1, a.2, a.3) (unread rs t.0 t.1 t.2 t.3 name reason stdout)
+gathers-more : (says : Says) (format : Format) (task : Task) (pointer : List ℕ) (rs : List Reading) (name : List ℕ) (reading : Result (List ℕ) (List ℕ)) (t u : TextsOf) →
+    Gathered says format task pointer rs t.0 t.1 t.2 t.3 → Adds says format task pointer name reading t u → Gathered says format task pointer (rs ++ (name, reading) ∷ []) u.0 u.1 u.2 u.3
+gathers-more says format task pointer rs name (Ok bytes) t u stdout a = rw (a.2, a.3, a.4, a.5) (answered rs t.0 t.1 t.2 t.3 name bytes a.0 stdout a.1)
+gathers-more says format task pointer rs name (Err reason) t u stdout a = rw (a.0, a.1, a.2, a.3) (unread rs t.0 t.1 t.2 t.3 name reason stdout)
 
-pub prints-more : (format : Format) (task : Task) (pointer : List ℕ) (names more : List (List ℕ)) (name : List ℕ) (old mid new : Option Asked) (reading : Result (List ℕ) (List ℕ)) (t u : TextsOf) →
-    Collects format task pointer names old mid t.0 t.1 t.2 t.3 → more ≡ names ++ name ∷ [] → Logs mid new ((name, reading) ∷ []) → Adds format task pointer name reading t u →
-    Collects format task pointer more old new u.0 u.1 u.2 u.3
-prints-more format task pointer names more name old mid new reading t u stdout n l a = record {
+pub prints-more : (says : Says) (format : Format) (task : Task) (pointer : List ℕ) (names more : List (List ℕ)) (name : List ℕ) (old mid new : Option Asked) (reading : Result (List ℕ) (List ℕ)) (t u : TextsOf) →
+    Collects says format task pointer names old mid t.0 t.1 t.2 t.3 → more ≡ names ++ name ∷ [] → Logs mid new ((name, reading) ∷ []) → Adds says format task pointer name reading t u →
+    Collects says format task pointer more old new u.0 u.1 u.2 u.3
+prints-more says format task pointer names more name old mid new reading t u stdout n l a = record {
   readings = stdout.readings ++ (name, reading) ∷ [];
   asked = map-append (λ r. r.0) stdout.readings ((name, reading) ∷ []) ∙ ap (λ ns. ns ++ name ∷ []) stdout.asked ∙ sym n;
   logged = logs-more old mid new stdout.readings (name, reading) stdout.logged l;
-  gathered = gathers-more format task pointer stdout.readings name reading t u stdout.gathered a;
+  gathered = gathers-more says format task pointer stdout.readings name reading t u stdout.gathered a;
 }
 
 pub names-more : {X : Type 0} (text : X → List ℕ) (names : List X) (i : ℕ) (d : X) → i < length names →
@@ -65,17 +66,17 @@ written-after a b c all held text h w =
     let front = written-front b c text w in
     front-written a c (h.0 ++ text) front.0 (holds-after a b c all held text front.0 h front.1)
 
-adds-after : (format : Format) (task : Task) (pointer name : List ℕ) (reading : Result (List ℕ) (List ℕ)) (held errors : List ℕ) (status : ℕ) (wrong : Tally) (t : TextsOf) (front all : List ℕ) →
-    Adds format task pointer name reading (held, errors, status, wrong) t → front ++ held ≡ all →
-    Adds format task pointer name reading (all, errors, status, wrong) (front ++ t.0, t.1, t.2, t.3)
-adds-after format task pointer name reading held errors status wrong t front all a is = grind (arith, nat_tests, common_steps)
+adds-after : (says : Says) (format : Format) (task : Task) (pointer name : List ℕ) (reading : Result (List ℕ) (List ℕ)) (held errors : List ℕ) (status : ℕ) (wrong : Tally) (t : TextsOf) (front all : List ℕ) →
+    Adds says format task pointer name reading (held, errors, status, wrong) t → front ++ held ≡ all →
+    Adds says format task pointer name reading (all, errors, status, wrong) (front ++ t.0, t.1, t.2, t.3)
+adds-after says format task pointer name reading held errors status wrong t front all a is = grind (arith, nat_tests, common_steps)
 
 -- ---- files, one after another
 
 -- the reports on the files so far, written or held
-abbrev pub Upto : Format → Task → List ℕ → List (List ℕ) → Option Asked → Option Asked → Option (List ℕ) → Option (List ℕ) → TextsOf → Type 0
-Upto format task pointer names old new a b t =
-    ((b ≡ a) ⊎ Shows task) × ((all : List ℕ) × Collects format task pointer names old new all t.1 t.2 t.3 × Holds task a b all t.0)
+abbrev pub Upto : Says → Format → Task → List ℕ → List (List ℕ) → Option Asked → Option Asked → Option (List ℕ) → Option (List ℕ) → TextsOf → Type 0
+Upto says format task pointer names old new a b t =
+    ((b ≡ a) ⊎ Shows task) × ((all : List ℕ) × Collects says format task pointer names old new all t.1 t.2 t.3 × Holds task a b all t.0)
 
 -- where all is held nothing is before it
 no-front : (front held all : List ℕ) → front ++ held ≡ all → held ≡ all → front ≡ []
@@ -96,92 +97,92 @@ whole-shown format task text shows = grind (arith, nat_tests, common_steps)
 -- the reports on all files together are held
 pub whole-held : (format : Format) (task : Task) (a b : Option (List ℕ)) (all held kept : List ℕ) → Holds task a b all held → kept ≡ whole format task held → HoldsRest a b (whole format task all) kept
 whole-held format (Show form) a b all held kept h is = subst (HoldsRest a b all) (sym is) h.0
-whole-held format (Check version) a b all held kept (h, inl same) is =
+whole-held format (Check version chooser) a b all held kept (h, inl same) is =
     (h.0, h.1, ap (λ f. f ++ kept) (no-front h.0 held all h.2 same) ∙ is ∙ ap (together format) same)
-whole-held format (Check version) a b all held kept (h, inr (form, wrong)) is = cc
+whole-held format (Check version chooser) a b all held kept (h, inr (form, wrong)) is = cc
 
 shows-next : (task : Task) (a b c : Option (List ℕ)) → (b ≡ a) ⊎ Shows task → (c ≡ b) ⊎ Shows task → (c ≡ a) ⊎ Shows task
 shows-next task a b c h k = grind (arith, nat_tests, common_steps)
 
-pub upto-next : (format : Format) (task : Task) (pointer : List ℕ) (names more : List (List ℕ)) (name : List ℕ) (old mid new : Option Asked) (reading : Result (List ℕ) (List ℕ)) (a b c : Option (List ℕ)) (t u : TextsOf) (text : List ℕ) →
-    Upto format task pointer names old mid a b t → more ≡ names ++ name ∷ [] → Logs mid new ((name, reading) ∷ []) →
-    (c ≡ b) ⊎ Shows task → Adds format task pointer name reading t (text, u.1, u.2, u.3) → Holds task b c text u.0 →
-    Upto format task pointer more old new a c u
-upto-next format task pointer names more name old mid new reading a b c t u text before n l kept adds holds =
+pub upto-next : (says : Says) (format : Format) (task : Task) (pointer : List ℕ) (names more : List (List ℕ)) (name : List ℕ) (old mid new : Option Asked) (reading : Result (List ℕ) (List ℕ)) (a b c : Option (List ℕ)) (t u : TextsOf) (text : List ℕ) →
+    Upto says format task pointer names old mid a b t → more ≡ names ++ name ∷ [] → Logs mid new ((name, reading) ∷ []) →
+    (c ≡ b) ⊎ Shows task → Adds says format task pointer name reading t (text, u.1, u.2, u.3) → Holds task b c text u.0 →
+    Upto says format task pointer more old new a c u
+upto-next says format task pointer names more name old mid new reading a b c t u text before n l kept adds holds =
     let h = before.1.2.0 in (
       shows-next task a b c before.0 kept,
       (
         h.0 ++ text,
-        prints-more format task pointer names more name old mid new reading (before.1.0, t.1, t.2, t.3) (h.0 ++ text, u.1, u.2, u.3) before.1.1 n l
-            (adds-after format task pointer name reading t.0 t.1 t.2 t.3 (text, u.1, u.2, u.3) h.0 before.1.0 adds h.2),
+        prints-more says format task pointer names more name old mid new reading (before.1.0, t.1, t.2, t.3) (h.0 ++ text, u.1, u.2, u.3) before.1.1 n l
+            (adds-after says format task pointer name reading t.0 t.1 t.2 t.3 (text, u.1, u.2, u.3) h.0 before.1.0 adds h.2),
         (holds-after a b c before.1.0 t.0 text u.0 h holds.0, holds-next task before.1.0 t.0 text u.0 h.0 h.2 before.1.2.1 holds.1),
       ),
     )
 
-pub prints-first : (format : Format) (task : Task) (pointer : List ℕ) (first rest files : List (List ℕ)) (old new : Option Asked) (a b : Option (List ℕ)) (t : TextsOf) →
-    files ≡ first ++ rest → Shows task ⊎ (rest ≡ []) → Collects format task pointer first old new t.0 t.1 t.2 t.3 → HasWritten a b (whole format task t.0) →
-    CollectsFirst format task pointer files old new a b
-prints-first format task pointer first rest files old new a b t parts all prints written =
+pub prints-first : (says : Says) (format : Format) (task : Task) (pointer : List ℕ) (first rest files : List (List ℕ)) (old new : Option Asked) (a b : Option (List ℕ)) (t : TextsOf) →
+    files ≡ first ++ rest → Shows task ⊎ (rest ≡ []) → Collects says format task pointer first old new t.0 t.1 t.2 t.3 → HasWritten a b (whole format task t.0) →
+    CollectsFirst says format task pointer files old new a b
+prints-first says format task pointer first rest files old new a b t parts all prints written =
     record { first = first; rest = rest; parts = parts; all = all; out = t.0; complaints = t.1; status = t.2; wrong = t.3; prints = prints; written = written }
 
 -- the first files, and one more that was begun
-first-more : (format : Format) (task : Task) (pointer : List ℕ) (names more rest files : List (List ℕ)) (name : List ℕ) (old mid new : Option Asked) (reading : Result (List ℕ) (List ℕ)) (a b c : Option (List ℕ)) (t : TextsOf) →
-    Upto format task pointer names old mid a b t → more ≡ names ++ name ∷ [] → files ≡ more ++ rest → Logs mid new ((name, reading) ∷ []) →
-    BegunOne format task pointer name reading b c t → CollectsFirst format task pointer files old new a c
-first-more format task pointer names more rest files name old mid new reading a b c t before n parts l begun =
+first-more : (says : Says) (format : Format) (task : Task) (pointer : List ℕ) (names more rest files : List (List ℕ)) (name : List ℕ) (old mid new : Option Asked) (reading : Result (List ℕ) (List ℕ)) (a b c : Option (List ℕ)) (t : TextsOf) →
+    Upto says format task pointer names old mid a b t → more ≡ names ++ name ∷ [] → files ≡ more ++ rest → Logs mid new ((name, reading) ∷ []) →
+    BegunOne says format task pointer name reading b c t → CollectsFirst says format task pointer files old new a c
+first-more says format task pointer names more rest files name old mid new reading a b c t before n parts l begun =
     let h = before.1.2.0 in
     let u = begun.1.0 in
-    prints-first format task pointer more rest files old new a c (h.0 ++ u.0, u.1, u.2, u.3) parts (inl begun.0)
-    (prints-more format task pointer names more name old mid new reading (before.1.0, t.1, t.2, t.3) (h.0 ++ u.0, u.1, u.2, u.3) before.1.1 n l
-    (adds-after format task pointer name reading t.0 t.1 t.2 t.3 u h.0 before.1.0 begun.1.1 h.2))
+    prints-first says format task pointer more rest files old new a c (h.0 ++ u.0, u.1, u.2, u.3) parts (inl begun.0)
+    (prints-more says format task pointer names more name old mid new reading (before.1.0, t.1, t.2, t.3) (h.0 ++ u.0, u.1, u.2, u.3) before.1.1 n l
+    (adds-after says format task pointer name reading t.0 t.1 t.2 t.3 u h.0 before.1.0 begun.1.1 h.2))
     (subst (HasWritten a c) (whole-shown format task (h.0 ++ u.0) begun.0) (written-after a b c before.1.0 t.0 u.0 h begun.1.2))
 
 -- the first files, and no more
-first-upto : (format : Format) (task : Task) (pointer : List ℕ) (names rest files : List (List ℕ)) (old new : Option Asked) (a b : Option (List ℕ)) (t : TextsOf) →
-    Upto format task pointer names old new a b t → files ≡ names ++ rest → (b ≡ a) ⊎ (Shows task × ((last : Option Asked) × CollectsFirst format task pointer files old last a b))
-first-upto format task pointer names rest files old new a b t (inl same, stdout) parts = inl same
-first-upto format task pointer names rest files old new a b t (inr shows, stdout) parts =
+first-upto : (says : Says) (format : Format) (task : Task) (pointer : List ℕ) (names rest files : List (List ℕ)) (old new : Option Asked) (a b : Option (List ℕ)) (t : TextsOf) →
+    Upto says format task pointer names old new a b t → files ≡ names ++ rest → (b ≡ a) ⊎ (Shows task × ((last : Option Asked) × CollectsFirst says format task pointer files old last a b))
+first-upto says format task pointer names rest files old new a b t (inl same, stdout) parts = inl same
+first-upto says format task pointer names rest files old new a b t (inr shows, stdout) parts =
     let written = subst (HasWritten a b) (whole-shown format task stdout.0 shows) (front-written a b stdout.0 t.0 stdout.2.0) in
-    inr (shows, (new, prints-first format task pointer names rest files old new a b (stdout.0, t.1, t.2, t.3) parts (inl shows) stdout.1 written))
+    inr (shows, (new, prints-first says format task pointer names rest files old new a b (stdout.0, t.1, t.2, t.3) parts (inl shows) stdout.1 written))
 
 -- memory is refused between two files
-pub stops-reading : (format : Format) (task : Task) (pointer : List ℕ) (names rest files : List (List ℕ)) (old mid new : Option Asked) (a b : Option (List ℕ)) (t : TextsOf) (failed : Bool) (r : Result Collected Unwritten) →
-    Upto format task pointer names old mid a b t → files ≡ names ++ rest → failed ≡ false → IsErrAnd r (λ y. y ≡ Memory) → CollectsFiles format task pointer files r old new a b failed
-stops-reading format task pointer names rest files old mid new a b t failed r before parts good err =
-    grind (arith, nat_tests, common_steps, first-upto format task pointer names rest files old mid a b t before parts)
+pub stops-reading : (says : Says) (format : Format) (task : Task) (pointer : List ℕ) (names rest files : List (List ℕ)) (old mid new : Option Asked) (a b : Option (List ℕ)) (t : TextsOf) (failed : Bool) (r : Result Collected Unwritten) →
+    Upto says format task pointer names old mid a b t → files ≡ names ++ rest → failed ≡ false → IsErrAnd r (λ y. y ≡ Memory) → CollectsFiles says format task pointer files r old new a b failed
+stops-reading says format task pointer names rest files old mid new a b t failed r before parts good err =
+    grind (arith, nat_tests, common_steps, first-upto says format task pointer names rest files old mid a b t before parts)
 
 -- the report on a file does not end
-stops-with : (format : Format) (task : Task) (pointer : List ℕ) (names more rest files : List (List ℕ)) (name : List ℕ) (old mid new : Option Asked) (reading : Result (List ℕ) (List ℕ)) (a b c : Option (List ℕ)) (t u : TextsOf) (failed : Bool) (e : Unwritten) →
-    Upto format task pointer names old mid a b t → more ≡ names ++ name ∷ [] → files ≡ more ++ rest → Logs mid new ((name, reading) ∷ []) →
-    CollectsOne format task pointer name reading (Err e) b c failed t u → CollectsFiles format task pointer files (Err e) old new a c failed
-stops-with format task pointer names more rest files name old mid new reading a b c t u failed Failed before n parts l one =
-    (one.0, one.1.0, first-more format task pointer names more rest files name old mid new reading a b c t before n parts l one.1)
-stops-with format task pointer names more rest files name old mid new reading a b c t u failed Memory before n parts l (good, inr begun) =
-    (good, inr (begun.0, (new, first-more format task pointer names more rest files name old mid new reading a b c t before n parts l begun)))
-stops-with format task pointer names more rest files name old mid new reading a b c t u failed Memory before n parts l (good, inl same) =
+stops-with : (says : Says) (format : Format) (task : Task) (pointer : List ℕ) (names more rest files : List (List ℕ)) (name : List ℕ) (old mid new : Option Asked) (reading : Result (List ℕ) (List ℕ)) (a b c : Option (List ℕ)) (t u : TextsOf) (failed : Bool) (e : Unwritten) →
+    Upto says format task pointer names old mid a b t → more ≡ names ++ name ∷ [] → files ≡ more ++ rest → Logs mid new ((name, reading) ∷ []) →
+    CollectsOne says format task pointer name reading (Err e) b c failed t u → CollectsFiles says format task pointer files (Err e) old new a c failed
+stops-with says format task pointer names more rest files name old mid new reading a b c t u failed Failed before n parts l one =
+    (one.0, one.1.0, first-more says format task pointer names more rest files name old mid new reading a b c t before n parts l one.1)
+stops-with says format task pointer names more rest files name old mid new reading a b c t u failed Memory before n parts l (good, inr begun) =
+    (good, inr (begun.0, (new, first-more says format task pointer names more rest files name old mid new reading a b c t before n parts l begun)))
+stops-with says format task pointer names more rest files name old mid new reading a b c t u failed Memory before n parts l (good, inl same) =
     let all : files ≡ names ++ (name ∷ [] ++ rest) = parts ∙ ap (λ m. m ++ rest) n ∙ append_assoc names (name ∷ []) rest in
-    grind (arith, nat_tests, common_steps, first-upto format task pointer names (name ∷ [] ++ rest) files old mid a b t before all)
+    grind (arith, nat_tests, common_steps, first-upto says format task pointer names (name ∷ [] ++ rest) files old mid a b t before all)
 
-pub stops-collected : (format : Format) (task : Task) (pointer : List ℕ) (names more rest files : List (List ℕ)) (name : List ℕ) (old mid new : Option Asked) (reading : Result (List ℕ) (List ℕ)) (a b c : Option (List ℕ)) (t u : TextsOf) (failed : Bool) (e : Unwritten) (r : Result Collected Unwritten) →
-    Upto format task pointer names old mid a b t → more ≡ names ++ name ∷ [] → files ≡ more ++ rest → Logs mid new ((name, reading) ∷ []) →
-    CollectsOne format task pointer name reading (Err e) b c failed t u → IsErrAnd r (λ y. y ≡ e) → CollectsFiles format task pointer files r old new a c failed
-stops-collected format task pointer names more rest files name old mid new reading a b c t u failed e r before n parts l one err = grind (arith, nat_tests, common_steps, stops-with)
+pub stops-collected : (says : Says) (format : Format) (task : Task) (pointer : List ℕ) (names more rest files : List (List ℕ)) (name : List ℕ) (old mid new : Option Asked) (reading : Result (List ℕ) (List ℕ)) (a b c : Option (List ℕ)) (t u : TextsOf) (failed : Bool) (e : Unwritten) (r : Result Collected Unwritten) →
+    Upto says format task pointer names old mid a b t → more ≡ names ++ name ∷ [] → files ≡ more ++ rest → Logs mid new ((name, reading) ∷ []) →
+    CollectsOne says format task pointer name reading (Err e) b c failed t u → IsErrAnd r (λ y. y ≡ e) → CollectsFiles says format task pointer files r old new a c failed
+stops-collected says format task pointer names more rest files name old mid new reading a b c t u failed e r before n parts l one err = grind (arith, nat_tests, common_steps, stops-with)
 
 -- ---- the files that names are for
 
 -- memory is refused before a file is looked at
-pub stops-finding : (format : Format) (task : Task) (pointer : List ℕ) (excludes names : List (List ℕ)) (watched : Bool) (old new : Option Asked) (a b : Option (List ℕ)) (failed : Bool) (r : Result Collected Unwritten) →
-    b ≡ a → failed ≡ false → IsErrAnd r (λ y. y ≡ Memory) → CollectsAll format task pointer excludes names watched r old new a b failed
-stops-finding format task pointer excludes names watched old new a b failed r same good err = grind (arith, nat_tests, common_steps)
+pub stops-finding : (says : Says) (format : Format) (task : Task) (pointer : List ℕ) (excludes names : List (List ℕ)) (watched : Bool) (old new : Option Asked) (a b : Option (List ℕ)) (failed : Bool) (r : Result Collected Unwritten) →
+    b ≡ a → failed ≡ false → IsErrAnd r (λ y. y ≡ Memory) → CollectsAll says format task pointer excludes names watched r old new a b failed
+stops-finding says format task pointer excludes names watched old new a b failed r same good err = grind (arith, nat_tests, common_steps)
 
-stops-all : (format : Format) (task : Task) (pointer : List ℕ) (excludes names files : List (List ℕ)) (watched : Bool) (old mid new : Option Asked) (a b : Option (List ℕ)) (failed : Bool) (e : Unwritten) →
-    FindsAll excludes names old mid files → CollectsFiles format task pointer files (Err e) mid new a b failed → CollectsAll format task pointer excludes names watched (Err e) old new a b failed
-stops-all format task pointer excludes names files watched old mid new a b failed e found h = grind (arith, nat_tests, common_steps)
+stops-all : (says : Says) (format : Format) (task : Task) (pointer : List ℕ) (excludes names files : List (List ℕ)) (watched : Bool) (old mid new : Option Asked) (a b : Option (List ℕ)) (failed : Bool) (e : Unwritten) →
+    FindsAll excludes names old mid files → CollectsFiles says format task pointer files (Err e) mid new a b failed → CollectsAll says format task pointer excludes names watched (Err e) old new a b failed
+stops-all says format task pointer excludes names files watched old mid new a b failed e found h = grind (arith, nat_tests, common_steps)
 
 -- memory runs out after the files
-pub stops-counting : (format : Format) (task : Task) (pointer : List ℕ) (excludes names files : List (List ℕ)) (watched : Bool) (old mid new : Option Asked) (a b : Option (List ℕ)) (failed : Bool) (t : Collected) (r : Result Collected Unwritten) →
-    FindsAll excludes names old mid files → CollectsFiles format task pointer files (Ok t) mid new a b failed → IsErrAnd r (λ y. y ≡ Memory) → CollectsAll format task pointer excludes names watched r old new a b failed
-stops-counting format task pointer excludes names files watched old mid new a b failed t r found stdout err =
+pub stops-counting : (says : Says) (format : Format) (task : Task) (pointer : List ℕ) (excludes names files : List (List ℕ)) (watched : Bool) (old mid new : Option Asked) (a b : Option (List ℕ)) (failed : Bool) (t : Collected) (r : Result Collected Unwritten) →
+    FindsAll excludes names old mid files → CollectsFiles says format task pointer files (Ok t) mid new a b failed → IsErrAnd r (λ y. y ≡ Memory) → CollectsAll says format task pointer excludes names watched r old new a b failed
+stops-counting says format task pointer excludes names files watched old mid new a b failed t r found stdout err =
     let text : TextsOf = (t.held.items, string_bytes t.errors, t.status, t.wrong) in
-    let first = first-upto format task pointer files [] files mid new a b text (stdout.1, stdout.2) (sym (append-nil files)) in
-    grind (arith, nat_tests, common_steps, stops-all format task pointer excludes names files watched old mid new a b failed Memory found (stdout.0, first))
+    let first = first-upto says format task pointer files [] files mid new a b text (stdout.1, stdout.2) (sym (append-nil files)) in
+    grind (arith, nat_tests, common_steps, stops-all says format task pointer excludes names files watched old mid new a b failed Memory found (stdout.0, first))

@@ -1,5 +1,5 @@
 -- The answer to one file: its errors, or what to print of its document.
-use Rattle.std.specs.Prelude.{◌≡◌, ◌<◌, ◌≤◌, ◌⊎◌, ℕ, true, false, IsUtf8, List, [], ◌++◌, length, codes, Option, Some}
+use Rattle.std.specs.Prelude.{◌≡◌, ◌<◌, ◌≤◌, ◌⊎◌, ℕ, ◌+◌, true, false, IsUtf8, List, [], ◌++◌, length, codes, Option, Some}
 use Rattle.std.specs.Prelude.{None, take}
 use Rattle.std.specs.List.{flat_map}
 use Rattle.std.specs.Str.{IsValidUpTo}
@@ -15,9 +15,11 @@ use Rattle.toml_span_check.specs.Encoding.{not_utf8_report}
 use Rattle.toml_span_check.specs.Every.{Checks}
 use Rattle.toml_span_check.specs.Faults.{fault_text}
 use Rattle.toml_span_check.specs.Newer.{Lacks}
+use Rattle.toml_span_check.specs.Schemas.{Says, complaint_weight, errors_in}
 use Rattle.toml_span_check.specs.Shown.{raw, shown}
 use Rattle.toml_span_check.specs.declared.faults.Format.{Format}
 use Rattle.toml_span_check.specs.declared.newer.Version.{Version}
+use Rattle.toml_span_check.specs.declared.schemas.Chooser.{Chooser}
 use Rattle.toml_span_check.specs.declared.answer.Task.{Task}
 use Rattle.toml_span_check.specs.declared.answer.Task.TheVariants.{Check, Show}
 use Rattle.toml_span_check.specs.declared.answer.Form.{Form}
@@ -28,13 +30,18 @@ use Rattle.toml_span_places.specs.Dotted.{Locates}
 use Rattle.toml_span_places.specs.Spelled.{value_text}
 use Rattle.toml_span_read.specs.Data.{depth_limit}
 
+-- The answer to a file: the number of errors, the text of the reports or the document that is printed, and the lines
+-- that say why its schema can't be used.
+abbrev pub Answer : Type 0
+Answer = ℕ × List ℕ × List ℕ
+
 -- the text of an error without a place
 abbrev pub plain_fault : Format → List ℕ → List ℕ → List ℕ → List ℕ
 plain_fault format code message name = fault_text format (bare severity.Error code message) name []
 
-abbrev pub nothing_there : Format → List ℕ → List ℕ → ℕ × List ℕ
+abbrev pub nothing_there : Format → List ℕ → List ℕ → Answer
 nothing_there format pointer name =
-    (1, plain_fault format (codes "nothing-there") (codes "no value at `" ++ pointer ++ codes "`") name)
+    (1, plain_fault format (codes "nothing-there") (codes "no value at `" ++ pointer ++ codes "`") name, [])
 
 -- a value, printed in this form
 abbrev pub formed : Form → Node → List ℕ
@@ -44,9 +51,9 @@ formed Items n = tree_lines n
 formed Raw n = raw n ++ codes "\n"
 formed Toml n = value_text n ++ codes "\n"
 
--- the answer for a document: a status and a text
-abbrev pub found : Format → Form → List ℕ → List ℕ → Option Node → ℕ × List ℕ
-found format form pointer name (Some n) = (0, formed form n)
+-- the answer for a document that is printed
+abbrev pub found : Format → Form → List ℕ → List ℕ → Option Node → Answer
+found format form pointer name (Some n) = (0, formed form n, [])
 found format form pointer name None = nothing_there format pointer name
 
 -- the text of reports
@@ -57,39 +64,46 @@ abbrev pub reports_text : Format → List ℕ → List ℕ → List ReportConten
 reports_text format name text rs = flat_map (report_text format name text) rs
 
 -- the number of all errors of a text, and the text of their reports
-abbrev pub AreReported : Format → List ℕ → List ℕ → ℕ × List ℕ → Type 0
+abbrev pub AreReported : Format → List ℕ → List ℕ → Answer → Type 0
 AreReported format name text answer =
-    (rs : List ReportContent) × Checks text rs × (answer ≡ (length rs, reports_text format name text rs))
+    (rs : List ReportContent) × Checks text rs × (answer ≡ (length rs, reports_text format name text rs, []))
 
--- the number of errors of a valid text, that is, of uses of what the version lacks, and the text of their reports
-abbrev pub AreLacking : Format → Version → List ℕ → List ℕ → ℕ × List ℕ → Type 0
-AreLacking format version name text answer =
-    (rs : List ReportContent) × Lacks version name text rs × (answer ≡ (length rs, reports_text format name text rs))
+-- A valid text: its errors are the uses of what the version lacks, those that its schema reports, and a complaint that
+-- the schema can't be used. The reports of the schema come last.
+abbrev pub AreChecked : Says → Format → Version → Chooser → List ℕ → List ℕ → Node → Answer → Type 0
+AreChecked says format version chooser name text root answer =
+    (rs more : List ReportContent) × (complaint : List ℕ) × Lacks version name text rs
+    × says chooser name text root more complaint
+    × (answer ≡ (
+      length rs + errors_in more + complaint_weight complaint,
+      reports_text format name text rs ++ reports_text format name text more,
+      complaint,
+    ))
 
 -- the answer for a document
-abbrev pub Given : Format → Task → List ℕ → List ℕ → List ℕ → Node → ℕ × List ℕ → Type 0
-Given format (Check version) pointer name text n answer = AreLacking format version name text answer
-Given format (Show form) pointer name text n answer =
+abbrev pub Given : Says → Format → Task → List ℕ → List ℕ → List ℕ → Node → Answer → Type 0
+Given says format (Check version chooser) pointer name text n answer =
+    AreChecked says format version chooser name text n answer
+Given says format (Show form) pointer name text n answer =
     (place : Option Node) × Locates pointer n place × (answer ≡ found format form pointer name place)
 
 -- a document and its answer, or all errors of the text
-abbrev pub IsRead : Format → Task → List ℕ → List ℕ → List ℕ → ℕ × List ℕ → Type 0
-IsRead format task pointer name text answer =
-    ((root : Value) × IsTree text depth_limit root × Given format task pointer name text (view root) answer)
+abbrev pub IsRead : Says → Format → Task → List ℕ → List ℕ → List ℕ → Answer → Type 0
+IsRead says format task pointer name text answer =
+    ((root : Value) × IsTree text depth_limit root × Given says format task pointer name text (view root) answer)
     ⊎ ((error : Error) × IsRefusal text depth_limit (stops.Fault error) × AreReported format name text answer)
 
-abbrev pub too_long : Format → List ℕ → ℕ × List ℕ
-too_long format name = (1, plain_fault format (codes "too-long") (codes "the file is larger than 16 MiB") name)
+abbrev pub too_long : Format → List ℕ → Answer
+too_long format name = (1, plain_fault format (codes "too-long") (codes "the file is larger than 16 MiB") name, [])
 
 -- a file of which the bytes before this offset are UTF-8, and no more
-abbrev pub not_utf8 : Format → List ℕ → List ℕ → ℕ → ℕ × List ℕ
-not_utf8 format name bytes at = (1, fault_text format (not_utf8_report bytes at) name (take at bytes))
+abbrev pub not_utf8 : Format → List ℕ → List ℕ → ℕ → Answer
+not_utf8 format name bytes at = (1, fault_text format (not_utf8_report bytes at) name (take at bytes), [])
 
--- The status and the text for the bytes of a file, which may be longer than the bound, not UTF-8, a document, or not
--- valid TOML.
-pub record IsAnswer (format : Format) (task : Task) (pointer : List ℕ) (name : List ℕ) (bytes : List ℕ)
-    (answer : ℕ × List ℕ) : Type 0 where
+-- The answer for the bytes of a file, which may be longer than the bound, not UTF-8, a document, or not valid TOML.
+pub record IsAnswer (says : Says) (format : Format) (task : Task) (pointer : List ℕ) (name : List ℕ) (bytes : List ℕ)
+    (answer : Answer) : Type 0 where
   pub long : bound < length bytes → answer ≡ too_long format name
   pub no_text : length bytes ≤ bound → ¬ (IsUtf8 bytes)
       → (at : ℕ) × IsValidUpTo bytes at × (answer ≡ not_utf8 format name bytes at)
-  pub read : length bytes ≤ bound → IsUtf8 bytes → IsRead format task pointer name bytes answer
+  pub read : length bytes ≤ bound → IsUtf8 bytes → IsRead says format task pointer name bytes answer

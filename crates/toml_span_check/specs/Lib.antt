@@ -10,6 +10,7 @@ pub mod Newer
 pub mod Patterns
 pub mod Run
 pub mod Sarif
+pub mod Schemas
 pub mod Shown
 pub mod Words
 pub mod code

@@ -9,9 +9,10 @@ use Rattle.std.specs.Io.KnownBytes.{Appends, Keeps}
 use Rattle.std.specs.declared.io.ErrorKind.{ErrorKind}
 use Rattle.std.specs.declared.io.ErrorKind.TheVariants as kind
 use Rattle.toml_span_lines.specs.Run.{HasRead, HasReadAll, HasWritten}
-use Rattle.toml_span_check.specs.Answer.{IsAnswer}
+use Rattle.toml_span_check.specs.Answer.{Answer, IsAnswer}
 use Rattle.toml_span_check.specs.Sarif.{document}
 use Rattle.toml_span_report.specs.Visible.{visible}
+use Rattle.toml_span_check.specs.Schemas.{Says}
 use Rattle.toml_span_check.specs.Words.{shown_word}
 use Rattle.toml_span_check.specs.declared.answer.Form.{Form}
 use Rattle.toml_span_check.specs.declared.answer.Task.{Task}
@@ -79,33 +80,33 @@ none_wrong = record { files = 0; errors = 0 }
 abbrev pub counted : Tally → ℕ → Tally
 counted wrong errors = record { files = wrong.files + min errors 1; errors = wrong.errors + errors }
 
--- the exit status for a file with this many errors
-abbrev pub status_of : ℕ → ℕ
-status_of errors = if errors == 0 then 0 else 1
+-- the exit status for a file with this many errors, and this complaint about its schema
+abbrev pub status_of : ℕ → List ℕ → ℕ
+status_of errors complaint = if length complaint == 0 then (if errors == 0 then 0 else 1) else 2
 
 -- The output for files, one after the other: the answer to the bytes of each, and a line for each that can't be read.
 -- The status is the highest of theirs: 1 for a file with errors, and 2 for one that can't be read, which counts as one
--- error.
-pub data Gathered (format : Format) (task : Task) (pointer : List ℕ)
+-- error, or whose schema can't be used.
+pub data Gathered (says : Says) (format : Format) (task : Task) (pointer : List ℕ)
     : List Reading → List ℕ → List ℕ → ℕ → Tally → Type 0 where
-  nothing : Gathered format task pointer [] [] [] 0 none_wrong
+  nothing : Gathered says format task pointer [] [] [] 0 none_wrong
   answered : (rs : List Reading) (out errors : List ℕ) (status : ℕ) (wrong : Tally) (name bytes : List ℕ)
-      (answer : ℕ × List ℕ)
-      → Gathered format task pointer rs out errors status wrong → IsAnswer format task pointer name bytes answer
-      → Gathered format task pointer (rs ++ (name, Ok bytes) ∷ []) (out ++ answer.1) errors
-      (max status (status_of answer.0)) (counted wrong answer.0)
+      (answer : Answer)
+      → Gathered says format task pointer rs out errors status wrong → IsAnswer says format task pointer name bytes answer
+      → Gathered says format task pointer (rs ++ (name, Ok bytes) ∷ []) (out ++ answer.1) (errors ++ answer.2)
+      (max status (status_of answer.0 answer.2)) (counted wrong answer.0)
   unread : (rs : List Reading) (out errors : List ℕ) (status : ℕ) (wrong : Tally) (name reason : List ℕ)
-      → Gathered format task pointer rs out errors status wrong
-      → Gathered format task pointer (rs ++ (name, Err reason) ∷ []) out
+      → Gathered says format task pointer rs out errors status wrong
+      → Gathered says format task pointer (rs ++ (name, Err reason) ∷ []) out
       (errors ++ complaint (shown_word name) reason) 2 (counted wrong 1)
 
 -- The files with these names were read in order, and this is the output for them.
-pub record Collects (format : Format) (task : Task) (pointer : List ℕ) (names : List (List ℕ))
+pub record Collects (says : Says) (format : Format) (task : Task) (pointer : List ℕ) (names : List (List ℕ))
     (old new : Option Asked) (out errors : List ℕ) (status : ℕ) (wrong : Tally) : Type 0 where
   pub readings : List Reading
   pub asked : map (λ r. r.0) readings ≡ names
   pub logged : Logs old new readings
-  pub gathered : Gathered format task pointer readings out errors status wrong
+  pub gathered : Gathered says format task pointer readings out errors status wrong
 
 -- the last line of a check that prints text: `3 errors in 2 of 5 files` or, without errors and on a terminal, `5 files
 -- checked`
@@ -121,7 +122,7 @@ unfoldable pub found_none : ℕ → List ℕ
 found_none files = number_of files (codes " file") ++ codes " checked\n"
 
 abbrev pub summary : Format → Task → Bool → ℕ → Tally → List ℕ
-summary (Text style) (Check version) is_watched files wrong =
+summary (Text style) (Check version chooser) is_watched files wrong =
     if nat_lt 0 wrong.errors then found_errors files wrong else if is_watched then found_none files else []
 summary _ _ is_watched files wrong = []
 
@@ -132,14 +133,14 @@ together _ stdout = stdout
 
 abbrev pub whole : Format → Task → List ℕ → List ℕ
 whole format (Show form) stdout = stdout
-whole format (Check version) stdout = together format stdout
+whole format (Check version chooser) stdout = together format stdout
 
 -- what is written, which is nothing in a quiet run
 abbrev pub said : Bool → List ℕ → List ℕ
 said is_quiet text = if is_quiet then [] else text
 
 -- The output of a run, which is empty if it is quiet.
-pub record IsOutput (format : Format) (task : Task) (pointer : List ℕ) (excludes names : List (List ℕ))
+pub record IsOutput (says : Says) (format : Format) (task : Task) (pointer : List ℕ) (excludes names : List (List ℕ))
     (is_watched is_quiet : Bool)
     (old new : Option Asked) (out errors : List ℕ) (status : ℕ) : Type 0 where
   pub files : List (List ℕ)
@@ -148,7 +149,7 @@ pub record IsOutput (format : Format) (task : Task) (pointer : List ℕ) (exclud
   pub all : List ℕ
   pub complaints : List ℕ
   pub wrong : Tally
-  pub prints : Collects format task pointer files mid new all complaints status wrong
+  pub prints : Collects says format task pointer files mid new all complaints status wrong
   pub shown : out ≡ said is_quiet (whole format task all)
   pub stderr : errors ≡ said is_quiet (complaints ++ summary format task is_watched (length files) wrong)
 
@@ -157,7 +158,7 @@ abbrev pub Shows : Task → Type 0
 Shows task = (form : Form) × (task ≡ Show form)
 
 -- The first files were read, or all of them if the task is to check, and a prefix of the output for them was written.
-pub record CollectsFirst (format : Format) (task : Task) (pointer : List ℕ) (files : List (List ℕ))
+pub record CollectsFirst (says : Says) (format : Format) (task : Task) (pointer : List ℕ) (files : List (List ℕ))
     (old new : Option Asked) (stdout stdout' : Option (List ℕ)) : Type 0 where
   pub first : List (List ℕ)
   pub rest : List (List ℕ)
@@ -167,21 +168,21 @@ pub record CollectsFirst (format : Format) (task : Task) (pointer : List ℕ) (f
   pub complaints : List ℕ
   pub status : ℕ
   pub wrong : Tally
-  pub prints : Collects format task pointer first old new out complaints status wrong
+  pub prints : Collects says format task pointer first old new out complaints status wrong
   pub written : HasWritten stdout stdout' (whole format task out)
 
 -- the same for a run, which is not quiet
-pub record Begins (format : Format) (task : Task) (pointer : List ℕ) (excludes names : List (List ℕ)) (is_quiet : Bool)
+pub record Begins (says : Says) (format : Format) (task : Task) (pointer : List ℕ) (excludes names : List (List ℕ)) (is_quiet : Bool)
     (old new : Option Asked) (stdout stdout' : Option (List ℕ)) : Type 0 where
   pub aloud : is_quiet ≡ false
   pub files : List (List ℕ)
   pub mid : Option Asked
   pub found : FindsAll excludes names old mid files
-  pub prints : CollectsFirst format task pointer files mid new stdout stdout'
+  pub prints : CollectsFirst says format task pointer files mid new stdout stdout'
 
 -- A run: standard output before and after, and whether a write to it failed; the same for standard error; and the exit
 -- status.
-pub record Runs (format : Format) (task : Task) (pointer : List ℕ) (excludes names : List (List ℕ))
+pub record Runs (says : Says) (format : Format) (task : Task) (pointer : List ℕ) (excludes names : List (List ℕ))
     (is_watched is_quiet : Bool)
     (old new : Option Asked) (stdout stdout' : Option (List ℕ)) (out_failed : Bool) (stderr stderr' : Option (List ℕ))
     (err_failed : Bool) (status : ℕ) : Type 0 where
@@ -190,16 +191,16 @@ pub record Runs (format : Format) (task : Task) (pointer : List ℕ) (excludes n
   -- with status 4 nothing has been written or, if documents are printed, a prefix of the output for the first files
   pub silent : status ≡ 4 → Keeps stderr stderr' × (Keeps stdout stdout'
       ⊎ (Shows task × ((last : Option Asked)
-      × Begins format task pointer excludes names is_quiet old last stdout stdout')))
+      × Begins says format task pointer excludes names is_quiet old last stdout stdout')))
   -- the same after a failed write to standard output
   pub cut : out_failed ≡ true → Keeps stderr stderr'
-      × Begins format task pointer excludes names is_quiet old new stdout stdout'
+      × Begins says format task pointer excludes names is_quiet old new stdout stdout'
   -- before a failed write to standard error, all of standard output has been written
   pub warns : err_failed ≡ true → (out errors : List ℕ) × (answered : ℕ)
-      × IsOutput format task pointer excludes names is_watched is_quiet old new out errors answered
+      × IsOutput says format task pointer excludes names is_watched is_quiet old new out errors answered
       × Appends stdout stdout' out × HasWritten stderr stderr' errors
   -- otherwise all files have been read, and the output has been written
   pub written : ¬ (status ≡ 3) → ¬ (status ≡ 4) → (out errors : List ℕ)
-      × IsOutput format task pointer excludes names is_watched is_quiet old new out errors status
+      × IsOutput says format task pointer excludes names is_watched is_quiet old new out errors status
       × Appends stdout stdout' out × Appends stderr stderr' errors
   pub known : status ≤ 4

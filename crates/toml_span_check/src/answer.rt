@@ -1,10 +1,11 @@
 //! Checks one file: returns the reports of its errors, or the document to print.
-ghost use Rattle.std.specs.Prelude.{◌≡◌, ◌++◌, IfOk, OnOk, ℕ, List, map, string_bytes};
+ghost use Rattle.std.specs.Prelude.{◌≡◌, ◌++◌, IfOk, OnOk, ℕ, List, [], map, string_bytes};
 ghost use Rattle.std.specs.Str.{IsValidUpTo};
 ghost use Rattle.toml_span_lex.specs.declared.stop.Stop.TheVariants.{Fault};
 ghost use Rattle.toml_span.specs.Parsing.{IsRefusal};
 ghost use Rattle.toml_span_read.specs.Data.{depth_limit};
 ghost use Rattle.toml_span_report.specs.Report.{report_content};
+ghost use Rattle.toml_span_tree.specs.Value.{view};
 ghost use Rattle.toml_span_check.specs.Answer as spec;
 ghost use Rattle.toml_span_check.specs.code.Judged.{Judges, JudgesText};
 
@@ -12,6 +13,8 @@ use crate::encoding::not_utf8;
 use crate::every::errors_from;
 use crate::faults::{Format, fault_text};
 use crate::newer::{Version, version_reports};
+use crate::schemas::{Chooser, Schemas, complaint_weight, with_errors};
+use crate::sums::sum_of;
 use std::alloc::{AllocError, Global};
 use toml_span::de::parse;
 use toml_span::{Error, Value};
@@ -36,10 +39,31 @@ pub enum Form {
 /// What to do with a file.
 #[derive(Clone, Copy, PartialEq, Eq)]
 pub enum Task {
-    /// Report its errors, for this version of TOML.
-    Check(Version),
+    /// Report its errors, for this version of TOML, and what its schema says, which is chosen by files or arguments.
+    Check(Version, Chooser),
     /// Print the document, or a value in it, in this form.
     Show(Form),
+}
+
+/// What the reports of a file amount to.
+#[derive(Drop)]
+pub(crate) struct Verdict {
+    /// The number of errors.
+    pub(crate) errors: usize,
+    /// Lines for standard error that say why the schema of the file can't be used. Otherwise empty.
+    pub(crate) complaint: String,
+}
+
+impl Verdict {
+    /// Returns the verdict on a file with this number of errors and no complaint.
+    pub(crate) fn plain(alloc: Global, errors: usize) -> Verdict
+        ensures { ◌≡◌ {A = ℕ × List ℕ} (result.errors, string_bytes result.complaint) (errors, []) }
+    {
+        Verdict {
+            errors,
+            complaint: String::new(alloc),
+        }
+    }
 }
 
 /// Returns the text of a report that marks no place in the file. `name` is the name of the file. Fails if an allocation
@@ -87,7 +111,7 @@ fn errors_text(
     text: &str,
 ) -> Result<(usize, Vec<u8>), AllocError>
     requires { IsRefusal text.now depth_limit (Fault error.now) }
-    ensures { IfOk result (λ out. spec.AreReported format name.now text.now (out.0, out.1.items)) }
+    ensures { IfOk result (λ out. spec.AreReported format name.now text.now (out.0, out.1.items, [])) }
 {
     let reports = errors_from(alloc, text, error)?;
     let mut out = String::new(alloc);
@@ -95,21 +119,40 @@ fn errors_text(
     Ok((reports.len(), out.into_bytes()))
 }
 
-/// Returns how often a source that `parse` accepts uses syntax that this version of TOML lacks, and the text of the
-/// reports. Fails if an allocation fails.
-fn version_text(
+/// Returns the verdict on a source that `parse` accepts, and the text of its reports: those of syntax that this version
+/// of TOML lacks, and those of its schema. `root` is the tree of the source. Fails if an allocation fails.
+fn document_text<S: Schemas>(
     alloc: Global,
     format: Format,
     version: Version,
+    chooser: Chooser,
     name: &str,
     text: &str,
-) -> Result<(usize, Vec<u8>), AllocError>
-    ensures { IfOk result (λ out. spec.AreLacking format version name.now text.now (out.0, out.1.items)) }
+    root: &Value<'_>,
+    schemas: &mut S,
+) -> Result<(Verdict, Vec<u8>), AllocError>
+    ensures { IfOk result (λ out. spec.AreChecked S.says format version chooser name.now text.now (view root.now)
+        (out.0.errors, out.1.items, string_bytes out.0.complaint)) }
 {
     let reports = version_reports(alloc, text, version, name)?;
+    let found = schemas.check(alloc, chooser, name, text, root)?;
+    let errors = with_errors(reports.len(), found.reports.as_slice())?;
+    let errors = sum_of(errors, complaint_weight(found.complaint.as_str()))?;
     let mut out = String::new(alloc);
     push_reports(alloc, &mut out, format, reports.as_slice(), name, text)?;
-    Ok((reports.len(), out.into_bytes()))
+    push_reports(
+        alloc,
+        &mut out,
+        format,
+        found.reports.as_slice(),
+        name,
+        text,
+    )?;
+    let verdict = Verdict {
+        errors,
+        complaint: found.complaint,
+    };
+    Ok((verdict, out.into_bytes()))
 }
 
 /// Returns the report that a path names no value. Fails if an allocation fails.
@@ -119,7 +162,7 @@ pub(crate) fn nothing_there(
     pointer: &str,
     name: &str,
 ) -> Result<Vec<u8>, AllocError>
-    ensures { IfOk result (λ out. (1, out.items) ≡ spec.nothing_there format pointer.now name.now) }
+    ensures { IfOk result (λ out. (1, out.items, []) ≡ spec.nothing_there format pointer.now name.now) }
 {
     let mut message = String::from_str(alloc, "no value at `")?;
     message.push_str(pointer)?;
@@ -129,7 +172,7 @@ pub(crate) fn nothing_there(
 
 /// Returns the report that a file is longer than `BOUND`. Fails if an allocation fails.
 fn too_long(alloc: Global, format: Format, name: &str) -> Result<Vec<u8>, AllocError>
-    ensures { IfOk result (λ out. (1, out.items) ≡ spec.too_long format name.now) }
+    ensures { IfOk result (λ out. (1, out.items, []) ≡ spec.too_long format name.now) }
 {
     plain_fault(
         alloc,
@@ -140,7 +183,8 @@ fn too_long(alloc: Global, format: Format, name: &str) -> Result<Vec<u8>, AllocE
     )
 }
 
-/// Returns the report that a file is not valid UTF-8 from the offset `at` on. Fails if an allocation fails.
+/// Returns the report that a file is not valid UTF-8. `at` is the offset of its first invalid byte. Fails if an
+/// allocation fails.
 fn not_utf8_fault(
     alloc: Global,
     format: Format,
@@ -157,28 +201,32 @@ fn not_utf8_fault(
 
 /// The result for one file.
 pub(crate) enum Judged<'t> {
-    /// Errors, or nothing to print: the number of errors, and the text of their reports.
-    Text(usize, Vec<u8>),
+    /// Errors, or nothing to print: the verdict, and the text of the reports.
+    Text(Verdict, Vec<u8>),
     /// A document to print in this form.
     Document(Form, Value<'t>),
 }
 
-/// Parses the text of a file. Returns the document if it is valid and `task` is to print it, otherwise the number of
-/// errors and the text of their reports. `name` is the name of the file. Fails if an allocation fails.
-fn judge_text<'t>(
+/// Parses the text of a file. Returns the document if it is valid and `task` is to print it, otherwise the verdict and
+/// the text of the reports. `name` is the name of the file, and `schemas` finds its schema. Fails if an allocation
+/// fails.
+fn judge_text<'t, S: Schemas>(
     alloc: Global,
     format: Format,
     task: Task,
     name: &str,
     text: &'t str,
+    schemas: &mut S,
 ) -> Result<Judged<'t>, AllocError>
-    ensures { IfOk result (λ a. (pointer : List ℕ) → JudgesText format task pointer name.now text.now a) }
+    ensures { IfOk result (λ a. (pointer : List ℕ) → JudgesText S.says format task pointer name.now text.now a) }
 {
     match parse(alloc, text) {
         Ok(root) => match task {
-            Task::Check(version) => {
-                let (count, out) = version_text(alloc, format, version, name, text)?;
-                Ok(Judged::Text(count, out))
+            Task::Check(version, chooser) => {
+                let (verdict, out) = document_text(
+                    alloc, format, version, chooser, name, text, &root, schemas,
+                )?;
+                Ok(Judged::Text(verdict, out))
             }
             Task::Show(form) => Ok(Judged::Document(form, root)),
         },
@@ -187,30 +235,32 @@ fn judge_text<'t>(
             let stdout = errors_text(alloc, format, &error, name, text);
             drop(error);
             let (count, out) = stdout?;
-            Ok(Judged::Text(count, out))
+            Ok(Judged::Text(Verdict::plain(alloc, count), out))
         }
     }
 }
 
 /// Returns the result for the bytes of a file, as `judge_text` does for its text. A file that is longer than `BOUND` or
 /// not valid UTF-8 has one error. `name` is the name of the file. Fails if an allocation fails.
-pub(crate) fn judge<'t>(
+pub(crate) fn judge<'t, S: Schemas>(
     alloc: Global,
     format: Format,
     task: Task,
     name: &str,
     bytes: &'t [u8],
+    schemas: &mut S,
 ) -> Result<Judged<'t>, AllocError>
-    ensures { IfOk result (λ a. (pointer : List ℕ) → Judges format task pointer name.now bytes.now a) }
+    ensures { IfOk result (λ a. (pointer : List ℕ) → Judges S.says format task pointer name.now bytes.now a) }
 {
     if bytes.len() > BOUND {
-        return Ok(Judged::Text(1, too_long(alloc, format, name)?));
+        return Ok(Judged::Text(Verdict::plain(alloc, 1), too_long(alloc, format, name)?));
     }
     match str::from_utf8(bytes) {
-        Ok(text) => judge_text(alloc, format, task, name, text),
+        Ok(text) => judge_text(alloc, format, task, name, text, schemas),
         Err(error) => {
             let at = error.valid_up_to();
-            Ok(Judged::Text(1, not_utf8_fault(alloc, format, name, bytes, at)?))
+            let text = not_utf8_fault(alloc, format, name, bytes, at)?;
+            Ok(Judged::Text(Verdict::plain(alloc, 1), text))
         }
     }
 }

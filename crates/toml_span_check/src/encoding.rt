@@ -28,7 +28,7 @@ fn byte_at(bytes: &[u8], at: usize) -> u8
     if at < bytes.len() { bytes[at] } else { 0 }
 }
 
-/// Returns the encoding that a file seems to have, whose byte at the offset `at` is not UTF-8.
+/// Returns the encoding that a file seems to have. `at` is the offset of its first byte that is not valid UTF-8.
 fn encoding_of(bytes: &[u8], at: usize) -> Encoding
     ensures { result ≡ spec.encoding_of bytes.now at }
 {
@@ -44,7 +44,7 @@ fn encoding_of(bytes: &[u8], at: usize) -> Encoding
     }
 }
 
-/// Returns what a file looks like that seems to have this encoding.
+/// Returns a text that says that a file seems to have this encoding.
 fn look_of(encoding: Encoding) -> &'static str
     ensures { result.now ≡ spec.look_of encoding }
 {
@@ -77,8 +77,8 @@ fn push_byte(out: &mut String, byte: u8) -> Result<(), AllocError>
     out.push(hex_digit(byte % 16) as char)
 }
 
-/// Returns the message that a file is not valid UTF-8, with its first byte that is not, which is at the offset `at`.
-/// Fails if an allocation fails.
+/// Returns the message that a file is not valid UTF-8, with its first invalid byte, which is at the offset `at`. Fails
+/// if an allocation fails.
 #[tactic(auto, unfolding(crate::specs::Encoding::not_utf8_text))]
 pub fn not_utf8_text(alloc: Global, bytes: &[u8], at: usize) -> Result<String, AllocError>
     ensures { IfOk result (λ out. string_bytes out ≡ spec.not_utf8_text bytes.now at) }
@@ -90,7 +90,8 @@ pub fn not_utf8_text(alloc: Global, bytes: &[u8], at: usize) -> Result<String, A
     Ok(out)
 }
 
-/// Returns the report that a file is not valid UTF-8 from the offset `at` on. Fails if an allocation fails.
+/// Returns the report that a file is not valid UTF-8. `at` is the offset of its first invalid byte. Fails if an
+/// allocation fails.
 fn not_utf8_report(alloc: Global, bytes: &[u8], at: usize) -> Result<Report, AllocError>
     ensures { IfOk result (λ report. report_content report ≡ spec.not_utf8_report bytes.now at) }
 {
@@ -114,9 +115,9 @@ fn front_of(bytes: &[u8], end: usize) -> &str
     }
 }
 
-/// Returns the report that a file is not valid UTF-8 from the offset `at` on, and the text before it. Fails if an
-/// allocation fails.
-pub(crate) fn not_utf8<'b>(
+/// Returns the report that a file is not valid UTF-8, and the text before its first invalid byte, which is at the
+/// offset `at`. Fails if an allocation fails.
+pub fn not_utf8<'b>(
     alloc: Global,
     bytes: &'b [u8],
     at: usize,

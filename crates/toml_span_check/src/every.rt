@@ -65,7 +65,7 @@ fn blanked(alloc: Global, text: &str, from: usize, to: usize) -> Result<String, 
 }
 
 /// Makes the report of an error, and finds the statement in which it is. Statements are looked for from the offset
-/// `from` on, where one begins. Fails if an allocation fails.
+/// `from`, where a statement must begin. Fails if an allocation fails.
 fn error_at(
     alloc: Global,
     text: &str,
@@ -132,8 +132,8 @@ fn is_full(found: &Found, len: usize) -> bool
     most(len) <= found.places.len()
 }
 
-/// Returns `found` with the faults of the text from the offset `from` on. After each fault, reading goes on at the next
-/// statement. Fails if an allocation fails.
+/// Returns `found` with the faults of the text at or after the offset `from`, where a statement must begin. After each
+/// fault, reading continues at the next statement. Fails if an allocation fails.
 fn with_faults(
     alloc: Global,
     mut found: Found,
@@ -211,10 +211,10 @@ pub(crate) fn errors_from(
 /// Returns the reports of all errors of a text. There are none if and only if `parse` returns a tree; otherwise the
 /// first one is that of the error that `parse` returns.
 ///
-/// After a statement that can't be read, reading goes on at the next one. If the statement is not closed, that is the
-/// next line that begins a statement and is not indented further. Then the statements with errors are replaced by
-/// spaces, and the others are parsed together: of two that clash, the later one is reported and replaced by spaces, a
-/// header together with its section, until the rest is valid.
+/// After a statement that can't be read, reading continues at the next statement. If the unreadable statement is not
+/// closed, the next one is on the next line that begins a statement and is not indented further. Then the statements
+/// with errors are replaced with spaces, and the others are parsed together. Of two statements that clash, the later
+/// one is reported and replaced with spaces, a header together with its section, until the rest is valid.
 ///
 /// No offset is reported twice. At most 100 errors are looked for, and fewer in a text of more than 1.28 MiB: 128 MiB
 /// divided by its length, but at least one. If there are more, the last report has the code `too-many-errors`. Fails

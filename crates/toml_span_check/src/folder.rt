@@ -18,7 +18,7 @@ struct Ignore {
     patterns: Vec<Pattern>,
     /// The length of the path of its directory, including the slash after it.
     length: usize,
-    /// The position, in the list of all such files, of the one in the nearest directory above, if there is one.
+    /// The position in `Below::ignores` of the `.gitignore` file in the nearest directory above, if there is one.
     above: Option<usize>,
 }
 
@@ -26,7 +26,7 @@ struct Ignore {
 #[derive(Drop)]
 struct Folder {
     path: String,
-    /// The position of the nearest `.gitignore` file, in it or above, if there is one.
+    /// The position in `Below::ignores` of the nearest `.gitignore` file above the directory, if there is one.
     ignore: Option<usize>,
 }
 

@@ -78,8 +78,7 @@ fn help_of(kind: NewerKind) -> &'static str
     }
 }
 
-/// Returns the escape `\u` with the two digits that end at the offset `end`, after two zeros. Fails if an allocation
-/// fails.
+/// Returns the escape `\u00` with the two digits before the byte offset `end`. Fails if an allocation fails.
 fn four_digits(alloc: Global, text: &str, end: usize) -> Result<String, AllocError>
     ensures { IfOk result (λ out. string_bytes out ≡ spec.four_digits text.now end) }
 {
@@ -227,7 +226,7 @@ fn all_edits<'r>(alloc: Global, reports: &'r [Report]) -> Result<Vec<Replacement
     Ok(edits)
 }
 
-/// Replaces syntax that this version of TOML lacks by syntax that means the same, and returns the new text with the
+/// Replaces syntax that this version of TOML lacks with syntax that means the same, and returns the new text with the
 /// number of replacements. Syntax without such a replacement stays. `name` is the name of the file. Takes time linear
 /// in the length of the text. Fails only if an allocation fails.
 pub fn with_older_forms(

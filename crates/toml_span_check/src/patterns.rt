@@ -65,7 +65,7 @@ fn path_matches(steps: &mut usize, pattern: &[String], path: &[&str]) -> Option<
 
 /// A pattern of `--exclude` or of a line of a `.gitignore` file.
 #[derive(Drop)]
-pub(crate) struct Pattern {
+pub struct Pattern {
     /// The parts between its slashes. If the pattern matches at any depth, the first one is `**`.
     parts: Vec<String>,
     /// Whether the pattern begins with `!`: what it matches is not left out.
@@ -122,7 +122,7 @@ fn without_slash<'t>(text: &'t str) -> (bool, &'t str) {
 /// Parses a pattern. A `!` before it negates it, and a slash at its end makes it match only directories. If there is
 /// another slash it matches whole paths, otherwise names at any depth. Returns `None` if it is empty, or contains `[`
 /// or a backslash, which are not supported. Fails if an allocation fails.
-pub(crate) fn pattern_of(alloc: Global, text: &str) -> Result<Option<Pattern>, AllocError> {
+pub fn pattern_of(alloc: Global, text: &str) -> Result<Option<Pattern>, AllocError> {
     let (is_negated, text) = without_mark(text);
     let (is_directory, text) = without_slash(text);
     if text.is_empty() || text.contains('[') || text.contains('\\') {
@@ -162,7 +162,7 @@ fn is_match(pattern: &Pattern, path: &[&str], is_directory: bool) -> bool {
 
 /// Returns what the last pattern that matches a path decides: `Some(true)` to leave it out, `Some(false)` to keep it.
 /// Returns `None` if none matches. The path is relative to the directory of the patterns. Fails if an allocation fails.
-pub(crate) fn last_match(
+pub fn last_match(
     alloc: Global,
     patterns: &[Pattern],
     path: &str,

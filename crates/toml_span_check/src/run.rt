@@ -5,11 +5,13 @@ ghost use Rattle.toml_span_check.specs.Run.{FindsAll, Runs, complaint};
 ghost use Rattle.toml_span_check.specs.code.Collected.{EndsQuiet, CollectsAll, CollectsBytes, CollectsFiles};
 ghost use Rattle.toml_span_check.specs.code.Collected.{CollectsOne};
 
-use crate::answer::{Judged, Task, judge};
+use crate::answer::{Judged, Task, Verdict, judge};
 use crate::document::{place_of, show};
 use crate::faults::Format;
 use crate::input::Inputs;
 use crate::sarif::document;
+use crate::schemas::Schemas;
+use crate::sums::sum_of;
 use crate::words::shown_word;
 use std::alloc::{AllocError, Global};
 use std::fmt::Write;
@@ -39,16 +41,6 @@ struct Collected {
     wrong: Tally,
 }
 
-/// Returns the sum of two counts. Fails if it does not fit, as if an allocation had failed.
-fn sum_of(count: usize, more: usize) -> Result<usize, AllocError>
-    ensures { IfOk result (λ sum. sum ≡ count + more) }
-{
-    match count.checked_add(more) {
-        Some(sum) => Ok(sum),
-        None => Err(AllocError),
-    }
-}
-
 impl Collected {
     /// Counts a file with this many errors. Fails if a sum does not fit.
     fn count(&mut self, errors: usize) -> Result<(), AllocError>
@@ -61,11 +53,15 @@ impl Collected {
     }
 }
 
-/// Returns the exit status for a file with this many errors.
-fn status_of(errors: usize) -> u8
-    ensures { result ≡ spec.status_of errors }
+/// Returns the exit status for a file with this many errors, and this complaint about its schema.
+fn status_of(errors: usize, complaint: &str) -> u8
+    ensures { result ≡ spec.status_of errors complaint.now }
 {
-    if errors == 0 { 0 } else { 1 }
+    match (errors, complaint.is_empty()) {
+        (_, false) => 2,
+        (0, true) => 0,
+        (_, true) => 1,
+    }
 }
 
 /// Appends the line which reports that a file can't be read, and why. Fails if an allocation fails.
@@ -80,9 +76,9 @@ pub fn push_complaint(out: &mut String, name: &str, reason: &str) -> Result<(), 
     Ok(())
 }
 
-/// Checks or prints the bytes of a file: writes the document to print, or appends the reports of errors to `held`.
-/// Returns the number of errors. Fails if a write or an allocation fails.
-fn collect_bytes<O: Sink>(
+/// Checks or prints the bytes of a file: writes the document to print, or appends the reports to `held`. Returns
+/// the verdict. Fails if a write or an allocation fails.
+fn collect_bytes<S: Schemas, O: Sink>(
     alloc: Global,
     format: Format,
     task: Task,
@@ -90,27 +86,29 @@ fn collect_bytes<O: Sink>(
     name: &str,
     bytes: &[u8],
     held: &mut Vec<u8>,
+    schemas: &mut S,
     out: &mut O,
-) -> Result<usize, Unwritten>
+) -> Result<Verdict, Unwritten>
     requires { O.failed out.old ≡ false }
-    ensures { CollectsBytes format task pointer.now name.now bytes.now result
+    ensures { CollectsBytes S.says format task pointer.now name.now bytes.now result
         (O.contents out.old) (O.contents out.new) (O.failed out.new) held.old.items held.new.items }
 {
-    match judge(alloc, format, task, name, bytes)? {
-        Judged::Text(count, mut text) => {
+    match judge(alloc, format, task, name, bytes, schemas)? {
+        Judged::Text(verdict, mut text) => {
             held.append(&mut text)?;
-            Ok(count)
+            Ok(verdict)
         }
         Judged::Document(form, root) => {
             let place = place_of(alloc, pointer, &root)?;
-            show(alloc, format, form, pointer, name, place, held, out)
+            let errors = show(alloc, format, form, pointer, name, place, held, out)?;
+            Ok(Verdict::plain(alloc, errors))
         }
     }
 }
 
 /// Checks or prints one file, and counts its errors in `collected`. `reading` has the bytes of the file, or why it
 /// can't be read. Fails if a write or an allocation fails.
-fn collect_one<O: Sink>(
+fn collect_one<S: Schemas, O: Sink>(
     alloc: Global,
     format: Format,
     task: Task,
@@ -118,10 +116,11 @@ fn collect_one<O: Sink>(
     name: &str,
     reading: Result<Vec<u8>, String>,
     collected: &mut Collected,
+    schemas: &mut S,
     out: &mut O,
 ) -> Result<(), Unwritten>
     requires { O.failed out.old ≡ false }
-    ensures { CollectsOne format task pointer.now name.now (spec.read_of reading) result
+    ensures { CollectsOne S.says format task pointer.now name.now (spec.read_of reading) result
         (O.contents out.old) (O.contents out.new) (O.failed out.new)
         (collected.old.held.items, string_bytes collected.old.errors, collected.old.status, collected.old.wrong)
         (collected.new.held.items, string_bytes collected.new.errors, collected.new.status, collected.new.wrong) }
@@ -137,10 +136,13 @@ fn collect_one<O: Sink>(
                 name,
                 bytes.as_slice(),
                 held,
+                schemas,
                 out,
             )?;
-            collected.status = collected.status.max(status_of(found));
-            collected.count(found)?;
+            let complaint = found.complaint.as_str();
+            collected.errors.push_str(complaint)?;
+            collected.status = collected.status.max(status_of(found.errors, complaint));
+            collected.count(found.errors)?;
         }
         Err(reason) => {
             let name = shown_word(alloc, name)?;
@@ -174,17 +176,18 @@ fn find_all<I: Inputs>(
 
 /// Reads the files in order, and checks or prints each. Returns the output that has not been written yet. Fails if a
 /// write or an allocation fails.
-fn collect<I: Inputs, O: Sink>(
+fn collect<I: Inputs, S: Schemas, O: Sink>(
     alloc: Global,
     format: Format,
     task: Task,
     pointer: &str,
     names: &[String],
     inputs: &mut I,
+    schemas: &mut S,
     out: &mut O,
 ) -> Result<Collected, Unwritten>
     requires { O.failed out.old ≡ false }
-    ensures { CollectsFiles format task pointer.now (map (λ name. string_bytes name) names.now) result
+    ensures { CollectsFiles S.says format task pointer.now (map (λ name. string_bytes name) names.now) result
         (I.log inputs.old) (I.log inputs.new) (O.contents out.old) (O.contents out.new) (O.failed out.new) }
 {
     let mut collected = Collected {
@@ -207,6 +210,7 @@ fn collect<I: Inputs, O: Sink>(
             name,
             reading,
             &mut collected,
+            schemas,
             out,
         )?;
     }
@@ -263,8 +267,8 @@ fn push_summary(
         ++ spec.summary format task is_watched files wrong) }
 {
     match (format, task) {
-        (Format::Text(_), Task::Check(_)) if wrong.errors > 0 => push_errors(out, files, wrong),
-        (Format::Text(_), Task::Check(_)) if is_watched => push_checked(out, files),
+        (Format::Text(_), Task::Check(_, _)) if wrong.errors > 0 => push_errors(out, files, wrong),
+        (Format::Text(_), Task::Check(_, _)) if is_watched => push_checked(out, files),
         _ => Ok(()),
     }
 }
@@ -274,14 +278,14 @@ fn whole(alloc: Global, format: Format, task: Task, stdout: Vec<u8>) -> Result<V
     ensures { IfOk result (λ out. out.items ≡ spec.whole format task stdout.items) }
 {
     match (format, task) {
-        (Format::Sarif, Task::Check(_)) => document(alloc, stdout.as_slice()),
+        (Format::Sarif, Task::Check(_, _)) => document(alloc, stdout.as_slice()),
         _ => Ok(stdout),
     }
 }
 
 /// Reads the files that the arguments `names` stand for, and checks or prints each, with a summary at the end. Returns
 /// the output that has not been written yet. Fails if a write or an allocation fails.
-fn collect_all<I: Inputs, O: Sink>(
+fn collect_all<I: Inputs, S: Schemas, O: Sink>(
     alloc: Global,
     format: Format,
     task: Task,
@@ -290,16 +294,17 @@ fn collect_all<I: Inputs, O: Sink>(
     names: &[&str],
     is_watched: bool,
     inputs: &mut I,
+    schemas: &mut S,
     out: &mut O,
 ) -> Result<Collected, Unwritten>
     requires { O.failed out.old ≡ false }
-    ensures { CollectsAll format task pointer.now (map (λ pattern. pattern.now) excludes.now)
+    ensures { CollectsAll S.says format task pointer.now (map (λ pattern. pattern.now) excludes.now)
         (map (λ name. name.now) names.now) is_watched result
         (I.log inputs.old) (I.log inputs.new) (O.contents out.old) (O.contents out.new) (O.failed out.new) }
 {
     let found = find_all(alloc, excludes, names, inputs)?;
     let files = found.as_slice();
-    let mut collected = collect(alloc, format, task, pointer, files, inputs, out)?;
+    let mut collected = collect(alloc, format, task, pointer, files, inputs, schemas, out)?;
     collected.held = whole(alloc, format, task, collected.held)?;
     push_summary(
         &mut collected.errors,
@@ -315,7 +320,7 @@ fn collect_all<I: Inputs, O: Sink>(
 /// Reads the files that the arguments `names` stand for, checks or prints each, and writes the output. Returns the exit
 /// status: 0 without errors, 1 if a file has errors, 2 if a file can't be read, 3 if a write failed, 4 if an allocation
 /// failed.
-fn run_aloud<I: Inputs, O: Sink, E: Sink>(
+fn run_aloud<I: Inputs, S: Schemas, O: Sink, E: Sink>(
     alloc: Global,
     format: Format,
     task: Task,
@@ -324,19 +329,20 @@ fn run_aloud<I: Inputs, O: Sink, E: Sink>(
     names: &[&str],
     is_watched: bool,
     inputs: &mut I,
+    schemas: &mut S,
     out: &mut O,
     errors: &mut E,
 ) -> u8
     requires out { O.failed out.old ≡ false }
     requires errors { E.failed errors.old ≡ false }
-    ensures { Runs format task pointer.now (map (λ pattern. pattern.now) excludes.now)
+    ensures { Runs S.says format task pointer.now (map (λ pattern. pattern.now) excludes.now)
         (map (λ name. name.now) names.now) is_watched false
         (I.log inputs.old) (I.log inputs.new)
         (O.contents out.old) (O.contents out.new) (O.failed out.new)
         (E.contents errors.old) (E.contents errors.new) (E.failed errors.new) result }
 {
     let collected = match collect_all(
-        alloc, format, task, pointer, excludes, names, is_watched, inputs, out,
+        alloc, format, task, pointer, excludes, names, is_watched, inputs, schemas, out,
     ) {
         Ok(collected) => collected,
         Err(Unwritten::Memory) => return 4,
@@ -352,7 +358,7 @@ fn run_aloud<I: Inputs, O: Sink, E: Sink>(
 }
 
 /// Does the same as `run_aloud`, but writes nothing. Returns the exit status.
-fn run_quiet<I: Inputs>(
+fn run_quiet<I: Inputs, S: Schemas>(
     alloc: Global,
     format: Format,
     task: Task,
@@ -361,8 +367,9 @@ fn run_quiet<I: Inputs>(
     names: &[&str],
     is_watched: bool,
     inputs: &mut I,
+    schemas: &mut S,
 ) -> u8
-    ensures { EndsQuiet format task pointer.now (map (λ pattern. pattern.now) excludes.now)
+    ensures { EndsQuiet S.says format task pointer.now (map (λ pattern. pattern.now) excludes.now)
         (map (λ name. name.now) names.now) is_watched
         (I.log inputs.old) (I.log inputs.new) result }
 {
@@ -376,6 +383,7 @@ fn run_quiet<I: Inputs>(
         names,
         is_watched,
         inputs,
+        schemas,
         &mut nowhere,
     ) {
         Ok(collected) => collected.status,
@@ -386,9 +394,10 @@ fn run_quiet<I: Inputs>(
 /// Reads the files that the arguments `names` stand for, and checks or prints each of them.
 ///
 /// `excludes` are patterns of files to leave out of directories, and `pointer` names the value to print. `is_watched`
-/// says whether standard error is a terminal, and `is_quiet` suppresses all output. Returns the exit status: 0 without
-/// errors, 1 if a file has errors, 2 if a file can't be read, 3 if a write failed, 4 if an allocation failed.
-pub fn run<I: Inputs, O: Sink, E: Sink>(
+/// says whether standard error is a terminal, and `is_quiet` suppresses all output. Documents are checked against their
+/// `schemas`. Returns the exit status: 0 without errors, 1 if a file has errors, 2 if a file can't be read, 3 if a
+/// write failed, 4 if an allocation failed.
+pub fn run<I: Inputs, S: Schemas, O: Sink, E: Sink>(
     alloc: Global,
     format: Format,
     task: Task,
@@ -398,12 +407,13 @@ pub fn run<I: Inputs, O: Sink, E: Sink>(
     is_watched: bool,
     is_quiet: bool,
     inputs: &mut I,
+    schemas: &mut S,
     out: &mut O,
     errors: &mut E,
 ) -> u8
     requires out { O.failed out.old ≡ false }
     requires errors { E.failed errors.old ≡ false }
-    ensures { Runs format task pointer.now (map (λ pattern. pattern.now) excludes.now)
+    ensures { Runs S.says format task pointer.now (map (λ pattern. pattern.now) excludes.now)
         (map (λ name. name.now) names.now) is_watched is_quiet
         (I.log inputs.old) (I.log inputs.new)
         (O.contents out.old) (O.contents out.new) (O.failed out.new)
@@ -411,11 +421,11 @@ pub fn run<I: Inputs, O: Sink, E: Sink>(
 {
     if is_quiet {
         run_quiet(
-            alloc, format, task, pointer, excludes, names, is_watched, inputs,
+            alloc, format, task, pointer, excludes, names, is_watched, inputs, schemas,
         )
     } else {
         run_aloud(
-            alloc, format, task, pointer, excludes, names, is_watched, inputs, out, errors,
+            alloc, format, task, pointer, excludes, names, is_watched, inputs, schemas, out, errors,
         )
     }
 }

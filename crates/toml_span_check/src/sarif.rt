@@ -38,7 +38,38 @@ const HEAD: &str = r#"{
 {"id":"too-many-errors","shortDescription":{"text":"More errors than are reported."}},
 {"id":"newer-toml","shortDescription":{"text":"Something that TOML 1.0 lacks."}},
 {"id":"not-utf-8","shortDescription":{"text":"A file that is not valid UTF-8."}},
-{"id":"too-long","shortDescription":{"text":"A file that is larger than 16 MiB."}}
+{"id":"too-long","shortDescription":{"text":"A file that is larger than 16 MiB."}},
+{"id":"schema","shortDescription":{"text":"A value that does not match its schema."}},
+{"id":"schema-false","shortDescription":{"text":"A value where the schema allows none."}},
+{"id":"schema-type","shortDescription":{"text":"A value of another type than the schema allows."}},
+{"id":"schema-enum","shortDescription":{"text":"A value that is not among those that the schema lists."}},
+{"id":"schema-const","shortDescription":{"text":"Another value than the only one that the schema allows."}},
+{"id":"schema-minimum","shortDescription":{"text":"A number that is too small."}},
+{"id":"schema-exclusive-minimum","shortDescription":{"text":"A number that is too small."}},
+{"id":"schema-maximum","shortDescription":{"text":"A number that is too large."}},
+{"id":"schema-exclusive-maximum","shortDescription":{"text":"A number that is too large."}},
+{"id":"schema-multiple-of","shortDescription":{"text":"A number that is no multiple of the one in the schema."}},
+{"id":"schema-min-length","shortDescription":{"text":"A string that is too short."}},
+{"id":"schema-max-length","shortDescription":{"text":"A string that is too long."}},
+{"id":"schema-pattern","shortDescription":{"text":"A string that the schema's regular expression does not match."}},
+{"id":"schema-format","shortDescription":{"text":"A string that does not have the format that the schema names."}},
+{"id":"schema-min-items","shortDescription":{"text":"An array with too few elements."}},
+{"id":"schema-max-items","shortDescription":{"text":"An array with too many elements."}},
+{"id":"schema-unique-items","shortDescription":{"text":"An array with two equal elements."}},
+{"id":"schema-contains","shortDescription":{"text":"An array without an element that the schema asks for."}},
+{"id":"schema-unevaluated-items","shortDescription":{"text":"An array element that the schema does not know."}},
+{"id":"schema-min-properties","shortDescription":{"text":"A table with too few keys."}},
+{"id":"schema-max-properties","shortDescription":{"text":"A table with too many keys."}},
+{"id":"schema-required","shortDescription":{"text":"A key is missing."}},
+{"id":"schema-additional-properties","shortDescription":{"text":"A key that the schema does not know."}},
+{"id":"schema-unevaluated-properties","shortDescription":{"text":"A key that the schema does not know."}},
+{"id":"schema-dependent-required","shortDescription":{"text":"A key is missing that another key requires."}},
+{"id":"schema-dependencies","shortDescription":{"text":"A key is missing that another key requires."}},
+{"id":"schema-any-of","shortDescription":{"text":"A value that matches none of the schema's alternatives."}},
+{"id":"schema-one-of","shortDescription":{"text":"A value that does not match exactly one alternative."}},
+{"id":"schema-not","shortDescription":{"text":"A value that the schema rules out."}},
+{"id":"schema-deprecated","shortDescription":{"text":"A value that the schema calls deprecated."}},
+{"id":"schema-not-fetched","shortDescription":{"text":"A schema on a server, for which no local copy is named."}}
 ]}},"columnKind":"unicodeCodePoints","results":["#;
 
 /// The document after the results.
@@ -55,7 +86,7 @@ fn level_of(severity: Severity) -> &'static str
     }
 }
 
-/// Returns whether a byte occurs unescaped in the path of a URI: an unreserved one, or a slash.
+/// Returns whether a byte may appear unescaped in a URI path: an unreserved one, or a slash.
 fn is_plain(byte: u8) -> bool
     ensures { result ≡ spec.is_plain byte }
 {
@@ -386,7 +417,7 @@ fn push_fixes(
     }
 }
 
-/// Returns a report as a result, after a comma. `name` is the name of the file, `text` the source. Fails if an
+/// Returns a comma and the report's `result` object. `name` is the name of the file, `text` the source. Fails if an
 /// allocation fails.
 pub(crate) fn sarif(
     alloc: Global,

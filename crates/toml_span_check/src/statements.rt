@@ -1,7 +1,7 @@
 //! Finds the statement in which an error is, that is, a header or an assignment, and where the next one begins.
 use toml_span::ErrorKind;
 
-/// What is open at some byte of a statement.
+/// What is open at an offset in a statement.
 #[derive(Clone, Copy)]
 pub(crate) struct Open {
     /// The number of open brackets and braces.
@@ -10,7 +10,7 @@ pub(crate) struct Open {
     quote: u8,
     /// Whether the open string has three quotes on each side.
     is_long: bool,
-    /// The number of bytes after this one that belong to the same token.
+    /// The number of bytes from this offset that belong to quotes or an escape that began before it.
     skip: usize,
     /// Whether the statement is a header, which ends at the end of its line.
     is_header: bool,
@@ -34,7 +34,7 @@ fn byte_at(text: &str, at: usize) -> u8 {
     if at < bytes.len() { bytes[at] } else { 0 }
 }
 
-/// Returns the first offset from `from` on whose byte is neither a space nor a tab.
+/// Returns the offset of the first byte at or after `from` that is neither a space nor a tab.
 fn blanks_end(text: &str, from: usize) -> usize {
     let bytes = text.as_bytes();
     for at in from..bytes.len() {
@@ -278,9 +278,9 @@ fn next_head(text: &str, start: usize, place: usize) -> usize {
     text.len()
 }
 
-/// Returns the start of the statement after the one that begins at `start` and has an error at `place`. If that one
-/// can't be read (`is_broken`), lines that continue it are skipped. If it is not closed either, the next statement
-/// begins on the first line that `resumes` accepts.
+/// Returns the start of the statement after the one that begins at `start` and has an error at `place`. If the
+/// statement at `start` can't be read (`is_broken`), lines that continue it are skipped. If it is not closed either,
+/// the next statement begins on the first line that `resumes` accepts.
 fn next_of(text: &str, start: usize, place: usize, is_broken: bool) -> usize {
     let mut open = begin(text, start);
     for at in start..text.len() {
@@ -333,8 +333,8 @@ pub(crate) fn is_clash(kind: &ErrorKind<'_>) -> bool {
     )
 }
 
-/// Returns whether the line that begins at `line` is a marker of a merge conflict, which begins with seven of this
-/// byte.
+/// Returns whether the line that begins at `line` is a marker of a merge conflict that begins with this byte, seven
+/// times.
 fn is_marker(text: &str, line: usize, byte: u8) -> bool {
     (0..7usize).all(|at| byte_at(text, line.saturating_add(at)) == byte)
 }
@@ -355,9 +355,9 @@ fn next_marker(text: &str, from: usize, byte: u8) -> Option<usize> {
     None
 }
 
-/// Returns the end of a side of a merge conflict other than the first one, if a marker before it begins at `line`.
-/// Such a side repeats keys of the first one. The common ancestor is between `|||||||` and `=======`, the second side
-/// between `=======` and `>>>>>>>`.
+/// If the line that begins at `line` is a marker before the common ancestor or the second side of a merge conflict,
+/// returns the end of that side, otherwise `None`. These sides repeat keys of the first side. The common ancestor is
+/// between `|||||||` and `=======`, the second side between `=======` and `>>>>>>>`.
 fn other_side_end(text: &str, line: usize) -> Option<usize> {
     if is_marker(text, line, b'|') {
         next_marker(text, line, b'=')
@@ -370,7 +370,7 @@ fn other_side_end(text: &str, line: usize) -> Option<usize> {
 
 /// Returns the statement that contains the offset `place`, where an error is. A statement must begin at `from`.
 /// `is_clash` says that the error is a clash, so that the statement can be read. A marker of a merge conflict includes
-/// the side after it, unless that is the first one.
+/// the side after it, unless that is the first side.
 pub(crate) fn statement_of(text: &str, from: usize, place: usize, is_clash: bool) -> Statement {
     let start = start_of(text, from, place);
     let next = match other_side_end(text, start) {

@@ -1,3 +1,4 @@
 pub mod Added
 pub mod Rows
 pub mod Said
+pub mod Warned

@@ -5,6 +5,7 @@ use Rattle.toml_span_lines.specs.Run.{HasWritten}
 use Rattle.toml_span_check.specs.declared.answer.Task.{Task}
 use Rattle.toml_span_check.specs.declared.faults.Format.{Format}
 use Rattle.toml_span_cli.specs.Options.{Asks}
+use Rattle.toml_span_cli.specs.Schemas.{file_says}
 use Rattle.toml_span_cli.specs.Start.{Starts}
 use Rattle.toml_span_cli.specs.declared.options.Reader.TheVariants as readers
 
@@ -20,14 +21,14 @@ abbrev pub ChecksFixed : List (List ℕ) → Bool → Bool → Option (List ℕ)
     → Option (List ℕ) → Bool → ℕ → Type 0
 ChecksFixed words is_terminal is_watched stdout stdout' out_failed stderr stderr' err_failed status =
     (line : List ℕ) × (mid : Option (List ℕ)) × HasWritten stderr mid line
-    × (Starts readers.Check words is_terminal is_watched None None stdout stdout' out_failed mid stderr' err_failed
+    × (Starts file_says readers.Check words is_terminal is_watched None None stdout stdout' out_failed mid stderr' err_failed
     status
     ⊎ ((status ≡ 3) × Keeps stdout stdout' × (mid ≡ stderr')))
 
 abbrev pub Checks : List (List ℕ) → Bool → Bool → Option (List ℕ) → Option (List ℕ) → Bool → Option (List ℕ)
     → Option (List ℕ) → Bool → ℕ → Type 0
 Checks words is_terminal is_watched stdout stdout' out_failed stderr stderr' err_failed status =
-    Starts readers.Check words is_terminal is_watched None None stdout stdout' out_failed stderr stderr' err_failed
+    Starts file_says readers.Check words is_terminal is_watched None None stdout stdout' out_failed stderr stderr' err_failed
     status
     ⊎ (AsksForFixing words is_terminal
     × ChecksFixed words is_terminal is_watched stdout stdout' out_failed stderr stderr' err_failed status)

@@ -2,6 +2,7 @@
 use Rattle.std.specs.Prelude.{◌≤◌, ℕ, Bool, true, false, ◌||◌, List, drop, Option, Some, None, slice_get}
 use Rattle.std.specs.Prelude.{if◌then◌else◌}
 use Rattle.std.specs.Io.KnownBytes.{Keeps}
+use Rattle.toml_span_check.specs.Schemas.{no_schema}
 use Rattle.toml_span_cli.specs.Check.{Checks}
 use Rattle.toml_span_cli.specs.Commands.{command_named}
 use Rattle.toml_span_cli.specs.Say.{Says, Warns}
@@ -35,7 +36,7 @@ abbrev pub Performs : Command → List (List ℕ) → Bool → Bool → Option (
 Performs commands.Check words is_coloured is_watched stdout stdout' out_failed stderr stderr' err_failed status =
     Checks words is_coloured is_watched stdout stdout' out_failed stderr stderr' err_failed status
 Performs commands.Get words is_coloured is_watched stdout stdout' out_failed stderr stderr' err_failed status =
-    Starts readers.Get words is_coloured is_watched None None stdout stdout' out_failed stderr stderr' err_failed status
+    Starts no_schema readers.Get words is_coloured is_watched None None stdout stdout' out_failed stderr stderr' err_failed status
 Performs commands.Show words is_coloured is_watched stdout stdout' out_failed stderr stderr' err_failed status =
     Shows words stdout stdout' out_failed stderr stderr' err_failed status
 Performs command words is_coloured is_watched stdout stdout' out_failed stderr stderr' err_failed status = status ≤ 4

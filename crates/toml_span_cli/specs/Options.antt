@@ -1,6 +1,6 @@
 -- The options in the arguments. The kit's `clap` splits the arguments into options: its `matches_of` and `fault_of` are
 -- functions of them.
-use Rattle.std.specs.Prelude.{◌≡◌, ◌==◌, ℕ, Bool, true, false, List, [], ◌∷◌, Option, Some, None, codes}
+use Rattle.std.specs.Prelude.{◌≡◌, ◌==◌, ◌&&◌, ℕ, Bool, true, false, List, [], ◌∷◌, length, Option, Some, None, codes}
 use Rattle.std.specs.Prelude.{unwrap_or, if◌then◌else◌, Result, Ok, Err}
 use Rattle.std.specs.Str.{bytes_eq}
 use Rattle.clap.specs.Lexer.{usize_max}
@@ -18,11 +18,14 @@ use Rattle.toml_span_check.specs.declared.faults.Format.{Format}
 use Rattle.toml_span_check.specs.declared.faults.Format.TheVariants.{Text, Short, Json, Github, Sarif}
 use Rattle.toml_span_check.specs.declared.newer.Version.{Version}
 use Rattle.toml_span_check.specs.declared.newer.Version.TheVariants as version
+use Rattle.toml_span_check.specs.declared.schemas.Chooser.{Chooser}
+use Rattle.toml_span_check.specs.declared.schemas.Chooser.TheVariants.{Files, Arguments}
 use Rattle.toml_span_cli.specs.declared.options.Mistake.{Mistake}
 use Rattle.toml_span_cli.specs.declared.options.Mistake.TheVariants as mistake
 use Rattle.toml_span_cli.specs.declared.options.Reader.{Reader}
 use Rattle.toml_span_cli.specs.declared.options.Reader.TheVariants as readers
 use Rattle.toml_span_check.specs.Words.{is_bytes}
+use Rattle.toml_span_cli.specs.Words.{has}
 use Rattle.toml_span_report.specs.declared.Style.{Style}
 use Rattle.toml_span_report.specs.declared.Style.TheVariants.{Plain, Coloured}
 
@@ -39,6 +42,10 @@ choice name default = record (new_rule name) { long = Some name; defaults = defa
 -- `--NAME VALUE`, any number of times
 abbrev pub several : List ℕ → Rule
 several name = record (new_rule name) { long = Some name; action = Some Append }
+
+-- `--NAME VALUE`
+abbrev pub optional : List ℕ → Rule
+optional name = record (new_rule name) { long = Some name }
 
 -- any number of names, and `-` if there are none
 abbrev pub files : Rule
@@ -61,10 +68,16 @@ common =
     with_rule (with_rule (with_version (new_app (codes "toml-span"))) (choice (codes "format") (codes "text")))
     (choice (codes "color") (codes "auto"))
 
--- `check [--format FORMAT] [--color WHEN] [--quiet] [--fix] [--toml VERSION] [--exclude PATTERN].. [FILE..]`
+-- `[--format FORMAT] [--color WHEN] [--schema FILE] [--catalog FILE] [--schema-map URL=FILE].. [--no-formats]`
+unfoldable pub schemas : App
+schemas =
+    with_rule (with_rule (with_rule (with_rule common (optional (codes "schema"))) (optional (codes "catalog")))
+    (several (codes "schema-map"))) (flag (codes "no-formats"))
+
+-- `check [..] [--quiet] [--fix] [--toml VERSION] [--exclude PATTERN].. [FILE..]`, with the options for schemas
 unfoldable pub check : App
 check =
-    with_rule (with_rule (with_rule (with_rule (with_rule common (flag (codes "quiet"))) (flag (codes "fix")))
+    with_rule (with_rule (with_rule (with_rule (with_rule schemas (flag (codes "quiet"))) (flag (codes "fix")))
     (choice (codes "toml") (codes "auto"))) (several (codes "exclude"))) files
 
 -- `[--format FORMAT] [--color WHEN] [--json] [--raw] [--toml] [--tagged] [--items]`
@@ -86,6 +99,10 @@ program readers.Get = get
 -- the value of an option, or nothing
 abbrev pub value_of : List Row → List ℕ → List ℕ
 value_of rows name = unwrap_or (first_of name rows) []
+
+-- the values of an option that may be repeated
+abbrev pub values_of : List Row → List ℕ → List (List ℕ)
+values_of rows name = unwrap_or (all_of name rows) []
 
 abbrev pub is_given : List Row → List ℕ → Bool
 is_given rows name = bytes_eq (value_of rows name) (codes "true")
@@ -132,13 +149,27 @@ version_named name =
     else if bytes_eq name (codes "1.1") then Some version.Toml11
     else None
 
-abbrev pub checks : Option Version → Result Task Mistake
-checks (Some version) = Ok (Check version)
-checks None = Err mistake.Version
+-- who chooses the schemas of files
+abbrev pub chooser_of : List Row → Chooser
+chooser_of rows =
+    if length (value_of rows (codes "schema")) == 0 && length (value_of rows (codes "catalog")) == 0 then Files
+    else Arguments
+
+abbrev pub checks : Option Version → Chooser → Result Task Mistake
+checks (Some version) chooser = Ok (Check version chooser)
+checks None chooser = Err mistake.Version
+
+-- whether each of these values has a `=`
+unfoldable pub are_maps : List (List ℕ) → Bool
+are_maps [] = true
+are_maps (m ∷ ms) = if has 61 m then are_maps ms else false
 
 -- the task
 abbrev pub task_of : Reader → List Row → Result Task Mistake
-task_of readers.Check rows = checks (version_named (value_of rows (codes "toml")))
+task_of readers.Check rows =
+    if are_maps (values_of rows (codes "schema-map"))
+    then checks (version_named (value_of rows (codes "toml"))) (chooser_of rows)
+    else Err mistake.Map
 task_of readers.Get rows =
     if is_bytes (value_of rows (codes "PATH")) then Err mistake.Path
     else shows (form_of rows)
@@ -189,6 +220,7 @@ kind_of mistake.Version = InvalidValue
 kind_of mistake.Forms = ArgumentConflict
 kind_of mistake.Path = InvalidValue
 kind_of mistake.Sarif = ArgumentConflict
+kind_of mistake.Map = InvalidValue
 
 abbrev pub mistake_kinds : Result (Format × Task) Mistake → Kinds
 mistake_kinds (Ok what) = []

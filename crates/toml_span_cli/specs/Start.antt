@@ -10,6 +10,7 @@ use Rattle.toml_span_cli.specs.Options.{Asks, faults}
 use Rattle.toml_span_cli.specs.Say.{Says}
 use Rattle.toml_span_report.specs.Visible.{visible_lines}
 use Rattle.toml_span_check.specs.Run.{Asked, Runs}
+use Rattle.toml_span_check.specs.Schemas.{Says as SchemasSay}
 use Rattle.toml_span_places.specs.Dotted.{IsPath}
 use Rattle.toml_span_places.specs.declared.dotted.PathError.{PathError}
 use Rattle.toml_span_cli.specs.declared.help.TheConstants.{CHECK, GET, VERSION}
@@ -39,17 +40,17 @@ SaysOfPath path None = (segments : List (List ℕ)) × IsPath path (Ok segments)
 SaysOfPath path (Some text) =
     (e : PathError) × IsPath path (Err e) × ((message : List ℕ) × (string_bytes text ≡ visible_lines message))
 
--- A command with these words. If they are right, and the path can be read, it runs on the files that they name.
--- Otherwise no file is read. If an allocation fails, the status is 4.
-abbrev pub Starts : Reader → List (List ℕ) → Bool → Bool → Option Asked → Option Asked
+-- A command with these words, where schemas say this. If the words are right, and the path can be read, it runs on the
+-- files that they name. Otherwise no file is read. If an allocation fails, the status is 4.
+abbrev pub Starts : SchemasSay → Reader → List (List ℕ) → Bool → Bool → Option Asked → Option Asked
     → Option (List ℕ) → Option (List ℕ) → Bool → Option (List ℕ) → Option (List ℕ) → Bool → ℕ → Type 0
-Starts reader words is_terminal is_watched old new stdout stdout' out_failed stderr stderr' err_failed status =
+Starts says reader words is_terminal is_watched old new stdout stdout' out_failed stderr stderr' err_failed status =
     ((format : Format) × (task : Task) × (pointer : List ℕ) × (excludes names : List (List ℕ))
     × (is_quiet is_fixing : Bool)
     × (faults reader words is_terminal ≡ [])
     × Asks reader words is_terminal format task pointer excludes names is_quiet is_fixing
     × ((segments : List (List ℕ)) × IsPath pointer (Ok segments))
-    × Runs format task pointer excludes names is_watched is_quiet old new stdout stdout' out_failed stderr stderr'
+    × Runs says format task pointer excludes names is_watched is_quiet old new stdout stdout' out_failed stderr stderr'
     err_failed status)
     ⊎ ((kind : ErrorKind) × ((kind ≡ OutOfMemory) ⊎ IsAmong kind (faults reader words is_terminal)) × (new ≡ old)
     × Refuses reader kind stdout stdout' out_failed stderr stderr' err_failed status)

@@ -11,7 +11,7 @@ const MOST_WAIT: u64 = 86_400;
 /// What to do with the result of the edits.
 #[derive(Clone, Copy, PartialEq, Eq)]
 pub(crate) enum Show {
-    /// Replace the file by it.
+    /// Replace the file with it.
     No,
     /// Print it.
     Text,

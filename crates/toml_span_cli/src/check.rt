@@ -6,6 +6,7 @@ use crate::answers::Answer;
 use crate::files::{read_file, replace};
 use crate::options::{Options, Reader, options_of};
 use crate::say::say;
+use crate::schemas::{FileSchemas, SchemaOptions};
 use crate::start::start;
 use std::alloc::{AllocError, Global};
 use toml_span_check::answer::Task;
@@ -26,7 +27,7 @@ struct Count {
 /// text with the number of fixes. `name` is the name of the file. Fails if an allocation fails.
 fn fixed(alloc: Global, text: &str, task: Task, name: &str) -> Result<Fixed, AllocError> {
     let made = with_fixes(alloc, text)?;
-    let Task::Check(version) = task else {
+    let Task::Check(version, _) = task else {
         return Ok(made);
     };
     let older = with_older_forms(alloc, made.text.as_str(), version, name)?;
@@ -119,6 +120,20 @@ fn fix_files(alloc: Global, options: &Options<'_>, host: &mut Host) -> Result<Ou
     counted(alloc, count, options.is_quiet)
 }
 
+/// Returns the schemas that arguments and files name. If the arguments are wrong, these are of no use. Fails if an
+/// allocation fails.
+fn file_schemas<'w>(
+    alloc: Global,
+    words: &'w [String],
+    host: &Host,
+) -> Result<FileSchemas<'w>, AllocError> {
+    match options_of(alloc, Reader::Check, words, false) {
+        Ok(options) => Ok(FileSchemas::new(alloc, host.rt, options.schemas)),
+        Err(error) if error.kind() == clap::error::ErrorKind::OutOfMemory => Err(AllocError),
+        Err(_) => Ok(FileSchemas::new(alloc, host.rt, SchemaOptions::none(alloc))),
+    }
+}
+
 /// Carries out `--fix`. Returns `None` if the arguments don't have that option, or are wrong. `words` are the name of
 /// the command and its arguments. Fails if an allocation fails.
 fn fix(
@@ -145,6 +160,7 @@ fn check_fixed<O: Sink, E: Sink>(
     is_coloured: bool,
     is_watched: bool,
     host: &mut Host,
+    schemas: &mut FileSchemas<'_>,
     out: &mut O,
     errors: &mut E,
 ) -> u8
@@ -166,6 +182,7 @@ fn check_fixed<O: Sink, E: Sink>(
             is_coloured,
             is_watched,
             host,
+            schemas,
             out,
             errors,
         ),
@@ -190,6 +207,7 @@ pub(crate) fn check<O: Sink, E: Sink>(
         (O.contents out.old) (O.contents out.new) (O.failed out.new)
         (E.contents errors.old) (E.contents errors.new) (E.failed errors.new) status) }
 {
+    let mut schemas = file_schemas(alloc, words, host)?;
     match fix(alloc, words, is_coloured, host)? {
         Some(outcome) => {
             Ok(check_fixed(
@@ -199,6 +217,7 @@ pub(crate) fn check<O: Sink, E: Sink>(
                 is_coloured,
                 is_watched,
                 host,
+                &mut schemas,
                 out,
                 errors,
             ))
@@ -210,6 +229,7 @@ pub(crate) fn check<O: Sink, E: Sink>(
             is_coloured,
             is_watched,
             host,
+            &mut schemas,
             out,
             errors,
         )),

@@ -3,7 +3,7 @@ ghost use Rattle.std.specs.Prelude.{◌≡◌};
 ghost use Rattle.toml_span_cli.specs.Commands as spec;
 
 use crate::help::{
-    ADD, APPEND, CHECK, EDIT, EXPLAIN, FMT, GET, HELP, INSERT, MOVE, REMOVE, RENAME, SET, SHOW,
+    ADD, APPEND, CHECK, EDIT, EXPLAIN, FMT, GET, HELP, INSERT, LSP, MOVE, REMOVE, RENAME, SET, SHOW,
 };
 
 /// A command.
@@ -21,14 +21,15 @@ pub(crate) enum Command {
     Insert,
     Move,
     Edit,
+    Lsp,
     Explain,
     Help,
 }
 
 /// The names of the commands.
-pub(crate) const NAMES: [&str; 14] = [
+pub(crate) const NAMES: [&str; 15] = [
     "check", "show", "get", "fmt", "set", "rename", "remove", "add", "append", "insert", "move",
-    "edit", "explain", "help",
+    "edit", "lsp", "explain", "help",
 ];
 
 /// Returns the command with this name, if there is one.
@@ -48,6 +49,7 @@ pub(crate) fn command_named(name: &str) -> Option<Command>
         "insert" => Some(Command::Insert),
         "move" => Some(Command::Move),
         "edit" => Some(Command::Edit),
+        "lsp" => Some(Command::Lsp),
         "explain" => Some(Command::Explain),
         "help" => Some(Command::Help),
         _ => None,
@@ -69,6 +71,7 @@ pub(crate) fn arguments_of(command: Command) -> &'static str {
         Command::Insert => "insert [OPTION].. FILE PATH VALUE",
         Command::Move => "move [OPTION].. FILE PATH PATH",
         Command::Edit => "edit [OPTION].. FILE [-e EDIT]..",
+        Command::Lsp => "lsp",
         Command::Explain => "explain [CODE]",
         Command::Help => "help [COMMAND]",
     }
@@ -89,6 +92,7 @@ pub(crate) fn help_of(command: Command) -> &'static str {
         Command::Insert => INSERT,
         Command::Move => MOVE,
         Command::Edit => EDIT,
+        Command::Lsp => LSP,
         Command::Explain => EXPLAIN,
         Command::Help => HELP,
     }

@@ -10,6 +10,7 @@ use crate::edit::{edit, edit_help};
 use crate::explain::explain;
 use crate::fmt::fmt;
 use crate::help::{HELP, VERSION};
+use crate::lsp::lsp;
 use crate::options::Reader;
 use crate::say::{quoted_word, say, say_misuse};
 use crate::show::show;
@@ -18,6 +19,7 @@ use crate::words::{is_file, is_help, is_version};
 use std::alloc::{AllocError, Global};
 use std::fs;
 use toml_span_check::input::Host;
+use toml_span_check::schemas::NoSchemas;
 use toml_span_lines::sink::Sink;
 use toml_span_report::nearest;
 
@@ -140,11 +142,13 @@ fn perform<O: Sink, E: Sink>(
             is_coloured,
             is_watched,
             host,
+            &mut NoSchemas,
             out,
             errors,
         )),
         Command::Fmt => fmt(alloc, words, host, out, errors),
         Command::Show => show(alloc, words, host, out, errors),
+        Command::Lsp => lsp(alloc, words, host, out, errors),
         Command::Explain => explain(alloc, words, out, errors),
         Command::Help => help(alloc, words, out, errors),
         Command::Set

@@ -5,6 +5,7 @@ ghost use Rattle.toml_span_cli.specs.Explain as spec;
 use crate::commands::Command;
 use crate::help::EXPLAIN;
 use crate::say::{quoted_word, say, say_misuse};
+use crate::schema_pages::{SCHEMA_CODES, schema_page};
 use crate::words::is_help;
 use std::alloc::{AllocError, Global};
 use toml_span_lines::sink::Sink;
@@ -52,7 +53,10 @@ fn page_of(code: &str) -> Option<&'static str>
         "not-utf-8" => Some(NOT_UTF_8),
         "too-long" => Some(TOO_LONG),
         "nothing-there" => Some(NOTHING_THERE),
-        _ => page_of_error(code),
+        _ => match schema_page(code) {
+            Some(page) => Some(page),
+            None => page_of_error(code),
+        },
     }
 }
 
@@ -68,7 +72,7 @@ fn title_of(page: &str) -> &str {
 fn push_titles(out: &mut String, list: &[&str]) -> Result<(), AllocError> {
     for code in list {
         out.push_str(*code)?;
-        for _ in code.len()..25 {
+        for _ in code.len()..31 {
             out.push(' ')?;
         }
         out.push_str(title_of(page_of(*code).unwrap_or("")))?;
@@ -85,6 +89,7 @@ fn say_all<O: Sink>(alloc: Global, out: &mut O) -> Result<u8, AllocError>
     let mut text = String::new(alloc);
     push_titles(&mut text, &CODES)?;
     push_titles(&mut text, &OWN_CODES)?;
+    push_titles(&mut text, &SCHEMA_CODES)?;
     Ok(say(out, text.as_str(), 0))
 }
 
@@ -98,6 +103,7 @@ fn say_unknown<E: Sink>(alloc: Global, code: &str, errors: &mut E) -> Result<u8,
     let mut text = format!(in alloc; "error: no such code: {shown}\n")?;
     let mut all = Vec::from_slice(alloc, &CODES)?;
     all.extend_from_slice(&OWN_CODES)?;
+    all.extend_from_slice(&SCHEMA_CODES)?;
     if let Some(name) = nearest(alloc, code, all.as_slice())? {
         text.push_str("help: a code with a similar name exists: `")?;
         text.push_str(name)?;

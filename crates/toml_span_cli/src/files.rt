@@ -82,8 +82,8 @@ pub(crate) fn unedited(
     Ok(answer)
 }
 
-/// Replaces the content of a file by a text, unless it is no longer `bytes`, which was read earlier. Returns `None`, or
-/// the answer for a file that was not written. Fails if an allocation fails.
+/// Writes `text` to a file if its content is still `bytes`. Returns `None`, or the answer for a file that was not
+/// written. Fails if an allocation fails.
 pub(crate) fn replace(
     alloc: Global,
     rt: &HostRuntime,

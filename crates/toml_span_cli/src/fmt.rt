@@ -1,5 +1,6 @@
 //! The command `fmt`.
 ghost use Rattle.std.specs.Prelude.{◌≡◌, ◌≤◌, IfOk, false};
+ghost use Rattle.std.specs.Str.{IsValidUpTo};
 
 use crate::answers::{Answer, failed, give, printed};
 use crate::commands::{Command, help_of};
@@ -10,6 +11,7 @@ use crate::words::is_help;
 use std::alloc::{AllocError, Global};
 use std::io::IsTerminal;
 use toml_span::Stop;
+use toml_span_check::encoding::not_utf8;
 use toml_span_check::input::{Host, Inputs};
 use toml_span_check::words::shown_word;
 use toml_span_files::unified;
@@ -70,7 +72,7 @@ impl<'w> Asked<'w> {
         Ok(())
     }
 
-    /// Parses an option without its value. Fails with a message if it is unknown, or if an allocation fails.
+    /// Parses an option without `=VALUE`. Fails with a message if it is unknown, or if an allocation fails.
     fn option(&mut self, alloc: Global, word: &str) -> Result<(), Stop<String>> {
         match word {
             "--check" => self.is_check = true,
@@ -152,6 +154,19 @@ fn refused(
     }
 }
 
+/// Returns the answer for a file that is not valid UTF-8 from the offset `at` on: the report of `check`. Fails if an
+/// allocation fails.
+fn not_text(alloc: Global, name: &str, bytes: &[u8], at: usize) -> Result<Answer, AllocError>
+    requires { IsValidUpTo bytes.now at }
+{
+    let (report, text) = not_utf8(alloc, bytes, at)?;
+    Ok(Answer {
+        out: String::new(alloc),
+        errors: render(alloc, Style::Plain, &report, name, text)?,
+        status: 1,
+    })
+}
+
 /// Returns the answer for a file that would change but is not to be written. Fails if an allocation fails.
 fn would_change(
     alloc: Global,
@@ -220,8 +235,9 @@ fn format_file(
     if bytes.len() > BOUND {
         return failed(alloc, front, name, "it is larger than 16 MiB", 1);
     }
-    let Ok(text) = str::from_utf8(bytes.as_slice()) else {
-        return failed(alloc, front, name, "it is not valid UTF-8", 1);
+    let text = match str::from_utf8(bytes.as_slice()) {
+        Ok(text) => text,
+        Err(error) => return not_text(alloc, name, bytes.as_slice(), error.valid_up_to()),
     };
     let made = if asked.is_sorted {
         format_sorted(alloc, text, asked.options)

@@ -20,6 +20,7 @@ Commands:
   insert   add an element before another one
   move     move a value to another path
   edit     make several edits at once
+  lsp      run the language server for an editor
   explain  print what an error code means
   help     print this help, or the help of a command
 
@@ -53,6 +54,15 @@ Options:
                    files that have fixes are replaced, standard input is not
   --toml VERSION   1.0, 1.1 or auto [default: auto]; auto means 1.0 for files
                    named `pyproject.toml`, which pip reads, and 1.1 for others
+  --schema FILE    check against this JSON Schema; without it, a comment such as
+                   `#:schema ./app.schema.json` before the first statement of a
+                   file names its schema
+  --catalog FILE   take the other schemas from a catalog in SchemaStore's
+                   format, which has their `fileMatch` and `url`
+  --schema-map URL=FILE
+                   read this file instead of the URL of a schema; nothing is
+                   fetched; can be repeated
+  --no-formats     ignore the keyword `format` of schemas
   --exclude GLOB   leave out what matches in directories: a name, or with a `/`
                    a path, as in a `.gitignore` file; can be repeated
   --quiet          print nothing; only the exit status tells the result
@@ -62,7 +72,7 @@ Options:
 Exit status:
   0  all files are valid
   1  a file has an error
-  2  a file can't be read, or the arguments are wrong
+  2  a file or a schema can't be read, or the arguments are wrong
   3  output can't be written
   4  out of memory
 ";
@@ -160,6 +170,28 @@ Exit status:
   1  a file is not valid TOML, or with --check or --diff: a file would change
   2  a file can't be read, or the arguments are wrong
   3  a result can't be written
+  4  out of memory
+";
+
+/// The help of `lsp`.
+pub(crate) const LSP: &str = "\
+Runs the language server for an editor, on standard input and output.
+
+Usage: toml-span lsp
+
+The server speaks version 3.17 of the Language Server Protocol: errors with
+their fixes, completion, hovers, outlines, renames and formatting. An editor
+starts it; `docs/EDITORS.md` says how to set that up.
+
+Options:
+  --stdio     the same as without it
+  -h, --help  print this help
+
+Exit status:
+  0  the editor has shut the server down
+  1  the input has ended without that
+  2  the input has something else than messages, or the arguments are wrong
+  3  a read or a write has failed
   4  out of memory
 ";
 

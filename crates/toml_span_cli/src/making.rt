@@ -1,11 +1,14 @@
 //! Makes edits of the text of a file.
+ghost use Rattle.std.specs.Str.{IsValidUpTo};
+
 use crate::changes::{Change, Task};
 use std::alloc::{AllocError, Global};
 use std::borrow::CowStr;
 use std::fmt::Write;
 use toml_span::Stop;
-use toml_span_check::encoding::not_utf8_text;
+use toml_span_check::encoding::{not_utf8, not_utf8_text};
 use toml_span_edit::{Edit, EditError, Edits, Reason, path_segments, segment_names, string_text};
+use toml_span_report::line_column;
 
 /// The kind of an edit.
 #[derive(Clone, Copy)]
@@ -41,7 +44,8 @@ struct Prepared<'w> {
     value: String,
 }
 
-/// Returns a path's segments. None are lost: all paths can be read (see `Change::wrong_path`).
+/// Returns the segments of a path, which can be read, since the caller has tested it with `Change::wrong_path`. Fails
+/// if an allocation fails.
 fn segments_of<'w>(alloc: Global, path: &'w str) -> Result<Vec<CowStr<'w>>, AllocError> {
     match path_segments(alloc, path) {
         Ok(segments) => Ok(segments),
@@ -222,6 +226,17 @@ fn forced(
     Err(Stop::Fault(String::from_str(alloc, "the tables in the way are not replaced")?))
 }
 
+/// Returns the reason that a file is not valid UTF-8, with the place of its first byte that is not, which is at the
+/// offset `at`. Fails if an allocation fails.
+fn not_text(alloc: Global, bytes: &[u8], at: usize) -> Result<String, AllocError>
+    requires { IsValidUpTo bytes.now at }
+{
+    let (_, text) = not_utf8(alloc, bytes, at)?;
+    let (line, column) = line_column(text, at);
+    let words = not_utf8_text(alloc, bytes, at)?;
+    format!(in alloc; "{words} (line {line}, column {column})")
+}
+
 /// Makes edits of the bytes of a file, and returns the new text. If `is_string`, values are texts rather than TOML. If
 /// `is_forced`, values may be set over tables. Fails with a message, or if an allocation fails.
 pub(crate) fn new_text(
@@ -234,8 +249,7 @@ pub(crate) fn new_text(
     let text = match str::from_utf8(bytes) {
         Ok(text) => text,
         Err(error) => {
-            let words = not_utf8_text(alloc, bytes, error.valid_up_to())?;
-            return Err(Stop::Fault(words));
+            return Err(Stop::Fault(not_text(alloc, bytes, error.valid_up_to())?));
         }
     };
     let located = locate_all(alloc, changes)?;

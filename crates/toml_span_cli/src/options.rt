@@ -1,16 +1,19 @@
 //! The options of `check` and `get`.
-ghost use Rattle.std.specs.Prelude.{◌≡◌, IfOk, false, map, string_bytes};
+ghost use Rattle.std.specs.Prelude.{◌≡◌, IfOk, false, map, string_bytes, codes};
 ghost use Rattle.clap.specs.Kinds.{FailsBy};
 ghost use Rattle.clap.specs.Words.{app_of, found_of, rows_of, rule_of};
 ghost use Rattle.toml_span_cli.specs.Options as spec;
 
 use crate::help::{CHECK, GET, VERSION};
+use crate::schemas::SchemaOptions;
+use crate::words::has;
 use clap::error::ErrorKind;
 use clap::{Arg, ArgAction, ArgMatches, Command, Error};
 use std::alloc::{AllocError, Global};
 use toml_span_check::answer::{Form, Task};
 use toml_span_check::faults::Format;
 use toml_span_check::newer::Version;
+use toml_span_check::schemas::Chooser;
 use toml_span_check::words::is_bytes;
 use toml_span_report::Style;
 
@@ -37,6 +40,7 @@ pub(crate) struct Options<'w> {
     pub(crate) is_quiet: bool,
     /// Whether to make the safe replacements first.
     pub(crate) is_fixing: bool,
+    pub(crate) schemas: SchemaOptions<'w>,
 }
 
 /// What is wrong with arguments that clap accepts.
@@ -54,6 +58,8 @@ enum Mistake {
     Path,
     /// `get` is asked for SARIF, which only `check` can print.
     Sarif,
+    /// A value of `--schema-map` has no `=`.
+    Map,
 }
 
 /// Returns a flag, that is, an option without a value.
@@ -78,6 +84,14 @@ fn several<'w>(alloc: Global, name: &'w str) -> Arg<'w>
     ensures own { result.global ≡ false }
 {
     Arg::new(alloc, name).long(name).action(ArgAction::Append)
+}
+
+/// Returns an option without a default value.
+fn optional<'w>(alloc: Global, name: &'w str) -> Arg<'w>
+    ensures rule { rule_of result ≡ spec.optional name.entry.now }
+    ensures own { result.global ≡ false }
+{
+    Arg::new(alloc, name).long(name)
 }
 
 /// Returns the argument for the names of files.
@@ -109,11 +123,22 @@ fn common<'w>(alloc: Global, name: &'w str, help: &'w str) -> Result<Command<'w>
         .arg(choice(alloc, "color", "auto"))
 }
 
+/// Returns `check` with its schema options and those of `common`. Fails if an allocation fails.
+fn schema_command<'w>(alloc: Global) -> Result<Command<'w>, AllocError>
+    ensures { IfOk result (λ c. app_of c ≡ spec.schemas) }
+{
+    common(alloc, "toml-span check", CHECK)?
+        .arg(optional(alloc, "schema"))?
+        .arg(optional(alloc, "catalog"))?
+        .arg(several(alloc, "schema-map"))?
+        .arg(flag(alloc, "no-formats"))
+}
+
 /// Returns the command `check` with its arguments, for clap. Fails if an allocation fails.
 fn check_command<'w>(alloc: Global) -> Result<Command<'w>, AllocError>
     ensures { IfOk result (λ c. app_of c ≡ spec.check) }
 {
-    common(alloc, "toml-span check", CHECK)?
+    schema_command(alloc)?
         .arg(flag(alloc, "quiet"))?
         .arg(flag(alloc, "fix"))?
         .arg(choice(alloc, "toml", "auto"))?
@@ -186,6 +211,26 @@ fn value_of<'w>(matches: &ArgMatches<'w>, name: &str) -> &'w str
     matches.get_str(name).unwrap_or("")
 }
 
+/// Returns whether each of these values has a `=`.
+#[tactic(auto, unfolding(crate::specs::Options::are_maps))]
+fn are_maps(maps: &[&str]) -> bool
+    ensures { result ≡ spec.are_maps (map (λ m. m.now) maps.now) }
+{
+    for map in maps {
+        if !has(*map, b'=') {
+            return false;
+        }
+    }
+    true
+}
+
+/// Returns whether each value of `--schema-map` has a `=`.
+fn has_maps(matches: &ArgMatches<'_>) -> bool
+    ensures { result ≡ spec.are_maps (spec.values_of (rows_of (found_of matches.now)) (codes "schema-map")) }
+{
+    are_maps(matches.get_strs("schema-map").unwrap_or(&[]))
+}
+
 /// Returns whether a flag is set.
 fn is_given(matches: &ArgMatches<'_>, name: &str) -> bool
     ensures { result ≡ spec.is_given (rows_of (found_of matches.now)) name.now }
@@ -232,13 +277,25 @@ fn version_named(name: &str) -> Option<Version>
     }
 }
 
+/// Returns who chooses the schemas of files.
+fn chooser_of(matches: &ArgMatches<'_>) -> Chooser
+    ensures { result ≡ spec.chooser_of (rows_of (found_of matches.now)) }
+{
+    if value_of(matches, "schema").is_empty() && value_of(matches, "catalog").is_empty() {
+        Chooser::Files
+    } else {
+        Chooser::Arguments
+    }
+}
+
 /// Returns what to do with the files. Fails with a mistake.
 fn task_of(reader: Reader, matches: &ArgMatches<'_>) -> Result<Task, Mistake>
     ensures { result ≡ spec.task_of reader (rows_of (found_of matches.now)) }
 {
     match reader {
+        Reader::Check if !has_maps(matches) => Err(Mistake::Map),
         Reader::Check => match version_named(value_of(matches, "toml")) {
-            Some(version) => Ok(Task::Check(version)),
+            Some(version) => Ok(Task::Check(version, chooser_of(matches))),
             None => Err(Mistake::Version),
         },
         Reader::Get if is_bytes(value_of(matches, "PATH")) => Err(Mistake::Path),
@@ -284,7 +341,7 @@ fn kind_of(mistake: Mistake) -> ErrorKind
     ensures { result ≡ spec.kind_of mistake }
 {
     match mistake {
-        Mistake::Format | Mistake::Color | Mistake::Version | Mistake::Path =>
+        Mistake::Format | Mistake::Color | Mistake::Version | Mistake::Path | Mistake::Map =>
             ErrorKind::InvalidValue,
         Mistake::Forms | Mistake::Sarif => ErrorKind::ArgumentConflict,
     }
@@ -299,6 +356,7 @@ fn message_of(mistake: Mistake) -> &'static str {
         Mistake::Forms =>
             "only one of '--json', '--raw', '--toml', '--tagged' and '--items' can be used",
         Mistake::Path => "PATH is not valid UTF-8",
+        Mistake::Map => "the value of '--schema-map' must be URL=FILE",
         Mistake::Sarif => "'--format sarif' can only be used with `check`",
     }
 }
@@ -327,6 +385,12 @@ pub(crate) fn options_of<'w>(
             names: Vec::from_slice(alloc, matches.get_strs("FILE").unwrap_or(&[]))?,
             is_quiet: is_given(&matches, "quiet"),
             is_fixing: is_given(&matches, "fix"),
+            schemas: SchemaOptions {
+                schema: value_of(&matches, "schema"),
+                catalog: value_of(&matches, "catalog"),
+                maps: Vec::from_slice(alloc, matches.get_strs("schema-map").unwrap_or(&[]))?,
+                has_formats: !is_given(&matches, "no-formats"),
+            },
         }),
         Err(mistake) => Err(command.error(kind_of(mistake), message_of(mistake))?),
     }

@@ -15,6 +15,7 @@ use clap::error::ErrorKind;
 use std::alloc::{AllocError, Global};
 use toml_span_check::input::Inputs;
 use toml_span_check::run::run;
+use toml_span_check::schemas::Schemas;
 use toml_span_check::words::shown_word;
 use toml_span_lines::sink::Sink;
 use toml_span_report::visible::{visible, visible_lines};
@@ -100,19 +101,20 @@ fn refuse<O: Sink, E: Sink>(
 /// what is wrong with the arguments or the path with status 2. `words` are the name of the command or program and its
 /// arguments. `is_terminal` says whether `--color auto` means colors, and `is_watched` is passed on to `run`. Returns
 /// the exit status: 3 if a write fails, 4 if an allocation fails.
-pub(crate) fn start<I: Inputs, O: Sink, E: Sink>(
+pub(crate) fn start<I: Inputs, S: Schemas, O: Sink, E: Sink>(
     alloc: Global,
     reader: Reader,
     words: &[String],
     is_terminal: bool,
     is_watched: bool,
     inputs: &mut I,
+    schemas: &mut S,
     out: &mut O,
     errors: &mut E,
 ) -> u8
     requires out { O.failed out.old ≡ false }
     requires errors { E.failed errors.old ≡ false }
-    ensures { Starts reader (map (λ w. string_bytes w) words.now) is_terminal is_watched
+    ensures { Starts S.says reader (map (λ w. string_bytes w) words.now) is_terminal is_watched
         (I.log inputs.old) (I.log inputs.new)
         (O.contents out.old) (O.contents out.new) (O.failed out.new)
         (E.contents errors.old) (E.contents errors.new) (E.failed errors.new) result }
@@ -129,6 +131,7 @@ pub(crate) fn start<I: Inputs, O: Sink, E: Sink>(
                 is_watched,
                 options.is_quiet,
                 inputs,
+                schemas,
                 out,
                 errors,
             ),

@@ -62,7 +62,7 @@ fn begins_with(word: &str, byte: u8) -> bool
 }
 
 /// Returns whether an argument contains this byte.
-fn has(word: &str, byte: u8) -> bool
+pub(crate) fn has(word: &str, byte: u8) -> bool
     ensures { result ≡ spec.has byte word.now }
 {
     word.as_bytes().contains(&byte)

@@ -5,11 +5,13 @@ use Rattle.toml_span_lines.specs.Held.{HoldsRest}
 use Rattle.toml_span_lines.specs.Run.{HasWritten}
 use Rattle.toml_span_lines.specs.declared.held.Unwritten.{Unwritten}
 use Rattle.toml_span_lines.specs.declared.held.Unwritten.TheVariants.{Failed, Memory}
-use Rattle.toml_span_check.specs.Answer.{IsAnswer}
+use Rattle.toml_span_check.specs.Answer.{Answer, IsAnswer}
 use Rattle.toml_span_check.specs.Run.{Asked, Begins, Shows, Collects, CollectsFirst, IsOutput, complaint, counted}
 use Rattle.toml_span_check.specs.Run.{status_of}
+use Rattle.toml_span_check.specs.Schemas.{Says}
 use Rattle.toml_span_check.specs.Words.{shown_word}
 use Rattle.toml_span_check.specs.declared.answer.Task.{Task}
+use Rattle.toml_span_check.specs.declared.answer.Verdict.{Verdict}
 use Rattle.toml_span_check.specs.declared.faults.Format.{Format}
 use Rattle.toml_span_check.specs.declared.run.Tally.{Tally}
 use Rattle.toml_span_check.specs.declared.run.Collected.{Collected}
@@ -22,23 +24,23 @@ Holds task old new text held = HoldsRest old new text held × ((held ≡ text) �
 -- ---- the bytes of a file
 
 -- A document is being printed, and a prefix has been written.
-abbrev pub Begun : Format → Task → List ℕ → List ℕ → List ℕ → Option (List ℕ) → Option (List ℕ) → List ℕ → Type 0
-Begun format task pointer name bytes old new held =
-    Shows task × ((answer : ℕ × List ℕ) × IsAnswer format task pointer name bytes answer
+abbrev pub Begun : Says → Format → Task → List ℕ → List ℕ → List ℕ → Option (List ℕ) → Option (List ℕ) → List ℕ → Type 0
+Begun says format task pointer name bytes old new held =
+    Shows task × ((answer : Answer) × IsAnswer says format task pointer name bytes answer
     × HasWritten old new (held ++ answer.1))
 
--- If the result is `Ok` with the number of errors, what was in the buffer and the answer have been written, except for
+-- If the result is `Ok` with the verdict, what was in the buffer and the answer have been written, except for
 -- what is in the buffer now. Something is written only if a document is printed.
-abbrev pub CollectsBytes : Format → Task → List ℕ → List ℕ → List ℕ → Result ℕ Unwritten → Option (List ℕ)
+abbrev pub CollectsBytes : Says → Format → Task → List ℕ → List ℕ → List ℕ → Result Verdict Unwritten → Option (List ℕ)
     → Option (List ℕ) → Bool → List ℕ → List ℕ → Type 0
-CollectsBytes format task pointer name bytes (Ok count) old new failed held held' =
+CollectsBytes says format task pointer name bytes (Ok verdict) old new failed held held' =
     (failed ≡ false) × ((new ≡ old) ⊎ Shows task)
-    × ((text : List ℕ) × IsAnswer format task pointer name bytes (count, text)
+    × ((text : List ℕ) × IsAnswer says format task pointer name bytes (verdict.errors, text, string_bytes verdict.complaint)
     × Holds task old new (held ++ text) held')
-CollectsBytes format task pointer name bytes (Err Memory) old new failed held held' =
-    (failed ≡ false) × ((new ≡ old) ⊎ Begun format task pointer name bytes old new held)
-CollectsBytes format task pointer name bytes (Err Failed) old new failed held held' =
-    (failed ≡ true) × Begun format task pointer name bytes old new held
+CollectsBytes says format task pointer name bytes (Err Memory) old new failed held held' =
+    (failed ≡ false) × ((new ≡ old) ⊎ Begun says format task pointer name bytes old new held)
+CollectsBytes says format task pointer name bytes (Err Failed) old new failed held held' =
+    (failed ≡ true) × Begun says format task pointer name bytes old new held
 
 -- ---- a file
 
@@ -47,64 +49,65 @@ abbrev pub TextsOf : Type 0
 TextsOf = List ℕ × List ℕ × ℕ × Tally
 
 -- what one more file adds
-abbrev pub Adds : Format → Task → List ℕ → List ℕ → Result (List ℕ) (List ℕ) → TextsOf → TextsOf → Type 0
-Adds format task pointer name (Ok bytes) old new =
-    (answer : ℕ × List ℕ) × IsAnswer format task pointer name bytes answer
-    × (new.0 ≡ old.0 ++ answer.1) × (new.1 ≡ old.1) × (new.2 ≡ max old.2 (status_of answer.0))
+abbrev pub Adds : Says → Format → Task → List ℕ → List ℕ → Result (List ℕ) (List ℕ) → TextsOf → TextsOf → Type 0
+Adds says format task pointer name (Ok bytes) old new =
+    (answer : Answer) × IsAnswer says format task pointer name bytes answer
+    × (new.0 ≡ old.0 ++ answer.1) × (new.1 ≡ old.1 ++ answer.2)
+    × (new.2 ≡ max old.2 (status_of answer.0 answer.2))
     × (new.3 ≡ counted old.3 answer.0)
-Adds format task pointer name (Err reason) old new =
+Adds says format task pointer name (Err reason) old new =
     (new.0 ≡ old.0) × (new.1 ≡ old.1 ++ complaint (shown_word name) reason) × (new.2 ≡ 2)
     × (new.3 ≡ counted old.3 1)
 
-abbrev pub BegunOne : Format → Task → List ℕ → List ℕ → Result (List ℕ) (List ℕ) → Option (List ℕ) → Option (List ℕ)
+abbrev pub BegunOne : Says → Format → Task → List ℕ → List ℕ → Result (List ℕ) (List ℕ) → Option (List ℕ) → Option (List ℕ)
     → TextsOf → Type 0
-BegunOne format task pointer name reading old new held =
-    Shows task × ((all : TextsOf) × Adds format task pointer name reading held all × HasWritten old new all.0)
+BegunOne says format task pointer name reading old new held =
+    Shows task × ((all : TextsOf) × Adds says format task pointer name reading held all × HasWritten old new all.0)
 
 -- before and after: what is in the buffer of the first text, and the others
-abbrev pub CollectsOne : Format → Task → List ℕ → List ℕ → Result (List ℕ) (List ℕ) → Result (Unit {0}) Unwritten
+abbrev pub CollectsOne : Says → Format → Task → List ℕ → List ℕ → Result (List ℕ) (List ℕ) → Result (Unit {0}) Unwritten
     → Option (List ℕ) → Option (List ℕ) → Bool → TextsOf → TextsOf → Type 0
-CollectsOne format task pointer name reading (Ok done) old new failed held held' =
+CollectsOne says format task pointer name reading (Ok done) old new failed held held' =
     (failed ≡ false) × ((new ≡ old) ⊎ Shows task)
-    × ((text : List ℕ) × Adds format task pointer name reading held (text, held'.1, held'.2, held'.3)
+    × ((text : List ℕ) × Adds says format task pointer name reading held (text, held'.1, held'.2, held'.3)
     × Holds task old new text held'.0)
-CollectsOne format task pointer name reading (Err Memory) old new failed held held' =
-    (failed ≡ false) × ((new ≡ old) ⊎ BegunOne format task pointer name reading old new held)
-CollectsOne format task pointer name reading (Err Failed) old new failed held held' =
-    (failed ≡ true) × BegunOne format task pointer name reading old new held
+CollectsOne says format task pointer name reading (Err Memory) old new failed held held' =
+    (failed ≡ false) × ((new ≡ old) ⊎ BegunOne says format task pointer name reading old new held)
+CollectsOne says format task pointer name reading (Err Failed) old new failed held held' =
+    (failed ≡ true) × BegunOne says format task pointer name reading old new held
 
 -- ---- the files of these names
 
-abbrev pub CollectsFiles : Format → Task → List ℕ → List (List ℕ) → Result Collected Unwritten → Option Asked
+abbrev pub CollectsFiles : Says → Format → Task → List ℕ → List (List ℕ) → Result Collected Unwritten → Option Asked
     → Option Asked → Option (List ℕ) → Option (List ℕ) → Bool → Type 0
-CollectsFiles format task pointer names (Ok t) old new stdout stdout' failed =
+CollectsFiles says format task pointer names (Ok t) old new stdout stdout' failed =
     (failed ≡ false) × ((stdout' ≡ stdout) ⊎ Shows task)
-    × ((all : List ℕ) × Collects format task pointer names old new all (string_bytes t.errors) t.status t.wrong
+    × ((all : List ℕ) × Collects says format task pointer names old new all (string_bytes t.errors) t.status t.wrong
     × Holds task stdout stdout' all t.held.items)
-CollectsFiles format task pointer names (Err Memory) old new stdout stdout' failed =
+CollectsFiles says format task pointer names (Err Memory) old new stdout stdout' failed =
     (failed ≡ false) × ((stdout' ≡ stdout)
-    ⊎ (Shows task × ((last : Option Asked) × CollectsFirst format task pointer names old last stdout stdout')))
-CollectsFiles format task pointer names (Err Failed) old new stdout stdout' failed =
-    (failed ≡ true) × Shows task × CollectsFirst format task pointer names old new stdout stdout'
+    ⊎ (Shows task × ((last : Option Asked) × CollectsFirst says format task pointer names old last stdout stdout')))
+CollectsFiles says format task pointer names (Err Failed) old new stdout stdout' failed =
+    (failed ≡ true) × Shows task × CollectsFirst says format task pointer names old new stdout stdout'
 
 -- ---- the files that arguments stand for
 
 -- Nothing was written or, if documents are printed, a prefix of the output for the first files.
-abbrev pub CollectsAll : Format → Task → List ℕ → List (List ℕ) → List (List ℕ) → Bool → Result Collected Unwritten
+abbrev pub CollectsAll : Says → Format → Task → List ℕ → List (List ℕ) → List (List ℕ) → Bool → Result Collected Unwritten
     → Option Asked → Option Asked → Option (List ℕ) → Option (List ℕ) → Bool → Type 0
-CollectsAll format task pointer excludes names is_watched (Ok t) old new stdout stdout' failed =
+CollectsAll says format task pointer excludes names is_watched (Ok t) old new stdout stdout' failed =
     (failed ≡ false) × ((stdout' ≡ stdout) ⊎ Shows task)
     × ((out : List ℕ)
-    × IsOutput format task pointer excludes names is_watched false old new out (string_bytes t.errors) t.status
+    × IsOutput says format task pointer excludes names is_watched false old new out (string_bytes t.errors) t.status
     × HoldsRest stdout stdout' out t.held.items)
-CollectsAll format task pointer excludes names is_watched (Err Memory) old new stdout stdout' failed =
+CollectsAll says format task pointer excludes names is_watched (Err Memory) old new stdout stdout' failed =
     (failed ≡ false) × ((stdout' ≡ stdout)
-    ⊎ (Shows task × ((last : Option Asked) × Begins format task pointer excludes names false old last stdout stdout')))
-CollectsAll format task pointer excludes names is_watched (Err Failed) old new stdout stdout' failed =
-    (failed ≡ true) × Begins format task pointer excludes names false old new stdout stdout'
+    ⊎ (Shows task × ((last : Option Asked) × Begins says format task pointer excludes names false old last stdout stdout')))
+CollectsAll says format task pointer excludes names is_watched (Err Failed) old new stdout stdout' failed =
+    (failed ≡ true) × Begins says format task pointer excludes names false old new stdout stdout'
 
 -- a quiet run: status 4 if an allocation failed, otherwise that of the output
-abbrev pub EndsQuiet : Format → Task → List ℕ → List (List ℕ) → List (List ℕ) → Bool → Option Asked → Option Asked → ℕ
+abbrev pub EndsQuiet : Says → Format → Task → List ℕ → List (List ℕ) → List (List ℕ) → Bool → Option Asked → Option Asked → ℕ
     → Type 0
-EndsQuiet format task pointer excludes names is_watched old new status =
-    (status ≡ 4) ⊎ IsOutput format task pointer excludes names is_watched true old new [] [] status
+EndsQuiet says format task pointer excludes names is_watched old new status =
+    (status ≡ 4) ⊎ IsOutput says format task pointer excludes names is_watched true old new [] [] status

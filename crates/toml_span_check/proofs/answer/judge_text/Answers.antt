@@ -3,8 +3,8 @@ use Rattle.toml_span_check.proofs.Judged.{shows-text}
 use Rattle.toml_span_check.proofs.answer.judge_text.Goals as goal
 
 pub errors_text-stdout-requires : goal.errors_text-stdout-requires
-errors_text-stdout-requires c = refused c.args.text.now c.in-Err.stop c.in_ok-error-in-Err.error c.in-Err.ensures.answers c.in_ok-error-in-Err.ensures
+errors_text-stdout-requires g c = refused c.args.text.now c.in-Err.stop c.in_ok-error-in-Err.error c.in-Err.ensures.answers c.in_ok-error-in-Err.ensures
 
 pub returns-in-Ok : goal.returns-in-Ok
-returns-in-Ok c =
-    λ pointer. shows-text c.args.format c.args.task pointer c.args.name.now c.args.text.now c.in-Show.form c.in-Ok.root c.in-Show.is c.in-Ok.ensures.answers
+returns-in-Ok g c =
+    λ pointer. shows-text g.S.Schemas.says c.args.format c.args.task pointer c.args.name.now c.args.text.now c.in-Show.form c.in-Ok.root c.in-Show.is c.in-Ok.ensures.answers

@@ -4,7 +4,7 @@ use Rattle.toml_span_check.proofs.Collecting.{stops-finding, stops-counting, who
 use Rattle.toml_span_check.proofs.run.collect_all.Goals as goal
 
 pub returns-in_err-found : goal.returns-in_err-found
-returns-in_err-found g c = stops-finding c.args.format c.args.task c.args.pointer.now _ _ _ _ _ _ _ _ c.from_residual.result refl c.requires c.from_residual.ensures.1
+returns-in_err-found g c = stops-finding g.S.Schemas.says c.args.format c.args.task c.args.pointer.now _ _ _ _ _ _ _ _ c.from_residual.result refl c.requires c.from_residual.ensures.1
 
 pub returns-in_err-collected : goal.returns-in_err-collected
 returns-in_err-collected g c = grind (arith, nat_tests, common_steps)
@@ -12,13 +12,13 @@ returns-in_err-collected g c = grind (arith, nat_tests, common_steps)
 pub returns-in_err-push_summary : goal.returns-in_err-push_summary
 returns-in_err-push_summary g c =
     let stdout = c.in_ok-collected.ensures in
-    stops-counting c.args.format c.args.task c.args.pointer.now _ _ (map (λ file. string_bytes file) c.in_ok-found.found.items) _ _ (g.I.Inputs.log c.find_all.new.inputs) _ _ _ _
+    stops-counting g.S.Schemas.says c.args.format c.args.task c.args.pointer.now _ _ (map (λ file. string_bytes file) c.in_ok-found.found.items) _ _ (g.I.Inputs.log c.find_all.new.inputs) _ _ _ _
     c.in_ok-collected.collected c.from_residual-in_err-push_summary.result c.in_ok-found.ensures (rw c.as_slice-files.ensures.value at stdout) c.from_residual-in_err-push_summary.ensures.1
 
 pub returns-in_err-collected-2 : goal.returns-in_err-collected-2
 returns-in_err-collected-2 g c =
     let stdout = c.in_ok-collected.ensures in
-    stops-counting c.args.format c.args.task c.args.pointer.now _ _ (map (λ file. string_bytes file) c.in_ok-found.found.items) _ _ (g.I.Inputs.log c.find_all.new.inputs) _ _ _ _
+    stops-counting g.S.Schemas.says c.args.format c.args.task c.args.pointer.now _ _ (map (λ file. string_bytes file) c.in_ok-found.found.items) _ _ (g.I.Inputs.log c.find_all.new.inputs) _ _ _ _
     c.in_ok-collected.collected c.from_residual-in_err-collected-2.result c.in_ok-found.ensures (rw c.as_slice-files.ensures.value at stdout) c.from_residual-in_err-collected-2.ensures.1
 
 pub returns : goal.returns

@@ -6,7 +6,7 @@ use Rattle.toml_span_cli.proofs.options.check_command.Goals as goal
 pub returns : goal.returns
 unfolding check
 returns c =
-    let one = added _ _ _ _ _ c.in_ok-arg.ensures c.flag.ensures.own c.in_ok-common.ensures c.flag.ensures.rule in
+    let one = added _ _ _ _ _ c.in_ok-arg.ensures c.flag.ensures.own c.in_ok-schema_command.ensures c.flag.ensures.rule in
     let two = added _ _ _ _ _ c.in_ok-arg-2.ensures c.flag-2.ensures.own one c.flag-2.ensures.rule in
     let three = added _ _ _ _ _ c.in_ok-arg-3.ensures c.choice.ensures.own two c.choice.ensures.rule in
     let four = added _ _ _ _ _ c.in_ok-arg-4.ensures c.several.ensures.own three c.several.ensures.rule in

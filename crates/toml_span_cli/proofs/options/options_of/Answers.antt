@@ -4,7 +4,7 @@ use Rattle.clap.specs.Values as clap
 use Rattle.clap.specs.Words.{App, HasMatchesOf, all_of, fault_of, found_of, is_simple, is_simple_and_free, matches_of, rows_of}
 use Rattle.clap.specs.declared.error.Error.{Error}
 use Rattle.clap.specs.declared.parser.matches.ArgMatches.{ArgMatches}
-use Rattle.toml_span_cli.specs.Options.{asked, check, common, faults, forms, get, is_given, kind_of, options, program, refusals, value_of}
+use Rattle.toml_span_cli.specs.Options.{asked, check, common, faults, forms, get, is_given, kind_of, options, program, refusals, schemas, value_of}
 use Rattle.toml_span_cli.specs.declared.options.Mistake.{Mistake}
 use Rattle.toml_span_cli.specs.declared.options.Reader.{Reader}
 use Rattle.toml_span_cli.specs.declared.options.Reader.TheVariants as readers
@@ -12,12 +12,12 @@ use Rattle.toml_span_cli.proofs.Rows.{all-row, or-none}
 use Rattle.toml_span_cli.proofs.options.options_of.Goals as goal
 
 is-simple : (reader : Reader) → is_simple (program reader) ≡ true
-unfolding common check forms get
+unfolding common schemas check forms get
 is-simple readers.Check = refl
 is-simple readers.Get = refl
 
 is-free : (reader : Reader) → is_simple_and_free (program reader) ≡ true
-unfolding common check forms get
+unfolding common schemas check forms get
 is-free readers.Check = refl
 is-free readers.Get = refl
 

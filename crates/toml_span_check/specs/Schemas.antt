@@ -1,0 +1,30 @@
+-- What schemas have to say about documents.
+use Rattle.std.specs.Prelude.{◌≡◌, ◌==◌, ◌+◌, ℕ, List, [], ◌∷◌, length, if◌then◌else◌}
+use Rattle.toml_span_check.specs.declared.schemas.Chooser.{Chooser}
+use Rattle.toml_span_report.specs.Report.{ReportContent}
+use Rattle.toml_span_report.specs.declared.report.Severity.{Severity}
+use Rattle.toml_span_report.specs.declared.report.Severity.TheVariants.{Error, Warning, Note}
+use Rattle.toml_span_tree.specs.Node.{Node}
+
+-- What schemas say: who chooses the schema of a document, the name of the file, its text, its tree, the reports, and the
+-- lines that say why the schema can't be used.
+abbrev pub Says : Type 1
+Says = Chooser → List ℕ → List ℕ → Node → List ReportContent → List ℕ → Type 0
+
+-- there are no schemas
+abbrev pub no_schema : Says
+no_schema chooser name text root reports complaint = (reports ≡ []) × (complaint ≡ [])
+
+-- only errors count as errors
+abbrev pub weight : Severity → ℕ
+weight Error = 1
+weight Warning = 0
+weight Note = 0
+
+abbrev pub errors_in : List ReportContent → ℕ
+errors_in [] = 0
+errors_in (report ∷ reports) = weight report.severity + errors_in reports
+
+-- a schema that can't be used counts as one error
+abbrev pub complaint_weight : List ℕ → ℕ
+complaint_weight complaint = if length complaint == 0 then 0 else 1

@@ -1,0 +1,290 @@
+#!/usr/bin/env python3
+"""Tests the language server: python3 sessions.py PROGRAM FILE..
+
+A session is a file of lines: `-> JSON` is a message to the server, `<- JSON` one that it must send next, `=> TEXT`
+bytes that are sent as they are (with the escapes of Python), and `status N` the exit status, by default 0. `"jsonrpc": "2.0"`
+is added to messages without it, and not compared; `"..."` stands for any value. Lines that begin with `#` are comments.
+A line that begins with spaces goes on with the line before it.
+
+With `--fuzz COUNT [SEED]`, sends that many frames at random, most of them wrong, and checks after each hundred that a
+right request is answered. With `--speed FILE`, opens the file and measures how long the server takes for a keystroke
+until its diagnostics are there, and how much memory it has after many of them.
+"""
+
+import difflib
+import json
+import random
+import re
+import subprocess
+import sys
+import time
+
+
+def framed(content):
+    return b"Content-Length: %d\r\n\r\n%s" % (len(content), content)
+
+
+def encoded(message):
+    if isinstance(message, dict) and "jsonrpc" not in message:
+        message = {"jsonrpc": "2.0", **message}
+    return framed(json.dumps(message, ensure_ascii=False).encode())
+
+
+def contents(data):
+    """Splits the output of the server into the contents of its frames."""
+    found = []
+    while data:
+        head, _, rest = data.partition(b"\r\n\r\n")
+        match = re.fullmatch(rb"Content-Length: (\d+)", head)
+        if not match or len(rest) < int(match[1]):
+            found.append({"no frame": data.decode(errors="replace")})
+            break
+        found.append(json.loads(rest[: int(match[1])]))
+        data = rest[int(match[1]) :]
+    for message in found:
+        message.pop("jsonrpc", None)
+    return found
+
+
+def shown(message):
+    return "<- " + json.dumps(message, ensure_ascii=False, sort_keys=True)
+
+
+def masked(wanted, made):
+    """Returns a message with `"..."` where the wanted one has that."""
+    if wanted == "...":
+        return wanted
+    if isinstance(wanted, dict) and isinstance(made, dict):
+        return {key: masked(wanted.get(key), value) for key, value in made.items()}
+    if isinstance(wanted, list) and isinstance(made, list) and len(wanted) == len(made):
+        return [masked(*pair) for pair in zip(wanted, made)]
+    return made
+
+
+def lines_of(name):
+    lines = []
+    with open(name, encoding="utf-8") as file:
+        for line in file.read().split("\n"):
+            if line.startswith(" ") and lines:
+                lines[-1] += line
+            elif line.strip() and not line.startswith("#"):
+                lines.append(line)
+    return lines
+
+
+def session(program, name):
+    """Runs a session. Returns the differences."""
+    sent, wanted, status = b"", [], 0
+    for line in lines_of(name):
+        kind, _, text = line.partition(" ")
+        if kind == "->":
+            sent += encoded(json.loads(text))
+        elif kind == "=>":
+            sent += text.encode().decode("unicode_escape").encode("latin-1")
+        elif kind == "<-":
+            wanted.append(json.loads(text))
+        elif kind == "status":
+            status = int(text)
+        else:
+            sys.exit(f"{name}: neither a message nor a status: {line}")
+    run = subprocess.run([program, "lsp"], input=sent, capture_output=True, timeout=120)
+    made = contents(run.stdout)
+    made = [masked(*pair) for pair in zip(wanted + [None] * len(made), made)]
+    wanted = [*map(shown, wanted), f"status {status}"]
+    made = [*map(shown, made), f"status {run.returncode}"]
+    return list(difflib.unified_diff(wanted, made, name, "the server", lineterm="", n=1))
+
+
+class Server:
+    """A running server."""
+
+    def __init__(self, program):
+        self.process = subprocess.Popen([program, "lsp"], stdin=subprocess.PIPE, stdout=subprocess.PIPE)
+
+    def send(self, *messages):
+        self.process.stdin.write(b"".join(encoded(message) for message in messages))
+        self.process.stdin.flush()
+
+    def receive(self):
+        head = self.process.stdout.readline()
+        if not head:
+            raise EOFError(f"the server has ended with status {self.process.wait()}")
+        self.process.stdout.readline()
+        return json.loads(self.process.stdout.read(int(head.split(b":")[1])))
+
+    def answer(self, identity):
+        """Reads up to the response with this id."""
+        while True:
+            message = self.receive()
+            if message.get("id") == identity and "method" not in message:
+                return message
+
+
+def opened(uri, text, version=1):
+    document = {"uri": uri, "languageId": "toml", "version": version, "text": text}
+    return {"method": "textDocument/didOpen", "params": {"textDocument": document}}
+
+
+METHODS = """textDocument/documentSymbol textDocument/foldingRange textDocument/selectionRange
+textDocument/documentHighlight textDocument/references textDocument/definition textDocument/hover textDocument/rename
+textDocument/prepareRename textDocument/formatting textDocument/rangeFormatting textDocument/codeAction
+textDocument/completion textDocument/semanticTokens/full textDocument/diagnostic textDocument/didOpen
+textDocument/didChange textDocument/didSave textDocument/didClose workspace/symbol $/cancelRequest $/other initialized
+initialize""".split()
+
+TEXTS = [
+    "",
+    "a = 1\n",
+    "\ufeffa = '\U0001f600' # \u00e9\r\n[b.c]\r\nd = [1,\r\n 2]\r\n",
+    '[[x]]\nname = "n"\nkind = 1\n[[x]]\nna\n',
+    "a = 1\na = 2\nb = True\n[t\nx = 'y\n",
+    'a = {b = 1979-05-27T07:32:00Z, c = 0xFF}\n"\U0001f600" = """\n\U0001f600\n"""\n',
+    "\r\r\n\n\ra=1\r",
+    "[" * 200,
+    "a." * 140 + "b = 1",
+]
+
+
+class Fuzz:
+    """Makes messages at random."""
+
+    def __init__(self, seed):
+        self.random = random.Random(seed)
+
+    def one(self, *choices):
+        return self.random.choice(choices)
+
+    def number(self):
+        return self.one(0, 0, 1, 1, 2, 3, 4, 5, 6, 8, 11, 40, 2**31 - 1, 2**31, 2**63, 2**64, 10**30, -1, 0.5, None, "1")
+
+    def position(self):
+        if self.random.random() < 0.05:
+            return self.junk(2)
+        return {"line": self.number(), "character": self.number()}
+
+    def range(self):
+        if self.random.random() < 0.05:
+            return self.junk(2)
+        return {"start": self.position(), "end": self.position()}
+
+    def text(self):
+        text = self.one(*TEXTS)
+        if text and self.random.random() < 0.5:
+            at = self.random.randrange(len(text))
+            text = text[:at] + self.one("", "=", "\n", "\r", '"', "[", "]", "{", "'", "#", "\U0001f600", ".") + text[at + 1 :]
+        return text
+
+    def junk(self, depth):
+        kinds = [None, True, 0, -1, 1.5, "", "x", "\U0001f600", "\u0000"]
+        if depth:
+            kinds += [[self.junk(depth - 1)], {"uri": self.junk(depth - 1)}, {"range": self.junk(depth - 1)}]
+        return self.random.choice(kinds)
+
+    def params(self):
+        change = {"text": self.text()}
+        if self.random.random() < 0.8:
+            change["range"] = self.range()
+        params = {
+            "textDocument": {"uri": self.one("a", "a", "a", "b", "c"), "version": self.number(), "text": self.text()},
+            "position": self.position(),
+            "positions": [self.position()],
+            "range": self.range(),
+            "newName": self.one("n", "", "a b", "\U0001f600", "x.y"),
+            "contentChanges": [change] * self.random.randrange(3),
+            "context": {"includeDeclaration": self.one(True, False), "only": self.one(["quickfix"], ["source"], [""], None)},
+            "options": {"tabSize": self.number()},
+        }
+        while self.random.random() < 0.2:
+            params[self.one(*params)] = self.junk(3)
+        return params
+
+    def frame(self):
+        kind = self.random.random()
+        if kind < 0.05:
+            return framed(bytes(self.random.randrange(256) for _ in range(self.random.randrange(40))))
+        message = {"jsonrpc": "2.0", "method": self.one(*METHODS), "params": self.params()}
+        if kind < 0.75:
+            message["id"] = self.one(1, 2, "x", None, 1.5, [], -(2**63))
+        while self.random.random() < 0.1:
+            message[self.one(*message)] = self.junk(2)
+        content = json.dumps(message, ensure_ascii=self.random.random() < 0.5).encode(errors="replace")
+        if kind > 0.97:
+            at = self.random.randrange(len(content))
+            content = content[:at] + bytes([self.random.randrange(256)]) + content[at + 1 :]
+        return framed(content)
+
+
+def fuzz(program, count, seed):
+    """Sends frames at random. The server must answer a right request after each hundred."""
+    makes = Fuzz(seed)
+    done = 0
+    while done < count:
+        rounds = 20
+        sent = encoded({"id": "start", "method": "initialize", "params": {}})
+        for number in range(rounds):
+            sent += b"".join(makes.frame() for _ in range(100))
+            sent += encoded(opened("right", "a = 1\n"))
+            request = {"textDocument": {"uri": "right"}, "position": {"line": 0, "character": 0}}
+            sent += encoded({"id": f"right {number}", "method": "textDocument/hover", "params": request})
+        sent += encoded({"id": "end", "method": "shutdown"}) + encoded({"method": "exit"})
+        run = subprocess.run([program, "lsp"], input=sent, capture_output=True, timeout=600)
+        answers = {message["id"]: message for message in contents(run.stdout) if isinstance(message.get("id"), str)}
+        wrong = [number for number in range(rounds) if not answers.get(f"right {number}", {}).get("result")]
+        if run.returncode or wrong:
+            with open("fuzz.bin", "wb") as file:
+                file.write(sent)
+            sys.exit(f"sessions.py: status {run.returncode}, unanswered: {wrong}; the input is in fuzz.bin")
+        done += 100 * rounds
+    print(f"{done} frames, seed {seed}: each right request after them was answered")
+
+
+def memory(process):
+    with open(f"/proc/{process.pid}/status", encoding="utf-8") as file:
+        return int(re.search(r"VmRSS:\s+(\d+)", file.read())[1])
+
+
+def speed(program, name):
+    with open(name, encoding="utf-8") as file:
+        text = file.read()
+    server = Server(program)
+    server.send({"id": 0, "method": "initialize", "params": {}})
+    server.answer(0)
+    server.send(opened("u", text))
+    server.receive()
+    times, sizes = [], {}
+    place = {"line": text.count("\n") // 2, "character": 0}
+    for number in range(10_000 if len(text) < 100_000 else 100):
+        change = {"text": "#"} if number % 2 == 0 else {"text": ""}
+        end = place if number % 2 == 0 else {**place, "character": 1}
+        change["range"] = {"start": place, "end": end}
+        params = {"textDocument": {"uri": "u", "version": number}, "contentChanges": [change]}
+        start = time.perf_counter()
+        server.send({"method": "textDocument/didChange", "params": params})
+        server.receive()
+        times.append(time.perf_counter() - start)
+        sizes[number + 1] = memory(server.process) if number in (9, 9_999) else 0
+    times.sort()
+    print(f"{len(text.encode())} bytes: a keystroke {times[len(times) // 2] * 1000:.2f} ms, 99 % {times[len(times) * 99 // 100] * 1000:.2f} ms")
+    print(f"memory after 10 changes {sizes.get(10)} KB, after 10,000 {sizes.get(10_000)} KB")
+    for method in METHODS[:1] + ["textDocument/semanticTokens/full", "textDocument/formatting", "textDocument/diagnostic"]:
+        start = time.perf_counter()
+        server.send({"id": method, "method": method, "params": {"textDocument": {"uri": "u"}}})
+        server.answer(method)
+        print(f"{method}: {(time.perf_counter() - start) * 1000:.2f} ms")
+    server.process.kill()
+
+
+def main(words):
+    if "--fuzz" in words:
+        seed = int(words[3]) if len(words) > 3 else 1
+        fuzz(words[0], int(words[2]), seed)
+    elif "--speed" in words:
+        speed(words[0], words[2])
+    else:
+        differences = [line for name in words[1:] for line in session(words[0], name)]
+        print("\n".join(differences), end="\n" if differences else "")
+        sys.exit(1 if differences else 0)
+
+
+if __name__ == "__main__":
+    main(sys.argv[1:])

@@ -1,0 +1,53 @@
+//! The command `lsp`.
+ghost use Rattle.std.specs.Prelude.{◌≡◌, ◌≤◌, IfOk, false};
+
+use crate::commands::Command;
+use crate::help::LSP;
+use crate::say::{say, say_misuse};
+use crate::words::is_help;
+use std::alloc::{AllocError, Global};
+use toml_span_check::input::Host;
+use toml_span_lines::sink::Sink;
+use toml_span_lines::tracked::Tracked;
+use toml_span_lsp::serve;
+
+/// Runs the language server on standard input. Returns the exit status. Fails if an allocation fails.
+fn run<O: Sink, E: Sink>(
+    alloc: Global,
+    host: &mut Host,
+    out: &mut O,
+    errors: &mut E,
+) -> Result<u8, AllocError>
+    requires out { O.failed out.old ≡ false }
+    requires errors { E.failed errors.old ≡ false }
+    ensures { IfOk result (λ status. status ≤ 4) }
+{
+    let end = serve(alloc, &mut Tracked::new(host.rt.stdin()), out);
+    if end.reason.is_empty() {
+        return Ok(end.status);
+    }
+    let reason = end.reason;
+    let line = format!(in alloc; "error: {reason}\n")?;
+    Ok(say(errors, line.as_str(), end.status))
+}
+
+/// Carries out `lsp`: runs the language server, or prints the help. `words` are the name of the command and its
+/// arguments. Returns the exit status. Fails if an allocation fails.
+pub(crate) fn lsp<O: Sink, E: Sink>(
+    alloc: Global,
+    words: &[String],
+    host: &mut Host,
+    out: &mut O,
+    errors: &mut E,
+) -> Result<u8, AllocError>
+    requires out { O.failed out.old ≡ false }
+    requires errors { E.failed errors.old ≡ false }
+    ensures { IfOk result (λ status. status ≤ 4) }
+{
+    match words {
+        [_] => run(alloc, host, out, errors),
+        [_, word] if word.as_str() == "--stdio" => run(alloc, host, out, errors),
+        [_, word] if is_help(word.as_str()) => Ok(say(out, LSP, 0)),
+        _ => say_misuse(alloc, Command::Lsp, "`lsp` takes no arguments", errors),
+    }
+}

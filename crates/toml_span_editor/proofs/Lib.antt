@@ -1,0 +1,4 @@
+pub mod DocumentLemmas
+pub mod EditLemmas
+pub mod PositionLemmas
+pub mod RoundTrip

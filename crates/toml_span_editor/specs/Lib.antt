@@ -1,0 +1,7 @@
+pub mod Changes
+pub mod Diagnostics
+pub mod Edits
+pub mod Formatting
+pub mod Laws
+pub mod Positions
+pub mod Renaming

@@ -1,0 +1,75 @@
+-- Positions in a text (LSP 3.17: Position, PositionEncodingKind, and EOL of Text Documents).
+use Rattle.std.specs.Prelude.{ℕ, zero, suc, ◌+◌, ◌-◌, min, Bool, ◌==◌, ◌&&◌, ◌||◌, not, nat_lt, List, [], ◌∷◌}
+use Rattle.std.specs.Prelude.{drop, slice_index, if◌then◌else◌}
+use Rattle.toml_span_editor.specs.declared.positions.Encoding.{Encoding}
+use Rattle.toml_span_editor.specs.declared.positions.Encoding.TheVariants.{Utf8, Utf16}
+use Rattle.toml_span_editor.specs.declared.positions.Position.{Position}
+use Rattle.toml_span_editor.specs.declared.positions.Range.{Range}
+use Rattle.toml_span_lex.specs.declared.span.Span.{Span}
+
+-- The largest number of the protocol (uinteger). A count stops there.
+abbrev pub largest : ℕ
+largest = 2147483647
+
+abbrev pub plus : ℕ → ℕ → ℕ
+plus n k = min (n + k) largest
+
+-- the code units of a character of several bytes that begins with this byte: its bytes, or one or two UTF-16 units
+abbrev pub wide_units : Encoding → ℕ → ℕ
+wide_units Utf8 byte = if nat_lt byte 224 then 2 else if nat_lt byte 240 then 3 else 4
+wide_units Utf16 byte = if nat_lt byte 240 then 1 else 2
+
+-- the code units of the character that begins with this byte of a UTF-8 text; a byte inside a character counts nothing
+abbrev pub units : Encoding → ℕ → ℕ
+units encoding byte = if nat_lt byte 128 then 1 else if nat_lt byte 192 then 0 else wide_units encoding byte
+
+-- whether a line ends with this byte: with LF, CRLF, or a CR alone
+abbrev pub ends_line : ℕ → ℕ → Bool
+ends_line byte next = byte == 10 || (byte == 13 && not (next == 10))
+
+-- The position after a byte: on the next line after a line's end, otherwise further on the line. There is no position
+-- between CR and LF.
+abbrev pub after : Encoding → Position → ℕ → ℕ → Position
+after encoding p byte next =
+    if ends_line byte next then record { line = plus p.line 1; character = 0 }
+    else if byte == 13 then p
+    else record { line = p.line; character = plus p.character (units encoding byte) }
+
+-- the position after the first n bytes of what follows a position
+unfoldable pub position_from : Encoding → Position → ℕ → List ℕ → Position
+position_from encoding p zero text = p
+position_from encoding p (suc n) [] = p
+position_from encoding p (suc n) (byte ∷ text) =
+    position_from encoding (after encoding p byte (slice_index text 0)) n text
+
+abbrev pub first : Position
+first = record { line = 0; character = 0 }
+
+-- the position of an offset, in bytes
+abbrev pub position_of : Encoding → List ℕ → ℕ → Position
+position_of encoding text at = position_from encoding first at text
+
+-- the offset at which a line begins, or the length of the text if it has fewer lines
+unfoldable pub line_start : ℕ → List ℕ → ℕ
+line_start zero text = 0
+line_start (suc line) [] = 0
+line_start (suc line) (byte ∷ text) =
+    suc (line_start (if ends_line byte (slice_index text 0) then line else suc line) text)
+
+-- The bytes of a line before the character at a count of code units. If the line is shorter, they are the whole line
+-- without its end; and before a character that has only some of the units, they end.
+unfoldable pub column : Encoding → ℕ → List ℕ → ℕ
+column encoding left [] = 0
+column encoding left (byte ∷ line) =
+    if byte == 10 || (byte == 13 || nat_lt left (units encoding byte)) then 0
+    else suc (column encoding (left - units encoding byte) line)
+
+-- the offset of a position
+abbrev pub offset_of : Encoding → List ℕ → Position → ℕ
+offset_of encoding text p =
+    line_start p.line text + column encoding p.character (drop (line_start p.line text) text)
+
+-- the range of a span
+abbrev pub range_of : Encoding → List ℕ → Span → Range
+range_of encoding text span =
+    record { start = position_of encoding text span.start; end = position_of encoding text span.end }

@@ -1,0 +1,190 @@
+//! What can be written at an offset.
+use crate::document::Document;
+use crate::keys::{is_spelled, value_of};
+use std::alloc::{AllocError, Global};
+use toml_span::Value;
+use toml_span::value::{Step, nodes};
+use toml_span_places::{literal_span, quote_key, section_places};
+
+/// The most elements of an array that are searched for keys.
+const MOST_TABLES: usize = 100;
+
+/// The most proposals.
+const MOST: usize = 200;
+
+/// Something that can be written at an offset.
+#[derive(Debug, Drop)]
+pub struct Proposal {
+    /// The text to write.
+    pub text: String,
+    /// The kind of the value that the key has elsewhere, or `boolean`.
+    pub kind: &'static str,
+    pub is_key: bool,
+}
+
+/// The part of a statement in which an offset is.
+#[derive(Clone, Copy, Debug, PartialEq, Eq)]
+pub enum Part {
+    Key,
+    Value,
+    /// A header, a comment, or a part in which nothing is proposed.
+    Other,
+}
+
+/// Returns the line of an offset up to it, or an empty text if the offset is not at a character boundary.
+fn line_front(text: &str, at: usize) -> &str {
+    let front = text.get(..at).unwrap_or("");
+    front.rsplit('\n').next().unwrap_or("")
+}
+
+/// Returns whether a text has nothing but letters of a boolean.
+fn is_word(text: &str) -> bool {
+    text.chars().all(|c| c.is_ascii_alphabetic())
+}
+
+/// Returns the part of a statement in which an offset is, given the text of its line before it.
+fn part_of(front: &str) -> Part {
+    let front = front.trim_ascii_start();
+    match front.rsplit_once('=') {
+        Some((_, value)) if is_word(value.trim_ascii_start()) => Part::Value,
+        Some(_) => Part::Other,
+        None if front.starts_with('[') || front.contains('#') || front.contains('.') => Part::Other,
+        None => Part::Key,
+    }
+}
+
+/// Returns the path of the table that the section around an offset fills: that of the last header before it, or of the
+/// root. Fails if an allocation fails.
+fn table_path<'d>(
+    alloc: Global,
+    document: &'d Document<'_>,
+    at: usize,
+) -> Result<Vec<Step<'d>>, AllocError> {
+    let mut path = Vec::new(alloc);
+    for section in section_places(alloc, document.text, document.sections.as_slice())? {
+        if section.header.end <= at && section.header.start < section.header.end {
+            path = section.path;
+        }
+    }
+    Ok(path)
+}
+
+/// Returns the index of the last position in a path, if it has one.
+fn last_position(path: &[Step<'_>]) -> Option<usize> {
+    let mut found = None;
+    for (index, step) in path.iter().enumerate() {
+        if let Step::Position(_) = step {
+            found = Some(index);
+        }
+    }
+    found
+}
+
+/// Returns whether a proposal has this text.
+fn is_proposed(proposals: &[Proposal], text: &str) -> bool {
+    proposals
+        .iter()
+        .any(|proposal| proposal.text.as_str() == text)
+}
+
+/// Returns whether a value is a table with this key.
+fn has_key(value: Option<&Value<'_>>, name: &str) -> bool {
+    let Some(table) = value.and_then(|value| value.as_table()) else {
+        return false;
+    };
+    table.iter().any(|(key, _)| key.name.as_ref() == name)
+}
+
+/// Appends the keys of a table that another one lacks. Fails if an allocation fails.
+fn push_keys(
+    alloc: Global,
+    table: &Value<'_>,
+    own: Option<&Value<'_>>,
+    proposals: &mut Vec<Proposal>,
+) -> Result<(), AllocError> {
+    let Some(table) = table.as_table() else {
+        return Ok(());
+    };
+    for (key, value) in table.iter() {
+        let text = quote_key(alloc, key.name.as_ref())?;
+        let is_new = !has_key(own, key.name.as_ref())
+            && !is_proposed(proposals.as_slice(), text.as_str());
+        if is_new && proposals.len() < MOST {
+            let kind = value.type_str();
+            proposals.push(Proposal {
+                text,
+                kind,
+                is_key: true,
+            })?;
+        }
+    }
+    Ok(())
+}
+
+/// Returns the keys that the same tables in the other elements of an array have, and that the table at a path lacks.
+/// Fails if an allocation fails.
+fn sibling_keys(
+    alloc: Global,
+    document: &Document<'_>,
+    at: usize,
+) -> Result<Vec<Proposal>, AllocError> {
+    let mut proposals = Vec::new(alloc);
+    let path = table_path(alloc, document, at)?;
+    let path = path.as_slice();
+    let Some(index) = last_position(path) else {
+        return Ok(proposals);
+    };
+    let own = value_of(&document.root, path);
+    let above = path.get(..index).unwrap_or(&[]);
+    let below = path.get(index.saturating_add(1)..).unwrap_or(&[]);
+    let Some(array) = value_of(&document.root, above).and_then(|value| value.as_array()) else {
+        return Ok(proposals);
+    };
+    for element in array.iter().take(MOST_TABLES) {
+        if let Some(table) = value_of(element, below) {
+            push_keys(alloc, table, own, &mut proposals)?;
+        }
+    }
+    Ok(proposals)
+}
+
+/// Returns whether an offset is within a value that is spelled as such. Fails if an allocation fails.
+fn is_in_value(alloc: Global, document: &Document<'_>, at: usize) -> Result<bool, AllocError> {
+    for node in nodes(alloc, &document.root)? {
+        let span = literal_span(document.text, node.value);
+        if span.start < at && at < span.end && is_spelled(document.text, node.value) {
+            return Ok(true);
+        }
+    }
+    Ok(false)
+}
+
+/// Returns the booleans. Fails if an allocation fails.
+fn booleans(alloc: Global) -> Result<Vec<Proposal>, AllocError> {
+    let mut proposals = Vec::new(alloc);
+    for word in ["true", "false"] {
+        proposals.push(Proposal {
+            text: String::from_str(alloc, word)?,
+            kind: "boolean",
+            is_key: false,
+        })?;
+    }
+    Ok(proposals)
+}
+
+/// Returns what can be written at an offset: in a value the booleans, and in a key of a table in an array the keys of
+/// the tables beside it. `text` is the text itself, and `document` as much of it as can be read. Fails if an allocation
+/// fails.
+pub fn proposals(
+    alloc: Global,
+    text: &str,
+    document: &Document<'_>,
+    at: usize,
+) -> Result<Vec<Proposal>, AllocError> {
+    match part_of(line_front(text, at)) {
+        Part::Key if is_in_value(alloc, document, at)? => Ok(Vec::new(alloc)),
+        Part::Key => sibling_keys(alloc, document, at),
+        Part::Value => booleans(alloc),
+        Part::Other => Ok(Vec::new(alloc)),
+    }
+}

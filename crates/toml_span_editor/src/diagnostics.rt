@@ -1,0 +1,245 @@
+//! The errors of a text as diagnostics, and the edits that repair them.
+ghost use Rattle.std.specs.Prelude.{◌≡◌, IfOk, OnOk, fold, map, string_bytes};
+ghost use Rattle.toml_span_tree.specs.Diagnostic.{label_content};
+ghost use Rattle.toml_span_report.specs.Report.{report_content};
+ghost use Rattle.toml_span_editor.specs.Diagnostics as spec;
+
+use crate::edits::{Edit, differences, edited};
+use crate::positions::Range;
+use crate::spans::touches;
+use crate::table::PositionTable;
+use std::alloc::{AllocError, Global};
+use toml_span_check::every::check;
+use toml_span_check::fixing::with_fixes;
+use toml_span_lex::span::Span;
+use toml_span_report::{Report, Severity};
+use toml_span_tree::Label;
+
+/// A place that is related to a diagnostic.
+#[derive(Debug, Drop)]
+pub struct Related {
+    pub range: Range,
+    pub message: String,
+}
+
+/// A report as an editor shows it.
+#[derive(Debug, Drop)]
+pub struct Diagnostic {
+    /// The range of the first primary label, or the start of the text.
+    pub range: Range,
+    pub severity: Severity,
+    pub code: String,
+    /// The message, and below it the labels, the notes and the help, each on a line.
+    pub message: String,
+    /// The places of the other labels.
+    pub related: Vec<Related>,
+}
+
+/// A repair of an error.
+#[derive(Debug, Drop)]
+pub struct Repair {
+    /// What it does.
+    pub title: String,
+    /// The position in the list of the reports.
+    pub report: usize,
+    pub edits: Vec<Edit>,
+    pub is_safe: bool,
+}
+
+/// Returns the span of the first primary label, or of the start of the text.
+fn main_span(labels: &[Label<()>]) -> Span
+    ensures { result ≡ spec.main_span (map label_content labels.now) }
+{
+    for label in labels {
+        if label.primary {
+            return label.span;
+        }
+    }
+    Span { start: 0, end: 0 }
+}
+
+/// Appends a line with a front, unless the text is empty. Fails if an allocation fails.
+#[tactic(auto, unfolding(crate::specs::Diagnostics::with_line))]
+fn push_line(out: &mut String, front: &str, text: &str) -> Result<(), AllocError>
+    ensures { OnOk result (string_bytes out.new ≡ spec.with_line front.now (string_bytes out.old) text.now) }
+{
+    if text.is_empty() {
+        return Ok(());
+    }
+    if !out.is_empty() {
+        out.push_str("\n")?;
+    }
+    out.push_str(front)?;
+    out.push_str(text)
+}
+
+/// Appends lines with a front. Fails if an allocation fails.
+fn push_lines(out: &mut String, front: &str, lines: &[String]) -> Result<(), AllocError>
+    ensures { OnOk result (string_bytes out.new
+        ≡ fold (spec.with_line front.now) (string_bytes out.old) (map string_bytes lines.now)) }
+{
+    for line in lines {
+        push_line(out, front, line.as_str())?;
+    }
+    Ok(())
+}
+
+/// Appends the message of a label, if it is primary and says something else than the report. Fails if an allocation
+/// fails.
+fn push_label(out: &mut String, message: &str, label: &Label<()>) -> Result<(), AllocError>
+    ensures { OnOk result (string_bytes out.new
+        ≡ spec.with_label message.now (string_bytes out.old) (label_content label.now)) }
+{
+    if label.primary && label.message.as_str() != message {
+        push_line(out, "", label.message.as_str())?;
+    }
+    Ok(())
+}
+
+/// Appends the messages of labels, as `push_label` does. Fails if an allocation fails.
+fn push_labels(out: &mut String, message: &str, labels: &[Label<()>]) -> Result<(), AllocError>
+    ensures { OnOk result (string_bytes out.new
+        ≡ fold (spec.with_label message.now) (string_bytes out.old) (map label_content labels.now)) }
+{
+    for label in labels {
+        push_label(out, message, label)?;
+    }
+    Ok(())
+}
+
+/// Returns the message of a report with its primary labels, its notes and its help. Fails if an allocation fails.
+fn message_of(alloc: Global, report: &Report) -> Result<String, AllocError>
+    ensures { IfOk result (λ out. string_bytes out ≡ spec.message_of (report_content report.now)) }
+{
+    let mut out = String::from_str(alloc, report.message.as_str())?;
+    push_labels(&mut out, report.message.as_str(), report.labels.as_slice())?;
+    push_lines(&mut out, "note: ", report.notes.as_slice())?;
+    push_lines(&mut out, "help: ", report.help.as_slice())?;
+    Ok(out)
+}
+
+/// Returns the places of the labels that are not primary. Fails if an allocation fails.
+fn related_of(
+    alloc: Global,
+    table: &PositionTable<'_>,
+    labels: &[Label<()>],
+) -> Result<Vec<Related>, AllocError>
+    ensures { IfOk result (λ related. map spec.related_content related.items
+        ≡ spec.related_of table.now.encoding table.now.text.now (map label_content labels.now)) }
+{
+    let mut related = Vec::new(alloc);
+    for label in labels {
+        if !label.primary {
+            related.push(Related {
+                range: table.range(label.span),
+                message: String::from_str(alloc, label.message.as_str())?,
+            })?;
+        }
+    }
+    Ok(related)
+}
+
+/// Returns a report as a diagnostic. Fails if an allocation fails.
+#[tactic(auto, unfolding(crate::specs::Diagnostics::diagnostic_of))]
+fn diagnostic_of(
+    alloc: Global,
+    table: &PositionTable<'_>,
+    report: &Report,
+) -> Result<Diagnostic, AllocError>
+    ensures { IfOk result (λ made. spec.diagnostic_content made
+        ≡ spec.diagnostic_of table.now.encoding table.now.text.now (report_content report.now)) }
+{
+    Ok(Diagnostic {
+        range: table.range(main_span(report.labels.as_slice())),
+        severity: report.severity,
+        code: String::from_str(alloc, report.code.as_str())?,
+        message: message_of(alloc, report)?,
+        related: related_of(alloc, table, report.labels.as_slice())?,
+    })
+}
+
+/// Returns reports as diagnostics. Fails if an allocation fails.
+fn diagnostics_of(
+    alloc: Global,
+    table: &PositionTable<'_>,
+    reports: &[Report],
+) -> Result<Vec<Diagnostic>, AllocError>
+    ensures { IfOk result (λ found. map spec.diagnostic_content found.items
+        ≡ map (spec.diagnostic_of table.now.encoding table.now.text.now) (map report_content reports.now)) }
+{
+    let mut found = Vec::new(alloc);
+    for report in reports {
+        found.push(diagnostic_of(alloc, table, report)?)?;
+    }
+    Ok(found)
+}
+
+/// Returns the errors of a text: a diagnostic for each report of `toml_span_check::every::check`, in the same order.
+/// Fails if an allocation fails.
+pub fn diagnostics(alloc: Global, table: &PositionTable<'_>) -> Result<Vec<Diagnostic>, AllocError>
+    ensures { IfOk result (λ found. spec.AreDiagnostics table.now.encoding table.now.text.now
+        (map spec.diagnostic_content found.items)) }
+{
+    let reports = check(alloc, table.text)?;
+    diagnostics_of(alloc, table, reports.as_slice())
+}
+
+/// Returns the replacements of a report as edits. Fails if an allocation fails.
+fn edits_of(alloc: Global, report: &Report) -> Result<Vec<Edit>, AllocError> {
+    let mut edits = Vec::new(alloc);
+    for replacement in &report.replacements {
+        edits.push(Edit {
+            span: replacement.span,
+            text: String::from_str(alloc, replacement.text.as_str())?,
+        })?;
+    }
+    Ok(edits)
+}
+
+/// Returns the repair of a report, or `None` if it has none or its edits can't be made. Fails if an allocation fails.
+fn repair_of(
+    alloc: Global,
+    text: &str,
+    index: usize,
+    report: &Report,
+) -> Result<Option<Repair>, AllocError> {
+    let edits = edits_of(alloc, report)?;
+    if edits.is_empty() || edited(alloc, text, edits.as_slice())?.is_none() {
+        return Ok(None);
+    }
+    let title = match report.help.first() {
+        Some(help) => help.as_str(),
+        None => report.message.as_str(),
+    };
+    Ok(Some(Repair {
+        title: String::from_str(alloc, title)?,
+        report: index,
+        edits,
+        is_safe: report.replacements.iter().all(|one| one.is_safe),
+    }))
+}
+
+/// Returns the repairs of the errors that touch a span, in the order of the reports. Each can be made. Fails if an
+/// allocation fails.
+pub fn repairs(alloc: Global, text: &str, span: Span) -> Result<Vec<Repair>, AllocError> {
+    let mut found = Vec::new(alloc);
+    for (index, report) in check(alloc, text)?.iter().enumerate() {
+        let place = main_span(report.labels.as_slice());
+        if touches(place, span.start) || touches(span, place.start) {
+            if let Some(repair) = repair_of(alloc, text, index, report)? {
+                found.push(repair)?;
+            }
+        }
+    }
+    Ok(found)
+}
+
+/// Returns the edits that make all safe repairs of a text. There are none if nothing can be repaired. Fails if an
+/// allocation fails.
+pub fn all_repairs(alloc: Global, text: &str) -> Result<Vec<Edit>, AllocError> {
+    let fixed = with_fixes(alloc, text)?;
+    if fixed.count == 0 {
+        return Ok(Vec::new(alloc));
+    }
+    differences(alloc, text, fixed.text.as_str())
+}

@@ -1,0 +1,95 @@
+//! Reads a text, or as much of it as can be read.
+ghost use Rattle.std.specs.Prelude.{◌≡◌, IfOk, IfSome, length, string_bytes};
+ghost use Rattle.std.specs.Cow.{cow_str_bytes};
+
+use crate::changes::spliced;
+use std::alloc::{AllocError, Global};
+use std::borrow::CowStr;
+use toml_span::de::parse;
+use toml_span::{Stop, Value};
+use toml_span_read::{Section, read_sections};
+
+/// The maximum number of lines that are left out of a text so that the rest can be read.
+const MOST: usize = 16;
+
+/// A text that is valid TOML: its tree and its sections.
+#[derive(Drop)]
+pub struct Document<'t> {
+    pub text: &'t str,
+    pub root: Value<'t>,
+    pub sections: Vec<Section<'t>>,
+}
+
+/// Returns the offset of the error for which a text is not valid TOML, if it has one. Fails if an allocation fails.
+fn error_place(alloc: Global, text: &str) -> Result<Option<usize>, AllocError> {
+    match parse(alloc, text) {
+        Ok(_) => Ok(None),
+        Err(stop) => {
+            let error = stop.fault()?;
+            Ok(Some(error.span.start))
+        }
+    }
+}
+
+/// Returns the character boundary at the start of the line of an offset, or at the start of the text.
+fn line_begin(text: &str, at: usize) -> usize {
+    let at = text.floor_char_boundary(at);
+    match text[..at].rfind('\n') {
+        Some(end) => end.saturating_add(1),
+        None => 0,
+    }
+}
+
+/// Returns the text with spaces in place of the line of an offset, without its line end. Fails if an allocation fails.
+#[tactic(auto, using(crate::proofs::DocumentLemmas::spaces_length, crate::proofs::DocumentLemmas::spliced_length))]
+fn without_line(alloc: Global, text: &str, at: usize) -> Result<String, AllocError>
+    ensures { IfOk result (λ kept. length (string_bytes kept) ≡ length text.now) }
+{
+    let from = line_begin(text, at);
+    let Some(rest) = text.get(from..) else {
+        return String::from_str(alloc, text);
+    };
+    let to = from.saturating_add(rest.find('\n').unwrap_or(rest.len()));
+    if from > to || !text.is_char_boundary(from) || !text.is_char_boundary(to) {
+        return String::from_str(alloc, text);
+    }
+    let spaces = " ".repeat(alloc, to - from)?;
+    spliced(alloc, text, from, to, spaces.as_str())
+}
+
+/// Returns the text with spaces in place of the lines that have errors, so that the rest is valid TOML. Offsets are the
+/// same as in the text. Returns `None` if more than 16 lines would have to be left out. Fails if an allocation fails.
+pub fn readable<'t>(alloc: Global, text: &'t str) -> Result<Option<CowStr<'t>>, AllocError>
+    ensures { IfOk result (λ kept. IfSome kept (λ kept. length (cow_str_bytes kept) ≡ length text.now)) }
+{
+    let Some(at) = error_place(alloc, text)? else {
+        return Ok(Some(CowStr::Borrowed(text)));
+    };
+    let mut kept = without_line(alloc, text, at)?;
+    'lines: for _ in 0..MOST {
+        let Some(at) = error_place(alloc, kept.as_str())? else {
+            return Ok(Some(CowStr::Owned(kept)));
+        };
+        kept = without_line(alloc, kept.as_str(), at)?;
+    }
+    Ok(None)
+}
+
+/// Reads a text. Returns `None` if it is not valid TOML. Fails if an allocation fails.
+pub fn read<'t>(alloc: Global, text: &'t str) -> Result<Option<Document<'t>>, AllocError> {
+    let root = match parse(alloc, text) {
+        Ok(root) => root,
+        Err(Stop::Memory(error)) => return Err(error),
+        Err(Stop::Fault(_)) => return Ok(None),
+    };
+    let sections = match read_sections(alloc, text, 128) {
+        Ok(sections) => sections,
+        Err(Stop::Memory(error)) => return Err(error),
+        Err(Stop::Fault(_)) => return Ok(None),
+    };
+    Ok(Some(Document {
+        text,
+        root,
+        sections,
+    }))
+}

@@ -1,0 +1,201 @@
+//! What is known about a key or a value.
+use crate::document::Document;
+use crate::keys::{key_at, value_of};
+use crate::paths::{dotted, pointer};
+use std::alloc::{AllocError, Global};
+use std::fmt::Write;
+use toml_span::Value;
+use toml_span::value::Step;
+use toml_span_lex::span::Span;
+use toml_span_places::{key_places, literal_span, node_at};
+
+/// The most names of keys that are listed.
+const MOST: usize = 12;
+
+/// The names of the months.
+const MONTHS: [&str; 12] = [
+    "January",
+    "February",
+    "March",
+    "April",
+    "May",
+    "June",
+    "July",
+    "August",
+    "September",
+    "October",
+    "November",
+    "December",
+];
+
+/// What is known about a key or a value, as Markdown, and where it is.
+#[derive(Debug, Drop)]
+pub struct Hover {
+    pub span: Span,
+    pub text: String,
+}
+
+/// Returns the part of a text between two offsets, or an empty text if there is none.
+fn part(text: &str, from: usize, to: usize) -> &str {
+    if from > to {
+        return "";
+    }
+    text.get(from..to).unwrap_or("")
+}
+
+/// Returns the name of a month, given its two digits.
+fn month_of(digits: &str) -> &'static str {
+    match digits.parse::<usize>() {
+        Ok(month) => MONTHS.get(month.saturating_sub(1)).copied().unwrap_or(""),
+        Err(_) => "",
+    }
+}
+
+/// Appends a date `YYYY-MM-DD` spelled out, such as `5 January 2024`. Fails if an allocation fails.
+fn push_day(date: &str, out: &mut String) -> Result<(), AllocError> {
+    let day = part(date, 8, 10);
+    out.push_str(day.strip_prefix('0').unwrap_or(day))?;
+    out.push(' ')?;
+    out.push_str(month_of(part(date, 5, 7)))?;
+    out.push(' ')?;
+    out.push_str(part(date, 0, 4))
+}
+
+/// Appends a time with its offset from UTC, if it has one. Fails if an allocation fails.
+fn push_time(time: &str, out: &mut String) -> Result<(), AllocError> {
+    let is_utc = time.ends_with('Z') || time.ends_with('z');
+    let local = time
+        .find(|c| matches!(c, 'Z' | 'z' | '+' | '-'))
+        .unwrap_or(time.len());
+    out.push_str(part(time, 0, local))?;
+    if is_utc {
+        out.push_str(" UTC")?;
+    } else if local < time.len() {
+        out.push_str(" UTC")?;
+        out.push_str(part(time, local, time.len()))?;
+    }
+    Ok(())
+}
+
+/// Appends a date or a time spelled out. Fails if an allocation fails.
+fn push_date(date: &str, out: &mut String) -> Result<(), AllocError> {
+    if date.as_bytes().get(4) != Some(&b'-') {
+        return push_time(date, out);
+    }
+    push_day(date, out)?;
+    if date.len() > 11 {
+        out.push_str(", ")?;
+        push_time(part(date, 11, date.len()), out)?;
+    }
+    Ok(())
+}
+
+/// Appends a count with its word, such as `3 elements`. Fails if an allocation fails.
+fn push_count(out: &mut String, count: usize, word: &str) -> Result<(), AllocError> {
+    write!(out, "{count} {word}")?;
+    if count != 1 {
+        out.push('s')?;
+    }
+    Ok(())
+}
+
+/// Appends the names of a table's keys, at most `MOST` of them. Fails if an allocation fails.
+fn push_names(value: &Value<'_>, out: &mut String) -> Result<(), AllocError> {
+    let Some(table) = value.as_table() else {
+        return Ok(());
+    };
+    push_count(out, table.len(), "key")?;
+    for (count, (key, _)) in table.iter().enumerate() {
+        if count >= MOST {
+            return out.push_str(", …");
+        }
+        out.push_str(if count == 0 { ": `" } else { ", `" })?;
+        out.push_str(key.name.as_ref())?;
+        out.push('`')?;
+    }
+    Ok(())
+}
+
+/// Appends what there is to say about a value besides its kind. `literal` is the text that spells it. Fails if an
+/// allocation fails.
+fn push_details(value: &Value<'_>, literal: &str, out: &mut String) -> Result<(), AllocError> {
+    if let Some(number) = value.as_integer() {
+        let number = format!(in *out.allocator(); "{number}")?;
+        if number.as_str() != literal {
+            write!(out, "`{literal}` = {number}")?;
+        }
+    }
+    if let Some(date) = value.as_datetime() {
+        push_date(date.text(), out)?;
+    }
+    if let Some(text) = value.as_str() {
+        push_count(out, text.chars().count(), "character")?;
+    }
+    if let Some(array) = value.as_array() {
+        push_count(out, array.len(), "element")?;
+    }
+    push_names(value, out)
+}
+
+/// Returns what is known about the value at a path, as Markdown. Fails if an allocation fails.
+fn described(
+    alloc: Global,
+    text: &str,
+    path: &[Step<'_>],
+    value: &Value<'_>,
+) -> Result<String, AllocError> {
+    let kind = value.type_str();
+    let key = dotted(alloc, path)?;
+    let pointer = pointer(alloc, path)?;
+    let mut out = format!(in alloc; "`{key}`: {kind}\n\n`{pointer}`")?;
+    let span = literal_span(text, value);
+    let mut details = String::new(alloc);
+    push_details(value, part(text, span.start, span.end), &mut details)?;
+    if !details.is_empty() {
+        out.push_str("\n\n")?;
+        out.push_str(details.as_str())?;
+    }
+    Ok(out)
+}
+
+/// Returns what is known about the key at an offset, if there is one. Fails if an allocation fails.
+fn key_hover(
+    alloc: Global,
+    document: &Document<'_>,
+    at: usize,
+) -> Result<Option<Hover>, AllocError> {
+    let keys = key_places(alloc, document.text, document.sections.as_slice())?;
+    let Some(key) = key_at(keys.as_slice(), at) else {
+        return Ok(None);
+    };
+    let path = key.path.as_slice();
+    let Some(value) = value_of(&document.root, path) else {
+        return Ok(None);
+    };
+    Ok(Some(Hover {
+        span: key.whole,
+        text: described(alloc, document.text, path, value)?,
+    }))
+}
+
+/// Returns what is known about the key or the value at an offset: its path, its kind, the decimal value of an integer,
+/// a date spelled out, and the size of what has a size. `None` if there is neither. Fails if an allocation fails.
+pub fn hover_at(
+    alloc: Global,
+    document: &Document<'_>,
+    at: usize,
+) -> Result<Option<Hover>, AllocError> {
+    if let Some(found) = key_hover(alloc, document, at)? {
+        return Ok(Some(found));
+    }
+    let Some(place) = node_at(alloc, &document.root, document.text, at)? else {
+        return Ok(None);
+    };
+    if place.path.is_empty() || place.value.as_table().is_some() {
+        return Ok(None);
+    }
+    Ok(Some(Hover {
+        span: place.span,
+        text: described(alloc, document.text, place.path.as_slice(), place.value)?,
+    }))
+}

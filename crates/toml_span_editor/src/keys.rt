@@ -1,0 +1,105 @@
+//! Finds the key at an offset, all places where it is written, and its value.
+use crate::document::Document;
+use crate::spans::touches;
+use std::alloc::{AllocError, Global};
+use toml_span::Value;
+use toml_span::value::Step;
+use toml_span_lex::span::Span;
+use toml_span_places::{KeyPlace, Role, key_places};
+
+/// A place where a key is written.
+#[derive(Clone, Copy, Debug, PartialEq, Eq)]
+pub struct Mention {
+    /// The bytes of the key with its quotes.
+    pub span: Span,
+    /// Whether it is the last part of a header, or of the key of an assignment.
+    pub is_definition: bool,
+}
+
+/// Returns the key at an offset, or that ends there.
+pub(crate) fn key_at<'p, 't>(keys: &'p [KeyPlace<'t>], at: usize) -> Option<&'p KeyPlace<'t>> {
+    for key in keys {
+        if touches(key.whole, at) {
+            return Some(key);
+        }
+    }
+    None
+}
+
+/// Returns whether a part of a key is its last one.
+fn is_last(role: Role) -> bool {
+    matches!(role, Role::HeaderLast | Role::Last)
+}
+
+/// Returns the places where the key at an offset is written, in the order of the text. The list is empty if there is no
+/// key. Fails if an allocation fails.
+pub fn mentions(
+    alloc: Global,
+    document: &Document<'_>,
+    at: usize,
+) -> Result<Vec<Mention>, AllocError> {
+    let keys = key_places(alloc, document.text, document.sections.as_slice())?;
+    let mut found = Vec::new(alloc);
+    let Some(key) = key_at(keys.as_slice(), at) else {
+        return Ok(found);
+    };
+    for other in &keys {
+        if other.path.as_slice() == key.path.as_slice() {
+            found.push(Mention {
+                span: other.whole,
+                is_definition: is_last(other.role),
+            })?;
+        }
+    }
+    Ok(found)
+}
+
+/// Returns the place where the key at an offset is defined: the first where it is the last part of a header or of a key
+/// or, if there is none, the first at all. Fails if an allocation fails.
+pub fn definition(
+    alloc: Global,
+    document: &Document<'_>,
+    at: usize,
+) -> Result<Option<Span>, AllocError> {
+    let mentions = mentions(alloc, document, at)?;
+    for mention in &mentions {
+        if mention.is_definition {
+            return Ok(Some(mention.span));
+        }
+    }
+    Ok(mentions.first().map(|mention| mention.span))
+}
+
+/// Returns whether a value is spelled as a value, and not defined by headers or dotted keys.
+pub(crate) fn is_spelled(text: &str, value: &Value<'_>) -> bool {
+    if value.as_table().is_some() {
+        return text.as_bytes().get(value.span.start) == Some(&b'{');
+    }
+    match value.as_array().and_then(|array| array.first()) {
+        Some(first) => value.span.start < first.span.start,
+        None => true,
+    }
+}
+
+/// Returns the value to which a step leads.
+pub(crate) fn child<'v, 'de>(value: &'v Value<'de>, step: Step<'_>) -> Option<&'v Value<'de>> {
+    match step {
+        Step::Position(at) => value.as_array()?.get(at),
+        Step::Key(name) => {
+            for (key, value) in value.as_table()?.iter() {
+                if key.name.as_ref() == name {
+                    return Some(value);
+                }
+            }
+            None
+        }
+    }
+}
+
+/// Returns the value at a path.
+pub(crate) fn value_of<'v, 'de>(root: &'v Value<'de>, path: &[Step<'_>]) -> Option<&'v Value<'de>> {
+    let [step, rest @ ..] = path else {
+        return Some(root);
+    };
+    value_of(child(root, *step)?, rest)
+}

@@ -1,0 +1,172 @@
+//! Positions in a text, as the Language Server Protocol counts them.
+ghost use Rattle.std.specs.Prelude.{◌≡◌, ◌+◌, ◌-◌, ◌≤◌, drop, length, slice_index};
+ghost use Rattle.std.specs.Str.{IsCharBoundary};
+ghost use Rattle.toml_span_editor.specs.Positions as spec;
+
+/// The code units in which a position counts the characters of its line.
+#[derive(Clone, Copy, Debug, PartialEq, Eq)]
+pub enum Encoding {
+    Utf8,
+    Utf16,
+}
+
+/// A position in a text: a line, and a number of code units from the start of the line, both counted from 0.
+#[derive(Clone, Copy, Debug, PartialEq, Eq)]
+pub struct Position {
+    pub line: usize,
+    pub character: usize,
+}
+
+/// The text between two positions, the end exclusive.
+#[derive(Clone, Copy, Debug, PartialEq, Eq)]
+pub struct Range {
+    pub start: Position,
+    pub end: Position,
+}
+
+/// The largest number of the protocol, at which counts stop.
+const LARGEST: usize = 2_147_483_647;
+
+/// The position of the start of a text.
+pub const FIRST: Position = Position {
+    line: 0,
+    character: 0,
+};
+
+/// Adds two counts.
+fn plus(count: usize, more: usize) -> usize
+    ensures { result ≡ spec.plus count more }
+{
+    count.saturating_add(more).min(LARGEST)
+}
+
+/// Returns the byte at the offset `at`, or 0 if that is the end of the text or after it.
+pub(crate) fn byte_at(text: &str, at: usize) -> u8
+    ensures { result ≡ slice_index text.now at }
+{
+    let bytes = text.as_bytes();
+    if at < bytes.len() { bytes[at] } else { 0 }
+}
+
+/// Returns the code units of a character of several bytes, given its first byte.
+fn wide_units(encoding: Encoding, byte: u8) -> usize
+    ensures { result ≡ spec.wide_units encoding byte }
+{
+    match (encoding, byte) {
+        (Encoding::Utf8, 0..=223) => 2,
+        (Encoding::Utf8, 224..=239) => 3,
+        (Encoding::Utf8, _) => 4,
+        (Encoding::Utf16, 0..=239) => 1,
+        (Encoding::Utf16, _) => 2,
+    }
+}
+
+/// Returns the code units of the character that begins with this byte, or 0 if the byte is inside a character.
+fn units(encoding: Encoding, byte: u8) -> usize
+    ensures { result ≡ spec.units encoding byte }
+{
+    match byte {
+        0..=127 => 1,
+        128..=191 => 0,
+        _ => wide_units(encoding, byte),
+    }
+}
+
+/// Returns whether a line ends with this byte, given the one after it: with LF, CRLF, or a CR alone.
+fn ends_line(byte: u8, next: u8) -> bool
+    ensures { result ≡ spec.ends_line byte next }
+{
+    byte == b'\n' || (byte == b'\r' && next != b'\n')
+}
+
+/// Returns the position after a byte, given the one after it. There is no position between CR and LF.
+fn after(encoding: Encoding, position: Position, byte: u8, next: u8) -> Position
+    ensures { result ≡ spec.after encoding position byte next }
+{
+    let Position { line, character } = position;
+    if ends_line(byte, next) {
+        Position {
+            line: plus(line, 1),
+            character: 0,
+        }
+    } else if byte == b'\r' {
+        position
+    } else {
+        Position {
+            line,
+            character: plus(character, units(encoding, byte)),
+        }
+    }
+}
+
+/// Returns the position of the offset `to`, given the position of the offset `from` before it.
+pub(crate) fn advanced(
+    encoding: Encoding,
+    text: &str,
+    position: Position,
+    from: usize,
+    to: usize,
+) -> Position
+    ensures { result ≡ spec.position_from encoding position (to - from) (drop from text.now) }
+{
+    let mut position = position;
+    for at in from..to.min(text.len()) {
+        let next = byte_at(text, at + 1);
+        position = after(encoding, position, byte_at(text, at), next);
+    }
+    position
+}
+
+/// Returns the position of a byte offset. After the end of the text, it is that of the end.
+pub fn position_at(encoding: Encoding, text: &str, at: usize) -> Position
+    ensures { result ≡ spec.position_of encoding text.now at }
+{
+    advanced(encoding, text, FIRST, 0, at)
+}
+
+/// Returns the byte offset at which a line begins, or the length of the text if it has fewer lines.
+pub fn line_start(text: &str, line: usize) -> usize
+    ensures value { result ≡ spec.line_start line text.now }
+    ensures within { result ≤ length text.now }
+{
+    let mut left = line;
+    let mut at = 0;
+    'lines: while left > 0 && at < text.len() {
+        if ends_line(byte_at(text, at), byte_at(text, at + 1)) {
+            left -= 1;
+        }
+        at += 1;
+    }
+    at
+}
+
+/// Returns the byte offset of the character after `character` code units on the line that begins at `start`. If the
+/// line is shorter, it is the end of the line; inside a character, it is where the character begins.
+fn column_end(encoding: Encoding, text: &str, start: usize, character: usize) -> usize
+    requires { start ≤ length text.now }
+    ensures value { result ≡ start + spec.column encoding character (drop start text.now) }
+    ensures boundary { IsCharBoundary text.now result }
+{
+    let mut left = character;
+    let mut at = start;
+    'units: while at < text.len() {
+        let byte = byte_at(text, at);
+        let width = units(encoding, byte);
+        if byte == b'\n' || byte == b'\r' || left < width {
+            return at;
+        }
+        left -= width;
+        at += 1;
+    }
+    at
+}
+
+/// Returns the byte offset of a position. A character past the end of its line counts as the line's end, a line past
+/// the end of the text as the text's end, and a position inside a character as its start.
+pub fn offset_at(encoding: Encoding, text: &str, position: Position) -> usize
+    ensures value { result ≡ spec.offset_of encoding text.now position }
+    ensures boundary { IsCharBoundary text.now result }
+{
+    let start = line_start(text, position.line);
+    column_end(encoding, text, start, position.character)
+}

@@ -1,0 +1,132 @@
+//! Renames a key at each place where it is written.
+ghost use Rattle.std.specs.Prelude.{IfOk, string_bytes};
+ghost use Rattle.toml_span_editor.specs.Renaming.{Renames, RenamesBy};
+
+use crate::document::Document;
+use crate::edits::{Edit, Rewritten, differences, turns};
+use crate::keys::{key_at, mentions};
+use std::alloc::{AllocError, Global};
+use toml_span::Stop;
+use toml_span::value::Step;
+use toml_span_edit::{Change, Edit as KeyEdit, EditError, Edits};
+use toml_span_lex::span::Span;
+use toml_span_places::{key_places, quote_key};
+
+/// A key that can be renamed.
+#[derive(Debug, Drop)]
+pub struct Renamable {
+    /// The bytes of the key with its quotes.
+    pub span: Span,
+    /// The name without quotes and escapes.
+    pub name: String,
+    /// The segments of the path from the root to what the key names. Its last one is the name.
+    pub path: Vec<String>,
+}
+
+/// Returns a step as the segment of a path. Fails if an allocation fails.
+fn segment_of(alloc: Global, step: Step<'_>) -> Result<String, AllocError> {
+    match step {
+        Step::Key(name) => String::from_str(alloc, name),
+        Step::Position(at) => format!(in alloc; "{at}"),
+    }
+}
+
+/// Returns the segments of a path. Fails if an allocation fails.
+fn segments_of(alloc: Global, path: &[Step<'_>]) -> Result<Vec<String>, AllocError> {
+    let mut segments = Vec::new(alloc);
+    for step in path {
+        segments.push(segment_of(alloc, *step)?)?;
+    }
+    Ok(segments)
+}
+
+/// Returns the key at an offset, if there is one. Fails if an allocation fails.
+pub fn renamable_at(
+    alloc: Global,
+    document: &Document<'_>,
+    at: usize,
+) -> Result<Option<Renamable>, AllocError> {
+    let keys = key_places(alloc, document.text, document.sections.as_slice())?;
+    let Some(key) = key_at(keys.as_slice(), at) else {
+        return Ok(None);
+    };
+    let name = match key.path.last() {
+        Some(step) => segment_of(alloc, *step)?,
+        None => String::new(alloc),
+    };
+    Ok(Some(Renamable {
+        span: key.whole,
+        name,
+        path: segments_of(alloc, key.path.as_slice())?,
+    }))
+}
+
+/// Returns why a rename was refused, in words. Fails if an allocation fails.
+fn refusal(alloc: Global, error: &EditError) -> Result<String, AllocError> {
+    let mut message = String::from_str(alloc, error.reason.text())?;
+    message.push_str(error.reason.detail())?;
+    Ok(message)
+}
+
+/// Returns the text in which the key at a path has a new name. Fails with the reason if that is refused, or if an
+/// allocation fails.
+fn renamed(alloc: Global, text: &str, path: &[&str], name: &str) -> Result<String, Stop<String>>
+    ensures { IfOk result (λ new. Renames name.now text.now (string_bytes new)) }
+{
+    let mut edits = Edits::new(alloc, text);
+    edits.push(KeyEdit {
+        path,
+        change: Change::Rename(name),
+    })?;
+    match edits.finish() {
+        Ok(new) => Ok(new),
+        Err(stop) => {
+            let error = stop.fault()?;
+            Err(Stop::Fault(refusal(alloc, &error)?))
+        }
+    }
+}
+
+/// Returns an edit for each mention of the key at an offset. Fails if an allocation fails.
+fn mention_edits(
+    alloc: Global,
+    document: &Document<'_>,
+    at: usize,
+    name: &str,
+) -> Result<Vec<Edit>, AllocError> {
+    let mut edits = Vec::new(alloc);
+    for mention in mentions(alloc, document, at)? {
+        edits.push(Edit {
+            span: mention.span,
+            text: quote_key(alloc, name)?,
+        })?;
+    }
+    Ok(edits)
+}
+
+/// Returns the edits that rename the key at an offset, at each place where it is written. With them made, the document
+/// is valid, and only the name has changed. Fails with the reason if there is no key or the rename is refused, or if an
+/// allocation fails.
+pub fn rename(
+    alloc: Global,
+    document: &Document<'_>,
+    at: usize,
+    name: &str,
+) -> Result<Rewritten, Stop<String>>
+    ensures { IfOk result (RenamesBy name.now document.now.text.now) }
+{
+    let Some(key) = renamable_at(alloc, document, at)? else {
+        return Err(Stop::Fault(String::from_str(alloc, "there is no key here")?));
+    };
+    let mut path = Vec::new(alloc);
+    for segment in &key.path {
+        path.push(segment.as_str())?;
+    }
+    let text = renamed(alloc, document.text, path.as_slice(), name)?;
+    let edits = mention_edits(alloc, document, at, name)?;
+    if turns(alloc, document.text, edits.as_slice(), text.as_str())? {
+        return Ok(Rewritten { edits, text });
+    }
+    let edits = differences(alloc, document.text, text.as_str())?;
+    Ok(Rewritten { edits, text })
+}

@@ -1,0 +1,24 @@
+//! Spans that contain others.
+ghost use Rattle.std.specs.Prelude.{◌≡◌, min, max};
+
+use toml_span_lex::span::Span;
+
+/// Returns the shortest span that contains both.
+pub(crate) fn cover(one: Span, other: Span) -> Span
+    ensures { result ≡ record { start = min one.start other.start; end = max one.end other.end } }
+{
+    Span {
+        start: one.start.min(other.start),
+        end: one.end.max(other.end),
+    }
+}
+
+/// Returns whether an offset is in a span or at its end.
+pub(crate) fn touches(span: Span, at: usize) -> bool {
+    span.start <= at && at <= span.end
+}
+
+/// Returns whether a span contains another one.
+pub(crate) fn contains(outer: Span, inner: Span) -> bool {
+    outer.start <= inner.start && inner.end <= outer.end
+}

@@ -1,0 +1,73 @@
+//! Answers about what is at a position: definitions, hovers and completion.
+use crate::outgoing::{flag, number, range, text, write_location};
+use json::Writer;
+use std::alloc::{AllocError, Global};
+use toml_span_editor::completion::{Proposal, proposals};
+use toml_span_editor::document::Document;
+use toml_span_editor::hover::hover_at;
+use toml_span_editor::keys::definition;
+use toml_span_editor::table::PositionTable;
+
+/// Writes the place where the key at an offset is defined, or null. Fails if an allocation fails.
+pub(crate) fn write_definition(
+    alloc: Global,
+    out: &mut Writer,
+    uri: &str,
+    table: &PositionTable<'_>,
+    document: &Document<'_>,
+    at: usize,
+) -> Result<(), AllocError> {
+    match definition(alloc, document, at)? {
+        Some(span) => write_location(out, uri, table.range(span)),
+        None => out.null(),
+    }
+}
+
+/// Writes what is known about the key or value at an offset, or null. Fails if an allocation fails.
+pub(crate) fn write_hover(
+    alloc: Global,
+    out: &mut Writer,
+    table: &PositionTable<'_>,
+    document: &Document<'_>,
+    at: usize,
+) -> Result<(), AllocError> {
+    let Some(found) = hover_at(alloc, document, at)? else {
+        return out.null();
+    };
+    out.begin_object()?;
+    out.key("contents")?;
+    out.begin_object()?;
+    text(out, "kind", "markdown")?;
+    text(out, "value", found.text.as_str())?;
+    out.end_object()?;
+    range(out, "range", table.range(found.span))?;
+    out.end_object()
+}
+
+/// Writes a proposal. Fails if an allocation fails.
+fn write_proposal(out: &mut Writer, proposal: &Proposal) -> Result<(), AllocError> {
+    out.begin_object()?;
+    text(out, "label", proposal.text.as_str())?;
+    number(out, "kind", if proposal.is_key { 10 } else { 14 })?;
+    text(out, "detail", proposal.kind)?;
+    out.end_object()
+}
+
+/// Writes what can be written at an offset. Fails if an allocation fails.
+pub(crate) fn write_proposals(
+    alloc: Global,
+    out: &mut Writer,
+    table: &PositionTable<'_>,
+    document: &Document<'_>,
+    at: usize,
+) -> Result<(), AllocError> {
+    out.begin_object()?;
+    flag(out, "isIncomplete", false)?;
+    out.key("items")?;
+    out.begin_array()?;
+    for proposal in &proposals(alloc, table.text, document, at)? {
+        write_proposal(out, proposal)?;
+    }
+    out.end_array()?;
+    out.end_object()
+}

@@ -1,0 +1,97 @@
+//! Answers that are edits: renames and formatting.
+use crate::incoming::{range_of, text_in};
+use crate::outgoing::{range, text, write_edits, write_workspace_edit};
+use crate::refusal::{INVALID_PARAMS, REQUEST_FAILED, Refusal, refused};
+use json::{Value, Writer};
+use std::alloc::{AllocError, Global};
+use toml_span_editor::document::read;
+use toml_span_editor::formatting::{formatting, formatting_of};
+use toml_span_editor::positions::offset_at;
+use toml_span_editor::renaming::{renamable_at, rename};
+use toml_span_editor::table::PositionTable;
+use toml_span_format::Options;
+use toml_span_lex::span::Span;
+use toml_span_lex::stop::Stop;
+
+/// Writes the edits that rename the key at an offset. Fails with the reason if the rename is refused, or if an
+/// allocation fails.
+pub(crate) fn write_rename(
+    alloc: Global,
+    out: &mut Writer,
+    uri: &str,
+    table: &PositionTable<'_>,
+    at: usize,
+    params: &Value<'_>,
+) -> Result<(), Stop<Refusal>> {
+    let Some(name) = text_in(params, &["newName"]) else {
+        return Err(refused(alloc, INVALID_PARAMS, "`newName` must be a text"));
+    };
+    let Some(document) = read(alloc, table.text)? else {
+        let words = "the document has errors: correct them first";
+        return Err(refused(alloc, REQUEST_FAILED, words));
+    };
+    match rename(alloc, &document, at, name) {
+        Ok(made) => Ok(write_workspace_edit(out, uri, table, made.edits.as_slice())?),
+        Err(stop) => {
+            let reason = stop.fault()?;
+            Err(refused(alloc, REQUEST_FAILED, reason.as_str()))
+        }
+    }
+}
+
+/// Writes the key at an offset that can be renamed, or null. Fails if an allocation fails.
+pub(crate) fn write_renamable(
+    alloc: Global,
+    out: &mut Writer,
+    table: &PositionTable<'_>,
+    at: usize,
+) -> Result<(), AllocError> {
+    let Some(document) = read(alloc, table.text)? else {
+        return out.null();
+    };
+    let Some(key) = renamable_at(alloc, &document, at)? else {
+        return out.null();
+    };
+    out.begin_object()?;
+    range(out, "range", table.range(key.span))?;
+    text(out, "placeholder", key.name.as_str())?;
+    out.end_object()
+}
+
+/// Returns the options of the formatter: the width from the start of the server, and the indentation from the request.
+fn options_of(width: Option<usize>, params: &Value<'_>) -> Options {
+    let mut options = Options::new();
+    if let Some(width) = width {
+        options = options.with_width(width);
+    }
+    let asked = params.get("options").and_then(|asked| asked.get("tabSize"));
+    match asked.and_then(|size| size.as_u64()) {
+        Some(size) if size <= 64 => options.with_indent(size as usize),
+        _ => options,
+    }
+}
+
+/// Writes the edits that format a document, or the lines of a range of it, or null. Fails if an allocation fails.
+pub(crate) fn write_formatting(
+    alloc: Global,
+    out: &mut Writer,
+    table: &PositionTable<'_>,
+    width: Option<usize>,
+    params: &Value<'_>,
+) -> Result<(), AllocError> {
+    let options = options_of(width, params);
+    let made = match params.get("range").and_then(|range| range_of(range)) {
+        None => formatting(alloc, table.text, options)?,
+        Some(range) => {
+            let span = Span {
+                start: offset_at(table.encoding, table.text, range.start),
+                end: offset_at(table.encoding, table.text, range.end),
+            };
+            formatting_of(alloc, table.text, options, span)?
+        }
+    };
+    match made {
+        Some(made) => write_edits(out, table, made.edits.as_slice()),
+        None => out.null(),
+    }
+}

@@ -1,0 +1,99 @@
+//! Messages from the client (JSON-RPC 2.0).
+use json::Value;
+use toml_span_editor::positions::{Position, Range};
+
+/// The id of a request.
+#[derive(Clone, Copy, Debug)]
+pub(crate) enum Id<'v> {
+    Null,
+    Number(i64),
+    Text(&'v str),
+}
+
+/// A request or a notification.
+#[derive(Clone, Copy)]
+pub(crate) struct Call<'v, 'j> {
+    /// The id of a request. `None` for a notification.
+    pub id: Option<Id<'v>>,
+    pub method: &'v str,
+    pub params: &'v Value<'j>,
+}
+
+/// A message.
+#[derive(Clone, Copy)]
+pub(crate) enum Message<'v, 'j> {
+    Call(Call<'v, 'j>),
+    /// A response to a request of the server, which sends none.
+    Response,
+    /// Not a message of JSON-RPC 2.0. This is its id, if it has one.
+    Invalid(Id<'v>),
+}
+
+/// Returns the id of a message: `None` if it has none, or an error if it is neither a number nor a text.
+fn id_of<'v, 'j>(message: &'v Value<'j>) -> Result<Option<Id<'v>>, ()> {
+    match message.get("id") {
+        None => Ok(None),
+        Some(Value::Null) => Ok(Some(Id::Null)),
+        Some(Value::String(text)) => Ok(Some(Id::Text(*text))),
+        Some(id) => match id.as_i64() {
+            Some(number) => Ok(Some(Id::Number(number))),
+            None => Err(()),
+        },
+    }
+}
+
+/// Returns a value as a message.
+pub(crate) fn message_of<'v, 'j>(value: &'v Value<'j>) -> Message<'v, 'j> {
+    let Ok(id) = id_of(value) else {
+        return Message::Invalid(Id::Null);
+    };
+    let known = id.unwrap_or(Id::Null);
+    if value.get("jsonrpc").and_then(|version| version.as_str()) != Some("2.0") {
+        return Message::Invalid(known);
+    }
+    match value.get("method") {
+        Some(Value::String(method)) => Message::Call(Call {
+            id,
+            method: *method,
+            params: value.get("params").unwrap_or(value),
+        }),
+        Some(_) => Message::Invalid(known),
+        None if value.get("result").is_some() || value.get("error").is_some() => Message::Response,
+        None => Message::Invalid(known),
+    }
+}
+
+/// Returns the member of a value that a path of names leads to.
+pub(crate) fn member<'v, 'j>(value: &'v Value<'j>, names: &[&str]) -> Option<&'v Value<'j>> {
+    let [name, rest @ ..] = names else {
+        return Some(value);
+    };
+    member(value.get(*name)?, rest)
+}
+
+/// Returns the text at these names.
+pub(crate) fn text_in<'v>(value: &'v Value<'_>, names: &[&str]) -> Option<&'v str> {
+    member(value, names)?.as_str()
+}
+
+/// Returns the number at a name, if it is an integer that is not negative.
+fn count_in(value: &Value<'_>, name: &str) -> Option<usize> {
+    let count = value.get(name)?.as_u64()?;
+    usize::try_from(count).ok()
+}
+
+/// Returns a value as a position.
+pub(crate) fn position_of(value: &Value<'_>) -> Option<Position> {
+    Some(Position {
+        line: count_in(value, "line")?,
+        character: count_in(value, "character")?,
+    })
+}
+
+/// Returns a value as a range.
+pub(crate) fn range_of(value: &Value<'_>) -> Option<Range> {
+    Some(Range {
+        start: position_of(value.get("start")?)?,
+        end: position_of(value.get("end")?)?,
+    })
+}

@@ -1,0 +1,25 @@
+//! The language server: messages of the Language Server Protocol 3.17 over standard input and output. What it says
+//! about a text comes from `toml_span_editor`.
+#![tactic(auto)]
+
+mod actions;
+mod answers;
+mod capabilities;
+mod edits;
+mod frames;
+mod incoming;
+mod lists;
+mod methods;
+mod outgoing;
+mod publish;
+mod refusal;
+mod requests;
+mod server;
+mod state;
+mod steps;
+mod sync;
+
+pub use frames::{FrameFault, Framed, LIMIT, frame, push_frame};
+pub use server::{Ended, serve};
+pub use state::State;
+pub use steps::step;

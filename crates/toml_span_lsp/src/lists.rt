@@ -1,0 +1,196 @@
+//! Answers that are lists of places in a document: symbols, folds, selections, highlights, references and tokens.
+use crate::outgoing::{number, range, text, write_location};
+use json::Writer;
+use std::alloc::{AllocError, Global};
+use toml_span_editor::document::Document;
+use toml_span_editor::folding::folds;
+use toml_span_editor::keys::mentions;
+use toml_span_editor::outline::{Symbol, outline};
+use toml_span_editor::positions::FIRST;
+use toml_span_editor::selection::selections;
+use toml_span_editor::table::PositionTable;
+use toml_span_editor::tokens::{Meaning, tokens};
+
+/// Returns the number of a kind of symbols (LSP 3.17, SymbolKind).
+fn symbol_kind(kind: &str) -> usize {
+    match kind {
+        "table" => 19,
+        "array" => 18,
+        "string" => 15,
+        "integer" | "float" => 16,
+        "boolean" => 17,
+        _ => 14,
+    }
+}
+
+/// Writes a symbol with those inside it. Fails if an allocation fails.
+fn write_symbol(
+    out: &mut Writer,
+    table: &PositionTable<'_>,
+    symbol: &Symbol,
+) -> Result<(), AllocError> {
+    out.begin_object()?;
+    let name = if symbol.name.is_empty() {
+        "\"\""
+    } else {
+        symbol.name.as_str()
+    };
+    text(out, "name", name)?;
+    number(out, "kind", symbol_kind(symbol.kind))?;
+    range(out, "range", table.range(symbol.span))?;
+    range(out, "selectionRange", table.range(symbol.selection))?;
+    out.key("children")?;
+    out.begin_array()?;
+    for child in &symbol.children {
+        write_symbol(out, table, child)?;
+    }
+    out.end_array()?;
+    out.end_object()
+}
+
+/// Writes the outline of a document. Fails if an allocation fails.
+pub(crate) fn write_symbols(
+    alloc: Global,
+    out: &mut Writer,
+    table: &PositionTable<'_>,
+    document: &Document<'_>,
+) -> Result<(), AllocError> {
+    out.begin_array()?;
+    for symbol in &outline(alloc, document)? {
+        write_symbol(out, table, symbol)?;
+    }
+    out.end_array()
+}
+
+/// Writes the lines that can be folded. Fails if an allocation fails.
+pub(crate) fn write_folds(
+    alloc: Global,
+    out: &mut Writer,
+    table: &PositionTable<'_>,
+    document: &Document<'_>,
+) -> Result<(), AllocError> {
+    out.begin_array()?;
+    for fold in &folds(alloc, document)? {
+        let place = table.range(fold.span);
+        let is_before = place.end.character == 0 && place.start.line < place.end.line;
+        let end = place.end.line.saturating_sub(if is_before { 1 } else { 0 });
+        if place.start.line < end {
+            out.begin_object()?;
+            number(out, "startLine", place.start.line)?;
+            number(out, "endLine", end)?;
+            text(
+                out,
+                "kind",
+                if fold.is_comment { "comment" } else { "region" },
+            )?;
+            out.end_object()?;
+        }
+    }
+    out.end_array()
+}
+
+/// Writes the ranges around an offset, each with the next one as its parent. Fails if an allocation fails.
+pub(crate) fn write_selection(
+    alloc: Global,
+    out: &mut Writer,
+    table: &PositionTable<'_>,
+    document: &Document<'_>,
+    at: usize,
+) -> Result<(), AllocError> {
+    let spans = selections(alloc, document, at)?;
+    for (index, span) in spans.iter().enumerate() {
+        if index > 0 {
+            out.key("parent")?;
+        }
+        out.begin_object()?;
+        range(out, "range", table.range(*span))?;
+    }
+    for _ in &spans {
+        out.end_object()?;
+    }
+    Ok(())
+}
+
+/// Writes the places where the key at an offset is written, to be highlighted. Fails if an allocation fails.
+pub(crate) fn write_highlights(
+    alloc: Global,
+    out: &mut Writer,
+    table: &PositionTable<'_>,
+    document: &Document<'_>,
+    at: usize,
+) -> Result<(), AllocError> {
+    out.begin_array()?;
+    for mention in &mentions(alloc, document, at)? {
+        out.begin_object()?;
+        range(out, "range", table.range(mention.span))?;
+        out.end_object()?;
+    }
+    out.end_array()
+}
+
+/// Writes the places where the key at an offset is written: with or without those where it is defined. Fails if an
+/// allocation fails.
+pub(crate) fn write_references(
+    alloc: Global,
+    out: &mut Writer,
+    uri: &str,
+    table: &PositionTable<'_>,
+    document: &Document<'_>,
+    at: usize,
+    with_definitions: bool,
+) -> Result<(), AllocError> {
+    out.begin_array()?;
+    for mention in &mentions(alloc, document, at)? {
+        if with_definitions || !mention.is_definition {
+            write_location(out, uri, table.range(mention.span))?;
+        }
+    }
+    out.end_array()
+}
+
+/// Returns the number of the type of a token, as `initialize` lists them.
+fn token_type(meaning: Meaning) -> usize {
+    match meaning {
+        Meaning::Comment => 0,
+        Meaning::Table => 1,
+        Meaning::Key => 2,
+        Meaning::String => 3,
+        Meaning::Number => 4,
+        Meaning::Boolean => 5,
+    }
+}
+
+/// Writes the tokens of a document, each as five numbers: lines and characters since the one before it, its length, its
+/// type, and no modifiers. Fails if an allocation fails.
+pub(crate) fn write_tokens(
+    alloc: Global,
+    out: &mut Writer,
+    table: &PositionTable<'_>,
+    document: &Document<'_>,
+) -> Result<(), AllocError> {
+    let mut last = FIRST;
+    out.begin_object()?;
+    out.key("data")?;
+    out.begin_array()?;
+    for token in &tokens(alloc, document)? {
+        let place = table.range(token.span);
+        let front = if place.start.line == last.line {
+            last.character
+        } else {
+            0
+        };
+        let numbers = [
+            place.start.line.saturating_sub(last.line),
+            place.start.character.saturating_sub(front),
+            place.end.character.saturating_sub(place.start.character),
+            token_type(token.meaning),
+            0,
+        ];
+        for number in &numbers {
+            out.u64(*number as u64)?;
+        }
+        last = place.start;
+    }
+    out.end_array()?;
+    out.end_object()
+}

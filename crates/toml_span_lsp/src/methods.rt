@@ -1,0 +1,43 @@
+//! The requests that the server answers.
+
+/// A request about a document.
+#[derive(Clone, Copy, Debug, PartialEq, Eq)]
+pub(crate) enum Method {
+    Symbols,
+    Folds,
+    Selections,
+    Highlights,
+    References,
+    Definition,
+    Hover,
+    Rename,
+    PrepareRename,
+    Format,
+    FormatRange,
+    Actions,
+    Complete,
+    Tokens,
+    Diagnose,
+}
+
+/// Returns the request with this name.
+pub(crate) fn method_named(name: &str) -> Option<Method> {
+    match name {
+        "textDocument/documentSymbol" => Some(Method::Symbols),
+        "textDocument/foldingRange" => Some(Method::Folds),
+        "textDocument/selectionRange" => Some(Method::Selections),
+        "textDocument/documentHighlight" => Some(Method::Highlights),
+        "textDocument/references" => Some(Method::References),
+        "textDocument/definition" => Some(Method::Definition),
+        "textDocument/hover" => Some(Method::Hover),
+        "textDocument/rename" => Some(Method::Rename),
+        "textDocument/prepareRename" => Some(Method::PrepareRename),
+        "textDocument/formatting" => Some(Method::Format),
+        "textDocument/rangeFormatting" => Some(Method::FormatRange),
+        "textDocument/codeAction" => Some(Method::Actions),
+        "textDocument/completion" => Some(Method::Complete),
+        "textDocument/semanticTokens/full" => Some(Method::Tokens),
+        "textDocument/diagnostic" => Some(Method::Diagnose),
+        _ => None,
+    }
+}

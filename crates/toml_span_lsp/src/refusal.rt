@@ -1,0 +1,44 @@
+//! Errors that a request is answered with.
+use std::alloc::{AllocError, Global};
+use toml_span_lex::stop::Stop;
+
+/// The content of a message is not JSON.
+pub(crate) const PARSE_ERROR: i64 = -32700;
+
+/// A message is JSON, but neither a request nor a notification or a response.
+pub(crate) const INVALID_REQUEST: i64 = -32600;
+
+/// The method of a request is not known.
+pub(crate) const METHOD_NOT_FOUND: i64 = -32601;
+
+/// The parameters of a request lack something, or a part of them has the wrong type.
+pub(crate) const INVALID_PARAMS: i64 = -32602;
+
+/// A request came before `initialize`.
+pub(crate) const NOT_INITIALIZED: i64 = -32002;
+
+/// A request was refused for a reason that its message states.
+pub(crate) const REQUEST_FAILED: i64 = -32803;
+
+/// Why a request is answered with an error.
+#[derive(Debug, Drop)]
+pub(crate) struct Refusal {
+    pub code: i64,
+    pub message: String,
+}
+
+/// Returns a refusal with a copy of the message. Fails if an allocation fails.
+pub(crate) fn refusal_with(alloc: Global, code: i64, message: &str) -> Result<Refusal, AllocError> {
+    Ok(Refusal {
+        code,
+        message: String::from_str(alloc, message)?,
+    })
+}
+
+/// Returns a refusal as an error.
+pub(crate) fn refused(alloc: Global, code: i64, message: &str) -> Stop<Refusal> {
+    match refusal_with(alloc, code, message) {
+        Ok(refusal) => Stop::Fault(refusal),
+        Err(error) => Stop::Memory(error),
+    }
+}

@@ -1,0 +1,163 @@
+//! The loop of the server: reads frames and writes the answers.
+ghost use Rattle.std.specs.Prelude.{◌≡◌, ◌≤◌, IfNone, IfOk, IfSome, false};
+ghost use Rattle.std.specs.List.{flat_map};
+ghost use Rattle.toml_span_lsp.specs.Frames as spec;
+ghost use Rattle.toml_span_lsp.specs.Frames.{AreFrames, Writes, WritesFront};
+
+use crate::frames::{FrameFault, Framed, frame, push_frame};
+use crate::state::State;
+use crate::steps::step;
+use std::alloc::{AllocError, Global};
+use toml_span_lines::run::write_bytes;
+use toml_span_lines::sink::Sink;
+use toml_span_lines::source::Source;
+
+/// How the server ended.
+#[derive(Clone, Copy, Debug, PartialEq, Eq)]
+pub struct Ended {
+    /// The exit status: 0 after `shutdown` and `exit`, 1 if the client has left without them, 2 if the input has no
+    /// frames, 3 if a read or a write failed, and 4 if an allocation failed.
+    pub status: u8,
+    /// What was wrong, or an empty text.
+    pub reason: &'static str,
+}
+
+/// Returns the reason why a frame can't be read.
+fn reason_of(fault: FrameFault) -> &'static str {
+    match fault {
+        FrameFault::Headers => "the input has no headers of messages",
+        FrameFault::Length => "a message has no header `Content-Length` with a number",
+        FrameFault::TooLong => "a message is longer than 64 MiB",
+    }
+}
+
+/// Returns the end with this status and reason.
+fn end_with(status: u8, reason: &'static str) -> Ended
+    ensures { result.status ≡ status }
+{
+    Ended { status, reason }
+}
+
+/// Returns the bytes of frames with these contents, in order. Fails if an allocation fails.
+fn frames_of(alloc: Global, contents: &[Vec<u8>]) -> Result<Vec<u8>, AllocError>
+    ensures { IfOk result (λ out. out.items ≡ flat_map (λ content. spec.frame_of content.items) contents.now) }
+{
+    let mut out = Vec::new(alloc);
+    for content in contents {
+        push_frame(&mut out, content.as_slice())?;
+    }
+    Ok(out)
+}
+
+/// Answers a message: returns the bytes to write. Fails if an allocation fails.
+fn answer(alloc: Global, state: &mut State, content: &[u8]) -> Result<Vec<u8>, AllocError>
+    ensures { IfOk result (λ out. AreFrames out.items) }
+{
+    let contents = step(alloc, state, content)?;
+    let out = frames_of(alloc, contents.as_slice())?;
+    Ok(out)
+}
+
+/// Reads more bytes. Returns how the server ends if there are none.
+fn read_more<R: Source>(reader: &mut R, bytes: &mut Vec<u8>) -> Option<Ended>
+    ensures { IfSome result (λ end. end.status ≤ 4) }
+{
+    let mut buffer = [0u8; 8192];
+    match reader.read(&mut buffer) {
+        Ok(0) if bytes.is_empty() => Some(end_with(1, "")),
+        Ok(0) => Some(end_with(2, "the input ends within a message")),
+        Ok(count) => match bytes.extend_from_slice(buffer.get(..count).unwrap_or(&[])) {
+            Ok(()) => None,
+            Err(_) => Some(end_with(4, "")),
+        },
+        Err(_) => Some(end_with(3, "the input can't be read")),
+    }
+}
+
+/// Answers the frame that the bytes begin with, and removes it from them. Returns how the server ends, if it does.
+fn take_frame<W: Sink>(
+    alloc: Global,
+    state: &mut State,
+    bytes: &mut Vec<u8>,
+    start: usize,
+    end: usize,
+    writer: &mut W,
+) -> Option<Ended>
+    requires { W.failed writer.old ≡ false }
+    ensures status { IfSome result (λ end. end.status ≤ 4) }
+    ensures writer { IfNone result (W.failed writer.new ≡ false) }
+    ensures frames { Writes result (W.contents writer.old) (W.contents writer.new) }
+{
+    let Ok(out) = answer(alloc, state, bytes.get(start..end).unwrap_or(&[])) else {
+        return Some(end_with(4, ""));
+    };
+    if !write_bytes(writer, out.as_slice()) {
+        return Some(end_with(3, "the output can't be written"));
+    }
+    let Ok(rest) = Vec::from_slice(alloc, bytes.get(end..).unwrap_or(&[])) else {
+        return Some(end_with(4, ""));
+    };
+    *bytes = rest;
+    match state.exit_status() {
+        Some(status) => Some(end_with(status, "")),
+        None => None,
+    }
+}
+
+/// Answers the next frame, or reads more of it. Returns how the server ends, if it does.
+fn next<R: Source, W: Sink>(
+    alloc: Global,
+    state: &mut State,
+    bytes: &mut Vec<u8>,
+    reader: &mut R,
+    writer: &mut W,
+) -> Option<Ended>
+    requires { W.failed writer.old ≡ false }
+    ensures status { IfSome result (λ end. end.status ≤ 4) }
+    ensures writer { IfNone result (W.failed writer.new ≡ false) }
+    ensures frames { Writes result (W.contents writer.old) (W.contents writer.new) }
+{
+    match frame(bytes.as_slice()) {
+        Framed::Part => read_more(reader, bytes),
+        Framed::Fault(fault) => Some(end_with(2, reason_of(fault))),
+        Framed::Whole { start, end } => take_frame(alloc, state, bytes, start, end, writer),
+    }
+}
+
+/// Runs the server until the client ends it, or something is wrong. Returns the exit status and the reason. What is
+/// written is frames, one after the other; the last may be cut off if a write fails.
+pub fn serve<R: Source, W: Sink>(alloc: Global, reader: &mut R, writer: &mut W) -> Ended
+    requires { W.failed writer.old ≡ false }
+    ensures status { result.status ≤ 4 }
+    ensures frames { WritesFront (W.contents writer.old) (W.contents writer.new) }
+{
+    let mut state = State::new(alloc);
+    let mut bytes = Vec::new(alloc);
+    'messages: for _ in 0..u64::MAX {
+        match next(alloc, &mut state, &mut bytes, reader, writer) {
+            Some(end) => return end,
+            None => {}
+        }
+    }
+    end_with(3, "")
+}
+
+#[cfg(test)]
+mod tests {
+    use crate::state::State;
+    use crate::steps::step;
+    use std::test::Fail;
+
+    #[test]
+    fn answers(rt: HostRuntime) -> Result<(), Fail> {
+        let mut state = State::new(rt.alloc());
+        let first = r#"{"jsonrpc":"2.0","id":1,"method":"initialize","params":{}}"#;
+        let replies = step(rt.alloc(), &mut state, first.as_bytes())?;
+        assert_eq!(rt; replies.len(), 1);
+        println!(rt;
+            "{}",
+            str::from_utf8(replies[0].as_slice()).ok().unwrap_or("")
+        )?;
+        Ok(())
+    }
+}
