@@ -44,7 +44,7 @@ enum {
 /* The maximum length of a document in bytes: 16 MiB. */
 #define TOML_SPAN_LONGEST 16777216
 
-/* Stack that is enough for any document, in bytes. At most 405 KB were
+/* Stack that is enough for any document, in bytes. At most 405 KiB were
    measured, in the build without proofs. */
 #define TOML_SPAN_STACK 458752
 

@@ -149,9 +149,11 @@ for name, it in helps.items():
         if value:
             bash.append(f"    *' {name} {names[-1]} '*) words='{values}' ;;")
         together = f"{quoted('(' + ' '.join(names) + ')')}{{{','.join(names)}}}" if names[1:] else names[0]
-        words.append(together + quoted(f"[{says}]" + (f":{value}:({values})" if value else "")))
+        kinds = "_files" if value == "file" else f"({values})"
+        words.append(together + quoted(f"[{says}]" + (f":{value}:{kinds}" if value else "")))
         names = " ".join(f"-l {it[2:]}" if it.startswith("--") else f"-s {it[1:]}" for it in names)
-        fish.append(f"{name}' {names} -d {quoted(says)}" + (f" -x -a '{values}'" if value else ""))
+        kinds = " -r -F" if value == "file" else f" -x -a '{values}'"
+        fish.append(f"{name}' {names} -d {quoted(says)}" + (kinds if value else ""))
     bash.append(f"    *' {name} '*' -'*) words='{' '.join(' '.join(names) for names, *_ in it.options)}' ;;")
     for at, argument in enumerate(it.arguments):
         action = " "

@@ -14,13 +14,13 @@ use toml_span_lex::key::Key;
 use toml_span_lex::span::Span;
 use toml_span_tree::{Array, Table, Value, ValueInner};
 
-/// Branches by name. Each is boxed because a leaf of the map has room for fifteen entries.
+/// Branches by name. They are boxed to keep the map's leaves small: a leaf has room for fifteen entries.
 pub type Branches<'de> = BTreeMap<Key<'de>, Box<Branch<'de>>>;
 
 /// A table or an array of tables under construction.
 ///
-/// Assigned values are final: `values` has them in the form that they have in the tree, and of their claims only the
-/// spans of the keys are kept. No name is in both `values` and `tables`.
+/// Assigned values are final: `values` holds them as the finished tree will. Of their claims, only the spans of the
+/// keys are kept. No name is in both `values` and `tables`.
 #[derive(Drop)]
 pub struct Branch<'de> {
     /// The claims on this branch.
@@ -29,7 +29,7 @@ pub struct Branch<'de> {
     pub values: Table<'de>,
     /// The tables and arrays of tables that headers and dotted keys created.
     pub tables: Branches<'de>,
-    /// The elements, if this is an array of tables. An array of tables has at least one.
+    /// The elements of an array of tables, which has at least one. Empty if this is a table.
     pub entries: Vec<Branch<'de>>,
 }
 
@@ -54,8 +54,8 @@ fn by_header(kind: ClaimKind) -> bool
     !matches!(kind, ClaimKind::Dotted | ClaimKind::Assigned)
 }
 
-/// Returns the claim that determines the spans of a branch: that of the first header or, if no header claims it, the
-/// first claim.
+/// Returns the claim that determines the spans of a branch: that of the first header or, if no header claims the
+/// branch, the first claim. Returns `None` if there are no claims.
 fn deciding(infos: &[ClaimInfo]) -> Option<ClaimInfo>
     ensures { result ≡ code.deciding infos.now }
 {
@@ -67,7 +67,8 @@ fn deciding(infos: &[ClaimInfo]) -> Option<ClaimInfo>
     infos.first().copied()
 }
 
-/// Returns the span of the key and the span of the branch, given the claims on it. Both are 0..0 if there are none.
+/// Returns the span of the key and the span of the branch, given the claims on the branch. Without claims, both are
+/// 0..0.
 fn spans(infos: &[ClaimInfo]) -> (Span, Span)
     ensures { IfSome (code.deciding infos.now) (λ m. result ≡ (m.key, m.extent)) }
 {
@@ -85,8 +86,8 @@ fn in_order(table: &Table<'_>)
     let _ = table.len();
 }
 
-/// Returns a finished table: `values`, and the values that the branches in `tables` become. Fails if an allocation
-/// fails, which can only happen if there are branches.
+/// Returns a finished table: the entries of `values`, and the branches of `tables` turned into values. Fails if an
+/// allocation fails, which can only happen if there are branches.
 #[cycle(finish)]
 pub fn into_table<'de>(
     tables: Branches<'de>,
@@ -113,8 +114,8 @@ pub fn into_table<'de>(
     Ok(values)
 }
 
-/// Turns a branch, which is left empty, into a value. Returns it with the span of its key. Fails if an allocation
-/// fails.
+/// Turns a branch into a value, and leaves the branch empty. Returns the value with the span of its key. Fails if an
+/// allocation fails.
 #[cycle(finish)]
 fn into_value<'de>(node: &mut Branch<'de>) -> Result<(Span, Value<'de>), AllocError>
     ensures { Becomes node.old result }

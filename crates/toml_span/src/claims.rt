@@ -60,9 +60,10 @@ pub struct HeaderInfo {
 /// The kinds of clashes.
 #[derive(Clone, Copy)]
 pub enum ClashKind {
-    /// A table is defined twice.
+    /// A table is defined by two headers, at least one of them in single brackets.
     DuplicateTable,
-    /// A key is assigned twice, or assigned and defined as a table.
+    /// A key is assigned twice, a path is both assigned and defined as a table, or a table is defined by both a dotted
+    /// key and a header.
     DuplicateKey,
     /// A table that an earlier header passes through is defined as an array of tables.
     RedefineAsArray,
@@ -101,8 +102,8 @@ pub struct ClashInfo {
     pub span: Span,
 }
 
-/// Returns the spans of a clash of this kind: those of the keys for a duplicate key, otherwise those of the headers'
-/// lines.
+/// Returns a clash of this kind, with its spans: for a duplicate key, those of the two keys, otherwise those of the two
+/// headers' lines.
 fn clash_info_of(earlier: ClaimInfo, later: ClaimInfo, kind: ClashKind) -> ClashInfo
     ensures { result ≡ clashes.clash_info earlier later kind }
 {
@@ -179,7 +180,8 @@ fn same_kind(a: ClaimKind, b: ClaimKind) -> bool
     a as u8 == b as u8
 }
 
-/// Returns the clash of the claim `later` with the first of `infos` that it clashes with, or `None` if there is none.
+/// Returns the clash of the claim `later` with the first of `infos` that it clashes with, or `None` if it clashes with
+/// none.
 fn earliest_clash_info(infos: &[ClaimInfo], later: ClaimInfo) -> Option<ClashInfo>
     ensures { result ≡ kept.earliest_clash_info infos.now later }
 {
@@ -229,8 +231,8 @@ fn place_error(alloc: Global, clash_info: ClashInfo, key: &Key<'_>) -> PlaceErro
     }
 }
 
-/// Fails with the clash of the claim `info` with the first of `infos` that it clashes with, or if an allocation for
-/// that error fails.
+/// Checks the claim `info`, on a path whose last key is `key`, against the earlier claims `infos` on that path. Fails
+/// with the clash between `info` and the first of them that clashes with it, or if an allocation for that error fails.
 #[inline(always)]
 pub fn check_clash(
     alloc: Global,
@@ -246,8 +248,8 @@ pub fn check_clash(
     }
 }
 
-/// Adds a claim to those on a branch, unless one of its kind is there. Fails with a clash like `check_clash`, or if an
-/// allocation fails.
+/// Adds the claim `info` to the claims `infos` on a branch, unless a claim of its kind is already among them. Fails
+/// with a clash like `check_clash`, or if an allocation fails.
 #[inline(never)]
 pub fn record_claim(
     alloc: Global,

@@ -24,7 +24,7 @@ use toml_span_tree::{Error, Value};
 const LIMIT: usize = 128;
 
 /// Reads the sections of a text, and adds each to the assembly as soon as it is read. Fails with the first fault, or if
-/// an allocation fails. Reading goes on after a clash: the assembly keeps the first one.
+/// an allocation fails. Reading goes on after a clash, and the assembly keeps the first clash.
 fn assemble<'de>(alloc: Global, text: &'de str, limit: usize) -> Result<Assembly<'de>, Stop<Fault>>
     requires some { 1 ≤ limit }
     requires small { limit ≤ depth_limit }
@@ -73,9 +73,9 @@ fn tree_of<'de>(assembly: Assembly<'de>, text: &'de str) -> Result<Value<'de>, S
 
 /// Parses a TOML 1.1 document with the default limit of 128: see `parse_with_limit`.
 ///
-/// Returns the first fault, that is, the first thing in the text that can't be read. If there is none, returns the
-/// first clash of two keys or headers, such as a table that is defined twice. Returns `Stop::Memory` if an allocation
-/// fails.
+/// Fails with the first fault, that is, the first thing in the text that can't be read. If there is none, fails with
+/// the first clash of two keys or headers, such as a table that is defined twice. Fails with `Stop::Memory` if an
+/// allocation fails.
 pub fn parse<'de>(alloc: Global, s: &'de str) -> Result<Value<'de>, Stop<Error<'de>>>
     ensures answers { IsParseResult s.now depth_limit result }
     ensures root { IfOk result (IsRoot (length s.now)) }

@@ -40,7 +40,7 @@ pub mod tokens {
     pub use toml_span_lex::tokens::{Error, Token};
 }
 
-/// The values of a tree, and their errors.
+/// The values of a tree, and functions that find and list them.
 pub mod value {
     pub use toml_span_lex::key::Key;
     pub use toml_span_tree::nodes::{Step, Visited, nodes};

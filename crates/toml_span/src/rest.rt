@@ -4,13 +4,13 @@ ghost use Rattle.std.specs.Iterator.{YieldsFirst, item_count};
 
 use std::marker::Model;
 
-/// A list whose buffer has room for at most this many items keeps it to the end.
+/// A list whose buffer has room for at most this many items keeps its buffer to the end.
 const SMALL_BLOCK: usize = 4096;
 
 /// The remaining items of a list that is consumed from the front. It frees memory on the way.
 ///
-/// A `Vec` keeps its buffer until it is dropped. This list shrinks the buffer when a quarter of it is unused. Shrinking
-/// may move the remaining items, but in total there are fewer than four moves per item of the list.
+/// A `Vec` keeps its buffer until it is dropped. This list shrinks the buffer when more than a quarter of it is unused.
+/// Shrinking may move the remaining items, but in total there are fewer than four moves per item of the list.
 #[derive(Drop)]
 pub struct Rest<T> {
     /// The items in reverse order: the next one is the last of this vector.
@@ -26,7 +26,7 @@ impl<T> Model for Rest<T> {
 }
 
 impl<T> Rest<T> {
-    /// Wraps a list. Its first item comes first.
+    /// Wraps a list, whose items are then returned in order.
     pub fn new(mut items: Vec<T>) -> Self
         ensures { result ≡ items.items }
     {

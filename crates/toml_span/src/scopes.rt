@@ -32,7 +32,7 @@ use toml_span_tree::{Array, Table, Value, ValueInner};
 /// because the system clears memory before it hands it out again.
 const SHORT_LIST: usize = 65_536;
 
-/// Returns the claim of a part of an assignment's key. `span` is that of the value.
+/// Returns the claim that a part of an assignment's key makes. `span` is the span of the value.
 fn pair_info(kind: ClaimKind, key: &Key<'_>, span: Span) -> ClaimInfo
     ensures { result ≡ record { kind = kind; key = key.now.span; line = span; extent = span } }
 {
@@ -44,8 +44,7 @@ fn pair_info(kind: ClaimKind, key: &Key<'_>, span: Span) -> ClaimInfo
     }
 }
 
-/// Fails with the clash of the claim `info` with the value in `values` that `key` names, if there is one and they
-/// clash, or if an allocation fails.
+/// Fails if the claim `info` clashes with the value in `values` that `key` names, or if an allocation fails.
 fn check_beside_value<'de>(
     alloc: Global,
     values: &Table<'de>,
@@ -66,8 +65,7 @@ fn check_beside_value<'de>(
     }
 }
 
-/// Returns a new branch for `key`, without claims. Fails with the clash of the claim `info` with a value of that name,
-/// as `check_beside_value` does, or if an allocation fails.
+/// Returns a new branch for `key`, without claims. Fails like `check_beside_value`, or if an allocation fails.
 #[inline(never)]
 pub(crate) fn fresh_child<'de>(
     alloc: Global,
@@ -83,8 +81,7 @@ pub(crate) fn fresh_child<'de>(
     Ok(child)
 }
 
-/// Fails with the clash of the claim `info` with the branch in `tables` that `key` names, if there is one and they
-/// clash, or if an allocation fails.
+/// Fails if the claim `info` clashes with the branch in `tables` that `key` names, or if an allocation fails.
 #[inline(always)]
 fn check_beside_table<'de>(
     alloc: Global,
@@ -101,8 +98,9 @@ fn check_beside_table<'de>(
     }
 }
 
-/// Assigns a value to the name `key` in a branch. `span` is that of the value. Fails with the clash of the key, if any,
-/// otherwise with the clash inside the value, or if an allocation fails.
+/// Assigns a value to the name `key` in a branch. `value` is the converted value, or the error of its conversion, and
+/// `span` is its span. Fails with the clash of the key or, if the key does not clash, with the error in `value`, or if
+/// an allocation fails.
 #[inline(never)]
 fn assign<'de>(
     alloc: Global,
@@ -145,8 +143,8 @@ struct Pending<'de> {
     value: Result<Value<'de>, PlaceError>,
 }
 
-/// Assigns the pending value in this branch, which its key has led to. Fails with the first clash, or if an allocation
-/// fails.
+/// Assigns the pending value in `node`, the branch to which the inner parts of its key have led. Fails with the first
+/// clash, or if an allocation fails.
 #[inline(never)]
 fn assign_pending<'de>(
     alloc: Global,
@@ -166,11 +164,12 @@ fn assign_pending<'de>(
     }
 }
 
-/// Places the pending value at the end of the path of `inner`, the parts of its key before the last, which begins at
-/// this branch. `span` is that of the value. Fails with the first clash, or if an allocation fails.
+/// Follows `inner`, the parts of a dotted key before the last, from the branch `node`, and assigns the pending value in
+/// the branch to which they lead. `span` is the span of the value. Fails with the first clash, or if an allocation
+/// fails.
 ///
-/// An inline table is a scope of its own. Its clashes come after those of the key to which it is assigned, as in the
-/// text.
+/// An inline table is a scope of its own. A clash inside it is reported only if the key to which it is assigned does
+/// not clash, because the key comes first in the text.
 #[cycle(place_pair)]
 #[inline(always)]
 fn place_pair<'de>(
@@ -218,7 +217,8 @@ fn pass_child<'de>(
     pass_pair(alloc, child.as_mut(), part, rest, pending, span)
 }
 
-/// Claims the branch that the inner part `part` names, and places the pending value below it. Fails like `place_pair`.
+/// Claims `node`, the branch that the inner part `part` names, and places the pending value below it. Fails like
+/// `place_pair`.
 #[cycle(place_pair)]
 #[inline(always)]
 fn pass_pair<'de>(
@@ -320,7 +320,8 @@ fn table_of<'de>(alloc: Global, pairs: Vec<Assignment<'de>>) -> Result<Table<'de
     Ok(into_table(scope.tables, scope.values)?)
 }
 
-/// Converts the elements of an array. Fails with the first clash in one of them, or if an allocation fails.
+/// Converts the elements of an array into values of the tree. Fails with the first clash in one of them, or if an
+/// allocation fails.
 #[cycle(value_of)]
 fn array_of<'de>(alloc: Global, elements: Vec<Val<'de>>) -> Result<Array<'de>, PlaceError>
     ensures scope { ScopeGives result (λ xs. inner_view (inners.Array xs))
@@ -335,7 +336,8 @@ fn array_of<'de>(alloc: Global, elements: Vec<Val<'de>>) -> Result<Array<'de>, P
     Ok(array)
 }
 
-/// Converts a value, as it was read, into one of the tree. Fails with the first clash in it, or if an allocation fails.
+/// Converts a value, as it was read, into a value of the tree. Fails with the first clash inside it, or if an
+/// allocation fails.
 #[cycle(value_of)]
 #[inline(always)]
 fn value_of<'de>(alloc: Global, val: Val<'de>) -> Result<Value<'de>, PlaceError>

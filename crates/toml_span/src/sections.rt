@@ -52,8 +52,9 @@ fn claim_kind(head: HeaderInfo, rest: &[Key<'_>]) -> ClaimKind
     }
 }
 
-/// Places a section at the end of the path of `parts`, the rest of its header, which begins at this branch. Fails with
-/// the first clash, or if an allocation fails.
+/// Follows `parts`, the remaining parts of a section's header, from the branch `node`, and places the section in the
+/// branch to which they lead. `pairs` are the assignments of the section. Fails with the first clash, or if an
+/// allocation fails.
 #[cycle(place_section)]
 #[inline(always)]
 fn place_section<'de>(
@@ -97,8 +98,8 @@ fn pass_child<'de>(
     pass_header(alloc, child.as_mut(), part, rest, head, pairs)
 }
 
-/// Places a section, given the branch that `part` of its header names. If more parts follow and the branch is an array
-/// of tables, the path goes on in its latest element (TOML 1.1, Array of Tables). Fails like `place_section`.
+/// Places a section, where `node` is the branch that `part` of its header names. If more parts follow and the branch is
+/// an array of tables, the path goes on in its latest element (TOML 1.1, Array of Tables). Fails like `place_section`.
 #[cycle(place_section)]
 #[inline(always)]
 fn pass_header<'de>(
@@ -122,7 +123,7 @@ fn pass_header<'de>(
     }
 }
 
-/// Claims a branch that the header passes through, and places the section below it. Fails like `place_section`.
+/// Claims `node`, a branch that the header passes through, and places the section below it. Fails like `place_section`.
 #[cycle(place_section)]
 fn descend<'de>(
     alloc: Global,

@@ -209,9 +209,9 @@ fn put_changed(
 
 /// Applies the changes to a document, one after the other, and writes the new text to `out` if it fits.
 ///
-/// Returns one of these statuses. No other output is written.
+/// Returns one of these statuses. Outputs that the status does not mention stay as they are.
 ///
-/// - 0: `needed` is the length of the new text.
+/// - 0: `out` has the new text, if it fits, and `needed` is the length of the new text.
 /// - 1: the document is not valid TOML; `fault` is its error.
 /// - 2: the document is longer than 16 MiB, or not valid UTF-8.
 /// - 3: a change was refused; `refused` is its index, `out` has as much of the message as fits, and `needed` is the

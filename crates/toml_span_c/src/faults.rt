@@ -11,7 +11,7 @@ use toml_span_tree::{Error, ErrorKind};
 #[repr(C)]
 #[derive(Clone, Copy)]
 pub struct FaultRecord {
-    /// The number of the kind of error. `toml_span_code` returns its name.
+    /// The number of the kind of error. `toml_span_code` writes the name of the kind.
     pub code: u32,
     /// 1 if `first` is set, otherwise 0.
     pub has_first: u32,

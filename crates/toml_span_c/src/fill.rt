@@ -39,8 +39,8 @@ fn room_of<T>(array: &[T]) -> usize
     array.len()
 }
 
-/// Writes as many of the bytes into the string array as fit, at the index `count`, and adds the number of all of them
-/// to `count`.
+/// Writes as many of the bytes into the string array as fit, at the index `count`, and adds the number of all bytes,
+/// even those that don't fit, to `count`.
 fn put_bytes(strings: &mut [u8], count: &mut usize, bytes: &[u8])
     ensures { (m : ℕ) → count.old ≡ m → m + length bytes.now ≤ NONE
         → PutsBytes m bytes.now strings.old strings.new count.new }
@@ -54,8 +54,8 @@ fn put_bytes(strings: &mut [u8], count: &mut usize, bytes: &[u8])
     *count = at.saturating_add(bytes.len());
 }
 
-/// Returns where C finds a text: in the document, if it is there at the span, otherwise in the string array, into which
-/// it is written.
+/// Returns where C finds a text: in the document, if that has exactly this text at the span, otherwise in the string
+/// array, into which this function writes it (see `put_bytes`). Without a text, returns an empty one.
 #[inline(always)]
 fn put_text(
     document: &str,
@@ -94,7 +94,7 @@ fn put_text(
     }
 }
 
-/// Writes a record at the index `at`, if that is in the array.
+/// Writes a record at the index `at`, if the array has that index.
 fn put_record(nodes: &mut [Record], at: usize, added: Record)
     ensures { nodes.new ≡ laid at (added ∷ []) nodes.old }
 {
@@ -252,7 +252,8 @@ fn put_entries(
     }
 }
 
-/// Writes the records of a document, as many as fit. Returns the numbers of all records and of all bytes of strings.
+/// Writes the records and strings of a document, as far as they fit. Returns the number of all records and the number
+/// of all bytes of strings, even of those that don't fit.
 pub(crate) fn put_tree(
     document: &str,
     root: &Value<'_>,

@@ -39,9 +39,9 @@ fn put_formatted(
 /// Formats a document, and writes the result to `out` if it fits. `width` is the width of a line in characters,
 /// `indent` the number of spaces per level of indentation; more than 64 count as 64.
 ///
-/// Returns one of these statuses. No other output is written.
+/// Returns one of these statuses. Outputs that the status does not mention stay as they are.
 ///
-/// - 0: `needed` is the length of the result.
+/// - 0: `out` has the result, if it fits, and `needed` is the length of the result.
 /// - 1: the document is not valid TOML; `fault` is its error.
 /// - 2: the document is longer than 16 MiB, or not valid UTF-8.
 /// - 3: the result would differ from the document in more than its layout, which is a bug.

@@ -10,9 +10,9 @@ use std::alloc::Global;
 
 /// Parses a document, and writes as many of its records into `nodes`, and of their strings into `strings`, as fit.
 ///
-/// Returns one of these statuses. No other output is written.
+/// Returns one of these statuses. Outputs that the status does not mention stay as they are.
 ///
-/// - 0: `counts` are the numbers of all records and of all bytes of strings.
+/// - 0: `nodes` and `strings` have what fits, and `counts` are the numbers of all records and of all bytes of strings.
 /// - 1: the document is not valid TOML; `fault` is its error.
 /// - 2: the document is longer than 16 MiB, or not valid UTF-8.
 /// - 4: an allocation failed.
@@ -45,7 +45,7 @@ pub extern "C" fn toml_span_parse(
     }
 }
 
-/// Parses a document, and returns only the status, as `toml_span_parse` does.
+/// Parses a document, and returns the status that `toml_span_parse` returns. Writes no output.
 #[unsafe(no_mangle)]
 pub extern "C" fn toml_span_check(alloc: Global, text: &[u8]) -> u32
     ensures status { IsStatus text.now result }

@@ -50,9 +50,9 @@ pub struct Record {
     pub parent: usize,
     /// The position of the value among the children of its parent, counted from 0.
     pub position: usize,
-    /// The number of its elements or entries.
+    /// The number of elements of an array, or of entries of a table.
     pub children: usize,
-    /// The index of the first record after this one and those of the values inside it.
+    /// The index of the record that follows this one and the records of all values inside it.
     pub next: usize,
     /// The integer.
     pub integer: i64,

@@ -21,7 +21,7 @@ pub(crate) fn put_front(out: &mut [u8], length: &mut usize, text: &str)
     *length = bytes.len();
 }
 
-/// Writes the text to `out` if it fits, and sets `length` to its length.
+/// Writes the text to `out` if all of it fits, and sets `length` to the length of the text.
 pub(crate) fn put_whole(out: &mut [u8], length: &mut usize, text: &str)
     ensures { Holds out.old out.new length.new text.now }
 {
@@ -32,8 +32,8 @@ pub(crate) fn put_whole(out: &mut [u8], length: &mut usize, text: &str)
     }
 }
 
-/// Writes the name of the kind of error with this number, such as `duplicate-key`, as much as fits. `length` is the
-/// length of the whole name, which is empty if there is no such kind.
+/// Writes the name of the kind of error with this number, such as `duplicate-key`, to `out`, as much of it as fits, and
+/// sets `length` to the length of the whole name. The name is empty if there is no such kind.
 #[unsafe(no_mangle)]
 pub extern "C" fn toml_span_code(code: u32, out: &mut [u8], length: &mut usize)
     ensures { Fills out.old out.new length.new (spec.code_name code) }
@@ -41,8 +41,9 @@ pub extern "C" fn toml_span_code(code: u32, out: &mut [u8], length: &mut usize)
     put_front(out, length, code_name(code));
 }
 
-/// Writes the message of a document's error, as much as fits. `length` is the length of the whole message. Returns the
-/// status of `toml_span_parse`. If that is not 1, nothing is written.
+/// Writes the message of a document's error to `out`, as much of it as fits, and sets `length` to the length of the
+/// whole message. Returns the status of `toml_span_parse`. Unless the status is 1, which means that there is an error,
+/// `out` and `length` are unchanged.
 #[unsafe(no_mangle)]
 pub extern "C" fn toml_span_message(
     alloc: Global,
@@ -70,10 +71,10 @@ pub extern "C" fn toml_span_message(
     }
 }
 
-/// Writes the report of the error in `text`, with source lines and marks, as much as fits into `out`, and sets `length`
-/// to the length of the whole report. `name` is the name of the file. Returns the status of `toml_span_parse`, or 2 if
-/// the name is not valid UTF-8. Unless the status is 1, which means that there is an error, `out` and `length` are
-/// unchanged.
+/// Writes the report of the error in `text`, with source lines and marks, to `out`, as much of it as fits, and sets
+/// `length` to the length of the whole report. `name` is the name of the file. Returns the status of `toml_span_parse`,
+/// or 2 if the name is not valid UTF-8. Unless the status is 1, which means that there is an error, `out` and `length`
+/// are unchanged.
 #[unsafe(no_mangle)]
 pub extern "C" fn toml_span_report(
     alloc: Global,

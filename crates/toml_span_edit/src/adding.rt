@@ -18,7 +18,7 @@ use toml_span_read::{Assignment, Section, Val, ValKind};
 /// Where an entry of a table can be written.
 #[derive(Clone, Copy)]
 enum InsertionPoint<'s, 'de> {
-    /// At the start of a document that has no assignment before its first header, as `top_of` says.
+    /// At the offset that `top_of` returns, in a document that has no assignment before its first header.
     Top,
     /// On its own line, after the lines of the table's section.
     Body(&'s Section<'de>),
@@ -31,7 +31,8 @@ enum InsertionPoint<'s, 'de> {
     Header(&'s Section<'de>, usize),
 }
 
-/// Returns whether these mentions name an array of tables, that is, whether the first one opens an element of it.
+/// Returns whether these mentions name an array of tables, that is, whether the first mention is a section that opens
+/// an element of it.
 pub(crate) fn names_array(mentions: &[Mention<'_, '_>]) -> bool {
     match mentions.first() {
         Some(Mention::Below(section, index)) => opens_element(*section, *index),
@@ -66,8 +67,8 @@ fn insertion_point<'s, 'de>(mentions: &[Mention<'s, 'de>]) -> Option<InsertionPo
 }
 
 /// Returns the offset at which to write the first entry of a document that has no assignment before its first header:
-/// the start, after a byte order mark. Comments there are skipped, with the blank line after them, if a blank line or
-/// the end of the text follows them.
+/// the start of the text, after the byte order mark if there is one. If the text starts with comment lines, and a blank
+/// line or the end of the text follows them, returns the offset after these lines and the blank line.
 fn top_of(text: &str) -> usize {
     let start = if text.starts_with('\u{feff}') { 3 } else { 0 };
     let mut at = start;
@@ -85,8 +86,8 @@ fn top_of(text: &str) -> usize {
     }
 }
 
-/// Plans to insert lines at the offset `at`, which is the start of a line or the end of the text. If the last line of
-/// the text has no line end, one is written before them. Fails if an allocation fails.
+/// Plans to insert lines at the offset `at`, which is the start of a line or the end of the text. If `at` is the end of
+/// a line that has no line end, a line end is inserted first. Fails if an allocation fails.
 fn put_lines(
     document: Document<'_, '_>,
     at: usize,
@@ -192,8 +193,8 @@ fn put_sibling(
     }
 }
 
-/// Returns the length of the longest prefix of a path that names an existing value. The prefix is shorter than the
-/// path, and 0 means the root. Fails if an allocation fails.
+/// Returns how many of the first segments of a path name an existing value: as many as possible, but not all segments
+/// of the path. 0 means the root. Fails if an allocation fails.
 pub(crate) fn known(document: Document<'_, '_>, path: &[&str]) -> Result<usize, AllocError> {
     for depth in (1..path.len()).rev() {
         if !document.mentions(front_of(path, depth))?.is_empty() {
@@ -270,8 +271,7 @@ pub(crate) fn add(
 
 /// Returns the end of the last section whose header names the table at a path or a table in it, and the part of that
 /// header that spells the path. For the root, returns the end of the text and an empty string. Returns `None` unless
-/// headers alone define the table.
-/// Fails if an allocation fails.
+/// headers alone define the table. Fails if an allocation fails.
 pub(crate) fn section_place<'s>(
     document: Document<'s, '_>,
     path: &[&str],

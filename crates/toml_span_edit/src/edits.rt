@@ -12,25 +12,29 @@ use toml_span::Stop;
 /// What an edit does at its path. Values are written as TOML, such as `1`, `"a"` or `[1, 2]`.
 #[derive(Clone, Copy, Debug)]
 pub enum Change<'e> {
-    /// Replaces a value that is written as such, not defined by headers or dotted keys.
+    /// Replaces the value with this one. Headers or dotted keys must not define the old value.
     Set(&'e str),
-    /// Replaces a value, even a table or an array of tables that headers or dotted keys define.
+    /// Replaces the value with this one, even a table or an array of tables that headers or dotted keys define.
     Replace(&'e str),
-    /// Replaces the value if there is one, otherwise adds it, and the missing tables on the way.
+    /// Replaces the value with this one. If there is no value at the path, adds this one, and the missing tables on the
+    /// way.
     SetOrAdd(&'e str),
-    /// Renames the key at every place where it is written.
+    /// Renames the key to this name, at every place where the key is written.
     Rename(&'e str),
     /// Removes the value with its key, or the element of an array.
     Remove,
-    /// Adds a value to an existing table. The last segment is the new key.
+    /// Adds this value to an existing table. The last segment of the path is the new key.
     Add(&'e str),
     /// Adds an empty table, and the missing tables on the way.
     AddTable,
-    /// Adds an element at the end of the array, or adds the array if there is none.
+    /// Adds this element at the end of the array. If there is no value at the path, adds an array with this element.
     Append(&'e str),
-    /// Adds an element before the one at the position of the last segment, or at the end of the array.
+    /// Adds this element to an array. The last segment of the path is the position of the new element: at most the
+    /// number of elements in the array.
     Insert(&'e str),
-    /// Moves the value, with its comments, to another path, where there is none.
+    /// Moves the value, with its comments, to this path. There must be no value at the path, unless it leads into an
+    /// array: then the value is inserted there, as with `Insert`. Positions in the path are counted without the moved
+    /// value.
     MoveTo(&'e [&'e str]),
 }
 
@@ -80,30 +84,30 @@ impl<'e> Edits<'e> {
         Ok(())
     }
 
-    /// Appends the edit that makes a change at a path. If an allocation fails, the list is unchanged.
+    /// Appends the edit that makes `change` at `path`. If an allocation fails, the list is unchanged.
     fn change(&mut self, path: &'e [&'e str], change: Change<'e>) -> Result<(), AllocError>
         ensures { Pushed (record { path = path.entry; change = change.entry }) self.old result self.new }
     {
         self.push(Edit { path, change })
     }
 
-    /// Appends `Change::Set`: replaces the value at a path by `value`. If an allocation fails, the list is unchanged.
+    /// Appends `Change::Set`: replaces the value at a path with `value`. If an allocation fails, the list is unchanged.
     pub fn set(&mut self, path: &'e [&'e str], value: &'e str) -> Result<(), AllocError>
         ensures { Pushed (record { path = path.entry; change = changes.Set value.entry }) self.old result self.new }
     {
         self.change(path, Change::Set(value))
     }
 
-    /// Appends `Change::Replace`: replaces the value at a path, even a table that headers define. If an allocation
-    /// fails, the list is unchanged.
+    /// Appends `Change::Replace`: replaces the value at a path with `value`, even a table that headers define. If an
+    /// allocation fails, the list is unchanged.
     pub fn replace(&mut self, path: &'e [&'e str], value: &'e str) -> Result<(), AllocError>
         ensures { Pushed (record { path = path.entry; change = changes.Replace value.entry }) self.old result self.new }
     {
         self.change(path, Change::Replace(value))
     }
 
-    /// Appends `Change::SetOrAdd`: replaces the value at a path, or adds it. If an allocation fails, the list is
-    /// unchanged.
+    /// Appends `Change::SetOrAdd`: replaces the value at a path with `value`, or adds `value` if there is none. If an
+    /// allocation fails, the list is unchanged.
     pub fn set_or_add(&mut self, path: &'e [&'e str], value: &'e str) -> Result<(), AllocError>
         ensures { Pushed (record { path = path.entry; change = changes.SetOrAdd value.entry }) self.old result
             self.new }
@@ -111,7 +115,7 @@ impl<'e> Edits<'e> {
         self.change(path, Change::SetOrAdd(value))
     }
 
-    /// Appends `Change::Rename`: renames the key at a path. If an allocation fails, the list is unchanged.
+    /// Appends `Change::Rename`: renames the key at a path to `name`. If an allocation fails, the list is unchanged.
     pub fn rename(&mut self, path: &'e [&'e str], name: &'e str) -> Result<(), AllocError>
         ensures { Pushed (record { path = path.entry; change = changes.Rename name.entry }) self.old result self.new }
     {
@@ -125,7 +129,7 @@ impl<'e> Edits<'e> {
         self.change(path, Change::Remove)
     }
 
-    /// Appends `Change::Add`: adds a value at a path where there is none, to an existing table. If an allocation fails,
+    /// Appends `Change::Add`: adds a value to an existing table, at a path where there is none. If an allocation fails,
     /// the list is unchanged.
     pub fn add(&mut self, path: &'e [&'e str], value: &'e str) -> Result<(), AllocError>
         ensures { Pushed (record { path = path.entry; change = changes.Add value.entry }) self.old result self.new }
@@ -141,8 +145,8 @@ impl<'e> Edits<'e> {
         self.change(path, Change::AddTable)
     }
 
-    /// Appends `Change::Append`: adds an element at the end of the array at a path. If an allocation fails, the list is
-    /// unchanged.
+    /// Appends `Change::Append`: adds an element, the TOML value `value`, at the end of the array at a path. If an
+    /// allocation fails, the list is unchanged.
     pub fn append(&mut self, path: &'e [&'e str], value: &'e str) -> Result<(), AllocError>
         ensures { Pushed (record { path = path.entry; change = changes.Append value.entry }) self.old result self.new }
     {
@@ -150,15 +154,15 @@ impl<'e> Edits<'e> {
     }
 
     /// Appends `Change::Insert`: adds an element, the TOML value `value`, to an array. The last segment of the path is
-    /// a position: the new element goes before the one there, or to the end. If an allocation fails, the list is
-    /// unchanged.
+    /// the position of the new element, at most the number of elements in the array. If an allocation fails, the list
+    /// is unchanged.
     pub fn insert(&mut self, path: &'e [&'e str], value: &'e str) -> Result<(), AllocError>
         ensures { Pushed (record { path = path.entry; change = changes.Insert value.entry }) self.old result self.new }
     {
         self.change(path, Change::Insert(value))
     }
 
-    /// Appends `Change::MoveTo`: moves the value at a path to another path. If an allocation fails, the list is
+    /// Appends `Change::MoveTo`: moves the value at `path` to the path `target`. If an allocation fails, the list is
     /// unchanged.
     pub fn move_to(&mut self, path: &'e [&'e str], target: &'e [&'e str]) -> Result<(), AllocError>
         ensures { Pushed (record { path = path.entry; change = changes.MoveTo target.entry }) self.old result self.new }
@@ -166,11 +170,11 @@ impl<'e> Edits<'e> {
         self.change(path, Change::MoveTo(target))
     }
 
-    /// Makes the edits one after the other, and returns the new text. Without edits, returns the text itself without
-    /// reading it.
+    /// Makes the edits one after the other, and returns the new text. If the list is empty, returns the text as it is,
+    /// without reading it.
     ///
     /// Fails with the first edit that is refused and the reason, or if an allocation fails. An edit is refused unless
-    /// the tree of its result is the tree before it with only this change.
+    /// the tree of the new text is the tree of the text before the edit, with only this change.
     pub fn finish(self) -> Result<String, Stop<EditError>>
         ensures { IfOk result (λ new. spec.EditsMade self.entry.list.items self.entry.text.now (string_bytes new)) }
     {
@@ -211,8 +215,8 @@ fn rest_made(
     Ok(new)
 }
 
-/// Makes edits one after the other and returns the new text: the text itself without edits. Fails with the first edit
-/// that is refused, or if an allocation fails.
+/// Makes edits one after the other and returns the new text. If there are no edits, returns the text as it is. Fails
+/// with the first edit that is refused, or if an allocation fails.
 fn all_made(alloc: Global, text: &str, edits: &[Edit<'_>]) -> Result<String, Stop<EditError>>
     ensures { IfOk result (λ new. spec.EditsMade edits.now text.now (string_bytes new)) }
 {

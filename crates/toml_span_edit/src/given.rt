@@ -40,7 +40,7 @@ pub(crate) fn probed<'p>(
     }
 }
 
-/// Returns whether there is only one assignment and no header, and the assignment ends at the offset `end`.
+/// Returns whether the document has only one assignment and no header, and the assignment ends at the offset `end`.
 fn is_one_value(sections: &[Section<'_>], end: usize) -> bool {
     match sections {
         [section] => match section.assignments.as_slice() {
@@ -74,8 +74,8 @@ pub(crate) fn no_value(alloc: Global, value: &str) -> Result<Reason, AllocError>
     Ok(Reason::NoValue(Some(format!(in alloc; "'{string}'?")?)))
 }
 
-/// Returns a text with the escapes `\e` and `\xHH`, which TOML 1.1 added, replaced by escapes of TOML 1.0. Fails if an
-/// allocation fails.
+/// Returns a text with the escapes `\e` and `\xHH`, which TOML 1.1 added, replaced with escapes of TOML 1.0. Fails if
+/// an allocation fails.
 fn older(alloc: Global, text: &str) -> Result<String, AllocError> {
     let mut out = String::new(alloc);
     let mut escaped = false;

@@ -36,7 +36,7 @@ fn element_text(
     Ok(lines)
 }
 
-/// Returns the value of the first assignment.
+/// Returns the value of the first assignment in the first section, or `None` if there is none.
 fn given_value<'s, 'de>(sections: &'s [Section<'de>]) -> Option<&'s Val<'de>> {
     Some(&sections.first()?.assignments.as_slice().first()?.value)
 }
@@ -144,9 +144,9 @@ fn put_element(
     Ok(())
 }
 
-/// Plans to insert an element into an array. The last segment of the path is a position: the new element goes before
-/// the one there, or after the last one. Fails with `NoArray` if the path does not lead to such a position, with
-/// another reason if the element can't be written there, or if an allocation fails.
+/// Plans to insert an element into an array. The last segment of the path is the position of the new element: at most
+/// the number of elements in the array. Fails with `NoArray` if the path does not lead to such a position, with another
+/// reason if the element can't be written there, or if an allocation fails.
 pub(crate) fn insert(
     document: Document<'_, '_>,
     path: &[&str],

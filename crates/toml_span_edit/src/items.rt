@@ -56,8 +56,8 @@ fn space_end(text: &str, list: &Val<'_>, index: usize) -> usize {
     }
 }
 
-/// Returns the offset of the comma between `start` and `end`, if there is one. Apart from it, only blanks, line ends
-/// and comments may be there. A comma in a comment does not count.
+/// Returns the offset of the comma between `start` and `end`, if there is one. Between these offsets, the text must
+/// have only this comma, blanks, line ends and comments. A comma in a comment does not count.
 fn comma_between(text: &str, start: usize, end: usize) -> Option<usize> {
     let mut is_comment = false;
     for (index, byte) in part(text, start, end).bytes().enumerate() {
@@ -116,8 +116,8 @@ fn cut_to_line_end(
 
 /// Plans to remove the last items of a list, and one comma. `items` is the span of these items, and `before` that of
 /// the item before them. The closing bracket or brace at the offset `close` must be on the line where the items end.
-/// The comma is that between `before` and the items if there is no line end or comment between them; otherwise it is
-/// the comma after the items, if there is one. Fails if an allocation fails.
+/// Removes the comma between `before` and the items if neither a line end nor a comment is between them. Otherwise
+/// removes the comma after the items, if there is one. Fails if an allocation fails.
 fn cut_last(
     text: &str,
     before: Option<Span>,
@@ -199,7 +199,8 @@ fn put_first(
     plan.put(Span { start, end }, new)
 }
 
-/// An item to insert. `above` has the comment lines above it, and `note` is what follows it and its comma on the line.
+/// An item to insert. `above` has the comment lines above the item; `note` is the comment after the item and its comma,
+/// with the blanks before the comment.
 #[derive(Clone, Copy)]
 pub(crate) struct Item<'i> {
     pub above: &'i str,
@@ -207,9 +208,9 @@ pub(crate) struct Item<'i> {
     pub note: &'i str,
 }
 
-/// Plans to insert an item into `list` after the last one, whose span is `last`. The new item gets its own line if the
-/// last one begins a line or has a comment after it on its line; otherwise it follows on the same line. If the comma of
-/// the last item is on a later line, with the closing bracket or brace, the new item follows that comma. Fails if an
+/// Plans to insert an item into `list` after the last item, whose span is `last`. The new item gets its own line if the
+/// last item begins a line or has a comment after it on its line; otherwise it follows on the same line. If the comma
+/// of the last item is on a later line, with the closing bracket or brace, the new item follows that comma. Fails if an
 /// allocation fails.
 fn put_last(
     alloc: Global,
@@ -303,8 +304,8 @@ fn put_before(
     plan.put(point(next.start), format!(in alloc; "{item}, ")?)
 }
 
-/// Plans to insert an item into `list` before the one at `index` or, if the list is too short, after the last one.
-/// Fails if an allocation fails.
+/// Plans to insert an item into `list` before the item at `index` or, if there is none, after the last item. Fails if
+/// an allocation fails.
 pub(crate) fn put_item(
     alloc: Global,
     text: &str,

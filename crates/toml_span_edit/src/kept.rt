@@ -128,8 +128,8 @@ fn has_byte(bytes: &[u8], wanted: u8) -> bool
     false
 }
 
-/// Returns whether a replacement is inside one line, and only blanks and opening brackets, at least one, come before it
-/// on that line.
+/// Returns whether a replacement is inside one line, and what comes before it on that line is only blanks and one or
+/// more opening brackets.
 fn is_header_part(text: &str, replacement: Replacement<'_>) -> bool
     ensures { result ≡ spec.is_header_part text.now (edit_of replacement.entry) }
 {
@@ -138,7 +138,7 @@ fn is_header_part(text: &str, replacement: Replacement<'_>) -> bool
     is_opening(before) && has_byte(before, b'[') && !has_byte(bytes_of(text, start, end), b'\n')
 }
 
-/// Returns whether each replacement is inside a line, after its opening brackets: see `is_header_part`.
+/// Returns whether each replacement is inside a line, after the brackets that open it: see `is_header_part`.
 pub(crate) fn are_header_parts(text: &str, list: &[Replacement<'_>]) -> bool
     ensures { result ≡ list_all (spec.is_header_part text.now) (map edit_of list.now) }
 {

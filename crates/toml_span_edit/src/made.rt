@@ -179,7 +179,7 @@ fn gone(value: &Value<'_>, segment: &str, other: &Value<'_>) -> bool
     }
 }
 
-/// Returns whether `other` is `value`, except that a segment selects the value `new` in it.
+/// Returns whether `other` is `value`, except that a segment selects the value `new` in `other`.
 fn put(value: &Value<'_>, segment: &str, new: &Value<'_>, other: &Value<'_>) -> bool
     ensures { result ≡ spec.put segment.now (view new.now) (view value.now) (view other.now) }
 {
@@ -218,7 +218,8 @@ fn last(value: &Value<'_>, new: &Value<'_>, other: &Value<'_>) -> bool
     }
 }
 
-/// Returns the next entry whose name is not `name`, and advances `rest` beyond it.
+/// Returns the next entry of `rest` whose name is not `name`, and advances `rest` beyond it. Returns `None` after the
+/// last entry.
 fn next_but<'v, 'de>(
     rest: &mut Iter<'v, Key<'de>, Value<'de>>,
     name: &str,
@@ -268,10 +269,10 @@ fn renamed(value: &Value<'_>, name: &str, new: &str, other: &Value<'_>) -> bool
     }
 }
 
-/// A change of a value. A segment in it selects an entry of that value, a table, or an element of that value, an array.
+/// A change of a value. A segment selects an entry if the value is a table, and an element if it is an array.
 #[derive(Clone, Copy)]
 pub(crate) enum Local<'l, 'v, 'de> {
-    /// The value is replaced by this one.
+    /// The value is replaced with this one.
     Set(&'v Value<'de>),
     /// What the segment selects is removed.
     Gone(&'l str),

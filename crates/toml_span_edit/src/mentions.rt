@@ -65,8 +65,8 @@ fn count_up(counts: &mut Vec<usize>, depth: usize) -> usize {
 }
 
 /// Returns where the table of a section is, relative to a path. `counts[n]` is the number of elements that have been
-/// opened in the array of tables that the first `n` segments of the path name. An element that the section opens is
-/// added to it.
+/// opened in the array of tables that the first `n` segments of the path name. If the section opens an element of such
+/// an array, it is counted.
 fn placement_of(section: &Section<'_>, path: &[&str], counts: &mut Vec<usize>) -> Placement {
     let mut depth: usize = 0;
     let last = section.header.len().saturating_sub(1);
@@ -196,7 +196,7 @@ fn push_section<'s, 'de>(
 }
 
 /// Returns the places that name the value at a path, in the order of the text. The list is empty if the document has no
-/// such value, or if the value is an array of tables without an element. Fails if an allocation fails.
+/// such value. Fails if an allocation fails.
 pub(crate) fn mentions_of<'s, 'de>(
     alloc: Global,
     sections: &'s [Section<'de>],

@@ -23,7 +23,7 @@ pub(crate) struct Moved<'s> {
     pub note: &'s str,
 }
 
-/// Returns the start of the comment lines directly above an assignment or element with this extent.
+/// Returns the start of the comment lines directly above an assignment or element, whose span is `extent`.
 fn comments_start(text: &str, extent: Span) -> usize {
     comments_above(text, line_start(text, extent.start))
 }
@@ -54,7 +54,7 @@ pub(crate) fn moved_value<'s>(
 }
 
 /// Returns the span of the assignment or element in a mention, if its comments move with it: for an assignment on its
-/// own line, and for an element of an array in brackets.
+/// own line, and for an element of an array in brackets. Returns `None` for any other mention.
 fn extent_of(text: &str, mention: &Mention<'_, '_>) -> Option<Span> {
     match *mention {
         Mention::Assigned(assignment, Home::Lines) => Some(assignment.extent),

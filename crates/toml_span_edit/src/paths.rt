@@ -63,7 +63,7 @@ pub(crate) fn front_of<'p, 'e>(path: &'p [&'e str], count: usize) -> &'p [&'e st
     path.get(..count).unwrap_or(path)
 }
 
-/// Returns whether this is the segment of a path at an index.
+/// Returns whether the segment of a path at an index is this one.
 pub(crate) fn has_segment(path: &[&str], index: usize, segment: &str) -> bool {
     match path.get(index) {
         Some(other) => *other == segment,

@@ -32,7 +32,7 @@ impl Plan {
         }
     }
 
-    /// Adds the replacement of a span by a text. Fails if an allocation fails.
+    /// Adds the replacement of a span with a text. Fails if an allocation fails.
     pub(crate) fn put(&mut self, span: Span, text: String) -> Result<(), AllocError> {
         self.pieces.push(Piece { span, text })?;
         Ok(())
@@ -56,15 +56,15 @@ impl Plan {
         Ok(list)
     }
 
-    /// Returns the text with the replacements made. Fails with `WouldDiffer` if they are not in the order of the text
-    /// or overlap, or if an allocation fails.
+    /// Returns the text with the replacements made. Fails if an allocation fails, and with `WouldDiffer` if they
+    /// overlap or are not in the order of the text.
     pub(crate) fn applied(&self, text: &str) -> Result<String, Stop<Reason>> {
         let list = self.replacements()?;
         with_replaced(self.alloc, text, list.as_slice())
     }
 
-    /// Returns the text with the replacements made. Fails with `WouldDiffer` if they replace anything but white space,
-    /// are not in the order of the text, or overlap, or if an allocation fails.
+    /// Returns the text with the replacements made. Fails if an allocation fails, and with `WouldDiffer` if they
+    /// replace anything but white space, are not in the order of the text, or overlap.
     pub(crate) fn inserted(&self, text: &str) -> Result<String, Stop<Reason>>
         ensures { IfOk result (λ new. spec.IsInserted text.now (string_bytes new)) }
     {
@@ -75,8 +75,8 @@ impl Plan {
         with_replaced(self.alloc, text, list.as_slice())
     }
 
-    /// Returns the text with the replacements made. Fails with `WouldDiffer` if they replace anything but parts of
-    /// headers, are not in the order of the text, or overlap, or if an allocation fails.
+    /// Returns the text with the replacements made. Fails if an allocation fails, and with `WouldDiffer` if they
+    /// replace anything but parts of headers, are not in the order of the text, or overlap.
     pub(crate) fn in_headers(&self, text: &str) -> Result<String, Stop<Reason>>
         ensures { IfOk result (λ new. spec.AreHeadersReplaced text.now (string_bytes new)) }
     {
@@ -88,8 +88,8 @@ impl Plan {
     }
 }
 
-/// Returns the text with these replacements made. Fails with `WouldDiffer` if they are not in the order of the text or
-/// overlap, or if an allocation fails.
+/// Returns the text with these replacements made. Fails if an allocation fails, and with `WouldDiffer` if they overlap
+/// or are not in the order of the text.
 fn with_replaced(
     alloc: Global,
     text: &str,

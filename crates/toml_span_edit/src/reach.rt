@@ -75,7 +75,7 @@ fn entries_reach(text: &str, own: Span, table: &Table<'_>) -> Span
     span
 }
 
-/// Returns the value of the entry with this name, with the span of its key.
+/// Returns the value of the entry with this name, with the span of its key, or `None` if there is no such entry.
 fn entry<'v, 'de>(table: &'v Table<'de>, name: &str) -> Option<(Option<Span>, &'v Value<'de>)>
     ensures { option_map (λ e. (e.0, view e.1.now)) result ≡ entry_at name.now (members_view table.now.entries) }
 {
@@ -121,7 +121,8 @@ pub(crate) fn line_start(text: &str, at: usize) -> usize
     start
 }
 
-/// Returns the offset after the first line feed from `from` on, or the length of the text.
+/// Returns the offset after the first line feed at or after the offset `from`, or the length of the text if there is
+/// none.
 fn after_line(text: &str, from: usize) -> usize
     ensures { result ≡ after_line text.now from }
 {

@@ -1,4 +1,4 @@
-//! Replaces values that are written as such, and renames keys.
+//! Replaces values that no headers or dotted keys define, and renames keys.
 ghost use Rattle.std.specs.Prelude.{◌≡◌, ◌++◌, IfOk, Ok, Some, [], ◌∷◌, map, string_bytes};
 ghost use Rattle.toml_span_read.specs.Data.{depth_limit, parsed_section};
 ghost use Rattle.toml_span_read.specs.Read.{document as read};
@@ -21,7 +21,7 @@ use toml_span_places::{KeyPlace, key_places, literal_span, replaced};
 /// How the value at a path is written.
 #[derive(Clone, Copy)]
 pub(crate) enum Written {
-    /// As a value.
+    /// As a literal, such as `1` or `[1, 2]`.
     Literal,
     /// By headers or dotted keys.
     Otherwise,
@@ -135,7 +135,7 @@ fn key_spans(document: Document<'_, '_>, path: &[&str]) -> Result<Vec<Span>, All
 }
 
 /// Returns the text with `key` in place of each of the spans. Fails with `WouldDiffer` if the spans are not parts of
-/// the text in its order, or if an allocation fails.
+/// the text, overlap, or are not in the order of the text, or if an allocation fails.
 fn with_spans(alloc: Global, text: &str, spans: &[Span], key: &str) -> Result<String, Stop<Reason>>
     ensures { IfOk result (λ new. places.replaced text.now (map (λ span. (span, key.now)) spans.now)
         ≡ Some (string_bytes new)) }

@@ -14,9 +14,9 @@ use toml_span_places::segment_names;
 /// What an edit does at the value that a path names. Values are written as TOML.
 #[derive(Clone, Copy)]
 pub enum Task<'w> {
-    /// Replaces the value by this one.
+    /// Replaces the value with this one.
     Set(&'w str),
-    /// Renames the key at every place where it is written.
+    /// Renames the key to this name, at every place where the key is written.
     Rename(&'w str),
     /// Removes the value with its key, or the element of an array.
     Remove,

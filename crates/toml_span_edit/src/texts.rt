@@ -24,7 +24,7 @@ use toml_span::{Span, Stop};
 // ---- what is inserted
 
 /// Adds to `plan` what a change inserts at a path. Fails with the reason if the change can't be made, with
-/// `WouldDiffer` if it does not only insert something, or if an allocation fails.
+/// `WouldDiffer` if it does more than insert, or if an allocation fails.
 fn plan(
     document: Document<'_, '_>,
     path: &[&str],
@@ -101,8 +101,8 @@ fn removed(
     pieces.applied(document.text)
 }
 
-/// Returns `new` if it consists of the text before the offset `start`, any other text, and the text from the offset
-/// `end` on. Fails with `WouldDiffer` otherwise.
+/// Returns `new` if it consists of the text before the offset `start`, any other text, and the text after the offset
+/// `end`. Fails with `WouldDiffer` otherwise.
 fn if_around(text: &str, start: usize, end: usize, new: String) -> Result<String, Stop<Reason>>
     ensures { IfOk result (λ out. spec.KeepsAround text.now (record { start = start; end = end })
         (string_bytes out)) }
@@ -226,7 +226,7 @@ fn removed_text(
     }
 }
 
-/// Returns the text with the value at a path replaced by `value`. Headers or dotted keys may define the old value.
+/// Returns the text with the value at a path replaced with `value`. Headers or dotted keys may define the old value.
 /// `old` is the tree of the text. Fails with the reason if `value` is not a TOML value or the old value can't be
 /// removed, or if an allocation fails.
 fn replaced_text(

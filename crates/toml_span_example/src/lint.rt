@@ -140,7 +140,7 @@ fn dependency(value: &Value) -> [Option<Finding>; 2] {
     found
 }
 
-/// Appends the findings that are there. Fails if an allocation fails.
+/// Appends the findings that are not `None`. Fails if an allocation fails.
 fn push_all(found: &[Option<Finding>], list: &mut Vec<Finding>) -> Result<(), AllocError> {
     for one in found {
         if let Some(finding) = one {
@@ -226,8 +226,8 @@ fn lint_reports(alloc: Global, root: &Value) -> Result<Vec<Report>, AllocError> 
     Ok(reports)
 }
 
-/// Returns the reports for a text: that of its error or, if it is valid, those of the manifest. Fails if an allocation
-/// fails.
+/// Returns the reports for a text: the report of its error or, if it is valid TOML, the reports of all findings. Fails
+/// if an allocation fails.
 fn text_reports(alloc: Global, text: &str) -> Result<Vec<Report>, AllocError> {
     match parse(alloc, text) {
         Ok(root) => lint_reports(alloc, &root),
@@ -257,7 +257,7 @@ fn sarif(alloc: Global, reports: &[Report], text: &str) -> Result<String, AllocE
 }
 
 /// Returns what is wrong with a manifest, in the format `github` or `sarif` or otherwise as text, and whether nothing
-/// is. Fails if an allocation fails.
+/// is wrong. Fails if an allocation fails.
 pub fn shown(alloc: Global, text: &str, format: &str) -> Result<(String, bool), AllocError> {
     let reports = text_reports(alloc, text)?;
     let reports = reports.as_slice();

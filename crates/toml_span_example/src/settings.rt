@@ -81,8 +81,8 @@ impl<'de> Deserialize<'de> for Mirror {
     }
 }
 
-/// Returns the errors and warnings of a file and, if it can be read, its settings; and whether there are settings.
-/// Fails if an allocation fails.
+/// Returns, as text, the errors and warnings of a file and, if it can be read, its settings. Also returns whether it
+/// can be read. Fails if an allocation fails.
 pub fn shown(alloc: Global, file: &TextFile) -> Result<(String, bool), AllocError> {
     match file.read_with_warnings::<Settings>(alloc) {
         Ok(Loaded { value, warnings }) => {

@@ -1,8 +1,8 @@
 //! The new file beside the file that is edited. It is also the lock against other runs of this program.
 //!
-//! A run creates it with mode 0600, under a name that follows from that of the file, and locks it with an advisory
-//! lock, which the system releases when the run ends. The run that has locked the file which this name leads to owns
-//! the name: only it writes, renames and removes the file. So if a file of mode 0600 is not locked, a run that was
+//! A run creates it with mode 0600, under a name that is made from the name of the edited file, and locks it with an
+//! advisory lock, which the system releases when the run ends. The run that has locked the file with this name owns the
+//! name: only this run writes, renames and removes the file. So if a file of mode 0600 is not locked, a run that was
 //! killed has left it behind, and it is removed. The new file gets its final mode last, just before it is renamed.
 use crate::failure::{Failure, unwritten};
 use std::fs::{File, Metadata, OpenOptions, TryLockError};
@@ -73,8 +73,9 @@ fn is_own(found: &Metadata) -> bool {
     found.is_file() && found.mode() & 0o7777 == OWN_MODE && found.nlink() == 1
 }
 
-/// Removes the file with the path `name` if it looks like one that a run has created, and nobody has locked it. Returns
-/// `Left` if it does not look like that, or can't be opened or locked for another reason, otherwise `Busy`.
+/// Removes the file with the path `name` if a killed run has left it, that is, if it looks like a file that a run has
+/// created, and is not locked. Returns `Busy` after that, or if it is locked or can't be found. Returns `Left` if
+/// it does not look like such a file, can't be opened, or can't be tested for a lock. Fails if it can't be removed.
 fn clear(rt: &HostRuntime, name: &str) -> io::Result<Try> {
     let Ok(found) = fs::symlink_metadata(rt, name) else {
         return Ok(Try::Busy);
@@ -98,7 +99,7 @@ fn clear(rt: &HostRuntime, name: &str) -> io::Result<Try> {
 }
 
 /// Creates and locks the new file with the path `name`, if that is possible now. Fails if the file can't be created, or
-/// one that was left can't be removed.
+/// if a file that a killed run has left can't be removed.
 fn try_lock(rt: &HostRuntime, name: &str) -> io::Result<Try> {
     match create(rt, name) {
         Ok(file) => Ok(claim(rt, name, file)),
@@ -124,8 +125,8 @@ pub(crate) fn waited(rt: &HostRuntime, file: &File, wait: u64) -> bool {
     false
 }
 
-/// Creates and locks the new file with the path `name`, and waits up to `wait` seconds if another run has it. Fails
-/// with `Busy` or `Left` after this time, or if the file can't be created.
+/// Creates and locks the new file with the path `name`, and waits up to `wait` seconds if another run has locked it.
+/// Fails with `Busy` or `Left` after this time, or if the file can't be created.
 pub(crate) fn lock(rt: &HostRuntime, name: String, wait: u64) -> Result<Beside, Failure> {
     let mut is_left = false;
     for _ in 0..wait.saturating_mul(TRIES).saturating_add(1) {

@@ -72,7 +72,8 @@ fn shared_back(old: &[&str], new: &[&str]) -> usize {
     count
 }
 
-/// Returns whether both texts continue with the same line and, if that is short, with the same line after it.
+/// Returns whether both texts continue with the same line. If that line has at most two bytes without the white space
+/// around it, the lines after it must also be the same.
 fn go_on_alike(old: &[&str], new: &[&str]) -> bool {
     match (old, new) {
         ([one, old_rest @ ..], [other, new_rest @ ..]) => {

@@ -47,7 +47,7 @@ pub struct Disk<'r> {
     /// The file, as it was when it was first read.
     found: Option<Metadata>,
     beside: Option<Beside>,
-    /// The file itself and the new text, to be written in place.
+    /// `open`: the file itself, to be written in place. `ready`: the new text.
     open: Option<File>,
     ready: Vec<u8>,
 }
@@ -121,8 +121,8 @@ fn keep_owner(file: &File, found: &Metadata, is_forced: bool) -> Result<u32, Fai
     }
 }
 
-/// Writes the text to a new file, and gives it the owner, the group and the mode of the old one, whose metadata is
-/// `found`. Fails with `Unwritten` or `Owner`.
+/// Writes the text to a new file, and gives it the owner, group and mode of the old one, whose metadata is `found`.
+/// Fails with `Unwritten` or, unless `is_forced`, `Owner`.
 fn fill(file: &mut File, found: &Metadata, text: &[u8], is_forced: bool) -> Result<(), Failure> {
     file.write_all(text).map_err(unwritten)?;
     file.sync_all().map_err(unwritten)?;
@@ -150,8 +150,8 @@ fn front_of(alloc: Global, file: &mut File) -> Result<Vec<u8>, Failure> {
     Ok(bytes)
 }
 
-/// If the text is longer than the file, appends the rest of it to the file, so that a full disk is noticed while the
-/// file still has its old bytes. After an error, the file is as before.
+/// If the text is longer than the file, appends the bytes of the text beyond the file's length to the file, so that a
+/// full disk is noticed while the file still has its old bytes. After an error, the file is as before.
 fn extend(file: &mut File, text: &[u8]) -> io::Result<()> {
     let length = file.metadata()?.len();
     let tail = text
@@ -165,7 +165,8 @@ fn extend(file: &mut File, text: &[u8]) -> io::Result<()> {
     written
 }
 
-/// Replaces the content of a file by a text that is not longer. After an error, the file may have a part of each.
+/// Overwrites a file with a text that is not longer than the file. After an error, the file may have a part of the new
+/// text and a part of the old one.
 fn overwrite(file: &mut File, text: &[u8]) -> io::Result<()> {
     file.seek(SeekFrom::Start(0))?;
     file.write_all(text)?;
@@ -174,7 +175,8 @@ fn overwrite(file: &mut File, text: &[u8]) -> io::Result<()> {
 }
 
 impl<'r> Disk<'r> {
-    /// Returns the file with this path, or the one that links at this path lead to. Fails if links can't be followed.
+    /// Returns the file with the path `name` or, if that is a link, the file that it finally leads to. Fails if links
+    /// can't be followed.
     pub fn new(rt: &'r HostRuntime, name: &str, options: Options) -> Result<Disk<'r>, Failure> {
         Ok(Disk {
             rt,

@@ -8,8 +8,8 @@ use crate::disk::{Disk, Options};
 use crate::failure::{Failed, Failure};
 use crate::steps::Steps;
 
-/// Replaces the content of a file by a text. Fails with `Changed` if the content is no longer `bytes`, or with the
-/// failure of a step.
+/// Replaces the content of a file with a text. Fails with `Changed` if the content is not `bytes`, or with the failure
+/// of a step.
 fn replace<S: Steps>(steps: &mut S, bytes: &[u8], text: &[u8]) -> Result<(), Failure>
     ensures ok { OnOk result (Replaces (S.past steps.old) (S.past steps.new) bytes.now text.now) }
     ensures err { OnErr result (Keeps (S.past steps.old) (S.past steps.new)) }
@@ -22,7 +22,7 @@ fn replace<S: Steps>(steps: &mut S, bytes: &[u8], text: &[u8]) -> Result<(), Fai
     steps.replace()
 }
 
-/// Reads the file, calls `make` on its bytes, and replaces the content by the result. Returns whether the result
+/// Reads the file, calls `make` on its bytes, and replaces the content with the result. Returns whether the result
 /// differs from the bytes. Fails with the error of `make`, with the failure of a step, or if one of the texts is longer
 /// than `LIMIT`.
 fn attempt<S: Steps, X, F: FnOnce(&[u8]) -> Result<String, X>>(
@@ -53,8 +53,8 @@ fn attempt<S: Steps, X, F: FnOnce(&[u8]) -> Result<String, X>>(
     }
 }
 
-/// Replaces the content of a file by a text, if it is still `bytes`. Fails with `ResultTooLong`, with `Changed` if the
-/// content is not `bytes`, or with the failure of a step.
+/// Replaces the content of a file with a text, if the content is still `bytes`. Fails with `ResultTooLong`, with
+/// `Changed` if the content is not `bytes`, or with the failure of a step.
 fn put_read<S: Steps>(steps: &mut S, bytes: &[u8], text: &str) -> Result<(), Failure>
     ensures ok { OnOk result (Replaces (S.past steps.old) (S.past steps.new) bytes.now text.now) }
     ensures err { OnErr result (Keeps (S.past steps.old) (S.past steps.new)) }
@@ -68,8 +68,8 @@ fn put_read<S: Steps>(steps: &mut S, bytes: &[u8], text: &str) -> Result<(), Fai
     replace(steps, bytes, text.as_bytes())
 }
 
-/// Edits a file: locks and reads it, calls `make` on its bytes, and replaces the content by the result. Returns whether
-/// the result differs from the bytes. If it does not, nothing is written.
+/// Edits a file: locks and reads it, calls `make` on its bytes, and replaces the content with the result. Returns
+/// whether the result differs from the bytes. If it does not, nothing is written.
 ///
 /// Fails with the error of `make`, or with the failure of a step. After an error the file is as before, except after
 /// `Failure::Damaged`.
@@ -105,7 +105,7 @@ pub fn edit_file<X, F: FnOnce(&[u8]) -> Result<String, X>>(
     edit(&mut disk, make)
 }
 
-/// Replaces the content of a file, which was read earlier, by a text. `bytes` is what was read. Fails with
+/// Replaces the content of a file with a text, if the content is still `bytes`, which were read earlier. Fails with
 /// `Failure::Changed` if the file has other bytes now, or with the failure of a step. After an error the file is as
 /// before, except after `Failure::Damaged`.
 pub fn put<S: Steps>(steps: &mut S, bytes: &[u8], text: &str) -> Result<(), Failure>

@@ -25,7 +25,7 @@ pub enum Failure {
     Linked,
     /// The new file can't be given the owner or group of the old one.
     Owner(io::Error),
-    /// Another run has locked the new file, whose path this is, for longer than the time to wait.
+    /// Another run still has a lock on the file with this path, after the time to wait.
     Busy(String),
     /// There is a file with the path of the new file. It is not locked, and it is not clear whether a run has left it.
     Left(String),

@@ -9,7 +9,7 @@ const CONTEXT: usize = 3;
 /// The lines of one text in a hunk.
 #[derive(Clone, Copy)]
 struct Range {
-    /// The number of lines before them.
+    /// The number of lines of the text before the hunk.
     before: usize,
     count: usize,
 }
@@ -23,8 +23,8 @@ struct Hunks<'t> {
     body: String,
     /// Whether the current hunk has a change.
     is_open: bool,
-    /// The unchanged lines since the last change or, if no hunk is open, the last three of them. At most seven wait, so
-    /// taking the first one out moves few.
+    /// The unchanged lines since the last change or, if no hunk is open, the last three of them. At most seven lines
+    /// wait, so removing the first one moves few lines.
     waiting: Vec<&'t str>,
     old: Range,
     new: Range,

@@ -4,13 +4,13 @@ use std::alloc::{AllocError, Global};
 use std::io::ErrorKind;
 use std::{fs, io};
 
-/// The maximum number of links to follow one after the other, as on Linux.
-const LINKS: usize = 40;
+/// How many paths to look at, at most: those of 40 links, as on Linux, and that of the file.
+const PATHS: usize = 41;
 
 /// The suffix of the name of a new file.
 const ENDING: &str = ".toml-span";
 
-/// How many bytes of the file's name the name of the new file begins with, at most.
+/// The maximum number of bytes of the file's name with which the name of the new file begins.
 const KEPT: usize = 128;
 
 /// Splits a path after its last slash: returns the directory with its slash, or an empty text, and the name.
@@ -44,10 +44,10 @@ fn led_to(alloc: Global, link: &str, target: &str) -> Result<String, AllocError>
 }
 
 /// Follows the links of a path, and returns the path of what they finally lead to. Fails if a path can't be examined,
-/// after 40 links, or if an allocation fails.
+/// if it leads through more than 40 links, or if an allocation fails.
 pub(crate) fn place_of(rt: &HostRuntime, name: &str) -> Result<String, Failure> {
     let mut place = String::from_str(rt.alloc(), name)?;
-    for _ in 0..LINKS {
+    for _ in 0..PATHS {
         let found = fs::symlink_metadata(rt, place.as_str()).map_err(unread)?;
         if !found.is_symlink() {
             return Ok(place);

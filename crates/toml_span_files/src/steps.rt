@@ -25,7 +25,7 @@ pub trait Steps {
         ensures ready { OnOk result (past self.new ≡ option_map (with_ready text.now) (past self.old)) }
         ensures err { OnErr result (past self.new ≡ past self.old) };
 
-    /// Replaces the content of the file by the text of `prepare`.
+    /// Replaces the content of the file with the text of `prepare`.
     fn replace(&mut self) -> Result<(), Failure>
         ensures replaced { OnOk result (past self.new ≡ option_map with_replaced (past self.old)) }
         ensures err { OnErr result (past self.new ≡ past self.old) };

@@ -34,7 +34,7 @@ fn push_comment<'t>(token: &Token<'t>, found: &mut Vec<&'t str>) -> Result<(), A
     }
 }
 
-/// Returns the comments of a text in order, each from its `#` on, without trailing spaces and tabs.
+/// Returns the comments of a text in order, each with its `#` and without trailing spaces and tabs.
 ///
 /// Fails with the first fault of the tokenizer, or if an allocation fails.
 pub fn comments_of<'t>(alloc: Global, text: &'t str) -> Result<Vec<&'t str>, Stop<Error>>

@@ -21,7 +21,7 @@ pub(crate) fn names_of<'s>(
 #[derive_where(PartialEq, Eq, PartialOrd, Ord)]
 struct Entry<'s> {
     names: Vec<&'s str>,
-    /// The position of its first piece, and that of the first piece after it.
+    /// `start`: the position of its first piece. `end`: the position of the first piece after it.
     #[derive_where(skip(EqHashOrd))]
     start: usize,
     #[derive_where(skip(EqHashOrd))]
@@ -35,16 +35,17 @@ struct Sorter<'p, 't, 's> {
     sorted: Vec<Piece<'t>>,
     /// The entries since the last blank line or header, not sorted yet.
     run: Vec<Entry<'s>>,
-    /// The position of the first piece after these entries. If an assignment begins there, `key` has its names.
+    /// `start`: the position of the first piece after the entries in `run`. `key`: the names of the key of the
+    /// assignment that begins there, below its comments. `None` if no assignment has begun.
     start: usize,
     key: Option<Vec<&'s str>>,
-    /// Whether all pieces from `start` on are comments.
+    /// Whether all lines so far from `start` are comment lines.
     is_comment: bool,
 }
 
 impl Sorter<'_, '_, '_> {
-    /// Appends the pieces from position `start` to `end`, exclusive, to the result, the first one with this gap. Fails
-    /// if an allocation fails.
+    /// Appends the pieces at the positions `start..end` to the result. The first of them gets the gap `gap`. Fails if
+    /// an allocation fails.
     fn copy(&mut self, start: usize, end: usize, gap: Gap) -> Result<(), AllocError> {
         for (at, piece) in self
             .pieces
@@ -104,8 +105,9 @@ impl Sorter<'_, '_, '_> {
         }
     }
 
-    /// Begins a line with the piece at the position `at`, and ends the entry before it. Comments directly above an
-    /// assignment belong to it. Fails if an allocation fails.
+    /// Begins a line with the piece at the position `at`, and ends the entry above it. But comments directly above an
+    /// assignment belong to it, and do not end there. A blank line or a header also ends the run. Fails if an
+    /// allocation fails.
     fn begin_line(&mut self, alloc: Global, at: usize) -> Result<(), AllocError> {
         let Some(piece) = self.pieces.get(at) else {
             return Ok(());

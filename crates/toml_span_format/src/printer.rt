@@ -38,7 +38,8 @@ struct Printer {
     column: usize,
     /// Whether anything has been printed.
     is_begun: bool,
-    /// Whether the last piece is an opening bracket or a comment after one, and whether it is an equals sign.
+    /// `is_after_open`: whether the last piece is an opening bracket, or a comment after an opening bracket.
+    /// `is_after_equals`: whether the last piece is an equals sign.
     is_after_open: bool,
     is_after_equals: bool,
 }

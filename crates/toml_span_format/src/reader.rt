@@ -28,7 +28,8 @@ struct Frame {
     /// Whether a comma follows its last element.
     ends_in_comma: bool,
     has_comment: bool,
-    /// Whether there is a line end in it, outside its elements or, in an inline table, in an inline table in it.
+    /// Whether it has a line end outside its elements, or an element that is an inline table without the form
+    /// `OneLine`.
     has_line_end: bool,
     /// Whether an element takes more than one line.
     has_lines: bool,
@@ -274,8 +275,8 @@ impl<'t> Reader<'t> {
         Ok(())
     }
 
-    /// Updates the innermost open array or inline table after `frame`, which was inside it and is written in this form,
-    /// was closed.
+    /// Updates the innermost open array or inline table. `frame`, which is an element of it or the value of a pair in
+    /// it, has just been closed, and is written in this form.
     fn hold(&mut self, frame: &Frame, form: Form) {
         self.widen(frame.whole_width());
         if let Some(outer) = self.open.last_mut() {

@@ -93,7 +93,7 @@ fn is_permuted(
 ///
 /// # Errors
 ///
-/// Those of `format`.
+/// The same as `format`.
 pub fn format_sorted<'t>(
     alloc: Global,
     text: &'t str,

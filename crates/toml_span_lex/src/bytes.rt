@@ -18,7 +18,8 @@ pub fn is_blank(byte: u8) -> bool
 /// The bit that is set in `CLASS` for the bytes of bare keys.
 const KEYLIKE: u8 = 1;
 
-// A digit for each byte. Its lowest bit is `KEYLIKE`.
+// For each byte, the digit `1` if the byte may occur in a bare key, otherwise `0`. The bit `KEYLIKE` is set only in
+// `1`.
 static CLASS: [u8; 256] = *b"\
     00000000000000000000000000000000\
     00000000000001001111111111000000\
@@ -47,7 +48,8 @@ pub fn is_printed(byte: u8) -> bool
     byte == b'\t' || (byte >= 0x20 && byte != 0x7F)
 }
 
-/// Returns the end of the run of spaces and tabs that begins at `from`: `ws = *wschar`.
+/// Returns the offset after the run of spaces and tabs that begins at the byte offset `from`; `from` itself if the run
+/// is empty: `ws = *wschar`.
 #[inline(always)]
 pub fn blanks_end(text: &str, from: usize) -> usize
     requires { IsCharBoundary text.now from }
@@ -63,8 +65,8 @@ pub fn blanks_end(text: &str, from: usize) -> usize
     bytes.len()
 }
 
-/// Returns the end of the run of bare key bytes that begins at `from`: `unquoted-key = 1*( ALPHA / DIGIT / %x2D / %x5F
-/// )`.
+/// Returns the offset after the run of bare key bytes (`is_keylike`) that begins at the byte offset `from`; `from`
+/// itself if the run is empty: `unquoted-key = 1*( ALPHA / DIGIT / %x2D / %x5F )`.
 pub fn keylike_end(text: &str, from: usize) -> usize
     requires { IsCharBoundary text.now from }
     ensures run { MaximalRun spec.is_keylike text.now from result }
@@ -87,7 +89,8 @@ pub fn keylike_end(text: &str, from: usize) -> usize
     bytes.len()
 }
 
-/// Returns the end of the run of comment bytes that begins at `from`: `comment = comment-start-symbol *non-eol`.
+/// Returns the offset after the run of comment bytes (`is_printed`) that begins at the byte offset `from`; `from`
+/// itself if the run is empty: `comment = comment-start-symbol *non-eol`.
 pub fn printed_end(text: &str, from: usize) -> usize
     requires { IsCharBoundary text.now from }
     ensures run { MaximalRun spec.is_printed text.now from result }

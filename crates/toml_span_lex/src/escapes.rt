@@ -8,9 +8,11 @@ ghost use Rattle.toml_span_lex.specs.code.Text.{LeadsTo};
 use crate::text::char_at;
 use crate::tokens::Error;
 
-/// Returns the character that the `len` hexadecimal digits after the letter at `at` stand for, with the offset after
-/// them. Fails with the error, and the offset up to which the escape was read: `%x78 2HEXDIG / %x75 4HEXDIG / %x55
-/// 8HEXDIG`.
+/// Reads the `len` hexadecimal digits of an escape whose letter is at the byte offset `at`. Returns the character whose
+/// code point the digits spell, with the offset after them: `%x78 2HEXDIG / %x75 4HEXDIG / %x55 8HEXDIG`.
+///
+/// Fails with the error, and the offset up to which the escape was read. `start` is the offset of the string's opening
+/// quote, for the error `UnterminatedString`.
 fn hex_escape(
     text: &str,
     start: usize,
@@ -43,8 +45,8 @@ fn hex_escape(
     }
 }
 
-/// Returns the character that a backslash and this letter stand for, if no digits follow the letter: `escape-seq-char =
-/// %x22 / %x5C / %x62 / %x66 / %x6E / %x72 / %x74 / %x65`.
+/// Returns the character that a backslash and this letter stand for, or `None` if the letter needs digits or may not
+/// follow a backslash: `escape-seq-char = %x22 / %x5C / %x62 / %x66 / %x6E / %x72 / %x74 / %x65`.
 #[inline]
 fn simple_escape(letter: u8) -> Option<char>
     ensures { result ≡ spec.simple_escape letter }
@@ -62,8 +64,8 @@ fn simple_escape(letter: u8) -> Option<char>
     }
 }
 
-/// Returns how many hexadecimal digits follow a backslash and this letter, or 0 if none do: `escape-seq-char =/ %x78
-/// 2HEXDIG / %x75 4HEXDIG / %x55 8HEXDIG`.
+/// Returns how many hexadecimal digits must follow a backslash and this letter: 2, 4 or 8 for `x`, `u` or `U`,
+/// otherwise 0 (`escape-seq-char =/ %x78 2HEXDIG / %x75 4HEXDIG / %x55 8HEXDIG`).
 #[inline]
 fn hex_len(letter: u8) -> usize
     ensures { result ≡ spec.hex_len letter }
@@ -76,8 +78,11 @@ fn hex_len(letter: u8) -> usize
     }
 }
 
-/// Reads the escape whose letter is at `at`, after the backslash: `escaped = escape escape-seq-char`. Returns the
-/// character, with the offset after the escape. Fails with the error, and the offset up to which the escape was read.
+/// Reads the escape whose letter, after the backslash, is at the byte offset `at`: `escaped = escape escape-seq-char`.
+/// Returns the character, with the offset after the escape.
+///
+/// Fails with the error, and the offset up to which the escape was read. `start` is the offset of the string's opening
+/// quote, for the error `UnterminatedString`.
 pub(crate) fn escape(text: &str, start: usize, at: usize) -> Result<(char, usize), (Error, usize)>
     requires { IsCharBoundary text.now at }
     ensures escape { code.EscapeGives start text.now at result }

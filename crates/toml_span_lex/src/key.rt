@@ -8,8 +8,8 @@ use std::borrow::CowStr;
 use std::fmt;
 use std::fmt::{Debug, Display, Formatter, Write};
 
-/// The key of an entry: its name and its span, in bytes. The span of a quoted key is the text between its quotes or, if
-/// there is none, the opening quote.
+/// The key of an entry: its name and its span, in bytes. The span of a quoted key covers the text between its quotes
+/// or, if that is empty, the opening quote.
 ///
 /// Keys are compared and ordered by the bytes of their names. Their spans are ignored.
 #[derive(Drop)]

@@ -11,7 +11,7 @@ use crate::strings::scan_string;
 use crate::tokenizer::token_at;
 use crate::tokens::Token;
 
-/// At most one token begins at an offset, with one end, one span and one content.
+/// At most one token begins at an offset, and its end, span and content are unique.
 pub fn one_token()
     ensures { law.OneToken }
 {}
@@ -32,12 +32,12 @@ pub fn within_the_text()
     ensures faults { law.FaultsWithin }
 {}
 
-/// What is between the quotes of a string has exactly one value and one end.
+/// The content of a string has only one value and one end.
 pub fn one_content()
     ensures { law.OneContent }
 {}
 
-/// Reading a text character by character yields it with each CRLF as one line feed.
+/// Reading a text character by character yields the text with each CRLF replaced with one line feed.
 pub fn folded_text()
     ensures { law.FoldedText }
 {}
@@ -53,7 +53,7 @@ pub fn copied_strings()
     ensures { law.CopiedStrings }
 {}
 
-/// Keys are compared by their names alone. The order is `Equal` if and only if they are equal.
+/// Keys are compared by their names alone. `cmp` returns `Equal` if and only if the keys are equal.
 pub fn keys_by_name()
     ensures { law.KeysByName ⟦<Key<'static> as PartialEq>⟧.eq ⟦<Key<'static> as Ord>⟧.cmp }
 {}
@@ -68,12 +68,13 @@ pub fn spanned_equal_by_value<T: PartialEq>()
     ensures { (a b : Spanned T) → ⟦<Spanned<T> as PartialEq>⟧.eq a b ≡ T.eq a.value b.value }
 {}
 
-/// Spanned values are ordered like their values, if these have an order.
+/// `partial_cmp` compares spanned values as it compares their values.
 pub fn spanned_partly_ordered_by_value<T: PartialOrd>()
     ensures { (a b : Spanned T) → ⟦<Spanned<T> as PartialOrd>⟧.partial_cmp a b ≡ T.partial_cmp a.value b.value }
 {}
 
-/// Spanned values are ordered like their values. The order is `Equal` if and only if they are equal.
+/// `cmp` compares spanned values as it compares their values. It returns `Equal` if and only if the spanned values are
+/// equal.
 pub fn spanned_ordered_by_value<T: Ord>()
     ensures cmp { (a b : Spanned T) → ⟦<Spanned<T> as Ord>⟧.cmp a b ≡ T.cmp a.value b.value }
     ensures ties { (a b : Spanned T)
@@ -87,7 +88,7 @@ pub fn bare_keys()
 
 /// At each character boundary there is a token, a fault, or the end of the text.
 ///
-/// The body is the proof: it walks through the string that opens there, if one does.
+/// The body is the proof: it reads the string or other token at `at`.
 pub fn something_stands(text: &str, at: usize)
     requires { IsCharBoundary text.now at }
     ensures { law.SomethingStands text.now at }

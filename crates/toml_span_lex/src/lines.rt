@@ -4,8 +4,8 @@ ghost use Rattle.toml_span_lex.specs.Lines as spec;
 
 use crate::span::Span;
 
-/// Returns the line and the column of the byte offset `at`, both counted from 0: the number of line feeds before it,
-/// and the number of bytes after the last of them.
+/// Returns the line and the column of the byte offset `at`, both counted from 0. The line is the number of line feeds
+/// before `at`. The column is the number of bytes from the start of that line to `at`.
 pub fn line_info(text: &str, at: usize) -> (usize, usize)
     requires { at ≤ length text.now }
     ensures { result ≡ spec.line_info text.now at }

@@ -23,11 +23,11 @@ pub enum Piece {
     Quotes,
     LineEnd,
     Escape(char),
-    /// A backslash at the end of a line, with all white space and line ends after it, which is dropped.
+    /// A backslash at the end of a line, and all white space and line ends after it. None of this is part of the value.
     Dropped,
 }
 
-/// Returns whether the byte may occur unescaped between these quotes.
+/// Returns whether the byte may occur unescaped in a string quoted with `quote`.
 ///
 /// `basic-unescaped = wschar / %x21 / %x23-5B / %x5D-7E / non-ascii`,
 /// `literal-char = %x09 / %x20-26 / %x28-7E / non-ascii`
@@ -38,7 +38,8 @@ fn is_plain(quote: u8, byte: u8) -> bool
     is_printed(byte) && byte != quote && !(quote == b'"' && byte == b'\\')
 }
 
-/// Returns the end of the run of bytes from `from` on that may occur unescaped between these quotes.
+/// Returns the offset after the run of bytes that begins at the byte offset `from`, and whose bytes may occur unescaped
+/// in a string quoted with `quote`; `from` itself if the run is empty.
 #[inline(always)]
 pub fn plain_end(text: &str, quote: u8, from: usize) -> usize
     requires boundary { IsCharBoundary text.now from }
@@ -63,7 +64,7 @@ pub fn plain_end(text: &str, quote: u8, from: usize) -> usize
     bytes.len()
 }
 
-/// Returns the end of the run of quotes that begins at `from`.
+/// Returns the offset after the run of `quote` bytes that begins at `from`; `from` itself if the run is empty.
 fn quotes_end(text: &str, quote: u8, from: usize) -> usize
     requires boundary { IsCharBoundary text.now from }
     requires ascii { quote < 128 }
@@ -79,7 +80,7 @@ fn quotes_end(text: &str, quote: u8, from: usize) -> usize
     bytes.len()
 }
 
-/// Returns whether a space, a tab or a line end is at `at`: `wschar / newline`.
+/// Returns whether there is a space, a tab or a line end at the byte offset `at`: `wschar / newline`.
 #[inline]
 fn is_ws_or_newline(bytes: &[u8], at: usize) -> bool
     requires { at < length bytes.now }
@@ -88,7 +89,8 @@ fn is_ws_or_newline(bytes: &[u8], at: usize) -> bool
     is_blank(bytes[at]) || bytes[at] == b'\n' || is_crlf(bytes, at)
 }
 
-/// Returns the offset after the spaces, tabs and line ends from `from` on: `*( wschar / newline )`.
+/// Returns the offset after the spaces, tabs and line ends that begin at the byte offset `from`; `from` itself if there
+/// are none: `*( wschar / newline )`.
 fn ws_and_newlines_end(text: &str, from: usize) -> usize
     requires { IsCharBoundary text.now from }
     ensures run { spec.WsAndNewlines text.now from result }
@@ -103,9 +105,12 @@ fn ws_and_newlines_end(text: &str, from: usize) -> usize
     bytes.len()
 }
 
-/// Reads one or two quotes in a multi-line string, and returns them with the offset after them. At the end of the
-/// string, returns `None` with the offset after the closing quotes: `mlb-quotes = 1*2quotation-mark`, `mll-quotes =
-/// 1*2apostrophe`, `ml-basic-string-delim = 3quotation-mark`, `ml-literal-string-delim = 3apostrophe`.
+/// Reads the quotes at `at` in a multi-line string. One or two of them are a piece, which is returned with the offset
+/// after it. Three or more end the string: returns `None` with the offset after the closing three, before which there
+/// may be one or two that belong to the content.
+///
+/// `mlb-quotes = 1*2quotation-mark`, `mll-quotes = 1*2apostrophe`, `ml-basic-string-delim = 3quotation-mark`,
+/// `ml-literal-string-delim = 3apostrophe`
 fn quotes(text: &str, quote: u8, at: usize) -> (Option<Piece>, usize)
     requires within { at < length text.now }
     requires boundary { IsCharBoundary text.now at }
@@ -122,7 +127,8 @@ fn quotes(text: &str, quote: u8, at: usize) -> (Option<Piece>, usize)
     }
 }
 
-/// Reads what begins with the backslash at `at`: `escaped` or `mlb-escaped-nl`. Returns it with the offset after it.
+/// Reads the piece that begins with the backslash at `at`: an escape (`escaped`) or, if `multi`, an escaped line end
+/// (`mlb-escaped-nl`). Returns the piece with the offset after it. Fails like `piece_at`.
 fn escape_piece(
     text: &str,
     multi: bool,
@@ -144,7 +150,8 @@ fn escape_piece(
     }
 }
 
-/// Returns whether there is white space or a line end at the offset `at`.
+/// Returns whether there is white space or a line end at the byte offset `at`. Returns `false` at or after the end of
+/// the text.
 fn ws_or_newline_at(text: &str, at: usize) -> bool
     ensures gap { result ≡ spec.is_ws_or_newline text.now at }
     ensures within { IsTrue result → at < length text.now }
@@ -153,8 +160,9 @@ fn ws_or_newline_at(text: &str, at: usize) -> bool
     at < bytes.len() && is_ws_or_newline(bytes, at)
 }
 
-/// Reads a backslash at the end of a line in a multi-line string. Returns it with the offset after all that it drops:
-/// `mlb-escaped-nl = escape ws newline *( wschar / newline )`.
+/// Reads the backslash at `at`, which ends a line of a multi-line string, with all white space and line ends after it:
+/// `mlb-escaped-nl = escape ws newline *( wschar / newline )`. Returns the piece `Dropped`, with the offset after it.
+/// Fails if the line goes on after the white space, or if the text ends there.
 fn drop_line(text: &str, start: usize, at: usize) -> Result<(Option<Piece>, usize), (Error, usize)>
     requires within { at + 1 < length text.now }
     requires here { slice_index text.now at ≡ backslash }
@@ -175,8 +183,11 @@ fn drop_line(text: &str, start: usize, at: usize) -> Result<(Option<Piece>, usiz
     }
 }
 
-/// Reads the piece at `at`, and returns it with the offset after it. At the end of the string, returns `None` with the
-/// offset after the closing quotes. Fails with the error, and the offset up to which the string was read.
+/// Reads the piece at the byte offset `at` of a string quoted with `quote`, which is multi-line if `multi`. Returns the
+/// piece with the offset after it. At the end of the string, returns `None` with the offset after the closing quotes.
+///
+/// Fails with the error, and the offset up to which the string was read. `start` is the offset of the opening quote,
+/// for the error `UnterminatedString`.
 ///
 /// `basic-char = basic-unescaped / escaped`, `mlb-content = basic-char / newline / mlb-escaped-nl`, `mll-content =
 /// literal-char / newline`

@@ -3,9 +3,9 @@ ghost use Rattle.std.specs.Prelude.{◌≡◌, ◌↔◌, IsTrue};
 
 use std::ops::Range;
 
-/// A range of byte offsets in a text, from `start` to before `end`.
+/// A range of byte offsets in a text. `start` is inclusive, `end` is exclusive.
 ///
-/// A span may be reversed, with `start` after `end`. It is kept as it is.
+/// A reversed span, with `start` after `end`, is allowed, and kept as it is.
 #[derive(Clone, Copy, PartialEq, Eq, Default, Debug)]
 pub struct Span {
     pub start: usize,

@@ -46,7 +46,7 @@ impl<T> Spanned<T> {
         value
     }
 
-    /// Converts the value by `From`, and keeps the span.
+    /// Converts the value with `From`, and keeps the span.
     #[inline]
     pub fn map<V: From<T>>(self) -> Spanned<V>
         ensures value { V.from_gives self.value result.value }
@@ -79,8 +79,8 @@ impl<T: PartialEq> Spanned<T> {
 }
 
 impl<T: Clone> Spanned<T> {
-    /// Returns a clone of the value, as `T` makes it, with the same span. It equals the value if all clones of `T`
-    /// equal their originals. Fails only if an allocation fails.
+    /// Returns a copy with the same span, whose value is made by the `clone` of `T`. The copy equals the original if
+    /// every clone of a `T` equals its original. Fails only if an allocation fails.
     pub fn clone(&self, _alloc: Global) -> Result<Self, AllocError>
         ensures value { IfOk result (λ copy. T.is_clone self.now.value copy.value) }
         ensures span { IfOk result (λ copy. copy.span ≡ self.now.span) }

@@ -6,7 +6,7 @@ use std::fmt::{Display, Formatter, Write};
 /// Why a call failed: an allocation failed, or there is a fault to report.
 ///
 /// `Memory` means that the allocator refused a request during the call. Contracts can't express that; it is tested.
-/// `toml_span_serde` also returns it if a position or a count does not fit into its integer type.
+/// `toml_span_serde` also returns `Memory` if a position or a count does not fit into its integer type.
 #[derive(Debug, Drop)]
 pub enum Stop<E> {
     Memory(AllocError),
@@ -28,8 +28,9 @@ impl<E> Stop<E> {
         }
     }
 
-    /// Converts the fault by `From`. `read.map_err(Stop::convert)?` passes the error of a function that fails with one
-    /// error on, in a function that fails with a list of errors.
+    /// Converts the fault with `From`, and keeps a failed allocation as it is. For example,
+    /// `read.map_err(Stop::convert)?` passes on the error of `read`, which fails with one error, in a function that
+    /// fails with a list of errors.
     pub fn convert<F: From<E>>(self) -> Stop<F>
         ensures { Converts F.from_gives self result }
     {
@@ -63,7 +64,7 @@ impl<T: Drop, E> From<AllocFailed<T>> for Stop<E> {
     }
 }
 
-/// Writes the fault, or `out of memory`.
+/// Writes the fault, or `memory allocation failed`.
 impl<E: Display> Display for Stop<E> {
     ghost use Rattle.toml_span_lex.specs.Stop.{stop_text};
 

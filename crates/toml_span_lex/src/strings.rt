@@ -16,8 +16,8 @@ use crate::tokens::{Error, Token};
 use std::alloc::{AllocError, Global};
 use std::borrow::CowStr;
 
-/// Returns the value read so far as an owned string. `kept` is that of the bytes before `from`, if they had to be
-/// copied. Fails if an allocation fails.
+/// Returns the value of the content `from..at` as an owned string: `kept` or, if that is `None`, a copy of the text
+/// there. Fails if an allocation fails.
 fn owned(
     alloc: Global,
     kept: Option<String>,
@@ -36,7 +36,8 @@ fn owned(
     }
 }
 
-/// Adds the characters from `at` to `next`, which stand for themselves, to the value. Fails if an allocation fails.
+/// Adds the characters `at..next`, which stand for themselves, to the value of the content `from..at`. `kept` is that
+/// value, or `None` if it equals the text. Returns the new value in the same form. Fails if an allocation fails.
 fn same(
     kept: Option<String>,
     text: &str,
@@ -62,7 +63,8 @@ fn same(
     }
 }
 
-/// Adds a piece from `at` to `next` to the value. Fails if an allocation fails.
+/// Adds the piece `at..next` to the value of the content `from..at`. `kept` and the result are values as in `same`.
+/// Fails if an allocation fails.
 fn with_piece(
     alloc: Global,
     kept: Option<String>,
@@ -101,8 +103,12 @@ fn with_piece(
     }
 }
 
-/// Reads the content of a string. Returns its value, if it had to be copied, with the offset at which it ends and the
-/// offset after the string. Fails with the error, and the offset up to which the string was read.
+/// Reads the content, which begins at `from`, of a string quoted with `quote`, which is multi-line if `multi`. Returns
+/// the value of the content, or `None` if that equals the text, with the offset at which the content ends and the
+/// offset after the string.
+///
+/// Fails with the error, and the offset up to which the string was read, or if an allocation fails. `start` is the
+/// offset of the opening quote, for the error `UnterminatedString`.
 ///
 /// `*basic-char`, `*literal-char`, `ml-basic-body = *mlb-content *( mlb-quotes 1*mlb-content ) [ mlb-quotes ]`,
 /// `ml-literal-body = *mll-content *( mll-quotes 1*mll-content ) [ mll-quotes ]`
@@ -152,8 +158,8 @@ fn opens_multi(bytes: &[u8], at: usize) -> bool
     at + 2 < bytes.len() && bytes[at + 1] == bytes[at] && bytes[at + 2] == bytes[at]
 }
 
-/// Returns the offset at which the content of a string begins: after `ml-basic-string-delim [ newline ]`,
-/// `ml-literal-string-delim [ newline ]` or one quote.
+/// Returns the offset at which the content of the string at `at` begins: after `ml-basic-string-delim [ newline ]` or
+/// `ml-literal-string-delim [ newline ]` if `multi`, otherwise after one quote.
 fn content_from(text: &str, multi: bool, at: usize) -> usize
     requires within { at < length text.now }
     requires ascii { slice_index text.now at < 128 }
@@ -171,8 +177,9 @@ fn content_from(text: &str, multi: bool, at: usize) -> usize
     }
 }
 
-/// Reads the string at `at`. Returns it with its span and the offset after it. Fails with the error, and the offset up
-/// to which the string was read, or if an allocation fails.
+/// Reads the string whose opening quote is at the byte offset `at`. Returns its span, which `content_span` defines, its
+/// token, and the offset after it. Fails with the error, and the offset up to which the string was read, or if an
+/// allocation fails.
 ///
 /// `string = ml-basic-string / basic-string / ml-literal-string / literal-string`
 /// `basic-string = quotation-mark *basic-char quotation-mark`
@@ -215,7 +222,8 @@ pub fn string_at(
     }
 }
 
-/// Returns the span of a string: its content or, if it is empty and on a single line, its opening quote.
+/// Returns the span of a string: its content `from..to` or, if that is empty and the string is not `multi`, the opening
+/// quote at `at`.
 fn content_span(multi: bool, at: usize, from: usize, to: usize) -> Span
     requires { at < usize.MAX }
     ensures { result ≡ spec.content_span multi at from to }

@@ -1,4 +1,4 @@
-//! The characters of a text, in which CRLF counts as one.
+//! The characters of a text, in which CRLF counts as one character.
 ghost use Rattle.std.specs.Prelude.{◌≡◌, ◌<◌, ◌≤◌, length, IfSome};
 ghost use Rattle.std.specs.Str.{IsCharBoundary};
 ghost use Rattle.toml_span_lex.specs.Text as spec;

@@ -57,8 +57,8 @@ pub fn first_place(text: &str) -> usize
     if c == '\u{feff}' { next } else { 0 }
 }
 
-/// Reads the token at `at`, which is not a string. Returns it with the offset after it. Fails with the error, and the
-/// offset of the next character.
+/// Reads the token at the byte offset `at`, which is not a string. Returns the token with the offset after it. Fails
+/// with `Unexpected` at a character that no token begins with, and with the offset after that character.
 ///
 /// `ws = *wschar`, `newline = %x0A / %x0D.0A`, `comment = comment-start-symbol *non-eol`,
 /// `unquoted-key = 1*( ALPHA / DIGIT / %x2D / %x5F )`
@@ -95,7 +95,7 @@ pub fn token_at(input: &str, at: usize) -> Result<(Token<'_>, usize), (Error, us
     }
 }
 
-/// Reads a CRLF or a bare key at `at`. Anything else is an error.
+/// Reads the CRLF or bare key at `at`. Returns the token, or fails, like `token_at`.
 fn other_at(input: &str, at: usize) -> Result<(Token<'_>, usize), (Error, usize)>
     requires boundary { IsCharBoundary input.now at }
     requires within { at < length input.now }
@@ -116,7 +116,7 @@ fn other_at(input: &str, at: usize) -> Result<(Token<'_>, usize), (Error, usize)
     }
 }
 
-/// Returns the offset after the first line end from `from` on, or the length of the text if there is none.
+/// Returns the offset after the first line end at or after `from`, or the length of the text if there is none.
 fn line_after(text: &str, from: usize) -> usize
     requires { from ≤ length text.now }
     ensures skips { spec.SkipsLine text.now from result }
@@ -164,7 +164,8 @@ impl<'a> Tokenizer<'a> {
     /// # Errors
     ///
     /// Fails if no token can be read. The tokenizer is then after the character that the error names, after the digits
-    /// or blanks of an invalid escape or, if a string is not closed, at the end of the text.
+    /// or blanks of an invalid escape or, if a string is not closed, at the end of the text. If an allocation fails,
+    /// the tokenizer stays where it is.
     pub fn step(&mut self, alloc: Global) -> Result<Option<(Span, Token<'a>)>, Stop<Error>>
         ensures text { self.new.text ≡ self.old.text }
         ensures step { spec.StepGives self.old.text self.old.at result self.new.at }
@@ -211,10 +212,10 @@ impl<'a> Tokenizer<'a> {
         ahead.step(alloc)
     }
 
-    /// Reads the next token if it is `expected`, contents included. Returns whether it was.
+    /// Reads the next token if it equals `expected`, contents included. Returns whether it did.
     ///
-    /// If the next token is another one, at the end of the text, after an error, and if an allocation fails, nothing
-    /// changes.
+    /// Unless it returns `true`, the tokenizer stays where it is. Fails if no token can be read, or if an allocation
+    /// fails.
     pub fn eat(&mut self, alloc: Global, expected: Token<'a>) -> Result<bool, Stop<Error>>
         ensures text { self.new.text ≡ self.old.text }
         ensures eats { spec.Eats self.old result (lexeme expected.entry) self.new }
@@ -226,10 +227,11 @@ impl<'a> Tokenizer<'a> {
         }
     }
 
-    /// Reads the next token if it is `expected`, contents included. Returns its span, or `None` for another token or at
-    /// the end of the text.
+    /// Reads the next token if it equals `expected`, contents included. Returns the span of the token, or `None` for
+    /// another token or at the end of the text.
     ///
-    /// Unless a span is returned, nothing changes.
+    /// Unless it returns a span, the tokenizer stays where it is. Fails if no token can be read, or if an allocation
+    /// fails.
     pub fn eat_spanned(
         &mut self,
         alloc: Global,
@@ -252,12 +254,12 @@ impl<'a> Tokenizer<'a> {
         }
     }
 
-    /// Reads the next token, which must be `expected`, contents included.
+    /// Reads the next token, which must equal `expected`, contents included.
     ///
     /// # Errors
     ///
-    /// Fails with `Wanted` if it is another token. The tokenizer is then after that token. If no token can be read, or
-    /// an allocation fails, it is where `step` leaves it.
+    /// Fails with `Wanted` at another token or at the end of the text. The tokenizer is then after that token. If no
+    /// token can be read, or an allocation fails, it is where `step` leaves it.
     pub fn expect(&mut self, alloc: Global, expected: Token<'a>) -> Result<(), Stop<Error>>
         ensures text { self.new.text ≡ self.old.text }
         ensures expects { spec.Expects self.old.text self.old.at result (lexeme expected.entry) self.new.at }
@@ -268,12 +270,12 @@ impl<'a> Tokenizer<'a> {
         }
     }
 
-    /// Reads the next token, which must be `expected`, contents included. Returns its span.
+    /// Reads the next token, which must equal `expected`, contents included. Returns the span of the token.
     ///
     /// # Errors
     ///
-    /// Fails with `Wanted` if it is another token. The tokenizer is then after that token. If no token can be read, or
-    /// an allocation fails, it is where `step` leaves it.
+    /// Fails with `Wanted` at another token or at the end of the text. The tokenizer is then after that token. If no
+    /// token can be read, or an allocation fails, it is where `step` leaves it.
     pub fn expect_spanned(
         &mut self,
         alloc: Global,
@@ -307,8 +309,9 @@ impl<'a> Tokenizer<'a> {
     ///
     /// # Errors
     ///
-    /// Fails with `MultilineStringKey` at a multi-line string, and with `Wanted` at another token. The tokenizer is
-    /// then after that token. If no token can be read, or an allocation fails, it is where `step` leaves it.
+    /// Fails with `MultilineStringKey` at a multi-line string, and with `Wanted` at another token or at the end of the
+    /// text. The tokenizer is then after that token. If no token can be read, or an allocation fails, it is where
+    /// `step` leaves it.
     pub fn table_key(&mut self, alloc: Global) -> Result<Key<'a>, Stop<Error>>
         ensures text { self.new.text ≡ self.old.text }
         ensures key { spec.TableKeyGives self.old.text self.old.at result self.new.at }
@@ -369,8 +372,8 @@ impl<'a> Tokenizer<'a> {
         }
     }
 
-    /// Reads a comment (`comment-start-symbol *non-eol`) and the line end after it, unless the text ends there. Returns
-    /// whether there was a comment.
+    /// Reads the comment (`comment-start-symbol *non-eol`) at the current offset, if there is one, and the line end
+    /// after it, if the text does not end there. Returns whether there was a comment.
     ///
     /// # Errors
     ///

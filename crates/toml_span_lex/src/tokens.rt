@@ -11,7 +11,7 @@ pub enum Token<'a> {
     Whitespace(&'a str),
     /// A line feed, alone or after a carriage return.
     Newline,
-    /// A comment from its `#` to the end of the line.
+    /// A comment, from its `#` up to, but not including, the line end or another control character except a tab.
     Comment(&'a str),
     Equals,
     Period,
@@ -27,15 +27,16 @@ pub enum Token<'a> {
     String {
         /// The string as it is written, with its quotes.
         src: &'a str,
-        /// The value. It is borrowed if and only if it equals the text between the quotes.
+        /// The value. It is borrowed if and only if it equals the text between the quotes, without a line end directly
+        /// after three opening quotes.
         val: CowStr<'a>,
         /// Whether it is a multi-line string.
         multiline: bool,
     },
 }
 
-/// Why the next token could not be read, or is not the expected one. Numbers are byte offsets, unless something else is
-/// said.
+/// Why the next token could not be read, or is not the expected one. Values of type `usize` are byte offsets, except
+/// where stated otherwise.
 #[derive(PartialEq, Eq, Debug, Drop)]
 pub enum Error {
     /// A character that may not occur in a string.
@@ -53,11 +54,12 @@ pub enum Error {
     Unexpected(usize, char),
     /// The opening quote of a string that is not closed.
     UnterminatedString(usize),
-    /// The opening quote of a multi-line string where a key is expected, and the offset that lies as many bytes after
-    /// it as the value of the string has.
+    /// The offset of the opening quote of a multi-line string where a key is expected, and that offset plus the length
+    /// of the string's value in bytes.
     MultilineStringKey(usize, usize),
-    /// A token other than the expected one, or the end of the text. `describe` names both, except that the end is
-    /// `eof`.
+    /// A token other than the expected one, or the end of the text where a token is expected. `found` is the name of
+    /// the token, as `Token::describe` returns it, or `eof` at the end of the text. `expected` is the name of the
+    /// expected token, `a table key` or `newline`.
     Wanted {
         /// The offset of the token, or the length of the text.
         at: usize,

@@ -7,7 +7,7 @@ use crate::run::write_bytes;
 use crate::sink::Sink;
 use std::alloc::AllocError;
 
-/// The number of bytes from which on the buffer is written.
+/// A buffer with at least this many bytes is written.
 const MANY: usize = 65_536;
 
 /// Why the output was not written completely.

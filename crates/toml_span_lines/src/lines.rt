@@ -91,7 +91,8 @@ fn push_position(path: &mut Vec<u8>, position: usize) -> Result<(), AllocError>
     push_number(path, position)
 }
 
-/// Appends the line of a value. Fails if an allocation fails.
+/// Appends the line of a value: its path, or `root` if that is empty, its kind and its span. Fails if an allocation
+/// fails.
 fn push_line(out: &mut Vec<u8>, path: &[u8], kind: &str, span: Span) -> Result<(), AllocError>
     ensures { OnOk result (out.new.items ≡ out.old.items ++ spec.line path.now kind.now span.start span.end) }
 {
@@ -197,9 +198,9 @@ fn write_entries<W: Sink>(
     Ok(())
 }
 
-/// Writes the buffer, and then the lines of a tree: one for each value, each before those inside it, entries in the
-/// order of their names. The end of the output, less than 64 KiB, stays in the buffer. After an error, a prefix of the
-/// output has been written.
+/// Writes the buffer, and then the lines of a tree: one for each value, before the lines of the values inside it,
+/// entries in the order of their names. The end of the output, less than 64 KiB, stays in the buffer. After an error, a
+/// prefix of the output has been written.
 pub fn write_lines<W: Sink>(
     alloc: Global,
     writer: &mut W,
@@ -213,8 +214,8 @@ pub fn write_lines<W: Sink>(
     write_value(writer, held, &mut Vec::new(alloc), root)
 }
 
-/// Returns the lines of a tree: one for each value, each before those inside it, entries in the order of their names.
-/// Fails only if an allocation fails.
+/// Returns the lines of a tree: one for each value, before the lines of the values inside it, entries in the order of
+/// their names. Fails only if an allocation fails.
 pub fn tree_lines(alloc: Global, root: &Value<'_>) -> Result<Vec<u8>, AllocError>
     ensures { IfOk result (λ out. out.items ≡ spec.tree_lines (view root.now)) }
 {
@@ -228,7 +229,8 @@ pub fn tree_lines(alloc: Global, root: &Value<'_>) -> Result<Vec<u8>, AllocError
     Ok(out)
 }
 
-/// Returns the line of an error: its code, its span, its line and column, and its kind. Fails if an allocation fails.
+/// Returns the line of an error: `error`, its code, its span, and its line and column, which are `0:0` if the error
+/// does not have them. Fails if an allocation fails.
 pub(crate) fn error_line(alloc: Global, error: &Error<'_>) -> Result<Vec<u8>, AllocError>
     ensures { IfOk result (λ out. out.items ≡ spec.error_line (content_of error.now)) }
 {

@@ -50,7 +50,7 @@ pub fn read_bytes<R: Source>(alloc: Global, reader: &mut R) -> Result<Vec<u8>, C
     Ok(bytes)
 }
 
-/// Writes the bytes, unless a write fails. Returns whether all of them were written.
+/// Writes the bytes, until a write fails. Returns whether all of them were written.
 pub fn write_bytes<W: Sink>(writer: &mut W, text: &[u8]) -> bool
     requires { W.failed writer.old ≡ false }
     ensures { WritesOut (W.contents writer.old) (W.contents writer.new) text.now (W.failed writer.new) result }
@@ -133,7 +133,7 @@ pub fn run_with_limit<R: Source, W: Sink>(
     }
 }
 
-/// Runs the program with the limit 128: see `run_with_limit`.
+/// Calls `run_with_limit` with the depth limit 128.
 pub fn run<R: Source, W: Sink>(alloc: Global, reader: &mut R, writer: &mut W) -> u8
     requires reader { R.failed reader.old ≡ false }
     requires writer { W.failed writer.old ≡ false }

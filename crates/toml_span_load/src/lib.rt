@@ -78,7 +78,7 @@ pub struct Loaded<T> {
 
 /// A file's name, which reports print, and its text.
 ///
-/// What is read from it may borrow from the text, but its errors do not: `let file = TextFile::open(&rt,
+/// A value that is read from it may borrow from the text. The errors of a read do not: `let file = TextFile::open(&rt,
 /// "settings.toml")?; file.read::<Settings>(alloc)`.
 #[derive(Debug, Drop)]
 pub struct TextFile {
@@ -93,6 +93,8 @@ impl TextFile {
         ensures name { IfOk result (λ file. string_bytes file.name ≡ name.now) }
         ensures refused { IfErr result (NotOpened name.now) }
     {
+        // Toolchain: the bound `T: for<'de> Deserialize<'de>` is refused ("cannot state an item with a bound that binds
+        // a lifetime"), so the text is returned, and `read` borrows from it.
         match fs::read_to_string(rt, name) {
             Ok(text) => Ok(TextFile {
                 name: String::from_str(rt.alloc(), name)?,

@@ -56,8 +56,8 @@ fn stop(at: usize, fault: PathFault) -> Stop<PathError>
     Stop::Fault(PathError { at, fault })
 }
 
-/// Converts the tokenizer's error in a string that begins at `at` and was read up to `end`. A string that is not closed
-/// is reported at `at`, any other error at `end`.
+/// Converts the tokenizer's error about the string that begins at `at` and was read up to `end`. A string that is not
+/// closed is reported at `at`, any other error at `end`.
 fn string_error(at: usize, end: usize, error: tokens::Error) -> Stop<PathError>
     ensures { result ≡ Fault (spec.string_error at end error) }
 {
@@ -67,7 +67,7 @@ fn string_error(at: usize, end: usize, error: tokens::Error) -> Stop<PathError>
     }
 }
 
-/// Reads the string at the offset `at`. Returns its content, whether it has three quotes on each side, and the offset
+/// Reads the string at the offset `at`. Returns its value, whether it has three quotes on each side, and the offset
 /// after it. Fails if the string can't be read, or if an allocation fails.
 fn string_read<'p>(
     alloc: Global,
@@ -151,7 +151,7 @@ fn are_digits(bytes: &[u8]) -> bool
     bytes.iter().all(|byte| is_digit(*byte))
 }
 
-/// Returns whether a run of bare key bytes is a position: digits without a leading zero.
+/// Returns whether a run of bare key bytes is a position: digits without a leading zero, or `0`.
 fn is_position(run: &str) -> bool
     ensures { result ≡ spec.is_position run.now }
 {
@@ -214,7 +214,7 @@ fn step_at<'p>(
     }
 }
 
-/// Reads a dotted key with positions, such as `a.b[0]`, and returns its segments. Fails with the first place that can't
+/// Reads a dotted key with positions, such as `a.b[0]`, and returns its segments. Fails at the first place that can't
 /// be read, or if an allocation fails.
 #[tactic(auto, using(crate::proofs::DottedLemmas::after_first, crate::proofs::DottedLemmas::after_more))]
 fn dotted<'p>(alloc: Global, path: &'p str) -> Result<Vec<CowStr<'p>>, Stop<PathError>>
@@ -257,8 +257,8 @@ fn push_segments<'p>(path: &'p str, parts: &mut Vec<CowStr<'p>>) -> Result<(), A
 /// Returns the segments of a path: names of keys, and positions of elements in decimal digits.
 ///
 /// An empty path, or one that begins with a slash, is a pointer such as `/a/0`. Any other is a dotted key with
-/// positions in brackets, such as `a."b/c"[0]`. Fails with the first place that can't be read, or if an allocation
-/// fails. A pointer can always be read.
+/// positions in brackets, such as `a."b/c"[0]`. Fails at the first place that can't be read, or if an allocation fails.
+/// A pointer can always be read.
 pub fn path_segments<'p>(alloc: Global, path: &'p str) -> Result<Vec<CowStr<'p>>, Stop<PathError>>
     ensures { Reads (IsPath path.now) result }
 {
@@ -321,7 +321,8 @@ fn entry_of<'v, 'de>(inner: &'v ValueInner<'de>, segment: &str) -> Option<&'v Va
     }
 }
 
-/// Returns the entry or element of a value that a segment names, unless one of the two is taken.
+/// Returns the entry or element of a value that a segment names, unless the content of that entry or element, or of the
+/// value itself, has been taken.
 fn child_of<'v, 'de>(value: &'v Value<'de>, segment: &str) -> Option<&'v Value<'de>>
     ensures { option_map (λ v. view v.now) result ≡ untaken_entry segment.now (view value.now) }
 {
@@ -332,9 +333,11 @@ fn child_of<'v, 'de>(value: &'v Value<'de>, segment: &str) -> Option<&'v Value<'
     if child.is_taken() { None } else { Some(child) }
 }
 
-/// Returns the value at a path below `value`, or `None` if there is nothing. A segment of the path is the name of a key
-/// in a table, or a position in an array (see `path_segments`). Takes time linear in the number of entries of each
-/// table on the way.
+/// Returns the value at a path below `value`. Returns `None` if there is no such value, or if its content, or the
+/// content of a value around it, has been taken. An empty path always leads to `value`.
+///
+/// A segment of the path is the name of a key in a table, or a position in an array (see `path_segments`). Takes time
+/// linear in the number of entries of each table on the way.
 pub fn value_at<'v, 'de>(value: &'v Value<'de>, path: &[CowStr<'_>]) -> Option<&'v Value<'de>>
     ensures { option_map (λ v. view v.now) result ≡ spec.named (map cow_str_bytes path.now) (view value.now) }
 {

@@ -8,7 +8,7 @@ use toml_span_lex::span::Span;
 use toml_span_read::gaps::byte_at;
 use toml_span_read::{Assignment, Section};
 
-/// Returns the start of the run of spaces and tabs that ends at the offset `at`.
+/// Returns the start of the run of spaces and tabs that ends at the offset `at`; `at` itself if the run is empty.
 pub(crate) fn blanks_start(text: &str, at: usize) -> usize
     ensures { result ≡ spec.blanks_start text.now at }
 {
@@ -19,7 +19,8 @@ pub(crate) fn blanks_start(text: &str, at: usize) -> usize
     start
 }
 
-/// Returns the offset after the first line feed from `from` on, or the length of the text if there is none.
+/// Returns the offset after the first line feed at or after `from`. If there is none, returns the length of the text,
+/// or `from` if that is greater.
 fn after_line(text: &str, from: usize) -> usize
     ensures { result ≡ spec.after_line text.now from }
 {

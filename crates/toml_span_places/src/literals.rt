@@ -8,7 +8,7 @@ use toml_span_lex::span::Span;
 use toml_span_read::gaps::byte_at;
 use toml_span_tree::Value;
 
-/// Returns the byte at the offset `at - back`, or 0 if that is before the start.
+/// Returns the byte at the offset `at - back`, or 0 if the text has no such byte.
 pub(crate) fn byte_before(text: &str, at: usize, back: usize) -> u8
     ensures { result ≡ spec.byte_before text.now at back }
 {
@@ -19,8 +19,8 @@ pub(crate) fn byte_before(text: &str, at: usize, back: usize) -> u8
     }
 }
 
-/// Returns the end of the opening quotes of a string whose content begins at `from`: `from` itself, or the start of a
-/// line end before it, which is dropped from the content.
+/// Returns the offset after the opening quotes of a string whose content begins at `from`: `from` itself, or the start
+/// of the line end before `from`, if there is one. Such a line end is not part of the content.
 fn after_quotes(text: &str, from: usize) -> usize
     ensures { result ≡ spec.after_quotes text.now from }
 {
@@ -45,8 +45,8 @@ fn quotes_before(text: &str, at: usize) -> usize
     }
 }
 
-/// Returns the span of a string with its quotes, given the span of its content. `is_empty` says whether the content is
-/// empty; its span may then be that of the opening quote.
+/// Returns the span of a string with its quotes, given the span of its content. `is_empty` says whether the value is
+/// empty; the given span may then be that of the opening quote.
 fn string_literal(text: &str, span: Span, is_empty: bool) -> Span
     ensures { result ≡ spec.string_literal text.now span is_empty }
 {

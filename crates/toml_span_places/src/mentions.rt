@@ -21,7 +21,7 @@ use toml_span_tree::nodes::Step;
 /// A mention, without its path.
 #[derive(Clone, Copy)]
 pub(crate) struct Details {
-    /// The position of the table that the mention names, if its path leads to an array of tables.
+    /// If the mention names an element of an array of tables, the position of that element; `path` leads to the array.
     pub element: Option<usize>,
     /// Where the key occurs. `None` for the root and for the braces of an inline table, which have no key.
     pub role: Option<Role>,
@@ -125,8 +125,8 @@ fn push_last<'t, 'de>(
     push(alloc, path, details, out)
 }
 
-/// Appends the mentions by `parts`, the rest of a section's header, which continues `path`. Returns the path that the
-/// header names. Fails if an allocation fails.
+/// Appends a mention for each of `parts`, the parts of a section's header that come after those in `path`. Without a
+/// header, appends the mention of the root. Returns the path that the header names. Fails if an allocation fails.
 fn push_header<'t, 'de>(
     alloc: Global,
     section: &Section<'_>,
@@ -159,8 +159,8 @@ fn push_header<'t, 'de>(
     push_header(alloc, section, rest, opened, inside, out)
 }
 
-/// Appends the mentions by the rest of an assignment's key, the parts `inner` and `last`, which continue `path`.
-/// `extent` is the span of the assignment. Returns the path that the key names. Fails if an allocation fails.
+/// Appends a mention for each part of an assignment's key that comes after those in `path`: the parts `inner` and
+/// `last`. `extent` is the span of the assignment. Returns the path that the key names. Fails if an allocation fails.
 fn push_parts<'t, 'de>(
     alloc: Global,
     extent: Span,

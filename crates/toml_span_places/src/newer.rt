@@ -74,8 +74,8 @@ fn push(
 
 // ---- strings
 
-/// Appends the escape whose letter is at the offset `at`, if TOML 1.0 lacks it. `is_letter` says whether that byte is
-/// the letter of an escape at all. Fails if an allocation fails.
+/// Appends the escape whose letter is at the offset `at`, if TOML 1.0 lacks it. `is_letter` says whether the byte at
+/// `at` is the letter of an escape at all. Fails if an allocation fails.
 ///
 /// `escape-seq-char =/ %x65`, `escape-seq-char =/ %x78 2HEXDIG` (TOML 1.1, String)
 fn push_escape(
@@ -94,7 +94,7 @@ fn push_escape(
     }
 }
 
-/// Returns whether the byte after `at` is the letter of an escape. `is_letter` says whether the byte at `at` is one.
+/// Returns whether the byte after `at` is the letter of an escape. `is_letter` says the same of the byte at `at`.
 fn begins_escape(text: &str, is_letter: bool, at: usize) -> bool
     ensures { result ≡ spec.begins_escape text.now is_letter at }
 {
@@ -141,7 +141,8 @@ fn push_parts<'de>(
 
 // ---- dates and times
 
-/// Returns the offset at which the time begins: 0 in a time, 11 after a date. A date alone is shorter.
+/// Returns the offset at which the time begins: 0 in a time, otherwise 11, which is after the end of a date without a
+/// time.
 fn time_start(date: &str) -> usize
     ensures { result ≡ spec.time_start date.now }
 {
@@ -220,8 +221,9 @@ fn push_line_end(
     push(line_end_kind(gap), end, at + 1, out)
 }
 
-/// Appends what the byte at the offset `at` ends or is: a line end with the comment before it, or a trailing comma.
-/// `comment` is the offset at which the comment around the byte begins, if there is one. Fails if an allocation fails.
+/// Appends the newer forms that end with the byte at the offset `at`: for a line feed, the comment before the line end
+/// and the line end; for a comma outside comments, after the last pair, the trailing comma. `comment` is the offset at
+/// which the comment around the byte begins, if there is one. Fails if an allocation fails.
 fn push_byte(
     text: &str,
     gap: Gap,
@@ -248,14 +250,15 @@ fn is_between(byte: u8) -> bool
     is_blank(byte) || matches!(byte, b'\n' | b'\r' | b'#' | b',' | b'=')
 }
 
-/// Returns whether the gap ends at the offset `at`: outside comments, at a key, a value or a brace.
+/// Returns whether the gap ends at the offset `at`: outside comments, at a key, a value or a brace. `comment` is as in
+/// `push_byte`.
 fn ends_gap(text: &str, comment: Option<usize>, at: usize) -> bool
     ensures { result ≡ spec.ends_gap text.now comment at }
 {
     comment.is_none() && !is_between(byte_at(text, at))
 }
 
-/// Returns the offset at which the comment around the byte after `at` begins, if it is in one. `comment` is the same
+/// Returns the offset at which the comment around the byte after `at` begins, if there is one. `comment` is the same
 /// for the byte at `at`.
 fn next_comment(text: &str, comment: Option<usize>, at: usize) -> Option<usize>
     ensures { result ≡ spec.next_comment text.now comment at }
@@ -306,7 +309,7 @@ fn key_end<'de>(text: &str, key: &DottedKey<'de>) -> usize
     with_quotes(text, key.last.span).end
 }
 
-/// Returns the kind of gap after the pair at this position, of `count` pairs.
+/// Returns the kind of gap after the pair at `position` among `count` pairs.
 fn gap_after(position: usize, count: usize) -> Gap
     requires { position < count }
     ensures { result ≡ spec.gap_after position count }

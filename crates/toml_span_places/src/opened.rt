@@ -71,8 +71,8 @@ pub(crate) fn elements_of<'t>(
     }
 }
 
-/// Counts one more element of the array of tables at this path. Fails if an allocation fails; the counts are then
-/// unspecified.
+/// Counts one more element of the array of tables at this path. Fails if an allocation fails, or if the count does not
+/// fit into a `usize`; the counts are then unspecified.
 pub(crate) fn add<'t>(
     alloc: Global,
     opened: &mut Opened<'t>,

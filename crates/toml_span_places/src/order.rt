@@ -23,8 +23,8 @@ fn first_start(node: &Visited<'_, '_>) -> usize
 /// Lists all values of a tree, as `nodes` does, but in the order in which they begin in the text. A value begins with
 /// its key or its span, whichever comes first, and a table with the first header that names it.
 ///
-/// Values that begin at the same byte are in the order of `nodes`, each before those inside it: for `[[a]]`, the array
-/// before its first element. Fails if an allocation fails, for the list or for a path.
+/// Values that begin at the same byte are in the order of `nodes`, a value before the values inside it: for `[[a]]`,
+/// the array before its first element. Fails if an allocation fails, for the list or for a path.
 pub fn nodes_in_text_order<'t, 'de>(
     alloc: Global,
     value: &'t Value<'de>,

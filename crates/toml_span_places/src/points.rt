@@ -34,8 +34,8 @@ pub(crate) fn text_start(text: &str) -> usize
     if is_marked { 3 } else { 0 }
 }
 
-/// Returns where to insert a line in a table that no section fills: for the root, at the start of the text, and for
-/// other tables nowhere.
+/// Returns where to insert a line in a table that no section fills: for the root, at the start of the text, after a
+/// byte order mark. Returns `None` for any other table.
 fn without_section(text: &str, path: &[Step<'_>]) -> Option<InsertionPoint>
     ensures { result ≡ spec.without_section text.now (map step_of path.now) }
 {

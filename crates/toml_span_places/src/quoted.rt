@@ -9,7 +9,8 @@ ghost use Rattle.toml_span_places.specs.Quoted as spec;
 use std::alloc::{AllocError, Global};
 use toml_span_lex::bytes::is_keylike;
 
-/// Returns the letter of the character's short escape, if it has one (TOML 1.1, String): `n` for a line feed.
+/// Returns the letter of the character's short escape (TOML 1.1, String), such as `n` for a line feed. Returns `None`
+/// for a character without one, and for a tab, which needs no escape.
 fn letter_of(c: char) -> Option<char>
     ensures { result ≡ spec.letter_of c }
 {
@@ -78,7 +79,7 @@ fn push_basic(out: &mut String, text: &str) -> Result<(), AllocError>
     Ok(())
 }
 
-/// Returns whether the byte must be escaped in a basic string.
+/// Returns whether the byte is a quotation mark or a backslash, which must be escaped in a basic string.
 fn is_escaped(byte: u8) -> bool
     ensures { result ≡ spec.is_escaped byte }
 {
@@ -92,7 +93,7 @@ fn is_unliteral(byte: u8) -> bool
     byte == b'\'' || (byte < b' ' && byte != b'\t') || byte == 0x7f
 }
 
-/// Returns whether one of the bytes must be escaped in a basic string.
+/// Returns whether one of the bytes is a quotation mark or a backslash.
 fn has_escaped(bytes: &[u8]) -> bool
     ensures { result ≡ list_any spec.is_escaped bytes.now }
 {
@@ -133,8 +134,8 @@ fn spelled_string(alloc: Global, text: &str) -> Result<String, AllocError>
 /// Returns the shortest string on one line that spells the text: a basic string with the necessary escapes, or a
 /// literal string if that is possible and shorter.
 ///
-/// Wherever a document contains it, it is read as this string, unless the characters after it continue it
-/// (`parts_off`). Fails only if an allocation fails.
+/// Wherever a document contains the result, it is read as a string with this value, unless the bytes after the result
+/// continue it (see `parts_off` in `toml_span_read`). Fails only if an allocation fails.
 ///
 /// `basic-string = quotation-mark *basic-char quotation-mark`, `literal-string = apostrophe *literal-char apostrophe`
 /// (TOML 1.1, String)
@@ -173,8 +174,8 @@ fn spelled_key(alloc: Global, name: &str) -> Result<String, AllocError>
 /// Returns the shortest key that spells the name: the name itself if it consists of ASCII letters, digits, `-` and `_`,
 /// otherwise a string.
 ///
-/// Wherever a document contains it, it is read as one simple key with this name, unless the characters after it
-/// continue it (`parts_off`). Fails only if an allocation fails.
+/// Wherever a document contains the result, it is read as one simple key with this name, unless the bytes after the
+/// result continue it (see `parts_off` in `toml_span_read`). Fails only if an allocation fails.
 ///
 /// `simple-key = quoted-key / unquoted-key` (TOML 1.1, Keys)
 pub fn quote_key(alloc: Global, name: &str) -> Result<String, AllocError>

@@ -64,7 +64,7 @@ fn fault_of(text: &str, from: usize, span: Span) -> Option<SpanFault>
     }
 }
 
-/// Appends the bytes of `text` from `from` to `to`, and then the text `then`. Fails if an allocation fails.
+/// Appends the bytes `from..to` of `text`, and then the text `then`. Fails if an allocation fails.
 fn push_part(
     new: &mut String,
     text: &str,
@@ -106,7 +106,7 @@ pub fn replace_all(
     Ok(new)
 }
 
-/// Returns a replacement for each of the spans, all by this text. Fails if an allocation fails.
+/// Returns a list that replaces each of the spans with `text`. Fails if an allocation fails.
 fn with_each<'r>(
     alloc: Global,
     spans: &[Span],
@@ -121,8 +121,8 @@ fn with_each<'r>(
     Ok(list)
 }
 
-/// Returns the text with each of the spans replaced by `with`, or `None` if `replace_all` would refuse a span. Fails if
-/// an allocation fails.
+/// Returns the text with each of the spans replaced with the text `with`, or `None` if `replace_all` would refuse a
+/// span. Fails if an allocation fails.
 pub fn replaced(
     alloc: Global,
     text: &str,

@@ -38,8 +38,8 @@ pub struct SectionPlace<'t> {
     pub body: Span,
 }
 
-/// Returns how a section begins, given how the mention at its start names a table. Returns `None` for a mention that
-/// does not begin a section.
+/// Returns how a section begins, given the form of the mention at its start. Returns `None` if no section begins with a
+/// mention of this form.
 fn form_of(named: Option<TableForm>) -> Option<SectionForm>
     ensures { result ≡ spec.form_of named }
 {
@@ -63,7 +63,7 @@ fn body_of(text: &str, form: SectionForm, details: Details) -> Span
     Span { start, end }
 }
 
-/// Returns the section that begins with a mention, or `None` if none does. Fails if an allocation fails.
+/// Returns the section that begins with this mention, or `None` if no section does. Fails if an allocation fails.
 fn section_of<'t>(text: &str, mention: Mention<'t>) -> Result<Option<SectionPlace<'t>>, AllocError>
     ensures { IfOk result (λ place. option_map section_mention place
         ≡ spec.section_of text.now (mentioned mention.entry)) }
@@ -85,8 +85,8 @@ fn section_of<'t>(text: &str, mention: Mention<'t>) -> Result<Option<SectionPlac
 
 /// Lists these sections, in the order of the text, each with the path of the table that it fills.
 ///
-/// `sections` must be what `read_sections` returned for the text. There is one for the root only if there are
-/// assignments before the first header. Fails if an allocation fails, for the list or for a path.
+/// `sections` must be what `read_sections` returned for the text. The root is listed only if there are assignments
+/// before the first header. Fails if an allocation fails, for the list or for a path.
 pub fn section_places<'t, 'de>(
     alloc: Global,
     text: &str,

@@ -123,10 +123,10 @@ fn spelled_value(alloc: Global, value: &Value<'_>) -> Result<String, AllocError>
 /// decimal, floats and dates as their texts, arrays in brackets, and tables as inline tables with their keys in the
 /// order of the names.
 ///
-/// Wherever a document contains the result, it is read as this value, unless the characters after it continue it
-/// (`parts_off`). That holds if nothing has been taken from the value (`is_whole`), it is not nested deeper than the
-/// limit, and the texts of its floats are valid, as in every tree that `parse` returns. Otherwise the result may be no
-/// value, or another one. Fails only if an allocation fails.
+/// Wherever a document contains the result, it is read as this value, unless the bytes after the result continue it
+/// (see `parts_off` in `toml_span_read`). That holds if nothing has been taken from the value (`is_whole`), the value
+/// is not nested deeper than the limit, and the texts of its floats are valid, as in every tree that `parse` returns.
+/// Otherwise it may be read as another value, or not at all. Fails only if an allocation fails.
 pub fn to_toml(alloc: Global, value: &Value<'_>) -> Result<String, AllocError>
     ensures spelling { IfOk result (λ text. string_bytes text ≡ spec.value_text (view value.now)) }
     ensures reads { IfOk result (λ text. ReadsAsValue (view value.now) (string_bytes text)) }

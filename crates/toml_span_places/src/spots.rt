@@ -38,9 +38,9 @@ fn holds(span: Span, offset: usize) -> bool
     span.start <= offset && offset < span.end
 }
 
-/// Returns the part, key or value, that contains the offset, with its span. `literal` is the span of the value, and
-/// `quoted` that of its key, quotes included. If both contain the offset, returns the one that starts last; if neither
-/// does, the value.
+/// Returns the part, key or value, that contains the offset, with the span of the part. `literal` is the span of the
+/// value, and `quoted` the span of its key, if it has one, both with quotes. If both contain the offset, returns the
+/// one that starts last; if neither does, the value.
 fn chosen(offset: usize, literal: Span, quoted: Option<Span>) -> (Part, Span)
     ensures { result ≡ spec.chosen offset literal quoted }
 {
@@ -73,7 +73,7 @@ fn spot_of<'t, 'de>(text: &str, offset: usize, node: Visited<'t, 'de>) -> Option
     })
 }
 
-/// Returns the place that starts last, or `place` if both start at the same offset.
+/// Returns `best` or `place`, whichever starts later; `place` if both start at the same offset, or if `best` is `None`.
 fn later<'t, 'de>(best: Option<NodePlace<'t, 'de>>, place: NodePlace<'t, 'de>) -> NodePlace<'t, 'de>
     ensures { Some (spot result) ≡ spec.later (option_map spot best.entry) (spot place.entry) }
 {
@@ -87,9 +87,9 @@ fn later<'t, 'de>(best: Option<NodePlace<'t, 'de>>, place: NodePlace<'t, 'de>) -
 /// below the length of the text.
 ///
 /// Of the keys and values whose spans contain the byte, quotes included, this is the one that starts last, and the
-/// deepest in the tree if several start there. In a header that names a table again, it is the table, since the tree
-/// keeps only one key of each table. `root` must be the tree that `parse` returned for the text. Fails if an allocation
-/// fails, for the path of a value.
+/// deepest in the tree if several start there. In a header that names a table again, the result is the table, since the
+/// tree keeps only one key of each table. `root` must be the tree that `parse` returned for the text. Fails if an
+/// allocation fails, for the path of a value.
 pub fn node_at<'t, 'de>(
     alloc: Global,
     root: &'t Value<'de>,

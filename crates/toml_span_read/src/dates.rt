@@ -47,7 +47,8 @@ fn is_date_byte(byte: u8) -> bool
     is_keylike(byte) || byte == b':' || byte == b'.' || byte == b'+'
 }
 
-/// Returns the end of the run of bytes from `from` on that can be part of a date or time (`is_date_byte`).
+/// Returns the offset after the run of bytes that begins at the byte offset `from`, and whose bytes can be part of a
+/// date or time (`is_date_byte`); `from` itself if the run is empty.
 fn date_run_end(text: &str, from: usize) -> usize
     requires { IsCharBoundary text.now from }
     ensures run { MaximalRun spec.is_date_byte text.now from result }
@@ -62,8 +63,9 @@ fn date_run_end(text: &str, from: usize) -> usize
     bytes.len()
 }
 
-/// Returns the end of what is read as the date or time at `at`: a run of bytes that can be part of one. If the run has
-/// ten bytes, and a space and a digit follow, the run after the space belongs to it too.
+/// Returns the offset after the bytes that are read as the date or time at `at`: the run of bytes that can be part of
+/// one (`is_date_byte`). If this run has ten bytes, and a space and a digit follow, the run after the space is read
+/// too.
 fn date_end(text: &str, at: usize) -> usize
     requires { IsCharBoundary text.now at }
     ensures candidate { IsCandidate text.now at result }

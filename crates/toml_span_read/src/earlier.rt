@@ -17,7 +17,7 @@ use toml_span_lex::stop::Stop;
 /// A path: whether a value is assigned to it, and the paths below it.
 #[derive(Drop)]
 struct Node<'de> {
-    /// The span of the last part of the key by which the first value was assigned to this path, if any was.
+    /// If values are assigned to this path, the span of the last part of the key that assigned the first of them.
     value: Option<Span>,
     below: BTreeMap<Key<'de>, Node<'de>>,
 }
@@ -32,7 +32,8 @@ fn empty<'de>(alloc: Global) -> Node<'de>
     }
 }
 
-/// Records a value at the path of `inner` and `last`, unless there is one already. Fails if an allocation fails.
+/// Records that a value is assigned to the path of the parts `inner` and `last` below `node`, unless that is recorded
+/// already. Fails if an allocation fails.
 fn put<'de>(
     alloc: Global,
     node: &mut Node<'de>,
@@ -55,7 +56,8 @@ fn put<'de>(
     }
 }
 
-/// Records a value at the path `last`, unless there is one already. Fails if an allocation fails.
+/// Records that a value is assigned to the path of the part `last` below `node`, unless that is recorded already. Fails
+/// if an allocation fails.
 fn put_last<'de>(alloc: Global, node: &mut Node<'de>, last: &Key<'de>) -> Result<(), AllocError>
     ensures { OnOk result (code.Puts (cow_str_bytes last.now.name ∷ []) last.now.span (code.holds node.old)
         (code.holds node.new)) }
@@ -90,8 +92,9 @@ fn put_child<'de>(
     Ok(())
 }
 
-/// Finds the first of these parts whose path has a value. Returns the offset of that part, and the span of the key of
-/// that value.
+/// Follows the parts `inner` below `node`, up to the first part to whose path a value is assigned. Returns the byte
+/// offset at which that part starts, and the span of the last part of the key that assigned the value. Returns `None`
+/// if there is no such part.
 fn crossing<'de>(node: &Node<'de>, inner: &[Key<'de>]) -> Option<(usize, Span)>
     ensures { (last : SimpleKey)
         → result ≡ spec.crossed (code.holds node.now) (map simple_key inner.now ++ (last ∷ [])) }
@@ -125,7 +128,8 @@ fn value_end<'de>(next: &Assignment<'de>) -> usize
 }
 
 /// The values that have been assigned in a section or an inline table, by path. A key can only go through an earlier
-/// value if it has more inner parts than an earlier key. So values are added to the tree only when such a key comes.
+/// value if it has more inner parts, those before the last, than an earlier key. So values are added to the tree only
+/// when such a key comes.
 #[derive(Drop)]
 pub(crate) struct Earlier<'de> {
     /// The lowest number of inner parts of any key so far.
@@ -147,7 +151,8 @@ impl<'de> Earlier<'de> {
         }
     }
 
-    /// Adds the values that are not in the tree yet. Fails if an allocation fails.
+    /// Adds to the tree those of `values`, all assignments so far, that it does not have yet. Fails if an allocation
+    /// fails.
     #[inline(never)]
     fn catch_up(&mut self, alloc: Global, values: &[Assignment<'de>]) -> Result<(), AllocError>
         requires { code.Knows self.now (map parsed_assignment values.now) }
@@ -163,8 +168,8 @@ impl<'de> Earlier<'de> {
         Ok(())
     }
 
-    /// Returns the fault of an assignment whose key goes through an earlier value. If it goes through none, updates the
-    /// counts and returns `None`. Fails if an allocation fails.
+    /// Returns the fault of the assignment `next` if its key goes through one of `values`, all earlier assignments,
+    /// otherwise `None`. Fails if an allocation fails.
     fn fault(
         &mut self,
         alloc: Global,

@@ -11,7 +11,7 @@ use toml_span_lex::span::Span;
 use toml_span_lex::tokens::Error as TokenError;
 use toml_span_tree::{Error, ErrorKind};
 
-/// A token that was expected where there is another one.
+/// A token that was expected where there is another one, or the end of the text.
 #[derive(Clone, Copy, Debug)]
 pub enum ExpectedToken {
     Value,
@@ -135,7 +135,7 @@ pub(crate) fn fault_at(kind: FaultKind, at: usize) -> Fault
     Fault { kind, span }
 }
 
-/// Returns the fault that the bytes from `start` to `end` are not a valid number.
+/// Returns the fault that the bytes `start..end` are not a valid number.
 pub(crate) fn invalid_number(start: usize, end: usize) -> Fault
     ensures { result ≡ numerals.invalid_number start end }
 {
@@ -198,7 +198,8 @@ fn error_kind<'s>(kind: FaultKind) -> ErrorKind<'s>
     }
 }
 
-/// Returns the error that reports a fault, with the line and column of its span in `text`.
+/// Returns the error that reports a fault, with the line and column in `text` at which its span starts, both counted
+/// from 0, the column in bytes.
 pub fn error_of<'s>(text: &str, fault: Fault) -> Error<'s>
     requires { fault.span.start ≤ length text.now }
     ensures { content_of result ≡ fault_content text.now fault }

@@ -9,7 +9,7 @@ ghost use Rattle.toml_span_lex.specs.Bytes.{comma, equals};
 use toml_span_lex::bytes::{blanks_end, printed_end};
 use toml_span_lex::text::line_end;
 
-/// Returns the byte at the offset `at`, or 0 if that is the end of the text.
+/// Returns the byte at the byte offset `at`, or 0 at or after the end of the text.
 #[inline]
 pub fn byte_at(text: &str, at: usize) -> u8
     ensures { result ≡ slice_index text.now at }
@@ -34,7 +34,8 @@ fn gap_piece(text: &str, at: usize) -> Option<usize>
     }
 }
 
-/// Returns the offset after all spaces, tabs, line ends and comments from `from` on.
+/// Returns the offset after the spaces, tabs, line ends and comments that begin at the byte offset `from`; `from`
+/// itself if there are none.
 ///
 /// `ws-comment-newline = *( wschar / [ comment ] newline )` (TOML 1.1, Array)
 pub fn gap_end(text: &str, from: usize) -> usize
@@ -70,7 +71,8 @@ pub fn line_rest(text: &str, from: usize) -> Result<usize, usize>
     }
 }
 
-/// Returns the offset after a dot and the spaces and tabs around it, or `None` if the next token is not a dot.
+/// Skips the spaces and tabs from the byte offset `at`, a dot, and the spaces and tabs after it. Returns the offset
+/// after all of them, or `None` if there is no dot.
 ///
 /// `dot-sep = ws %x2E ws` (TOML 1.1, Keys)
 #[inline(always)]
@@ -122,7 +124,8 @@ pub(crate) enum AfterElement {
     Neither(usize),
 }
 
-/// Returns what follows an element or pair that ends at `at`, after a gap.
+/// Skips the gap after an element or pair that ends at `at`, and returns what follows the gap. `close` is the closing
+/// bracket or brace.
 ///
 /// `array-sep = %x2C`, `inline-table-sep = %x2C`, `array-close = %x5D`, `inline-table-close = %x7D` (TOML 1.1,
 /// Array, Inline Table)

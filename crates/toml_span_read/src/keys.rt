@@ -59,8 +59,8 @@ fn quoted_key<'de>(
 
 /// Reads the simple key at the byte offset `at`. Returns it with the offset after it.
 ///
-/// Fails with `Wanted` if there is another token, with `MultilineStringKey` if there is a multi-line string, with the
-/// fault of a string that is not valid, or if an allocation fails.
+/// Fails with `Wanted` at another token or at the end of the text, with `MultilineStringKey` at a multi-line string,
+/// with the fault of a string that is not valid, or if an allocation fails.
 ///
 /// `simple-key = quoted-key / unquoted-key` (TOML 1.1, Keys)
 #[tactic(auto, using(crate::proofs::KeyLemmas::wanted_stops))]
@@ -88,8 +88,8 @@ pub(crate) fn simple_key<'de>(
     }
 }
 
-/// Returns the fault that a dotted key has more parts than the limit allows. In a header it spans the part, elsewhere
-/// only its first byte, at `at`.
+/// Returns the fault that a dotted key has more parts than the limit allows. `key` is the first part beyond the limit,
+/// at `at`. In a header, the fault spans this part, elsewhere only its first byte.
 fn one_too_many(key: &Key<'_>, at: usize, in_header: bool) -> Fault
     requires { at < usize.MAX }
     ensures { result ≡ spec.one_too_many in_header at (read_data.simple_key key.now) }
@@ -103,8 +103,9 @@ fn one_too_many(key: &Key<'_>, at: usize, in_header: bool) -> Fault
     }
 }
 
-/// Reads the part of a dotted key at `at`, after `others` other parts. Returns it with the offset after it and, if a
-/// dot follows, the offset of the next part.
+/// Reads the part of a dotted key at `at`, which comes after `others` other parts. Returns the part with the offset
+/// after it and, if a dot follows, the offset of the next part. Fails like `simple_key`, or with `ExceededDepthLimit`
+/// if `others` is not below `limit`.
 ///
 /// `dot-sep simple-key` (TOML 1.1, Keys)
 #[tactic(auto, using(crate::proofs::KeyLemmas::part_stops))]

@@ -34,7 +34,8 @@ pub enum Numeral {
     NotANumber { negative: bool },
 }
 
-/// Returns the end of the run of letters, digits, dashes and underscores that begins at `from`.
+/// Returns the offset after the run of letters, digits, dashes and underscores that begins at `from`; `from` itself if
+/// the run is empty.
 #[inline]
 fn run_end(text: &str, from: usize) -> usize
     requires { IsCharBoundary text.now from }
@@ -44,7 +45,7 @@ fn run_end(text: &str, from: usize) -> usize
     keylike_end(text, from)
 }
 
-/// Returns the value of a digit in this radix, or `None` if the byte is not one.
+/// Returns the value of a digit in this radix, or `None` if the byte is not such a digit.
 #[inline]
 fn digit(byte: u8, radix: u8) -> Option<u8>
     ensures { DigitGives radix byte result }
@@ -58,11 +59,11 @@ fn digit(byte: u8, radix: u8) -> Option<u8>
     if value < radix { Some(value) } else { None }
 }
 
-/// Returns the offset after the digits of a piece of a number. They begin at `from`, and single underscores may
-/// separate them.
+/// Returns the offset after the digits that begin at `from` in a piece of a number. Single underscores may separate the
+/// digits.
 ///
-/// Fails with `InvalidNumber`, which begins at a leading underscore if there is one, and otherwise spans the whole
-/// piece.
+/// Fails with `InvalidNumber` if there is no digit at `from`, or an underscore is not between two digits. The fault
+/// spans the piece or, if there is an underscore at `from`, only `from..piece.end`.
 ///
 /// `zero-prefixable-int = DIGIT *( DIGIT / underscore DIGIT )` (TOML 1.1, Float)
 fn digits_end(text: &str, piece: Span, from: usize, radix: u8) -> Result<usize, Fault>
@@ -95,7 +96,7 @@ fn digits_end(text: &str, piece: Span, from: usize, radix: u8) -> Result<usize, 
     }
 }
 
-/// Returns the number with one more digit, or `None` if that is 2^64 or more.
+/// Returns the number with one more digit in this radix, or `None` if that is 2^64 or more.
 #[inline]
 fn with_digit(number: u64, radix: u8, digit: u8) -> Option<u64>
     ensures { WithinGives (number * radix + digit) result }
@@ -135,8 +136,8 @@ fn signed(negative: bool, magnitude: u64) -> Option<i64>
     }
 }
 
-/// Returns the integer that the digits from `from` to the end of the piece spell. Fails if it does not fit into an
-/// `i64`.
+/// Returns the integer that the digits from `from` to the end of the piece spell, with a minus sign if `negative`.
+/// Fails if it does not fit into an `i64`.
 #[tactic(auto, unfolding(crate::specs::Numerals::integer))]
 fn integer(text: &str, piece: Span, from: usize, radix: u8, negative: bool) -> Result<i64, Fault>
     requires forward { from ≤ piece.end }
@@ -153,7 +154,7 @@ fn integer(text: &str, piece: Span, from: usize, radix: u8, negative: bool) -> R
     }
 }
 
-/// Returns the radix of the prefix `0x`, `0o` or `0b` at `run`, or `None` if there is no prefix.
+/// Returns the radix of the prefix `0x`, `0o` or `0b` at the offset `run`, or `None` if there is no prefix.
 ///
 /// `hex-prefix = %x30.78`, `oct-prefix = %x30.6F`, `bin-prefix = %x30.62` (TOML 1.1, Integer)
 #[inline]
@@ -172,7 +173,8 @@ fn radix_of(text: &str, run: usize) -> Option<u8>
     }
 }
 
-/// Returns the integer that a run with a prefix spells. Fails if its digits are not valid, or if it is out of range.
+/// Returns the integer that `run`, prefix included, spells. Fails if its digits are not valid, or if it is out of
+/// range.
 ///
 /// `hex-int`, `oct-int`, `bin-int` (TOML 1.1, Integer)
 #[tactic(auto, unfolding(crate::specs::Numerals::radix_integer))]
@@ -193,8 +195,8 @@ fn radix_integer(text: &str, run: Span, radix: u8) -> Result<i64, Fault>
     integer(text, piece, piece.start, radix, false)
 }
 
-/// Returns the offset after the integer part of a decimal number, whose digits begin at `from`. Fails if they are not
-/// valid.
+/// Returns the offset after the integer part of a decimal number. Its digits begin at `from` in the run `run`. Fails if
+/// they are not valid or have a leading zero.
 ///
 /// `dec-int = [ minus / plus ] unsigned-dec-int` (TOML 1.1, Integer)
 #[tactic(auto, unfolding(crate::specs::Numerals::integer_part))]
@@ -225,8 +227,8 @@ fn is_exponent(byte: u8) -> bool
     byte == b'e' || byte == b'E'
 }
 
-/// Returns the offset after an exponent, whose letter is at `letter`, in the run that ends at `end`. Fails if its
-/// digits are not valid.
+/// Returns the offset after the exponent whose letter is at `letter`, in a run that ends at `end`. `first` is as in
+/// `unsigned`; the fault may span it. Fails if the digits of the exponent are not valid.
 ///
 /// `exp = "e" float-exp-part`, `float-exp-part = [ minus / plus ] zero-prefixable-int` (TOML 1.1, Float)
 #[tactic(auto, unfolding(crate::specs::Numerals::exponent))]
@@ -258,8 +260,8 @@ fn exponent_end(text: &str, first: Span, letter: usize, end: usize) -> Result<us
     exponent_digits(text, first, piece, start)
 }
 
-/// Returns the offset after the digits of an exponent, which begin at `from`. Fails unless they are valid, and extend
-/// to the end of their piece.
+/// Returns the offset after the digits of an exponent, which begin at `from` in `piece`. `first` is as in `unsigned`;
+/// the fault may span it. Fails unless the digits are valid, and extend to the end of the piece.
 #[tactic(auto, unfolding(crate::specs::Numerals::exponent_digits))]
 fn exponent_digits(text: &str, first: Span, piece: Span, from: usize) -> Result<usize, Fault>
     requires within { piece.end ≤ length text.now }
@@ -273,8 +275,8 @@ fn exponent_digits(text: &str, first: Span, piece: Span, from: usize) -> Result<
     Ok(piece.end)
 }
 
-/// Returns the offset after a float that has a decimal point after the run `first`. The number begins at `start`. Fails
-/// if its digits are not valid.
+/// Returns the offset after a float that has a decimal point after `first`. `start` and `first` are as in `unsigned`.
+/// Fails if the digits after the point, or those of an exponent, are not valid.
 ///
 /// `frac = decimal-point zero-prefixable-int` (TOML 1.1, Float)
 #[tactic(auto, unfolding(crate::specs::Numerals::fraction))]
@@ -315,8 +317,8 @@ fn after_minus(text: &str, at: usize) -> usize
     }
 }
 
-/// Reads a number without a prefix, which begins with the run `first`. Returns it with the offset after it. Fails if it
-/// is not valid or out of range.
+/// Reads a number that has no prefix. `start` and `first` are as in `unsigned`. Returns the number with the offset
+/// after it. Fails if it is not valid or out of range.
 ///
 /// `float = float-int-part ( exp / frac [ exp ] )` (TOML 1.1, Float)
 #[tactic(auto, unfolding(crate::specs::Numerals::decimal))]
@@ -357,8 +359,8 @@ fn special_float(word: &[u8], negative: bool) -> Option<Numeral>
     }
 }
 
-/// Returns `inf` or `nan`, which was read as `numeral`, with the offset after it. Fails if a dot follows, as in
-/// `inf.5`.
+/// Returns `numeral`, the `inf` or `nan` that was read at `first`, with the offset after it. `start` and `first` are as
+/// in `unsigned`. Fails if a dot follows, as in `inf.5`.
 #[tactic(auto, unfolding(crate::specs::Numerals::special_end))]
 fn special_end(
     text: &str,
@@ -380,8 +382,8 @@ fn special_end(
     }
 }
 
-/// Reads the number that begins at `start`. `first` is its first run, after a plus sign if there is one. Returns it
-/// with the offset after it. Fails if it is not valid or out of range.
+/// Reads the number at `start`. `first` spans the run (see `run_end`) with which the number begins, after a plus sign
+/// if there is one. Returns the number with the offset after it. Fails if it is not valid or out of range.
 #[tactic(auto, unfolding(crate::specs::Numerals::unsigned))]
 fn unsigned(text: &str, start: usize, first: Span) -> Result<(Numeral, usize), Fault>
     requires some { first.start < first.end }
@@ -433,8 +435,8 @@ fn number_at(text: &str, at: usize) -> Result<(Numeral, usize), Fault>
     unsigned(text, at, first)
 }
 
-/// Returns the number that the digits from `from` on spell, at most as many as fit below 2^60, with the offset after
-/// them.
+/// Returns the number that the digits at `from` spell, with the offset after them. Stops before the next digit once the
+/// number is 2^56 or more, so that it stays below 2^60.
 fn few_digits(text: &str, from: usize) -> (u64, usize)
     requires { from ≤ length text.now }
     ensures forward { from ≤ result.1 }
@@ -454,8 +456,9 @@ fn few_digits(text: &str, from: usize) -> (u64, usize)
     (value, bytes.len())
 }
 
-/// Returns the integer at `at` if it has only a few digits and nothing else, with the offset after it. Otherwise
-/// returns `None`: there may be a date, or a number that `number` reads.
+/// Returns the integer at `at`, with the offset after it, if it consists of a few digits only, without a sign, prefix
+/// or underscore. Otherwise returns `None`: there may be another number, which `number` reads, a date or something
+/// else.
 pub(crate) fn short_integer<'de>(text: &'de str, at: usize) -> Option<(ValKind<'de>, usize)>
     requires { IsCharBoundary text.now at }
     ensures scalar { IfSome result (λ found. ScalarGives (read.bare text.now at) (Ok found)) }

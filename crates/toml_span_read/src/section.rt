@@ -11,7 +11,8 @@ pub struct Section<'de> {
     pub header: SmallVec<Key<'de>, 3>,
     /// Whether the header has double brackets. False without a header.
     pub array: bool,
-    /// The line of the header from its first bracket on, including the line end. 0..0 without a header.
+    /// The line of the header, from its first bracket to the end of the line, including the line end. 0..0 without a
+    /// header.
     pub header_span: Span,
     /// From the first bracket of the header or, without a header, the first assignment, to the end of the last
     /// assignment. Without assignments it is `header_span`.

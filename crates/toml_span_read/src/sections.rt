@@ -36,7 +36,7 @@ use toml_span_lex::tokenizer::first_place;
 use toml_span_tree::Error;
 
 /// Reads the assignment at `at`. Returns it with the offset after it. Fails with its first fault, or if an allocation
-/// fails.
+/// fails. `limit` is as in `read_sections`.
 ///
 /// `keyval = key keyval-sep val`, `keyval-sep = ws %x3D ws` (TOML 1.1, Key/Value Pair)
 fn assignment<'de>(
@@ -64,7 +64,8 @@ fn assignment<'de>(
     }
 }
 
-/// Returns the offset after the rest of the line. Fails if it has anything but blanks and a comment.
+/// Returns the offset after the line whose rest begins at `at`. Fails if the rest has anything but spaces, tabs and a
+/// comment.
 ///
 /// `ws [ comment ]` and the line end in `expression =/ ws keyval ws [ comment ]` (TOML 1.1, Overall Structure)
 #[inline(always)]
@@ -80,7 +81,7 @@ fn next_line(alloc: Global, text: &str, at: usize) -> Result<usize, Stop<Fault>>
 }
 
 /// Reads the assignments from `from` up to the next header or the end of the text. Returns them with the offset after
-/// them. Fails with the first fault, or if an allocation fails.
+/// them. Fails with the first fault, or if an allocation fails. `limit` is as in `read_sections`.
 fn assignments<'de>(
     alloc: Global,
     text: &'de str,
@@ -115,7 +116,7 @@ fn assignments<'de>(
     Ok((found, at))
 }
 
-/// Returns whether the header at `at` has double brackets, and the offset after these and the blanks that follow.
+/// Returns whether the header at `at` has double brackets, and the offset after its opening brackets.
 ///
 /// `std-table-open = %x5B ws`, `array-table-open = %x5B.5B ws` (TOML 1.1, Table, Array of Tables)
 fn header_open(text: &str, at: usize) -> (bool, usize)
@@ -131,7 +132,8 @@ fn header_open(text: &str, at: usize) -> (bool, usize)
     }
 }
 
-/// Returns the offset after the closing brackets of a header. Fails if one is missing.
+/// Returns the offset after the closing brackets of a header, two if `array`, otherwise one. Before them, from `at`,
+/// there may be spaces and tabs. Fails if a bracket is missing.
 ///
 /// `std-table-close = ws %x5D`, `array-table-close = ws %x5D.5D` (TOML 1.1, Table, Array of Tables)
 fn header_close(alloc: Global, text: &str, at: usize, array: bool) -> Result<usize, Stop<Fault>>
@@ -162,7 +164,8 @@ struct Header<'de> {
     extent: Span,
 }
 
-/// Reads the header whose first bracket is at `at`. Fails with its first fault, or if an allocation fails.
+/// Reads the header whose first bracket is at `at`, and the rest of its line. Fails with the first fault, or if an
+/// allocation fails. `limit` is the limit on the number of parts.
 ///
 /// `table = std-table / array-table` (TOML 1.1, Table)
 fn read_header<'de>(
@@ -289,7 +292,8 @@ pub fn read_section<'de>(
     Ok((section_of(header, after), end))
 }
 
-/// Reads all sections of a text. Fails with the first fault, or if an allocation fails.
+/// Reads all sections of a text. Fails with the first fault, or if an allocation fails. `limit` is as in
+/// `read_sections`.
 fn sections<'de>(
     alloc: Global,
     text: &'de str,
@@ -334,7 +338,7 @@ pub fn read_sections<'de>(
 ) -> Result<Vec<Section<'de>>, Stop<Error<'de>>>
     requires some { 1 ≤ limit }
     requires small { limit ≤ depth_limit }
-    // The result is what the definition `document` says: these sections, or this fault.
+    // The result is the one that the definition `document` determines: the sections, or the fault.
     ensures document { ReadsDocument text.now limit result }
     ensures placed { RefusedInside text.now result }
     // Nothing is allocated for a text of comments and blank lines.

@@ -32,8 +32,8 @@ pub(crate) fn opens_string(byte: u8) -> bool
     byte == b'"' || byte == b'\''
 }
 
-/// Reads the single-line string at `at` if it is not empty and has no escapes. Otherwise returns `None`: the string, or
-/// its fault, is read piece by piece.
+/// Reads the single-line string at `at` if it is not empty and has no escapes. Otherwise returns `None`:
+/// `pieced_string` then reads the string, or finds its fault.
 #[inline(always)]
 pub(crate) fn short_string<'de>(text: &'de str, at: usize) -> Option<StringToken<'de>>
     requires within { at < length text.now }

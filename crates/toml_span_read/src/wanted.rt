@@ -70,9 +70,9 @@ fn found_at(alloc: Global, text: &str, at: usize) -> Result<(FoundToken, usize),
     }
 }
 
-/// Returns the fault `Wanted` at `at`, where another token than the expected one is. Its span is as long as the name of
-/// what was found, so it may end after the text. If no token can be read there, returns the fault of the tokenizer
-/// instead.
+/// Returns the fault `Wanted` at `at`, where there is another token than the expected one, or the end of the text. Its
+/// span is as long as the name of what was found, so it may end after the text. If no token can be read at `at`,
+/// returns the fault of the tokenizer instead, and if an allocation fails, `Stop::Memory`.
 #[cold]
 pub(crate) fn wanted(alloc: Global, text: &str, at: usize, expected: ExpectedToken) -> Stop<Fault>
     requires { IsCharBoundary text.now at }
@@ -94,8 +94,8 @@ pub(crate) fn wanted(alloc: Global, text: &str, at: usize, expected: ExpectedTok
     }
 }
 
-/// Returns the fault for a missing value at `at`: `UnexpectedEof` at the end of the text, otherwise `Wanted`, or the
-/// fault of the tokenizer.
+/// Returns the fault for a missing value at `at`: `UnexpectedEof` at the end of the text, otherwise `Wanted`. If no
+/// token can be read at `at`, returns the fault of the tokenizer instead, and if an allocation fails, `Stop::Memory`.
 #[cold]
 pub(crate) fn no_value(alloc: Global, text: &str, at: usize) -> Stop<Fault>
     requires boundary { IsCharBoundary text.now at }

@@ -20,13 +20,13 @@ pub(crate) enum Class {
     Enclosed,
     /// A byte of `Line`, except `=` and `#`.
     Left,
-    /// A byte of an unquoted value: anything except blanks, line ends, quotes, commas and closing brackets.
+    /// A byte of an unquoted value: anything except control characters, spaces, `"`, `'`, commas, `]` and `}`.
     Word,
-    /// A byte of `Word`, except `=` and opening brackets.
+    /// A byte of `Word`, except `=`, `[` and `{`.
     Atom,
     /// A byte of several unquoted words: one of `Word` or a blank, but not `=` or `#`.
     Phrase,
-    /// A byte of an unquoted key, even one that TOML does not allow there: one of `Atom`, but not `.`, `#` or `:`.
+    /// A byte of an unquoted key, whether or not TOML allows it there: a byte of `Atom`, except `.`, `#` and `:`.
     Name,
     /// A byte of `Name`, or `.`.
     Dotted,
@@ -174,7 +174,8 @@ fn run_of(class: Class, bytes: &[u8]) -> usize
     bytes.len()
 }
 
-/// Returns the first offset from `at` on whose byte is not of the class, or the length of the text.
+/// Skips the bytes of a class, from the offset `at` forwards. Returns the offset of the first byte at or after `at`
+/// that is not of the class, or the length of the text if there is none. Returns `at` if it is beyond the text.
 #[tactic(auto, unfolding(crate::specs::Bytes::end_of))]
 pub(crate) fn end_of(class: Class, text: &str, at: usize) -> usize
     ensures { result ≡ spec.end_of class text.now at }
@@ -187,7 +188,8 @@ pub(crate) fn end_of(class: Class, text: &str, at: usize) -> usize
     at + run_of(class, rest)
 }
 
-/// Returns the start of the run of bytes of the class that ends at the offset `at`; `at` itself if the run is empty.
+/// Skips the bytes of a class, from the offset `at` backwards. Returns the offset after the last byte before `at` that
+/// is not of the class, or 0 if there is none.
 #[tactic(auto, unfolding(crate::specs::Bytes::start_of))]
 pub(crate) fn start_of(class: Class, text: &str, at: usize) -> usize
     ensures { result ≡ spec.start_of class text.now at }
@@ -207,7 +209,7 @@ pub(crate) fn byte_before(text: &str, at: usize) -> u8
     if end == 0 { 0 } else { byte_at(text, end - 1) }
 }
 
-/// Returns the first byte from the offset `at` on that is not a blank, or 0 if there is none.
+/// Returns the first byte at or after the offset `at` that is not a blank, or 0 if there is none.
 pub(crate) fn byte_after(text: &str, at: usize) -> u8
     ensures { result ≡ spec.byte_after text.now at }
 {
@@ -221,7 +223,7 @@ pub(crate) fn first_of_line(text: &str, at: usize) -> usize
     end_of(Class::Blank, text, start_of(Class::Line, text, at))
 }
 
-/// Returns the end of the line that contains the offset `at`, without trailing blanks.
+/// Returns the end of the line that contains the offset `at`, without its line end and trailing blanks.
 pub(crate) fn last_of_line(text: &str, at: usize) -> usize
     ensures { result ≡ spec.last_of_line text.now at }
 {

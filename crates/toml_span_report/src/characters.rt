@@ -5,8 +5,8 @@ ghost use Rattle.toml_span_report.specs.Characters as spec;
 use std::alloc::{AllocError, Global};
 use unicode_width::UnicodeWidthStr;
 
-/// Returns whether a character is printed as U+FFFD: a control character from U+0080 on, one that ends a line or
-/// changes the direction of the text, or one without width (U+200B, U+200D, U+FEFF).
+/// Returns whether a character is printed as U+FFFD: a control character above U+007F, a character that ends a line or
+/// changes the direction of the text, or a character without width (U+200B, U+200D, U+FEFF).
 fn is_hidden(c: char) -> bool
     ensures { result ≡ spec.is_hidden c }
 {
@@ -23,7 +23,8 @@ fn is_hidden(c: char) -> bool
 }
 
 /// Appends a character in its printed form: a tab as four spaces, any other control character below U+0080 as its
-/// picture, a character of `is_hidden` as U+FFFD. Fails if an allocation fails.
+/// control picture (U+2400 to U+2421), a character for which `is_hidden` returns true as U+FFFD, and any other
+/// character as itself. Fails if an allocation fails.
 fn push_char(out: &mut String, c: char) -> Result<(), AllocError>
     ensures { OnOk result (string_bytes out.new ≡ string_bytes out.old ++ spec.shown_char c) }
 {

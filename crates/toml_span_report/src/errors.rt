@@ -61,7 +61,7 @@ fn one_label(alloc: Global, span: Span, text: &str) -> Result<Vec<Label<()>>, Al
     Ok(labels)
 }
 
-/// Returns the labels of `Error::to_diagnostic`, with the primary one moved to `span`. Fails if an allocation fails.
+/// Returns the labels of `Error::to_diagnostic`, but with the primary label at `span`. Fails if an allocation fails.
 fn own_labels(alloc: Global, error: &Error<'_>, span: Span) -> Result<Vec<Label<()>>, AllocError>
     ensures { IfOk result (λ labels. map label_content labels.items ≡ labels_of tt span (kind_of error.now.kind)) }
 {
@@ -128,7 +128,7 @@ fn help(alloc: Global, kind: &ErrorKind<'_>) -> Result<Vec<String>, AllocError>
     }
 }
 
-/// Returns the headline of the mistake or, if it has none, the message of the error. Fails if an allocation fails.
+/// Returns the headline of the finding or, if it has none, the message of the error. Fails if an allocation fails.
 fn headline(alloc: Global, error: &Error<'_>, finding: Finding<'_>) -> Result<String, AllocError>
     ensures { IfOk result (λ text. string_bytes text
         ≡ spec.headline (kind_of error.now.kind) (finding_content finding.entry)) }
@@ -182,7 +182,7 @@ fn unrecognized(
     })
 }
 
-/// Makes the report of an error with this severity. Fails if an allocation fails.
+/// Makes the report of an error in the source `text`. The report has this severity. Fails if an allocation fails.
 fn report_of(
     alloc: Global,
     severity: Severity,
@@ -208,7 +208,7 @@ impl Report {
     /// - A table that lacks a key is marked at its header, up to the end of the line, or at its braces. The root is
     ///   marked at the start of the source.
     /// - Each unknown key is marked. A note lists the expected keys, and a line of help names the nearest one
-    ///   (`nearest`). For an unexpected value, too, a line of help names the nearest expected value.
+    ///   (`nearest`). For an unexpected value, a line of help names the nearest expected value in the same way.
     ///
     /// Fails only if an allocation fails.
     pub fn from_error(alloc: Global, error: &Error<'_>, text: &str) -> Result<Report, AllocError>
@@ -243,7 +243,8 @@ pub fn render_error(
     render(alloc, style, &report, name, text)
 }
 
-/// Appends the report of each error in the source `text`. Fails if an allocation fails.
+/// Makes the report of each error of a read, and appends it to `reports`. `text` is the source. Fails if an allocation
+/// fails.
 pub(crate) fn push_errors(
     alloc: Global,
     errors: &DeserError<'_>,
@@ -288,9 +289,9 @@ pub fn render_errors(
     render_all(alloc, style, reports.as_slice(), name, text)
 }
 
-/// Returns the reason why `from_str` failed as text, as `render_errors` formats it: the one error of `parse`, or all
-/// errors of the read. `name` is the name of the file, `text` the source. Fails if `stop` is `Stop::Memory`, or if an
-/// allocation fails.
+/// Formats the errors with which `from_str` failed: the one error of `parse`, or all errors of the read. Returns them
+/// as text, as `render_errors` does. `name` is the name of the file, `text` the source. Fails if `stop` is
+/// `Stop::Memory`, or if an allocation fails.
 pub fn render_stop(
     alloc: Global,
     style: Style,

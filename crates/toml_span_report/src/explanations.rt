@@ -4,7 +4,8 @@ ghost use Rattle.toml_span_report.specs.Explanations as spec;
 
 use crate::tables::text_in;
 
-/// The codes that `explain` knows: those of `parse`, those of typed reads, and last that of a check for TOML 1.0.
+/// The codes that `explain` knows: first the codes of errors of `parse`, then those of typed reads, and last
+/// `newer-toml`, for something that TOML 1.0 lacks.
 pub const CODES: [&str; 25] = [
     "unexpected",
     "unterminated-string",
@@ -33,7 +34,7 @@ pub const CODES: [&str; 25] = [
     "newer-toml",
 ];
 
-/// The explanation of each code.
+/// Each code with its explanation.
 const PAGES: [(&str, &str); 25] = [
     (
         "unexpected",
@@ -138,15 +139,15 @@ const PAGES: [(&str, &str); 25] = [
 ];
 
 /// Returns the explanation of an error code: a title, an empty line, and a few lines with an example and the repair.
-/// Lines have at most 80 columns, and the last one does not end with a line feed. Returns `None` for a code that is not
-/// in `CODES`, such as one of a program's own reports.
+/// Its lines have at most 80 columns, and no line feed follows its last line. Returns `None` for a code that is not in
+/// `CODES`, such as one of a program's own reports.
 pub fn explain(code: &str) -> Option<&'static str>
     ensures { option_map (λ page. page.now) result ≡ spec.explained code.now }
 {
     text_in(&PAGES, code)
 }
 
-/// Proves that the explanations are those of `CODES`, in the same order. Does nothing at run time.
+/// Proves that `PAGES` explains exactly the codes in `CODES`, in the same order. Does nothing at run time.
 pub(crate) fn all_codes()
     ensures { map (λ entry. entry.0.now) PAGES ≡ map (λ code. code.now) CODES }
 {}

@@ -8,7 +8,8 @@ use crate::bytes::{Class, end_of, part};
 use crate::words::{Mistake, Words, words_of};
 use toml_span_lex::span::Span;
 
-/// A text in up to six pieces, some of the source and some constant. Most often it is code to write.
+/// A text in up to six pieces, each of which is a part of the source or a constant. Most often the text is code to
+/// write.
 #[derive(Clone, Copy)]
 pub(crate) struct Code<'a> {
     pub(crate) first: &'a str,
@@ -110,7 +111,7 @@ pub(crate) fn shown<'a>(mistake: Mistake, mark: Span, also: Span, code: Code<'a>
     }
 }
 
-/// Returns a finding that marks the bytes from `from` to `to`, without code.
+/// Returns a finding that marks the bytes `from..to`, with no code to write.
 pub(crate) fn marked<'a>(mistake: Mistake, from: usize, to: usize) -> Finding<'a>
     ensures { finding_content result ≡ spec.marked (texts mistake.entry) from to }
 {

@@ -13,7 +13,7 @@ use crate::strips::{Strip, all_strips};
 use std::alloc::{AllocError, Global};
 use std::fmt::Write;
 
-/// A formatted report, and the offset at which it is sorted.
+/// A formatted report, and the offset by which it is sorted.
 #[derive(Drop)]
 pub(crate) struct Drawn {
     at: usize,
@@ -30,8 +30,9 @@ fn place_of(strip: Option<Strip<'_>>) -> usize
     }
 }
 
-/// Returns the text of a report, with the offset of its first primary mark. `name` is the name of the file, `text` the
-/// source. Fails if an allocation fails.
+/// Formats a report. Returns its text with the offset by which it is sorted: that of its first primary mark or, if no
+/// mark is primary, of its first mark, or 0 if it has no marks. `name` is the name of the file, `text` the source.
+/// Fails if an allocation fails.
 fn draw(
     alloc: Global,
     style: Style,
@@ -48,7 +49,7 @@ fn draw(
     Ok(Drawn { at, text })
 }
 
-/// Returns the text of each report with its offset, as `draw` does. Fails if an allocation fails.
+/// Formats each report as `draw` does. Returns their texts with their offsets. Fails if an allocation fails.
 fn draw_all(
     alloc: Global,
     style: Style,
@@ -159,8 +160,8 @@ fn joined(alloc: Global, drawn: &[Drawn], reports: &[Report]) -> Result<String, 
 /// Returns the text of several reports on one source: each as `render` formats it, followed by a blank line, and at the
 /// end a line such as `3 errors, 1 warning`. `name` is the name of the file, `text` the source.
 ///
-/// Reports are sorted by their places in the source. Those at one place keep their order, and a report without labels
-/// counts as one at the start. Without reports, the text is empty. Fails only if an allocation fails.
+/// Reports are sorted by their places in the source. Reports at the same place keep their order, and a report without
+/// labels is sorted as if it were at the start. Without reports, the text is empty. Fails only if an allocation fails.
 pub fn render_all(
     alloc: Global,
     style: Style,

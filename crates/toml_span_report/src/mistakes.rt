@@ -19,9 +19,9 @@ use crate::words::ARRAY_AFTER_TABLE;
 use toml_span_lex::span::Span;
 use toml_span_tree::ErrorKind;
 
-/// Returns the mistake that probably caused an error of this kind, with this span of the source `text`, or `None` if it
-/// is not a typical one. The functions of these modules take byte offsets in `text`; `at` is the place of the error
-/// unless they say otherwise.
+/// Recognizes the typical mistake that probably caused an error, given the kind of the error, its span, and the source
+/// `text`. Returns `None` if no typical mistake is recognized. The functions of these modules take byte offsets in
+/// `text`; `at` is the start of the error's span unless they say otherwise.
 pub(crate) fn mistake_of<'a>(kind: &ErrorKind<'_>, text: &'a str, span: Span) -> Option<Finding<'a>>
     ensures { option_map finding_content result ≡ spec.mistake_of (kind_of kind.now) text.now span }
 {

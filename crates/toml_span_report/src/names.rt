@@ -6,7 +6,8 @@ use crate::places::characters;
 use std::alloc::{AllocError, Global};
 use strsim::osa_distance;
 
-/// Returns the highest distance at which a name is suggested for a word: a third of the word's characters, rounded.
+/// Returns the highest distance at which a name is suggested for a word: a third of the number of its characters,
+/// rounded to the nearest integer.
 #[tactic(auto, unfolding(crate::specs::Names::reach))]
 fn reach(word: &str) -> usize
     ensures value { result ≡ spec.reach word.now }
@@ -26,9 +27,9 @@ fn distance(alloc: Global, word: &str, name: &str) -> Result<usize, AllocError>
 /// Returns the name that a misspelled word probably means: the nearest name, or the first of several that are equally
 /// near. Returns `None` if none is near enough.
 ///
-/// Distance is the number of characters to insert, remove or replace, and of neighbors to swap
-/// (`strsim::osa_distance`). It may be a third of the word's characters, rounded, so a word of one character matches
-/// only itself. Fails only if an allocation fails.
+/// The distance between a word and a name is the number of characters to insert, remove or replace, and of pairs of
+/// neighbors to swap (`strsim::osa_distance`). It may be at most a third of the number of characters in `word`, rounded
+/// to the nearest integer, so a word of one character matches only itself. Fails only if an allocation fails.
 pub fn nearest<'a>(
     alloc: Global,
     word: &str,

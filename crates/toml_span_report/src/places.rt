@@ -30,7 +30,8 @@ fn mark_end(text: &str) -> usize
     }
 }
 
-/// Returns the start of the line that contains the offset `at`, after a byte order mark at the start of the text.
+/// Returns the start of the line that contains the offset `at`. The first line starts after the byte order mark, if the
+/// text begins with one.
 pub(crate) fn line_start(text: &str, at: usize) -> usize
     requires { IsCharBoundary text.now at }
     ensures value { result ≡ spec.line_start text.now at }
@@ -46,7 +47,7 @@ pub(crate) fn line_start(text: &str, at: usize) -> usize
     start
 }
 
-/// Returns the offset of the first line feed in `bytes`, or their number if they have no line feed.
+/// Returns the position of the first line feed in `bytes`, or the length of `bytes` if there is none.
 fn line_feed(bytes: &[u8]) -> usize
     ensures value { result ≡ position_or_len spec.is_line_feed bytes.now }
     ensures within { result ≤ length bytes.now }
@@ -103,7 +104,8 @@ pub(crate) fn column(text: &str, at: usize) -> usize
     characters(&text[line_start(text, at)..at]) + 1
 }
 
-/// Returns the character boundary at which a span begins, after a byte order mark at the start of the text.
+/// Returns the start of a span, moved back to the nearest character boundary. A start in the byte order mark of the
+/// text is moved to the end of the mark.
 #[tactic(auto, unfolding(crate::specs::Places::span_start))]
 pub(crate) fn span_start(text: &str, span: Span) -> usize
     ensures value { result ≡ spec.span_start text.now span }
@@ -112,8 +114,9 @@ pub(crate) fn span_start(text: &str, span: Span) -> usize
     place(text, span.start).max(mark_end(text))
 }
 
-/// Returns the character boundary at which a span ends, before a line feed at its end. If the span is reversed, this is
-/// its start.
+/// Returns the end of a span, moved back to the nearest character boundary, and before the line feed if the span ends
+/// with one. For a reversed span, this is its start. An end in the byte order mark of the text is moved to the end of
+/// the mark.
 #[tactic(auto, unfolding(crate::specs::Places::span_start, crate::specs::Places::span_end))]
 pub(crate) fn span_end(text: &str, span: Span) -> usize
     ensures value { result ≡ spec.span_end text.now span }
@@ -133,8 +136,8 @@ pub(crate) fn span_end(text: &str, span: Span) -> usize
 /// Returns the line and the column of the offset `at`, both counted from 1, the column in characters, as editors show
 /// them. An offset inside a character, or beyond the text, is moved back to the nearest character boundary.
 ///
-/// `toml_span::line_and_byte` also counts from 1, but columns in bytes. `Error::line_info` counts columns in bytes,
-/// too, and from 0.
+/// `toml_span::line_and_byte` also counts lines and columns from 1, but columns in bytes. `Error::line_info` counts
+/// both from 0, and columns in bytes.
 pub fn line_column(text: &str, at: usize) -> (usize, usize)
     ensures line { result.0 ≡ spec.line_number text.now (spec.place text.now at) }
     ensures column { result.1 ≡ spec.column text.now (spec.place text.now at) }

@@ -108,7 +108,8 @@ fn push_headline(
     out.push_str("\n")
 }
 
-/// Returns the first strip of a primary label or, if there is none, the first strip.
+/// Returns the first strip of a primary label or, if no label is primary, the first strip. Returns `None` if there are
+/// no strips.
 pub(crate) fn main_strip<'a>(strips: &[Strip<'a>]) -> Option<Strip<'a>>
     ensures { option_map marked_line_of result ≡ spec.main_part (map marked_line_of strips.now) }
 {
@@ -227,8 +228,9 @@ fn push_marks_line(frame: Frame, out: &mut String, strip: &Strip<'_>) -> Result<
     out.push_str("\n")
 }
 
-/// Appends the source line of a strip: after a line with a bar if it is the first one, or after `...` if lines are left
-/// out. Appends nothing if the window `above` shows the strip too. Fails if an allocation fails.
+/// Appends the source line of a strip. `above` is the window of the strip before this one. If that window shows this
+/// strip too, appends nothing. If source lines between the two are left out, a line with `...` comes first. If `above`
+/// is `None`, a line with only a bar comes first. Fails if an allocation fails.
 fn push_opening(
     frame: Frame,
     out: &mut String,
@@ -399,15 +401,15 @@ pub(crate) fn drawn(
 /// Returns a report as text. `name` is the name of the file, `text` the source.
 ///
 /// The text has a first line with the message; the place of the first primary label as `name:line:column`, both counted
-/// from 1, the column in characters; the source lines on which labels begin, with marks under them: `^` for a primary
-/// label, `-` for a secondary one; and the notes and help. Labels are in the order of the source. They may have any
-/// spans: an offset inside a character, or beyond the source, is moved back to the nearest character boundary, and a
-/// reversed span counts as empty. An empty span has one mark.
+/// from 1, the column in characters; the source lines on which labels begin and end, with marks under them: `^` for a
+/// primary label, `-` for a secondary one; and the notes and help. Labels are in the order of the source. They may have
+/// any spans: an offset inside a character, or beyond the source, is moved back to the nearest character boundary, and
+/// a reversed span counts as empty. An empty span has one mark.
 ///
-/// A tab is printed as four spaces, any other control character below U+0080 as its picture. Control characters from
-/// U+0080 on, characters that end a line or change the direction of the text, and characters without width (U+200B,
-/// U+200D, U+FEFF) are printed as U+FFFD. Marks count a wide character as two columns (`unicode_width`). A byte order
-/// mark at the start of the source is not printed.
+/// A tab is printed as four spaces, any other control character below U+0080 as its control picture (U+2400 to U+2421).
+/// Control characters above U+007F, characters that end a line or change the direction of the text, and characters
+/// without width (U+200B, U+200D, U+FEFF) are printed as U+FFFD. Marks count a wide character as two columns
+/// (`unicode_width`). A byte order mark at the start of the source is not printed.
 ///
 /// Long lines are cut: 80 bytes before the first label are shown, and 160 from the start of the last label that begins
 /// within 240 bytes of the first one. For labels further on, the line is printed again. Codes, messages, notes and
@@ -486,9 +488,9 @@ fn brief(
 /// Returns a report as one line in the form that editors read, `name:line:column: code: message`, which ends with a
 /// line feed. `name` is the name of the file, `text` the source.
 ///
-/// A warning or note has `warning: ` or `note: ` before the code. The place is that of `render`. It is left out if the
-/// report has no labels, and so is an empty code. A name that begins with `::`, as workflow commands of GitHub do, gets
-/// the prefix `./`. Fails only if an allocation fails.
+/// A warning or note has `warning: ` or `note: ` before the code. The place is the same as in `render`, and is left out
+/// if the report has no labels. An empty code is left out. A name that begins with `::`, as workflow commands of GitHub
+/// do, gets the prefix `./`. Fails only if an allocation fails.
 pub fn render_line(
     alloc: Global,
     report: &Report,

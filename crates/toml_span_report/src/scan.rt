@@ -17,11 +17,11 @@ pub(crate) struct Open {
     pub(crate) string: usize,
     /// Whether the latest string has three quotes on each side.
     pub(crate) is_long: bool,
-    /// The number of bytes after this one that belong to the same token.
+    /// The number of bytes from this offset that belong to quotes or an escape that began before it.
     pub(crate) skip: usize,
 }
 
-/// Returns whether there are three equal quotes at the offset.
+/// Returns whether three equal quotes begin at the offset `at`.
 pub(crate) fn is_long(text: &str, at: usize) -> bool
     ensures { result ≡ spec.is_long text.now at }
 {

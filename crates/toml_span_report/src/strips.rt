@@ -10,7 +10,7 @@ use crate::places::{column, line_end, line_number, line_start, place, span_end, 
 use std::alloc::{AllocError, Global};
 use toml_span_tree::Label;
 
-/// A part of a long line that is printed once, for one or more strips.
+/// A part of a long line that is printed once, to show one or more strips.
 #[derive(Clone, Copy)]
 pub(crate) struct Window {
     /// The number of the line, counted from 1.
@@ -160,8 +160,8 @@ fn window_from(window: Window, strips: &[Strip<'_>]) -> Window
     wide
 }
 
-/// Returns the window that shows a strip: `above`, if it does, or a new window, which also shows as many of the
-/// following strips, `strips`, as it can.
+/// Returns the window that shows a strip: `above` if that window shows it, otherwise a new window. A new window also
+/// shows as many of the strips that follow, `strips`, as it can.
 pub(crate) fn window_of(above: Option<Window>, strip: &Strip<'_>, strips: &[Strip<'_>]) -> Window
     ensures { result ≡ spec.window_of above (marked_line_of strip.now) (map marked_line_of strips.now) }
 {
@@ -178,8 +178,8 @@ pub(crate) fn window_of(above: Option<Window>, strip: &Strip<'_>, strips: &[Stri
     window_from(own, strips)
 }
 
-/// Cuts the line of a strip to what its window shows: 80 bytes before the first strip, and 160 bytes from the last one
-/// on.
+/// Cuts the line of a strip to what its window shows: 80 bytes before the first strip in the window, and 160 bytes from
+/// the start of its last strip.
 #[tactic(auto, unfolding(crate::specs::Strips::seen_in))]
 pub(crate) fn seen_in<'a>(window: Window, strip: &Strip<'a>) -> Strip<'a>
     ensures { marked_line_of result ≡ spec.seen_in window (marked_line_of strip.now) }

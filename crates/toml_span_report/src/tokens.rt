@@ -1,4 +1,4 @@
-//! What to mark for an error whose span is only a place.
+//! Finds what to mark for an error whose span only says where a token begins.
 ghost use Rattle.std.specs.Prelude.{◌≡◌, IfOk};
 ghost use Rattle.std.specs.Str.{IsCharBoundary};
 ghost use Rattle.toml_span_tree.specs.Error.{kind_of};

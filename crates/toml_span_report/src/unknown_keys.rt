@@ -141,8 +141,8 @@ pub(crate) fn key_labels(
     Ok(labels)
 }
 
-/// Appends ` in place of ` and the unknown key `name`, unless it is the only one (`count`). Fails if an allocation
-/// fails.
+/// Appends ` in place of ` and the unknown key `name` if there are several unknown keys. `count` is their number. Fails
+/// if an allocation fails.
 fn push_in_place_of(out: &mut String, count: usize, name: &str) -> Result<(), AllocError>
     ensures { OnOk result (string_bytes out.new ≡ string_bytes out.old ++ spec.in_place_of count name.now) }
 {
@@ -153,7 +153,8 @@ fn push_in_place_of(out: &mut String, count: usize, name: &str) -> Result<(), Al
     push_named(out, name)
 }
 
-/// Returns the suggestion `meant` for the unknown key `name`, one of `count`. Fails if an allocation fails.
+/// Returns the line of help that suggests the name `meant` for the unknown key `name`. `count` is the number of unknown
+/// keys. Fails if an allocation fails.
 fn suggestion(alloc: Global, count: usize, name: &str, meant: &str) -> Result<String, AllocError>
     ensures { IfOk result (λ out. string_bytes out ≡ spec.suggestion count name.now meant.now) }
 {
@@ -164,8 +165,8 @@ fn suggestion(alloc: Global, count: usize, name: &str, meant: &str) -> Result<St
     Ok(out)
 }
 
-/// Returns the suggestion for the unknown key `name`, one of `count`, if one of the expected names is near enough.
-/// Fails if an allocation fails.
+/// Returns the line of help that suggests an expected name for the unknown key `name`, or `None` if no expected name is
+/// near enough. `count` is the number of unknown keys. Fails if an allocation fails.
 fn suggestion_for(
     alloc: Global,
     count: usize,

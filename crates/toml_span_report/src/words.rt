@@ -2,7 +2,7 @@
 ghost use Rattle.std.specs.Prelude.{◌≡◌};
 ghost use Rattle.toml_span_report.specs.Words as spec;
 
-/// A row of the table: the fields of `Words`, in their order.
+/// The fields of `Words`, in their order.
 pub(crate) type Mistake = (
     &'static str,
     &'static str,
@@ -29,7 +29,7 @@ pub(crate) struct Words {
     pub(crate) is_safe: bool,
 }
 
-/// Returns the messages in a row of the table.
+/// Returns the messages for a mistake.
 pub(crate) fn words_of(mistake: Mistake) -> Words
     ensures { spec.words_content result ≡ spec.texts mistake.entry }
 {
@@ -55,8 +55,8 @@ macro_rules! flag {
     ($flag:literal) => { $flag };
 }
 
-/// Defines a row of the table: the headline, which is empty to keep the message of the error, and then the fields that
-/// are not empty, in the order of `Words`. After `code:` comes the text between the help and the code.
+/// Defines a `Mistake`: the headline, which is empty to keep the message of the error, and then the fields that are not
+/// empty, in the order of `Words`. After `code:` comes the text between the help and the code.
 macro_rules! words {
     ($headline:literal $(, label: $label:literal)? $(, also: $also:literal)? $(, help: $help:literal)?
         $(, code: $joint:literal)? $(, is_safe: $safe:literal)?) => {

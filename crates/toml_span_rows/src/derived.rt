@@ -1,7 +1,8 @@
-//! Reads by `derive`.
+//! Reads of types that derive `Deserialize`.
 //!
-//! - `settings`, `device`, `tagged` and `attributes` read the document as the struct of that name. `limits` reads its
-//!   tree as numbers by their names. They print the value, or the code, span, path and reason of the error.
+//! - `settings`, `device`, `tagged` and `attributes` read the document as the struct of that name. `limits` reads the
+//!   document's tree as a map from names to numbers. They print the value, or the code, span, path and reason of the
+//!   error.
 //! - `shown` prints the settings, or the error with its source lines.
 //!
 //! If memory runs out, the read is repeated once.
@@ -19,7 +20,7 @@ use toml_span_serde::{Error, Spanned, from_str, from_value};
 mod device;
 mod settings;
 
-/// Numbers by their names.
+/// A map from names to numbers.
 type Limits = BTreeMap<Spanned<String>, Spanned<i8>>;
 
 /// Prints the answer to a row. Returns whether there is such a call.

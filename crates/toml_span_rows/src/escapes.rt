@@ -1,10 +1,11 @@
 //! The texts of rows, in which a backslash begins an escape.
 //!
 //! Escapes are `\n` `\r` `\t` `\\`, `\u{HEX}` for the character with this number, and `\{N PART\}` for N copies of
-//! PART, which may contain the others.
+//! PART, which may contain the other escapes.
 use std::alloc::{AllocError, Global};
 
-/// Reads an escape. `piece` begins after its backslash. Returns its character, and the rest of the piece.
+/// Reads an escape. `piece` begins after its backslash. Returns its character and the rest of the piece, or `None` if
+/// the escape is not valid.
 fn escaped(piece: &str) -> Option<(char, &str)> {
     let mut chars = piece.chars();
     let Some(first) = chars.next() else {
@@ -24,7 +25,8 @@ fn escaped(piece: &str) -> Option<(char, &str)> {
     }
 }
 
-/// Repeats the end of a text, which has one copy already.
+/// Repeats the part of a text from the offset `start` to the end, so that the text has it `times` times instead of
+/// once.
 fn repeat(alloc: Global, times: usize, start: usize, text: &mut String) -> Result<(), AllocError> {
     let part = String::from_str(alloc, text.as_str().get(start..).unwrap_or(""))?;
     if times == 0 {
@@ -38,10 +40,10 @@ fn repeat(alloc: Global, times: usize, start: usize, text: &mut String) -> Resul
 
 /// Appends the text that a row spells with escapes. Returns whether all escapes are valid.
 ///
-/// The row is split at its backslashes. An empty piece other than the first is between two of them, which spell one
-/// backslash, so the piece after it does not begin with an escape.
+/// The row is split at its backslashes. An empty piece, except the first, is between two adjacent backslashes. These
+/// spell one backslash, so the piece after them does not begin with an escape.
 pub fn push_text(alloc: Global, source: &str, text: &mut String) -> Result<bool, AllocError> {
-    // The number of copies of the repeated part, and where it starts.
+    // The number of copies of the part to repeat, and the offset in `text` where that part starts.
     let mut part = (1, 0);
     // Whether the next piece begins with an escape.
     let mut after = false;

@@ -23,7 +23,7 @@ fn push_error(alloc: Global, error: &Error<'_>, out: &mut Out) {
     out.told(error.to_diagnostic(alloc, FILE));
 }
 
-/// Prints the code, the span and the texts of an error, and one more line if those of its clone differ.
+/// Prints the code, the span and the texts of an error, and one more line if those of a clone are different.
 pub fn push_twice(alloc: Global, error: &Error<'_>, out: &mut Out) {
     push_error(alloc, error, out);
     let Some(copy) = out.kept(error.clone(alloc)) else {
@@ -47,7 +47,8 @@ pub fn push_copies(alloc: Global, error: &Error<'_>, out: &mut Out) {
     out.told(error);
 }
 
-/// Returns the kind of error that a word names, with the names in the text, which ` | ` separates.
+/// Returns the kind of error that a word names, with the names in the text, which ` | ` separates. Returns `None` if
+/// there is no such kind.
 fn kind_of<'s>(word: &str, text: &'s str) -> Option<ErrorKind<'s>> {
     let (first, second) = text.split_once(" | ").unwrap_or((text, ""));
     Some(match word {

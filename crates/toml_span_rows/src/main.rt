@@ -59,7 +59,8 @@ impl<'r> Row<'r> {
     }
 }
 
-/// Splits a line into the call, the words and the text, with the escapes still in them.
+/// Splits a line into the call, the words and the text, with the escapes still in them. Returns `None` if the line is
+/// not a row.
 fn parts_of(line: &str) -> Option<(&str, &str, &str)> {
     let (front, text) = match line.split_once(": ") {
         Some(parts) => parts,

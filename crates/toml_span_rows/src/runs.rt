@@ -2,7 +2,7 @@
 //!
 //! `run LIMIT WORD ..` calls `run` if the limit is 128, otherwise `run_with_limit`, and prints the status and the
 //! output. If the last word ends in `each`, it runs once for each call that can fail, and once for a call that is never
-//! made. A line for each run has the status, the number of bytes and of calls of reads, and those of writes.
+//! made. A line for each run has the status, and the numbers of bytes and calls for reads and for writes.
 //!
 //! | Word | Meaning |
 //! |---|---|
@@ -33,7 +33,8 @@ struct Ends {
 }
 
 impl Ends {
-    /// Sets the field that a word names. If the word ends in `each`, its number is `each`.
+    /// Sets the field that a word names. If the word ends in `each`, the number in it is `each`. Returns `None` if the
+    /// word can't be read.
     fn set(&mut self, word: &str, each: usize) -> Option<()> {
         let (name, number) = word.split_once('=')?;
         let number = match number {
@@ -53,7 +54,8 @@ impl Ends {
     }
 }
 
-/// Returns the behavior that the words describe. `each` is the number for a word that ends in `each`.
+/// Returns the behavior that the words describe, or `None` if a word can't be read. `each` is the number for a word
+/// that ends in `each`.
 fn ends_of(words: &[String], each: usize) -> Option<Ends> {
     let mut ends = Ends {
         read: usize::MAX,

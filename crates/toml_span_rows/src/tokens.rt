@@ -15,7 +15,8 @@ use toml_span::tokens::{Error, Token, Tokenizer};
 use toml_span::value::Key;
 use toml_span::{Span, Stop};
 
-/// Returns the token that a word names. A string is written as its text with the quotes, `=`, and its value.
+/// Returns the token that a word names, or `None` if there is none. A string is written as its text with the quotes,
+/// `=`, and its value.
 fn token_of(named: &str) -> Option<Token<'_>> {
     let (kind, content) = match named.split_once('(') {
         Some((kind, content)) => (kind, content.strip_suffix(')')?),
@@ -157,8 +158,8 @@ impl<'t> Tokenizers<'t> {
     }
 }
 
-/// Calls the methods that the words name on one tokenizer, and prints a line for each. Returns whether there are such
-/// methods.
+/// Calls methods of one tokenizer, in the order in which the words name them, and prints a line for each. Returns
+/// whether there are such methods.
 fn push_calls(alloc: Global, row: Row<'_>, out: &mut Out) -> bool {
     let mut tokenizers = Tokenizers {
         used: Tokenizer::new(row.text),

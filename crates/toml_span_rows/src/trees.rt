@@ -1,6 +1,7 @@
 //! Calls on the tree of a document. If the text is not valid TOML, they print its error.
 //!
-//! - `parse LIMIT`: the lines of the tree. `twice` parses twice: a word for the first parse, then the lines.
+//! - `parse LIMIT`: the lines of the tree. `twice` parses the text twice: prints a word for the first result, then the
+//!   lines of the second.
 //! - `json`: the JSON value.
 //! - `again`: each value that is written in one piece, parsed again.
 //! - `node_at OFFSET`: see `places`. `write OPERATION ..`: see `writes`. Typed reads: see `typed`.
@@ -21,7 +22,8 @@ mod pieces;
 pub mod shown;
 mod writes;
 
-/// Returns the limit that `parse`, `read` or `run` has in a row.
+/// Returns the limit that a row gives to `parse`, `read` or `run`, or the default for any other call. Returns `None` if
+/// the word is not a limit.
 pub(crate) fn limit_of(row: Row<'_>) -> Option<usize>
     ensures some { IfSome result (λ limit. 1 ≤ limit) }
     ensures small { IfSome result (λ limit. limit ≤ 128) }

@@ -37,7 +37,7 @@ pub fn answer<'de>(alloc: Global, row: Row<'de>, root: &mut Value<'de>, out: &mu
     known
 }
 
-/// Prints the result of a call on the value at `/a`. Returns whether there is such a call.
+/// Prints the result of the row's call on the value at `/a`. Returns whether both exist.
 fn push_at<'de>(alloc: Global, row: Row<'de>, root: &mut Value<'de>, out: &mut Out) -> bool {
     match root.pointer_mut("/a") {
         Some(value) if row.call == "typed" => push_read(alloc, row.word(0), value, out),
@@ -85,7 +85,7 @@ fn push_errors<'de>(alloc: Global, row: Row<'de>, root: &mut Value<'de>, out: &m
     true
 }
 
-/// Appends errors to others, and prints the result. If an allocation fails, does it again with the errors that are
+/// Appends errors to others, and prints the result. If an allocation fails, tries again with the errors that are
 /// returned.
 fn push_merge<'de>(
     alloc: Global,
@@ -100,8 +100,8 @@ fn push_merge<'de>(
     }
 }
 
-/// Prints the result of each method of errors: their number, each by its position and the one after them, each in
-/// order, the last one, and the text of all.
+/// Prints the result of each method of a `DeserError`: the number of errors, `get` at each position and at the one
+/// after the last, the errors that `iter` yields, the last error, and the text of all errors.
 fn push_lists(errors: &DeserError<'_>, out: &mut Out) {
     let len = errors.len();
     out.told_line(len);

@@ -28,7 +28,7 @@ pub enum Expected {
     Float,
     Character,
     String,
-    /// A string that can be borrowed, that is, one that equals the text at its span.
+    /// A string that can be borrowed, that is, whose value equals the text at its span.
     PlainString,
     Array,
     Table,
@@ -98,34 +98,35 @@ pub enum Reason {
         expected: Expected,
         found: Found,
     },
-    /// Another kind was expected, one of several: no variant of an `untagged` enum accepts this value.
+    /// One of several other kinds was expected: no variant of an `untagged` enum accepts a value of this kind.
     WantedOneOf {
         expected: Vec<Expected>,
         found: Found,
     },
-    /// The type does not accept this kind, or a variant of an `untagged` enum accepted it but failed later.
+    /// The type does not accept a value of this kind, or a variant of an `untagged` enum accepted the kind, but could
+    /// not read the rest of the value.
     Unexpected(Found),
     /// The table lacks the key of this field.
     MissingField(String),
-    /// Two keys of a table are of this field. The misfit is at the later one, and `first` is the span of the earlier
-    /// one, if that is known.
+    /// Two keys of a table name this field. The misfit is at the later key, and `first` is the span of the earlier key,
+    /// if it is known.
     DuplicateField {
         name: String,
         first: Option<Span>,
     },
-    /// The table has this key, which is not of any field. `expected` are the keys of the fields.
+    /// The table has the key `name`, which names no field. `expected` are the keys of the fields.
     UnknownField {
         name: String,
         expected: Vec<String>,
     },
-    /// This text is not the name of a variant. `expected` are the names of the variants.
+    /// The text `name` is not the name of a variant. `expected` are the names of the variants.
     UnknownVariant {
         name: String,
         expected: Vec<String>,
     },
     /// The array has this number of elements, which is not the number that the type expects.
     Length(usize),
-    /// The array has more elements than the type expects, which is this number.
+    /// The array has more elements than this number, which the type expects.
     TooLong(usize),
     /// The type can't represent the number.
     OutOfRange,
@@ -174,7 +175,7 @@ fn write_parted<W: Write>(f: &mut Formatter<W>, kinds: &[Expected]) -> fmt::Resu
     Ok(())
 }
 
-/// Writes the kinds after the first, with "or" before the last one.
+/// Writes `kinds`, the kinds after the first one: each after a comma, but the last one after "or".
 fn write_more_kinds<W: Write>(f: &mut Formatter<W>, kinds: &[Expected]) -> fmt::Result
     ensures { WritesOnOk W.write_str_gives f.old result (more_kinds_text kinds.now) f.new }
 {
@@ -266,8 +267,8 @@ impl Reason {
         Ok(ErrorKind::Custom(CowStr::Owned(self.to_string(alloc)?)))
     }
 
-    /// Returns the kind of error for a field with two keys: `Custom` if the span of the earlier key is not known. Fails
-    /// if an allocation fails.
+    /// Returns the kind of error for a field that two keys name: `DuplicateKey` or, if `first`, the span of the earlier
+    /// key, is not known, `Custom`. Fails if an allocation fails.
     fn twice<'c>(
         &self,
         alloc: Global,
@@ -297,7 +298,7 @@ impl Reason {
     }
 
     /// Returns the expected name that is nearest to an unknown key or variant, if one is near enough
-    /// (`toml_span_report::nearest`). Fails only if an allocation fails.
+    /// (`toml_span_report::nearest`). Returns `None` for any other `Reason`. Fails only if an allocation fails.
     pub fn meant(&self, alloc: Global) -> Result<Option<&str>, AllocError>
         ensures { IfOk result (λ found. option_map (λ name. name.now) found ≡ meant_by self.now) }
     {

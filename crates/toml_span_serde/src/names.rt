@@ -36,7 +36,7 @@ fn push_copies(alloc: Global, copied: &[&str], texts: &mut Vec<String>) -> Resul
     Ok(())
 }
 
-/// Appends all forms of a name, unless its field is skipped. Fails if an allocation fails.
+/// Appends the name and its aliases, unless its field is skipped. Fails if an allocation fails.
 fn push_read(alloc: Global, name: &Name<'_>, texts: &mut Vec<String>) -> Result<(), AllocError>
     ensures { OnOk result (map string_bytes texts.new.items
         ≡ map string_bytes texts.old.items ++ spec.forms_read name.now) }
@@ -56,7 +56,7 @@ pub(crate) fn forms_of(alloc: Global, name: &Name<'_>) -> Result<Vec<String>, Al
     Ok(texts)
 }
 
-/// Returns all forms of the names, except of those whose fields are skipped. Fails if an allocation fails.
+/// Returns the names with their aliases, except those of skipped fields. Fails if an allocation fails.
 pub(crate) fn all_forms(alloc: Global, names: &[Name<'_>]) -> Result<Vec<String>, AllocError>
     ensures { IfOk result (λ texts. map string_bytes texts.items ≡ spec.all_forms names.now) }
 {

@@ -36,7 +36,7 @@ enum Down<'v> {
 }
 
 /// Returns the path to the value of a piece or, for a key, to the value that it names. `before` are all pieces before
-/// it. Fails if an allocation fails.
+/// this one. Fails if an allocation fails.
 pub(crate) fn path_to<'v>(
     alloc: Global,
     before: &[Piece<'v>],
@@ -109,8 +109,8 @@ fn leave(downs: &mut Vec<Down<'_>>)
     downs.pop();
 }
 
-/// Changes a path to a value into the path to what follows the value. Positions are below the number of pieces, so the
-/// next one exists. Fails if an allocation fails.
+/// Changes a path to a value into the path to what follows the value. A position is less than the number of pieces, so
+/// the next position fits into a `usize`. Fails if an allocation fails.
 fn end_value(downs: &mut Vec<Down<'_>>) -> Result<(), AllocError>
     ensures { OnOk result (way_of downs.new.items ≡ ended (way_of downs.old.items)) }
 {

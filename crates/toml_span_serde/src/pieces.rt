@@ -1,4 +1,4 @@
-//! A tree as a row of pieces, in the order in which a reader goes through it: that of the text.
+//! A tree as a row of pieces in the order of the text. A reader goes through them in this order.
 ghost use Rattle.std.specs.Prelude.{◌≡◌, ◌<◌, ◌≤◌, ◌-◌, ◌^◌, ◌++◌, ◌∷◌, IfOk, IfSome, List, OnOk, Some, length, map};
 ghost use Rattle.toml_span.specs.Ordered.{AreOrdered, IsOrdered, MembersOrdered};
 ghost use Rattle.toml_span.specs.code.Placing.{NamesAscend};
@@ -88,7 +88,7 @@ impl<'v> Content<'v> {
         }
     }
 
-    /// Returns why a type does not accept the value after reading it.
+    /// Returns why a type that has read the value does not accept it.
     pub(crate) fn refusal(&self) -> Reason
         ensures { result ≡ refusal (piece_content self.now) }
     {
@@ -109,7 +109,8 @@ impl<'v> Content<'v> {
     }
 }
 
-/// Counts the pieces of the value that begins here; a key is one piece. Returns `None` if the value has no end.
+/// Counts the pieces of the value with which `ahead` begins. A key counts as a value of one piece. Returns `None` if
+/// the value does not end in `ahead`.
 pub(crate) fn count_value(ahead: &[Piece<'_>]) -> Option<usize>
     ensures value { (n : Node) (rest : List Laid) → map piece_of ahead.now ≡ pieces n ++ rest
         → result ≡ Some (length (pieces n)) }
@@ -278,7 +279,7 @@ fn sorted_entries<'v, 'de>(
     Ok(entries)
 }
 
-/// Lists the entries of a table in the map's order. Fails if an allocation fails.
+/// Lists the entries of a table, by name. Fails if an allocation fails.
 fn listed<'v, 'de>(
     alloc: Global,
     table: &'v Table<'de>,

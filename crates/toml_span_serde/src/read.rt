@@ -15,9 +15,9 @@ use toml_span_tree::Value;
 
 /// Reads a document as a type that derives `Deserialize`.
 ///
-/// A type such as `&str` borrows from the text. For such a type, a string that does not equal the text at its span is
-/// an error. Fails with `Error::Refused` if the text is not valid TOML, with `Error::Misfit` if a value does not fit
-/// the type, and with `Stop::Memory` if an allocation fails.
+/// A type such as `&str` borrows from the text. For such a type, a string whose value does not equal the text at its
+/// span, such as one with an escape, is an error. Fails with `Error::Refused` if the text is not valid TOML, with
+/// `Error::Misfit` if a value does not fit the type, and with `Stop::Memory` if an allocation fails.
 pub fn from_str<'de, T: Deserialize<'de>>(
     alloc: Global,
     text: &'de str,
@@ -93,7 +93,7 @@ fn read_owned<T: DeserializeOwned>(
     T::deserialize_owned(alloc, &mut Deserializer::new(&[], reader))
 }
 
-/// Adds the line and the column of its span to a misfit.
+/// Sets the line and the column of a misfit: those where its span starts in the text.
 fn lined(text: &str, mut misfit: Misfit) -> Misfit
     ensures place { (result.span ≡ misfit.span) × (result.path ≡ misfit.path) }
     ensures line { HasLine text.now result }

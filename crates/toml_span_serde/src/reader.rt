@@ -37,7 +37,7 @@ use std::num::{nearest_i64_to_f32, nearest_i64_to_f64};
 use toml_span_lex::span::Span;
 use toml_span_lex::stop::Stop;
 
-/// Why a read failed, and the position of the piece at which it did.
+/// Why a read failed, and the position of the piece at which it failed.
 #[derive(Debug, Drop)]
 pub struct Misread {
     pub(crate) reason: Reason,
@@ -57,15 +57,15 @@ pub struct Reader<'p, 'v> {
     variant: usize,
     /// Whether the last key that was read has none of the names it was compared with.
     is_unknown: bool,
-    /// All forms of the names with which the last unknown key was compared.
+    /// The names, with their aliases, with which the last unknown key was compared.
     fields: Vec<String>,
-    /// All forms of the names with which the last unknown variant was compared.
+    /// The names, with their aliases, with which the last unknown variant was compared.
     variants: Vec<String>,
     /// The last key whose name has aliases.
     key: KeyPlace,
-    /// All forms of the name of that key.
+    /// The name of the field of `key`, and its aliases.
     forms: Vec<String>,
-    /// The kinds that failed attempts to read a piece have expected.
+    /// The failed attempts to read a piece, with the kinds that they expected.
     tried: Tried,
 }
 
@@ -137,7 +137,8 @@ impl<'p, 'v> Reader<'p, 'v> {
         })
     }
 
-    /// Returns copies of the text of a piece, and of the names. Fails if an allocation fails.
+    /// Returns a copy of the text of the piece at the position `at`, and copies of the names. Fails if an allocation
+    /// fails.
     fn named(&self, at: usize, names: &[String]) -> Result<(String, Vec<String>), AllocError>
         ensures { IfOk result (λ error. (string_bytes error.0 ≡ piece_text_in (slice_get (laid self.now) at))
             × (map string_bytes error.1.items ≡ map string_bytes names.now)) }
@@ -175,9 +176,9 @@ impl<'p, 'v> Reader<'p, 'v> {
         self.pieces.get(..at).unwrap_or(self.pieces)
     }
 
-    /// Returns the position of the later of two keys of the same field, and the span of the earlier one. If the last
-    /// key with aliases is the only one of its field, returns the position of the piece that was looked at last, and
-    /// `None`.
+    /// Returns the position of the later of two keys that name the same field, and the span of the earlier key. If the
+    /// last key whose name has aliases is the only key of its field, returns the position of the piece that was looked
+    /// at last, and `None`.
     fn twice(&self) -> (usize, Option<Span>)
         ensures { result ≡ twice self.now }
     {
@@ -189,8 +190,9 @@ impl<'p, 'v> Reader<'p, 'v> {
         }
     }
 
-    /// Records the names if the key has none of them, and the key if its name has aliases. `found` is the position of
-    /// its name among the names, or at least their number if it has none of them. Fails if an allocation fails.
+    /// Records what a later error about the key at `span` needs. `found` is the position in `names` of the name that
+    /// the key has. If that name has aliases, records the key, the name and the aliases. If `found` is not a position
+    /// in `names`, the key has none of the names: records all of them with their aliases. Fails if an allocation fails.
     fn note_key(
         &mut self,
         span: Span,
@@ -220,7 +222,8 @@ impl<'p, 'v> Reader<'p, 'v> {
         Ok(())
     }
 
-    /// Records, before the reader returns to the position `mark`, whether an attempt has read the piece there.
+    /// Prepares for going back to the position `mark`: if the reader has read the piece there, records that an attempt
+    /// has read it and failed later.
     fn note_back(&mut self, mark: usize)
         ensures stays { self.new ≡ record self.old { tried = self.new.tried } }
         ensures tried { tries self.new.tried ≡ tries_back_at mark self.old }
@@ -231,7 +234,8 @@ impl<'p, 'v> Reader<'p, 'v> {
         self.tried.take(mark);
     }
 
-    /// Returns to the piece that was looked at last, and records that this kind was expected. Returns the error for it.
+    /// Goes back to the piece that was looked at last, whose content is `found`, and records that the kind `expected`
+    /// was expected there. Returns the error.
     fn wanted(&mut self, expected: Expected, found: Content<'_>) -> Stop<Misread>
         ensures reported { IsMisread (λ why. why ≡ is.Wanted expected (found_of (piece_content found.entry)))
             self.old.at result }
@@ -252,7 +256,8 @@ impl<'p, 'v> Reader<'p, 'v> {
         }
     }
 
-    /// Returns the error for a piece of this kind, which failed attempts to read it expected to be of other kinds.
+    /// Returns the error for the piece that was looked at last, which is of the kind `found`. The error lists the kinds
+    /// that failed attempts to read the piece expected.
     fn other(&self, found: Found) -> Stop<Misread>
         ensures { IsMisread (IsOther (kinds_at self.now.at (tries self.now.tried)) found) self.now.at result }
     {
@@ -269,7 +274,7 @@ impl<'p, 'v> Reader<'p, 'v> {
         }
     }
 
-    /// Returns the text of the string or key at a position, or an empty text if there is another piece.
+    /// Returns the text of the piece at a position if it is a string or a key, otherwise an empty text.
     fn text_at(&self, at: usize) -> &'v str
         ensures { result.now ≡ piece_text_in (slice_get (laid self.now) at) }
     {
@@ -410,7 +415,8 @@ impl Format for Reader<'_, '_> {
         }
     }
 
-    /// Reads a string to borrow it. Fails if it does not equal the text at its span.
+    /// Reads a string that is borrowed from `input`, and returns the start and the end of its text there, in bytes.
+    /// Fails if the string does not equal the text at its span.
     fn plain_str(&mut self, input: &[u8]) -> Result<(usize, usize), Stop<Misread>>
         ensures gives { IfOk result (λ r. Reads (ahead self.old) (event.text (slice_range input.now r.0 r.1))
             (ahead self.new)) }
@@ -643,7 +649,8 @@ impl Format for Reader<'_, '_> {
         }
     }
 
-    /// Two keys of a table can be of the same field only if at least one of them is an alias.
+    /// Returns the error for two keys of a table that name the same field. This happens only if at least one of them is
+    /// an alias.
     fn duplicate(&self, name: &str) -> Stop<Misread>
         ensures { IsMisread (Says (λ s. is.DuplicateField s (twice self.now).1) name.now) (twice self.now).0 result }
     {
@@ -670,8 +677,9 @@ impl Format for Reader<'_, '_> {
         }
     }
 
-    /// The tag of an enum is compared with the names of its variants before its table is read again from the start. So
-    /// the reader keeps the position of the tag and these names.
+    /// Returns the error for the unknown name of a variant. The tag of an enum is compared with the names of its
+    /// variants before its table is read again from the start. So the reader keeps the position of the tag and these
+    /// names.
     fn unknown_variant(&self) -> Stop<Misread>
         ensures { IsMisread (Lists is.UnknownVariant
             (piece_text_in (slice_get (laid self.now) (variant_place self.now))) (variant_names self.now))
@@ -687,8 +695,8 @@ impl Format for Reader<'_, '_> {
         }
     }
 
-    /// If the end of the array was read, all its elements were. Otherwise the array has more elements than the type
-    /// expects.
+    /// Returns the error for an array of the wrong length. If the end of the array was read, this is `Length`, with the
+    /// number of all elements. Otherwise the array has more elements than the type expects, and this is `TooLong`.
     fn wrong_len(&self) -> Stop<Misread>
         ensures { IsMisread (λ why. why ≡ length_reason self.now) self.now.at result }
     {
@@ -699,8 +707,9 @@ impl Format for Reader<'_, '_> {
         }
     }
 
-    /// If an integer was read, it is out of the type's range. If the piece was only looked at, the type does not accept
-    /// its kind, and the error lists the kinds that failed attempts to read it have expected.
+    /// Returns the error for a value that the type does not accept. If an integer was read, it is out of the type's
+    /// range. If the piece was only looked at, the type does not accept its kind, and the error lists the kinds that
+    /// failed attempts to read the piece expected.
     fn invalid(&self) -> Stop<Misread>
         ensures read { self.now.at < self.now.next → IsMisread (λ why. why
             ≡ refusal_in (slice_get (laid self.now) self.now.at)) self.now.at result }

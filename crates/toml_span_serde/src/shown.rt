@@ -8,9 +8,9 @@ use std::alloc::{AllocError, Global};
 use toml_span_lex::stop::Stop;
 use toml_span_report::{Report, Style, render, render_error};
 
-/// Returns an error of `from_str` as the text of a report: a message, the source line with marks, and for an unknown
-/// name the one that was probably meant. `name` is the name of the file, `text` the source. Fails if `stop` is
-/// `Stop::Memory`, or if an allocation fails.
+/// Returns an error of `from_str` as the text of a report: a message, the source line with marks, and, for an unknown
+/// key or variant, the name that was probably meant. `name` is the name of the file, `text` the source. Fails if `stop`
+/// is `Stop::Memory`, or if an allocation fails.
 pub fn render_stop(
     alloc: Global,
     style: Style,
@@ -43,7 +43,7 @@ fn render_misfit(
     render(alloc, style, &report, name, text)
 }
 
-/// Adds a line of help that suggests this name, if there is one. Fails if an allocation fails.
+/// Adds a line of help that suggests the name `meant`, if there is one. Fails if an allocation fails.
 fn helped(alloc: Global, meant: Option<&str>, report: Report) -> Result<Report, AllocError>
     ensures { IfOk result (λ made. report_content made
         ≡ with_meant (option_map (λ name. name.now) meant.entry) (report_content report)) }

@@ -1,4 +1,4 @@
-//! The kinds that failed attempts to read a piece have expected.
+//! Records failed attempts to read a piece, with the kinds that they expected.
 ghost use Rattle.std.specs.List.{list_any};
 ghost use Rattle.std.specs.Prelude.{◌≡◌, [], false, OnErr, OnOk};
 ghost use Rattle.std.specs.Str.{bytes_eq};

@@ -1,4 +1,4 @@
-//! Finds two keys of a table that are of the same field.
+//! Finds two keys of a table that name the same field.
 ghost use Rattle.std.specs.List.{list_any};
 ghost use Rattle.std.specs.Prelude.{◌≡◌, map, option_map, reverse, string_bytes};
 ghost use Rattle.std.specs.Str.{bytes_eq};
@@ -28,7 +28,8 @@ fn is_among(texts: &[String], text: &str) -> bool
     false
 }
 
-/// Returns the last key that equals one of the forms, in the innermost table that is open after these pieces.
+/// Returns the last key that equals one of `forms`, the names of a field, or `None` if there is none. Looks only at
+/// keys of the innermost table that is open after the pieces `before`.
 pub(crate) fn earlier(before: &[Piece<'_>], forms: &[String]) -> Option<KeyPlace>
     ensures { option_map key_place result
         ≡ spec.earlier (map string_bytes forms.now) 0 (reverse (map piece_of before.now)) }

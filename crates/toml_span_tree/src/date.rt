@@ -45,7 +45,8 @@ fn byte_at(text: &[u8], at: usize) -> u8
     text.get(at).copied().unwrap_or(0)
 }
 
-/// Returns the number that the two digits at the offset `at` spell.
+/// Returns the number that the two digits at the byte offset `at` spell. Without two digits there, the number means
+/// nothing.
 fn two_digits(text: &[u8], at: usize) -> u32
     requires { at < 100 }
     ensures value { result ≡ spec.two_digits text.now at }
@@ -56,7 +57,8 @@ fn two_digits(text: &[u8], at: usize) -> u32
     10 * u32::from(tens) + u32::from(ones)
 }
 
-/// Returns whether there are two digits at the offset `at`, and whether they spell a number from `low` to `high`.
+/// Returns whether there are two digits at the byte offset `at` that spell a number from `low` to `high`, both
+/// included.
 fn is_two_digits(text: &[u8], at: usize, low: u32, high: u32) -> bool
     requires { at < 100 }
     ensures { result ≡ spec.is_two_digits low high text.now at }
@@ -75,7 +77,7 @@ fn is_leap_year(year: u32) -> bool
     (year % 4 == 0 && year % 100 != 0) || year % 400 == 0
 }
 
-/// Returns the last day of a month, which is from 1 to 12, of this year.
+/// Returns the number of days that a month, from 1 to 12, has in this year.
 fn last_day(year: u32, month: u32) -> u32
     ensures { result ≡ spec.last_day year month }
 {
@@ -86,7 +88,8 @@ fn last_day(year: u32, month: u32) -> u32
     }
 }
 
-/// Returns the number that the first four digits of the text spell.
+/// Returns the number that the first four digits of the text spell. Without four digits there, the number means
+/// nothing.
 fn year_of(text: &[u8]) -> u32
     ensures { result ≡ spec.year_of text.now }
 {
@@ -153,7 +156,7 @@ fn is_partial_time(text: &[u8]) -> bool
     text.len() >= 5 && has_hour_minute(text) && is_seconds(&text[5..])
 }
 
-/// Returns whether the text is an offset: `time-offset = "Z" / ( "+" / "-" ) time-hour ":" time-minute`.
+/// Returns whether the text is a time offset: `time-offset = "Z" / ( "+" / "-" ) time-hour ":" time-minute`.
 #[tactic(auto, unfolding(crate::specs::Date::is_time_offset))]
 fn is_time_offset(text: &[u8]) -> bool
     ensures { result ≡ spec.is_time_offset text.now }
@@ -165,7 +168,7 @@ fn is_time_offset(text: &[u8]) -> bool
     }
 }
 
-/// Returns whether the text is a time followed by an offset, and the offset is the last `len` bytes.
+/// Returns whether the last `len` bytes of the text are a time offset, and the bytes before them a time.
 fn is_time_with(len: usize, text: &[u8]) -> bool
     ensures { result ≡ spec.is_time_with len text.now }
 {
@@ -173,7 +176,7 @@ fn is_time_with(len: usize, text: &[u8]) -> bool
     is_time_offset(offset) && is_partial_time(time)
 }
 
-/// Returns whether the text is `partial-time [ time-offset ]`. An offset has one byte (`Z`) or six (`+01:00`).
+/// Returns whether the text is `partial-time [ time-offset ]`. A time offset has one byte (`Z`) or six (`+01:00`).
 #[tactic(auto, unfolding(crate::specs::Date::is_time))]
 fn is_time(text: &[u8]) -> bool
     ensures { result ≡ spec.is_time text.now }

@@ -18,7 +18,8 @@ pub struct Diagnostic<F> {
     pub code: String,
     /// What is wrong, or an empty string if the labels say it.
     pub message: String,
-    /// The places, the error's own span first.
+    /// The primary label, at the error's own span, and secondary labels. For duplicate keys and tables, the label of
+    /// the earlier one comes first. For unexpected keys, all labels are secondary: one for each key.
     pub labels: Vec<Label<F>>,
 }
 
@@ -115,7 +116,7 @@ fn around(alloc: Global, before: &str, c: char, after: &str) -> Result<String, A
     format!(in alloc; "{before}{c}{after}")
 }
 
-/// Returns the message for `count` unexpected keys, which lists the expected ones. Fails if an allocation fails.
+/// Returns the message for `count` unexpected keys, which lists the names in `expected`. Fails if an allocation fails.
 fn unexpected_keys(alloc: Global, count: usize, expected: &[String]) -> Result<String, AllocError>
     ensures { IfOk result (λ text. string_bytes text
         ≡ unexpected_keys_message count (map string_bytes expected.now)) }
@@ -124,7 +125,7 @@ fn unexpected_keys(alloc: Global, count: usize, expected: &[String]) -> Result<S
     format!(in alloc; "found {count} unexpected keys, expected: {expected}")
 }
 
-/// Returns a secondary label for each of the keys: its name and span. Fails if an allocation fails.
+/// Returns a secondary label without text at the span of each key. Fails if an allocation fails.
 fn key_labels<F: Copy>(
     alloc: Global,
     file: F,
@@ -145,8 +146,8 @@ fn key_labels<F: Copy>(
     Ok(labels)
 }
 
-/// Returns the label of the error's own span, followed by a secondary label for each of the places. Fails if an
-/// allocation fails.
+/// Returns a primary label without text at `span`, followed by a secondary label for each of the places, which have a
+/// text and a span. Fails if an allocation fails.
 fn marked_labels<F: Copy>(
     alloc: Global,
     file: F,
@@ -193,7 +194,7 @@ impl Error<'_> {
         })
     }
 
-    /// Returns the labels of the error, its own span first. Fails if an allocation fails.
+    /// Returns the labels of the error, in the order of `Diagnostic::labels`. Fails if an allocation fails.
     fn labels<F: Copy>(&self, alloc: Global, file: F) -> Result<Vec<Label<F>>, AllocError>
         ensures { IfOk result (λ labels. map label_content labels.items
             ≡ labels_of file self.now.span (kind_of self.now.kind)) }
@@ -245,7 +246,7 @@ fn secondary<F: Copy>(
     })
 }
 
-/// Returns a list of this label. Fails if an allocation fails.
+/// Returns a list that has only this label. Fails if an allocation fails.
 fn one<F: Copy>(alloc: Global, label: Label<F>) -> Result<Vec<Label<F>>, AllocError>
     ensures { IfOk result (λ labels. labels.items ≡ label ∷ []) }
 {
@@ -254,7 +255,7 @@ fn one<F: Copy>(alloc: Global, label: Label<F>) -> Result<Vec<Label<F>>, AllocEr
     Ok(labels)
 }
 
-/// Returns a list of the two labels. Fails if an allocation fails.
+/// Returns a list of the two labels, in this order. Fails if an allocation fails.
 fn two<F: Copy>(
     alloc: Global,
     first: Label<F>,

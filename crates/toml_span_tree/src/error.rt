@@ -41,23 +41,25 @@ pub enum ErrorKind<'s> {
         expected: &'s str,
         found: &'s str,
     },
-    /// A table with two headers. `first` is the line of the earlier header.
+    /// A table that two headers define, at least one of them in single brackets. `first` is the span of the earlier
+    /// header's line, including the line end.
     DuplicateTable {
         name: String,
         first: Span,
     },
-    /// A key that is defined twice. `first` is the earlier key.
+    /// A key that is defined twice. `first` is the span of the earlier key.
     DuplicateKey {
         key: String,
         first: Span,
     },
-    /// A header in double brackets for something that is a table already.
+    /// A header in double brackets for a table that an earlier header passes through.
     RedefineAsArray,
     /// A multi-line string as a key.
     MultilineStringKey,
     /// An error with a message of its own (typed reads).
     Custom(CowStr<'s>),
-    /// A dotted key that goes through an earlier value which is not a table. `first` is the key of that value.
+    /// A dotted key that goes through an earlier value which is not a table. `first` is the span of the last part of
+    /// that value's key.
     DottedKeyInvalidType {
         first: Span,
     },
@@ -76,7 +78,7 @@ pub enum ErrorKind<'s> {
         old: &'s str,
         new: &'s str,
     },
-    /// A value that is not one of the expected ones (typed reads).
+    /// A value that is not one of the expected ones (typed reads). `value` is its text, if that is known.
     UnexpectedValue {
         expected: &'s [&'s str],
         value: Option<String>,
@@ -117,7 +119,7 @@ impl<'s> From<(ErrorKind<'s>, Span)> for Error<'s> {
     }
 }
 
-/// Lets `?` convert an error in a function that fails with a `Stop` of a type made from errors.
+/// Lets `?` convert an `Error` in a function that fails with a `Stop<E>`, where `E` is made from errors.
 impl<'s, E: From<Error<'s>>> From<Error<'s>> for Stop<E> {
     ghost use Rattle.toml_span_tree.specs.Error.{IsFaultOf};
 

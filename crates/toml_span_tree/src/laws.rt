@@ -28,26 +28,26 @@ pub fn equal_floats()
         → IsTrue (⟦<FloatText as PartialEq>⟧.eq x y) ↔ (float_value x ≡ float_value y) }
 {}
 
-/// A value that was put at a path is at that path.
+/// A value that is put at a path, where there was a value, is then at that path.
 pub fn put_stands()
     ensures { (path : Path) (n m w : Node) → node_at path n ≡ Some m → node_at path (put path w n) ≡ Some w }
 {}
 
-/// A value that was put at a path keeps the key that was there before, with its span.
+/// A value that is put at a path, where there was a value, has the same key as that value, with the same key span.
 pub fn put_keeps_the_key()
     ensures { (path : Path) (n w : Node) (p : Place) → place_at path n ≡ Some p
         → place_at path (put path w n)
         ≡ Some (record { shape = shape_of (inner_of w); key_span = p.key_span; span = span_of w }) }
 {}
 
-/// A path that does not lead through the path of the change has the same place as before.
+/// After a value is put at a path, each path that does not begin with that path has the same place as before.
 pub fn put_keeps_the_rest()
     ensures { (path other : Path) (n w : Node) → (BeginsWith path other → ⊥)
         → place_at other (put path w n) ≡ place_at other n }
 {}
 
-/// If a pointer finds a value, that value is at the path whose steps the segments of the pointer name. Conversely it
-/// finds the value at such a path, unless something has been taken on the way below the start.
+/// A pointer finds a value if and only if the value is at a path whose steps the segments of the pointer name, and
+/// either the path is empty or the content of the value has not been taken.
 pub fn pointer_names_a_path()
     ensures { (pointer : List ℕ) (n m : Node) → (pointed pointer n ≡ Some m) ↔ IsPointed pointer n m }
 {}
@@ -62,13 +62,14 @@ pub fn empty_pointer()
     ensures { (n : Node) → pointed [] n ≡ Some n }
 {}
 
-/// A pointer at which a value was put finds that value.
+/// A pointer at which a value is put, and which found a value before, finds the new value, unless its content has been
+/// taken.
 pub fn pointer_names_what_was_put()
     ensures { (pointer : List ℕ) (n m w : Node) → is_taken w ≡ false → pointed pointer n ≡ Some m
         → pointed pointer (put_pointed pointer w n) ≡ Some w }
 {}
 
-/// A pointer that diverges from the one at which a value was put finds the same value as before.
+/// A pointer that diverges from the one at which a value is put finds the same value as before.
 pub fn other_pointers_keep()
     ensures { (pointer other : List ℕ) (n m w : Node) → pointed pointer n ≡ Some m → pointers_part pointer other ≡ true
         → pointed other (put_pointed pointer w n) ≡ pointed other n }

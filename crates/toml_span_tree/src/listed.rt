@@ -10,7 +10,7 @@ use std::fmt;
 use std::fmt::{Display, Formatter, Write};
 use toml_span_lex::span::Span;
 
-/// Writes white space or a control character as an escape.
+/// Writes white space or a control character as an escape, except a space, which is written as it is.
 pub(crate) fn write_escaped<W: Write>(f: &mut Formatter<W>, c: char) -> fmt::Result
     ensures { WritesOnOk W.write_str_gives f.old result (escaped_char c) f.new }
 {
@@ -50,7 +50,7 @@ fn write_quoted_chars<W: Write>(f: &mut Formatter<W>, name: &str) -> fmt::Result
     Ok(())
 }
 
-/// An item of a list that can be printed.
+/// A type whose values can be printed as items of a list.
 // Toolchain: the contract of std's `Debug` leaves text beyond ASCII open (`debug_output` is `None`), so this code
 // prints lists.
 pub(crate) trait Item {

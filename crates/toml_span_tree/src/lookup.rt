@@ -47,7 +47,7 @@ impl<'de> Value<'de> {
         }
     }
 
-    /// Returns the value that the segments of `path` lead to, beginning at this value.
+    /// Returns the value to which the segments of `path`, a pointer without its first `/`, lead from this value.
     fn found_by(&self, path: &str) -> Option<&Self>
         ensures { option_map (λ v. view v.now) result ≡ value_named (segments path.now) (view self.now) }
     {

@@ -53,7 +53,7 @@ impl Display for ErrorKind<'_> {
     }
 }
 
-/// A character as it appears in a message: white space as an escape, any other character as itself.
+/// A character as it appears in a message: white space other than a space as an escape, any other character as itself.
 #[derive(Clone, Copy)]
 pub(crate) struct Shown(pub(crate) char);
 
@@ -69,7 +69,7 @@ impl Display for Shown {
     }
 }
 
-/// Writes a text that ends with a backtick, the character, and a backtick.
+/// Writes `text`, which ends with a backtick, then the character and a closing backtick.
 fn with_char<W: Write>(f: &mut Formatter<W>, text: &str, c: char) -> fmt::Result
     ensures { WritesOnOk W.write_str_gives f.old result (text.now ++ char_text c ++ codes "`") f.new }
 {
@@ -100,7 +100,7 @@ fn unexpected_keys<W: Write>(
     write!(f, "`\nexpected: {expected}")
 }
 
-/// Writes the message that a value is unexpected, with the expected ones.
+/// Writes the message that a value is unexpected, with the list of the expected values.
 fn unexpected_value<W: Write>(f: &mut Formatter<W>, expected: &[&str]) -> fmt::Result
     ensures { WritesOnOk W.write_str_gives f.old result
         (unexpected_value_text (map (λ name. name.now) expected.now)) f.new }

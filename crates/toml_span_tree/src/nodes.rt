@@ -22,9 +22,9 @@ pub struct Visited<'t, 'de> {
     pub value: &'t Value<'de>,
 }
 
-/// Lists `value` and all values inside it, each before those inside it. Elements are in order, entries in the order of
-/// their names. Paths begin at `value`, whose own path is empty. If the content of a value has been taken, the value is
-/// listed, but nothing inside it.
+/// Lists `value` and all values inside it. A value comes before the values inside it; elements are in order, entries in
+/// the order of their names. Paths begin at `value`, whose own path is empty. If the content of a value has been taken,
+/// the value is listed, but nothing inside it.
 ///
 /// Allocates the list and one path per value. Fails if an allocation fails.
 pub fn nodes<'t, 'de>(

@@ -7,8 +7,8 @@ use crate::value::{Table, Value};
 use std::alloc::{AllocError, Global};
 use toml_span_lex::key::Key;
 
-/// Lists the entries of a table by the starts of their keys' spans, that is, in the order in which the text has the
-/// keys. Fails if an allocation fails.
+/// Returns the entries of a table, sorted by the starts of their keys' spans: the order in which the keys appear in the
+/// text. Fails if an allocation fails.
 pub fn in_text_order<'t, 'de>(
     alloc: Global,
     table: &'t Table<'de>,
@@ -21,7 +21,7 @@ pub fn in_text_order<'t, 'de>(
     Ok(entries)
 }
 
-/// Lists the entries of a table in the order of their names. Fails if an allocation fails.
+/// Returns the entries of a table in the order of their names. Fails if an allocation fails.
 fn listed<'t, 'de>(
     alloc: Global,
     table: &'t Table<'de>,

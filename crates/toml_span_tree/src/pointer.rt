@@ -21,7 +21,8 @@ use crate::value::{Array, Table, Value, ValueInner};
 use std::mem;
 use toml_span_lex::key::Key;
 
-/// Returns the position that the segment spells in decimal, or `None` if it does not spell a number below 2^64.
+/// Returns the position that the segment spells in decimal digits, without a sign and without leading zeros. Returns
+/// `None` for any other segment, and for a number of 2^64 or more.
 fn position(segment: &str) -> Option<usize>
     ensures { PositionIs result (position_of segment.now) }
 {
@@ -89,7 +90,7 @@ impl<'de> Value<'de> {
         if self.is_taken() { None } else { Some(self) }
     }
 
-    /// Returns the value that the segments of `path` lead to, beginning at this value.
+    /// Returns the value to which the segments of `path`, a pointer without its first `/`, lead from this value.
     fn found(&self, path: &'de str) -> Option<&Self>
         ensures { option_map (λ v. view v.now) result ≡ value_named (segments path.now) (view self.now) }
     {
@@ -118,8 +119,8 @@ impl<'de> Value<'de> {
 }
 
 impl<'de> ValueInner<'de> {
-    /// Replaces the value that `segment` and the segments of `rest` lead to. Returns the old value, or `Err(new)` if
-    /// there is no such value.
+    /// Puts `new` in place of the value to which `segment` and, after it, the segments of `rest` lead. Returns the old
+    /// value, or `Err(new)` if there is no such value.
     #[cycle(replace)]
     fn replace_found(
         &mut self,
@@ -195,8 +196,9 @@ impl<'de> Value<'de> {
         None
     }
 
-    /// Replaces this value or, with `rest`, the one that its segments lead to. Returns the old value, or `Err(new)` if
-    /// there is no such value or this one's content has been taken.
+    /// Puts `new` in place of this value or, if `rest` is given, of the value to which the segments of `rest` lead from
+    /// here. Returns the old value, or `Err(new)` if there is no such value or the content of this value has been
+    /// taken.
     #[cycle(replace)]
     fn replace_here(&mut self, rest: Option<&'de str>, new: Self) -> Result<Self, Self>
         ensures { Exchanged result new.entry (segments_after (option_map (λ r. r.now) rest.entry))
@@ -211,8 +213,8 @@ impl<'de> Value<'de> {
         }
     }
 
-    /// Replaces the value that the segments of `path` lead to, beginning at this value. Returns the old value, or
-    /// `Err(new)` if there is no such value.
+    /// Puts `new` in place of the value to which the segments of `path`, a pointer without its first `/`, lead from
+    /// this value. Returns the old value, or `Err(new)` if there is no such value.
     #[cycle(replace)]
     fn replace_found(&mut self, path: &'de str, new: Self) -> Result<Self, Self>
         ensures { Exchanged result new.entry (segments path.now) (Some (view self.old)) (λ w. view self.new ≡ w)
@@ -225,8 +227,8 @@ impl<'de> Value<'de> {
         }
     }
 
-    /// Replaces the value that the pointer names by `new`, which gets the span of the old one. Returns the old value.
-    /// Keys, their spans and all other values are unchanged.
+    /// Puts `new`, which keeps its own span, in place of the value that the pointer names. Returns the old value. Keys,
+    /// their spans and all other values are unchanged.
     ///
     /// If the pointer names no value, returns `Err(new)`, and nothing changes.
     pub fn replace(&mut self, pointer: &'de str, new: Self) -> Result<Self, Self>
@@ -247,7 +249,7 @@ impl<'de> Value<'de> {
     }
 }
 
-/// Returns a mutable reference to the inner value.
+/// Returns a mutable reference to the content of a value, which must not have been taken.
 fn inner_of<'v, 'de>(value: &'v mut Value<'de>) -> &'v mut ValueInner<'de>
     requires { IsHeld value.old }
     ensures* writes_back { sem 𝓛 (lends_inner value.entry result) }
@@ -349,7 +351,7 @@ fn is_last<'p>(path: &'p str) -> bool
     }
 }
 
-/// Returns what follows the first segment of a path and the `/` after it.
+/// Returns the path without its first segment and the `/` after that, or the same path if it has only one segment.
 fn after<'p>(path: &'p str) -> &'p str
     ensures { 0 < length (drop 1 (segments path.now))
         → (segments result.now ≡ drop 1 (segments path.now)) × (length result.now < length path.now) }
@@ -360,7 +362,8 @@ fn after<'p>(path: &'p str) -> &'p str
     }
 }
 
-/// Returns a mutable reference to the value that the segments of `path` lead to, which must exist.
+/// Returns a mutable reference to the value to which the segments of `path`, a pointer without its first `/`, lead from
+/// `value`. It must exist.
 fn at_path<'v, 'de>(value: &'v mut Value<'de>, path: &'de str) -> &'v mut Value<'de>
     requires { IsSome (value_named (segments path.now) (view value.old)) }
     ensures* writes_back { sem 𝓛 (lends_named value.entry path.now result) }
@@ -383,7 +386,7 @@ fn is_end<'p>(pointer: &'p str) -> bool
     pointer.is_empty()
 }
 
-/// Returns what follows the `/` at the beginning of the pointer.
+/// Returns the pointer without the `/` at its beginning, or the same pointer if it has none.
 fn after_slash<'p>(pointer: &'p str) -> &'p str
     ensures { (path : List ℕ) → pointer.now ≡ slash ∷ path → result.now ≡ path }
 {

@@ -130,8 +130,8 @@ impl<'de> Value<'de> {
 
     /// Takes the content out, and returns it if it is a string. Callers must prove that it has not been taken already.
     ///
-    /// Otherwise fails with `Wanted` at the value's span. There `expected` is `msg`, or "a string" if that is `None`,
-    /// and `found` is the name of the kind. The content is taken then too.
+    /// If the value is of another kind, fails with `Wanted` at the value's span: `expected` is `msg`, or "a string" if
+    /// `msg` is `None`, and `found` is the name of the kind. The content is taken even then.
     pub fn take_string<'s>(&mut self, msg: Option<&'s str>) -> Result<CowStr<'de>, Error<'s>>
         requires { is_taken_node (view self.old) ≡ false }
         ensures text { IfOk result (λ text. text_in (inner_of (view self.old)) ≡ Some (cow_str_bytes text)) }
@@ -362,7 +362,7 @@ impl<'de> ValueInner<'de> {
 }
 
 #[cycle(whole)]
-/// Returns whether all of the values are whole.
+/// Returns whether `is_whole` holds for all of the values.
 fn all_whole(values: &[Value<'_>]) -> bool
     ensures { result ≡ all_whole_items (items_view values.now) }
 {
@@ -375,7 +375,7 @@ fn all_whole(values: &[Value<'_>]) -> bool
 }
 
 #[cycle(whole)]
-/// Returns whether the values of all entries are whole.
+/// Returns whether `is_whole` holds for all entries' values.
 fn all_entries_whole(table: &Table<'_>) -> bool
     ensures { result ≡ all_members_whole (members_view table.now.entries) }
 {

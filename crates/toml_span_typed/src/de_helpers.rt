@@ -22,8 +22,8 @@ use toml_span_lex::span::Span;
 use toml_span_lex::stop::Stop;
 use toml_span_tree::{Error, ErrorKind, Value, ValueInner};
 
-/// Returns the error `Wanted` at `span`: `expected` names what was expected, and the kind of `found` what is there
-/// instead. Does not allocate.
+/// Returns the error `Wanted` at `span`. `expected` describes the expected value, such as "a table". `found` is the
+/// value that is there instead, and the error has the name of its kind. Does not allocate.
 pub fn expected<'s>(expected: &'s str, found: ValueInner, span: Span) -> Error<'s>
     ensures { content_of result ≡ wrong_kind expected.now (node (inner_view found.entry) span) }
 {
@@ -36,7 +36,7 @@ pub fn expected<'s>(expected: &'s str, found: ValueInner, span: Span) -> Error<'
     ))
 }
 
-/// Returns the failure of a read that found a value of another kind: only the error of `expected`.
+/// Returns the failure of a read that expected a value of another kind: the error that `expected` returns, alone.
 pub(crate) fn refused<'s>(wanted: &'s str, found: ValueInner, span: Span) -> Stop<DeserError<'s>>
     ensures { result ≡ Fault (one (wrong_kind wanted.now (node (inner_view found.entry) span))) }
 {
@@ -47,8 +47,8 @@ pub(crate) fn refused<'s>(wanted: &'s str, found: ValueInner, span: Span) -> Sto
 /// already (`is_taken`).
 ///
 /// Fails with `Wanted`, which expects "a string", if the value is of another kind. If `FromStr` fails, the error is
-/// `Custom`: `failed to parse string: ` and the text of that error. Both are at the value's span. Only the text is
-/// allocated, so `Stop::Memory` is possible only then.
+/// `Custom`: `failed to parse string: ` and the text of the error of `FromStr`. Both errors are at the value's span.
+/// Only the text of `Custom` is allocated, so `Stop::Memory` is possible only if `FromStr` fails.
 pub fn parse<'de, T: FromStr<Err = E>, E: Display + Drop>(
     alloc: Global,
     value: &mut Value<'de>,
@@ -72,8 +72,8 @@ pub fn parse<'de, T: FromStr<Err = E>, E: Display + Drop>(
     }
 }
 
-/// Returns the error `Custom` at `span` for a string that `FromStr` refused with this error. Fails if an allocation
-/// fails.
+/// Returns the error `Custom` at `span` for a string that could not be read because of the error `refusal`. Fails if an
+/// allocation fails.
 fn unparsed<'s, E: Display + Drop>(
     alloc: Global,
     refusal: E,

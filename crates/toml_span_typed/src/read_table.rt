@@ -11,8 +11,9 @@
 ///   `tags: Vec<String>, optional;`
 /// - `port: u16, or(80);`: this value if the key is absent. It is evaluated only then;
 /// - `port: u16, range(1..=65535);`: an error for an integer outside this range (`InRange`). The type may also be an
-///   `Option`, a `Spanned` or an `Option` of a `Spanned`, and `or(..)` may follow;
-/// - `level: Level, parsed;`: a string that `FromStr` reads, with the same types and `or(..)`;
+///   `Option`, a `Spanned` or an `Option` of a `Spanned`. If it is none of these, `or(..)` may follow;
+/// - `level: Level, parsed;`: a string that `FromStr` reads. For the type and for `or(..)`, the same holds as with
+///   `range`;
 /// - `max_body: u64 = "max-body", alias("max_body");`: read from the key or from an old name
 ///   (`TableHelper::read_either`). Other options may follow;
 /// - `servers: Vec<Server>, unique(name);`: an error for each server whose field `name`, a `Spanned<String>`, repeats
@@ -41,7 +42,7 @@ macro_rules! read_table {
         $crate::read_table!(@fields [helper, $value, [gathered $warnings], [$table]] [] $($fields)*)
     }};
 
-    // each field: its name, the form of its type, whether it occurs in the form, its key, and its options
+    // each field: its name, the form around its type, the type inside that form, its key, and its options
     (@fields $read:tt [$($done:tt)*]
         $field:ident: Option<Spanned<$ty:ty>> $(= $key:literal)? $(, $how:ident $(($($word:tt)*))?)*; $($rest:tt)*
     ) => {

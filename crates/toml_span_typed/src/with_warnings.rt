@@ -38,8 +38,8 @@ pub trait DeserializeWithWarnings<'de>: Sized + Drop {
         ensures kept { Extends (map content_of warnings.old.items) (map content_of warnings.new.items) };
 }
 
-/// Reads a value. If that fails, appends its errors to `faults`, and returns `None`. If an allocation fails, `faults`
-/// is unchanged.
+/// Reads a value, and appends the warnings of the read to `warnings`. If the read fails, appends its errors to
+/// `faults`, and returns `None`. If an allocation fails, `faults` is unchanged.
 pub(crate) fn read_or_keep<'de, T: DeserializeWithWarnings<'de>>(
     alloc: Global,
     mut value: Value<'de>,

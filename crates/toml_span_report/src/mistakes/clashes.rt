@@ -130,8 +130,8 @@ fn body<'a>(text: &'a str, end: usize) -> &'a str
     }
 }
 
-/// Returns what to write in an inline table instead of a header through it. `end` is the end of the header's part that
-/// names the table. Returns empty code if the header has no part after that one.
+/// Returns the assignment to write in an inline table, instead of a header whose path goes through the table. `end` is
+/// the end of the header's part that names the inline table. Returns empty code if that is the last part.
 #[tactic(auto, unfolding(crate::specs::found::Clashes::subtable))]
 fn subtable<'a>(text: &'a str, end: usize) -> Code<'a>
     ensures { code_content result ≡ spec.subtable text.now end }

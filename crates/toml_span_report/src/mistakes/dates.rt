@@ -126,8 +126,8 @@ fn month_length<'a>(text: &'a str, year: usize, month: usize) -> Code<'a>
     }
 }
 
-/// Returns the finding for a time that does not exist, or for an offset without a colon. The value spans `start..end`,
-/// and the time begins at `hour`.
+/// Returns the finding for a time that does not exist, or for a UTC offset without a colon. The value spans
+/// `start..end`, and the time begins at `hour`.
 #[tactic(auto, unfolding(crate::specs::found::Dates::time))]
 fn time<'a>(text: &'a str, start: usize, hour: usize, end: usize) -> Finding<'a>
     ensures { finding_content result ≡ spec.time text.now start hour end }

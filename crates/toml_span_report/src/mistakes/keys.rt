@@ -22,7 +22,7 @@ use crate::words::{
 };
 use toml_span_lex::span::Span;
 
-/// Returns the finding for a comment of another language. `length` is that of the sign with which it begins.
+/// Returns the finding for a comment of another language. It begins at `at`, with a sign of `length` bytes.
 #[tactic(auto, unfolding(crate::specs::found::Keys::comment))]
 pub(crate) fn comment<'a>(mistake: Mistake, text: &'a str, at: usize, length: usize) -> Finding<'a>
     ensures { finding_content result ≡ spec.comment (texts mistake.entry) text.now at length }
@@ -124,7 +124,7 @@ fn is_named(word: &str) -> bool
     matches!(word, "true" | "false" | "inf" | "nan")
 }
 
-/// Returns a finding that marks `mark`, with code that replaces `edit` but may not be what was meant.
+/// Returns a finding that marks `mark` and replaces `edit` with `code`, which may not be what was meant.
 fn doubtful<'a>(mistake: Mistake, mark: Span, edit: Span, code: Code<'a>) -> Finding<'a>
     ensures { finding_content result ≡ spec.doubtful (texts mistake.entry) mark edit (code_content code.entry) }
 {
@@ -136,8 +136,9 @@ fn doubtful<'a>(mistake: Mistake, mark: Span, edit: Span, code: Code<'a>) -> Fin
     Finding { words, ..found }
 }
 
-/// Returns the finding for a key, another sign than `=`, and at `at` a word of another language. It marks the sign,
-/// `mark`, and replaces `edit`, from the key to the word. If TOML has no such value, it only marks the word.
+/// Returns the finding for `key`, a sign other than `=`, and the word of another language at `at`. `mark` is the span
+/// of the sign; `edit` is the span of all three. If TOML has a value for that word, the finding marks the sign and
+/// replaces `edit`. Otherwise it only marks the word.
 fn known_pair<'a>(
     mistake: Mistake,
     key: &'a str,
@@ -155,8 +156,10 @@ fn known_pair<'a>(
     doubtful(mistake, mark, edit, pieces(key, " = ", known.code))
 }
 
-/// Returns the finding for a key, another sign than `=`, and at `at` a word that is not a value: the word needs quotes,
-/// or is one of another language. It marks the sign, `mark`, and replaces `edit`, from the key to the word.
+/// Returns the finding for `key`, a sign other than `=`, and the word at `at`, which is not a value: it needs quotes,
+/// or is a word of another language. `mark` is the span of the sign; `edit` is the span of all three. The finding marks
+/// the sign, and replaces `edit` and any further words of the value. But if TOML has nothing for the word of another
+/// language, the finding only marks that word.
 #[tactic(auto, unfolding(crate::specs::found::Keys::other_word))]
 fn other_word<'a>(
     mistake: Mistake,
@@ -200,8 +203,8 @@ pub(crate) fn other_sign<'a>(mistake: Mistake, text: &'a str, from: usize, to: u
     }
 }
 
-/// Returns how the code for an array ends. `are_values` says whether its elements are values, which need no quotes, and
-/// `has_more` whether it has more elements, for which `, ..` is written.
+/// Returns the end of the code for an array, after the text of its last element. `are_values` says that the elements
+/// are values, which need no quotes. `has_more` says that there are more elements, for which `, ..` is written.
 fn closing_of(are_values: bool, has_more: bool) -> &'static str
     ensures { result.now ≡ spec.closing_of are_values has_more }
 {

@@ -83,8 +83,8 @@ pub(crate) fn missing_value<'a>(text: &'a str, at: usize) -> Option<Finding<'a>>
     }
 }
 
-/// Recognizes a value that begins with `#`, such as a color, and is therefore a comment. In any other comment,
-/// recognizes a missing value.
+/// Recognizes a value that begins with `#`, such as a color, and is therefore read as a comment. If the comment at `at`
+/// is not such a value, recognizes that the value before it is missing.
 #[tactic(auto, unfolding(crate::specs::found::Lists::hash))]
 fn hash<'a>(text: &'a str, at: usize) -> Option<Finding<'a>>
     ensures { option_map finding_content result ≡ spec.hash text.now at }

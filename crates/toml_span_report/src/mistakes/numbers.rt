@@ -1,4 +1,4 @@
-//! Mistakes in numbers.
+//! Mistakes in numbers. Functions that take `start` and `end` are given a number that spans `start..end`.
 ghost use Rattle.std.specs.Prelude.{◌≡◌, length, option_map};
 ghost use Rattle.toml_span_report.specs.Finding.{finding_content};
 ghost use Rattle.toml_span_report.specs.found.Numbers as spec;
@@ -35,7 +35,7 @@ fn digits_of(letter: u8) -> &'static str
     }
 }
 
-/// Returns the lower-case prefix for an upper-case letter, or an empty string.
+/// Returns the lower-case prefix for `X`, `O` or `B`, or an empty string for any other letter.
 fn lower_prefix(letter: u8) -> &'static str
     ensures { result.now ≡ spec.lower_prefix letter }
 {

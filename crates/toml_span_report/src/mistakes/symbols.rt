@@ -18,7 +18,8 @@ use crate::words::{
     MARKUP, OTHER_SIGN, OTHER_SPACE, PARENTHESES, SEMICOLON, SEMICOLONS, SLASHES,
 };
 
-/// Returns the character of TOML that a character looks like, with the mistake and the Unicode name of the character.
+/// Returns the TOML character that `c` looks like, with the mistake and the Unicode name of `c`. Returns `None` if `c`
+/// does not look like one.
 #[tactic(auto, unfolding(crate::specs::found::Symbols::look_alike))]
 fn look_alike(c: char) -> Option<Meant>
     ensures { option_map meant_content result ≡ spec.look_alike c }
@@ -178,7 +179,7 @@ fn block_comment<'a>(text: &'a str, at: usize) -> Finding<'a>
     replaced(COMMENT_LINE, at, last, pieces("#", content, ""))
 }
 
-/// Recognizes a comment, or the end of a line, in the style of other languages.
+/// Recognizes `//`, `/*`, `;` or a lone carriage return, as in other languages.
 #[tactic(auto, unfolding(crate::specs::found::Symbols::foreign))]
 fn foreign<'a>(text: &'a str, at: usize) -> Option<Finding<'a>>
     ensures { option_map finding_content result ≡ spec.foreign text.now at }

@@ -10,8 +10,8 @@ use crate::words::{
     UNQUOTED_TEXT, UPPER_BOOLEAN,
 };
 
-/// Returns whether a word and a name are equal up to the offset `at` and after a difference there: one byte that is
-/// missing, extra or another one, or two bytes that are swapped.
+/// Returns whether a word and a name are equal, or differ only at the offset `at`, where a byte is missing, extra or
+/// different, or two bytes are swapped.
 #[tactic(auto, unfolding(crate::specs::found::Values::is_near_at))]
 fn is_near_at(word: &str, name: &str, at: usize) -> bool
     ensures { result ≡ spec.is_near_at word.now name.now at }
@@ -43,7 +43,7 @@ fn is_near(word: &str, name: &str) -> bool
         || is_near_at(word, name, 5)
 }
 
-/// Returns the boolean that a word probably misspells.
+/// Returns the boolean that a word probably misspells, or `None` if it is not near one.
 #[tactic(auto, unfolding(crate::specs::found::Values::near_boolean))]
 fn near_boolean(word: &str) -> Option<Meant>
     ensures { option_map meant_content result ≡ spec.near_boolean word.now }
@@ -58,7 +58,7 @@ fn near_boolean(word: &str) -> Option<Meant>
 }
 
 /// Returns what TOML has for a word of other languages, or for a misspelled boolean: the mistake, and the code to
-/// write.
+/// write. Returns `None` for any other word.
 #[tactic(auto, unfolding(crate::specs::found::Values::known_word))]
 pub(crate) fn known_word(word: &str) -> Option<Meant>
     ensures { option_map meant_content result ≡ spec.known_word word.now }
@@ -75,8 +75,9 @@ pub(crate) fn known_word(word: &str) -> Option<Meant>
     }
 }
 
-/// Returns the end of a string that needs quotes. It begins at `at`, and its first word ends at `end`. It has several
-/// words if only a comment, the end of the line, a comma or a closing bracket follows them, otherwise one.
+/// Returns the end of a string that needs quotes. It begins at `at`, and its first word ends at `end`. If a comment,
+/// the end of the line, a comma, `]` or `}` follows the words on the line, all of them belong to the string; otherwise
+/// only the first one does, and `end` is returned.
 #[tactic(auto, unfolding(crate::specs::found::Values::phrase_end))]
 pub(crate) fn phrase_end(text: &str, at: usize, end: usize) -> usize
     ensures { result ≡ spec.phrase_end text.now at end }
@@ -100,7 +101,7 @@ pub(crate) fn unquoted_value<'a>(text: &'a str, at: usize) -> Finding<'a>
     }
 }
 
-/// Returns the finding for a string with a prefix, as other languages have them. Its quote is at `quote`.
+/// Returns the finding for a prefixed string at `at`, such as `r".."`, with its quote at `quote`.
 #[tactic(auto, unfolding(crate::specs::found::Values::prefixed))]
 fn prefixed<'a>(text: &'a str, at: usize, quote: usize) -> Finding<'a>
     ensures { finding_content result ≡ spec.prefixed text.now at quote }

@@ -21,8 +21,8 @@ use crate::words::{
 };
 use toml_span_lex::span::Span;
 
-/// Returns the finding for a key that should be on the next line. The repair is a line feed instead of the bytes from
-/// `from` to the key, at `at`.
+/// Returns the finding for a key that should be on the next line. The key is at `at`. The repair replaces the bytes
+/// from `from` to the key with a line feed.
 fn broken<'a>(mistake: Mistake, text: &'a str, from: usize, at: usize) -> Finding<'a>
     ensures { finding_content result ≡ spec.broken (texts mistake.entry) text.now from at }
 {
@@ -102,7 +102,7 @@ const AFTERNOON: [(&str, &str); 11] = [
     ("11", "23"),
 ];
 
-/// Converts an hour from a 12-hour clock to a 24-hour clock. `is_late` says that the hour is in the afternoon.
+/// Converts an hour from a 12-hour clock to a 24-hour clock. `is_late` says that the time is `PM`.
 #[tactic(auto, unfolding(crate::specs::found::Wanted::full_hour))]
 fn full_hour<'a>(hour: &'a str, is_late: bool) -> &'a str
     ensures { result.now ≡ spec.full_hour hour.now is_late }
@@ -141,7 +141,7 @@ fn half_day<'a>(text: &'a str, at: usize, end: usize) -> Finding<'a>
     mended(HALF_DAY, span_of(at, end), span_of(start, end), code)
 }
 
-/// Returns whether the word is `UTC` or another name of the offset that TOML writes as `Z`.
+/// Returns whether the word is `UTC` or `GMT`, for which TOML writes `Z`.
 fn is_zone(word: &str) -> bool
     ensures { result ≡ spec.is_zone word.now }
 {

@@ -31,7 +31,8 @@ pub fn push_fields<'de>(
     push_calls(&mut helper, calls, out) && push_last(helper, last.as_str(), root, out)
 }
 
-/// Makes a helper for the root of a document.
+/// Makes a helper for the root of a document. Returns `None` if something has been taken from the root, or if it is not
+/// a table.
 fn opened<'de>(alloc: Global, root: &mut Value<'de>) -> Option<TableHelper<'de>>
     ensures { IfSome result (λ helper. AllWhole (state_of helper)) }
 {

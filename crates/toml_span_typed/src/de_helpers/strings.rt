@@ -1,4 +1,4 @@
-//! Reads of strings by `FromStr` or by a function, as the body of a `deserialize`.
+//! Reads of strings with `FromStr` or with a function, as the body of a `deserialize`.
 ghost use Rattle.std.specs.Fn.{FnOnceReturnsAt};
 ghost use Rattle.std.specs.Prelude.{◌≡◌, false};
 ghost use Rattle.toml_span_tree.specs.Value.{is_taken, view};
@@ -35,7 +35,8 @@ pub fn parsed<'de, T: FromStr<Err = E>, E: Display + Drop>(
 ///
 /// Takes the value in every case. Callers must prove that it has not been taken already (`is_taken`). Fails with
 /// `Wanted`, which expects "a string", if the value is of another kind; the function is not called then. If the
-/// function fails with an error, fails with `Custom` as `parsed` does, and if it fails with `Stop::Memory`, with that.
+/// function fails with `Stop::Fault`, fails with `Custom` as `parsed` does. Fails with `Stop::Memory` if the function
+/// does, or if an allocation fails.
 pub fn parse_with<'de, T: Drop, E: Display + Drop, F: FnOnce(&str) -> Result<T, Stop<E>> + Drop>(
     alloc: Global,
     value: &mut Value<'de>,

@@ -27,7 +27,7 @@ use toml_span_tree::{Error, ErrorKind, Table, Value, ValueInner};
 /// Reads the entries of a table one by one.
 ///
 /// It keeps the errors until the end, and it records the names that it was asked for: the error `UnexpectedKeys` lists
-/// them as the expected ones. A name is recorded even if the table has no such key.
+/// these names as the expected ones. A name is recorded even if the table has no such key.
 #[derive(Drop)]
 pub struct TableHelper<'de> {
     /// The entries that have not been read.
@@ -72,9 +72,9 @@ impl<'de> TableHelper<'de> {
     ghost use Rattle.toml_span_typed.specs.TableHelper.{state_of, unasked, unexpected_entries};
     ghost use Rattle.toml_span_typed.specs.code.TableHelper.{ReadsValue};
 
-    /// Returns a helper for the table that `value` contains, and takes that table out. Callers must prove that it has
-    /// not been taken already (`is_taken`). If the value is of another kind, it is taken too, and the error is
-    /// `Wanted`, which expects "a table". Does not allocate.
+    /// Takes the table out of `value`, and returns a helper for it. Callers must prove that the content of `value` has
+    /// not been taken already (`is_taken`). Fails with `Wanted`, which expects "a table", if the value is of another
+    /// kind; its content is taken even then. Does not allocate.
     pub fn new(alloc: Global, value: &mut Value<'de>) -> Result<TableHelper<'de>, DeserError<'de>>
         requires { is_taken (view value.old) ≡ false }
         ensures answer { OpensTable (view value.old) (result_map state_of result) }
@@ -87,7 +87,7 @@ impl<'de> TableHelper<'de> {
         }
     }
 
-    /// Returns a helper for a table that spans `span`. Does not allocate.
+    /// Returns a helper for a table whose span is `span`. Does not allocate.
     pub fn from_table(alloc: Global, table: Table<'de>, span: Span) -> TableHelper<'de>
         ensures { state_of result ≡ fresh (members_view table.entry.entries) span }
     {
@@ -188,12 +188,12 @@ impl<'de> TableHelper<'de> {
         self.optional(name)
     }
 
-    /// Ends the read. Returns `Ok` if no error was kept, otherwise all errors in order.
+    /// Ends the read. Returns `Ok` if no error was kept, otherwise fails with all errors in order.
     ///
-    /// Given the original value, puts the entries that remain back into it, even if there are errors. Its span stays
-    /// the same, and nothing is allocated. Given `None`, entries that remain cause the error `UnexpectedKeys` at the
-    /// table's span, the last of all errors: it has the keys in the order of their names, and the recorded names in the
-    /// order of their requests. If an allocation fails, returns the helper unchanged.
+    /// Given the original value, puts the entries that remain back into it, even if there are errors. The span of the
+    /// value stays the same, and nothing is allocated. Given `None`, also fails if entries remain: the last error is
+    /// then `UnexpectedKeys` at the table's span. It has the keys that remain, in the order of their names, and the
+    /// recorded names, in the order of their requests. If an allocation fails, returns the helper unchanged.
     pub fn finalize(self, original: Option<&mut Value<'de>>) -> Result<(), Unfinished<'de>>
         ensures answer { Finalizes (state_of self.entry) original.entry result }
         ensures rest { Leaves (HoldsRest self.entry.table) original.entry original.exit }
@@ -313,7 +313,7 @@ fn remove<'de>(table: &mut Table<'de>, name: &'de str) -> Option<(Key<'de>, Valu
     table.remove_entry(&Key::named(name))
 }
 
-/// Returns the error `MissingField` at `span`, that of the table.
+/// Returns the error `MissingField` for the field `name`. `span` is the span of the table.
 fn missing_field<'s>(name: &'s str, span: Span) -> Error<'s>
     ensures { content_of result ≡ record { kind = missing_field name.now; span = span; line_info = None } }
 {

@@ -25,7 +25,7 @@ impl<'de, T: Deserialize<'de>> Deserialize<'de> for Vec<T> {
     }
 }
 
-/// Reads each element. Fails with the errors of all of them, or if an allocation fails.
+/// Reads each element. Fails with the errors of all elements, or if an allocation fails.
 fn read_all<'de, T: Deserialize<'de>>(
     alloc: Global,
     items: Vec<Value<'de>>,

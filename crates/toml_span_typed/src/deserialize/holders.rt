@@ -1,4 +1,4 @@
-//! Reads of values into a box or an `Option`, and of strings by `FromStr`.
+//! Reads of values into a box or an `Option`, and of strings with `FromStr`.
 ghost use Rattle.std.specs.Prelude.{◌⊎◌};
 ghost use Rattle.toml_span_typed.specs.Fields.{AsParsed, AsRead, AsSome};
 ghost use Rattle.toml_span_typed.specs.Reads.{Taken, result_map};
@@ -29,8 +29,8 @@ impl<'de, T: Deserialize<'de>> Deserialize<'de> for Box<T> {
     }
 }
 
-/// Reads the value as a `T`, and returns `Some`. An absent key never gets here: `read_table!` returns `None` for a
-/// field of type `Option<T>` whose key is absent.
+/// Reads the value as a `T`, and returns `Some`. For an absent key this is not called: `read_table!` then returns
+/// `None` for a field of type `Option<T>`.
 impl<'de, T: Deserialize<'de>> Deserialize<'de> for Option<T> {
     ghost reads = { AsSome T.reads };
 
@@ -55,7 +55,7 @@ impl<'de> Deserialize<'de> for char {
     }
 }
 
-/// A string read by `FromStr`, for a type that does not implement `Deserialize`.
+/// A string that is read with `FromStr`, for a type that does not implement `Deserialize`.
 #[derive(Debug, Drop)]
 pub struct Parsed<T> {
     pub value: T,

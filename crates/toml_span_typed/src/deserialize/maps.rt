@@ -33,7 +33,7 @@ impl<'de, T: Deserialize<'de>> Deserialize<'de> for BTreeMap<String, T> {
     }
 }
 
-/// Reads the same entries as for a `BTreeMap`. No contract says in which order the map iterates over them.
+/// Reads the same entries as a `BTreeMap` does. No contract says in which order the map iterates over them.
 impl<'de, T: Deserialize<'de>> Deserialize<'de> for HashMap<String, T> {
     ghost reads = { hashed_reads T.reads };
 
@@ -48,7 +48,7 @@ impl<'de, T: Deserialize<'de>> Deserialize<'de> for HashMap<String, T> {
     }
 }
 
-/// Reads the value of each entry. Fails with the errors of all of them, or if an allocation fails.
+/// Reads the value of each entry. Fails with the errors of all entries, or if an allocation fails.
 fn read_entries<'de, T: Deserialize<'de>>(
     alloc: Global,
     table: Table<'de>,

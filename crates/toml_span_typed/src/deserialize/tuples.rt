@@ -13,6 +13,8 @@ use toml_span_lex::span::Span;
 use toml_span_lex::stop::Stop;
 use toml_span_tree::{Error, ErrorKind, Value, ValueInner};
 
+// Toolchain: there is no `impl` for `[T; N]` ("a struct that owns memory and names a lifetime has a field that holds a
+// `&mut`, or ..").
 /// Reads an array of two elements. For any other number of elements the error is `Custom` at the array's span, with the
 /// text `expected 2 elements, found` and the number; then no element is read.
 impl<'de, A: Deserialize<'de>, B: Deserialize<'de>> Deserialize<'de> for (A, B) {
@@ -42,8 +44,8 @@ impl<'de, A: Deserialize<'de>, B: Deserialize<'de>> Deserialize<'de> for (A, B) 
     }
 }
 
-/// Takes the value, and returns its two elements. Fails with `Wanted` if it is not an array, or with the error of
-/// `miscounted`.
+/// Takes the value, and returns its two elements. Fails with `Wanted` if it is not an array, and with the error of
+/// `miscounted` if it does not have two elements.
 fn two<'de>(
     alloc: Global,
     value: &mut Value<'de>,

@@ -29,7 +29,8 @@ impl<'de, T: DeserializeWithWarnings<'de>> DeserializeWithWarnings<'de> for Vec<
     }
 }
 
-/// Reads each element. Fails with the errors of all of them, or if an allocation fails. Appends all warnings.
+/// Reads each element, and appends all warnings to `warnings`. Fails with the errors of all elements, or if an
+/// allocation fails.
 fn read_all<'de, T: DeserializeWithWarnings<'de>>(
     alloc: Global,
     items: Vec<Value<'de>>,

@@ -52,10 +52,10 @@ impl<'de> TableHelper<'de> {
     }
 
     /// Reads a field as `read_either` does, and warns if the old name is present: appends the warning `Deprecated`, at
-    /// the span of that key, to `warnings`, even if the read fails. Only `name` is recorded, so the error of unknown
-    /// keys does not list the old name as expected.
+    /// the span of the old key, to `warnings`, even if the read fails. Only `name` is recorded, so the error
+    /// `UnexpectedKeys` does not list the old name as expected.
     ///
-    /// If an allocation fails, at most the error of `read_either` is kept, and the warning may have been appended.
+    /// If an allocation fails, at most the error `DuplicateKey` is kept, and the warning may have been appended.
     pub fn read_deprecated<T: Deserialize<'de>>(
         &mut self,
         name: &'de str,
@@ -93,8 +93,9 @@ impl<'de> TableHelper<'de> {
         self.read_if_there(value)
     }
 
-    /// Reads a value that was moved out of the table. If there is none, keeps the error `MissingField` and returns
-    /// `None`.
+    /// Reads a value that was moved out of the table. If the read fails, keeps its errors, and returns `None`. If there
+    /// is no value, keeps the error `MissingField` for `name`, and returns `None`. If an allocation fails, nothing is
+    /// kept.
     fn read_or_miss<T: Deserialize<'de>>(
         &mut self,
         name: &'de str,
@@ -117,7 +118,8 @@ impl<'de> TableHelper<'de> {
         }
     }
 
-    /// Reads a value that was moved out of the table. Returns `None` if there is none.
+    /// Reads a value that was moved out of the table. Returns `None` if there is no value. If the read fails, keeps its
+    /// errors, and returns `None`. If an allocation fails, nothing is kept.
     fn read_if_there<T: Deserialize<'de>>(
         &mut self,
         value: Option<Value<'de>>,
@@ -184,8 +186,9 @@ impl<'de> TableHelper<'de> {
         Ok(value)
     }
 
-    /// Returns the value of `newer` or, if there is none, of `older`: these are the entries of the two names, each with
-    /// the span of its key. If both are there, keeps the error `DuplicateKey` at the later key.
+    /// Returns the value of `newer` or, if there is none, the value of `older`. These are the entries of `name` and
+    /// `old`, each with the span of its key. If both are there, keeps the error `DuplicateKey` at the later key. If an
+    /// allocation fails, nothing is kept.
     fn choose(
         &mut self,
         name: &str,
@@ -215,7 +218,8 @@ impl<'de> TableHelper<'de> {
         }
     }
 
-    /// Records the name, and moves its entry out of the table. Returns the span of the key and the value.
+    /// Records the name, and moves its entry out of the table, if there is one. Returns the value with the span of its
+    /// key. If an allocation fails, nothing has changed.
     #[tactic(auto, using(crate::proofs::Whole::placed_whole))]
     pub(super) fn take_placed(
         &mut self,
@@ -238,8 +242,8 @@ impl<'de> TableHelper<'de> {
         }
     }
 
-    /// Moves the entry with this name out of the table, without recording the name. Returns the span of the key and the
-    /// value.
+    /// Moves the entry with this name out of the table, if there is one, without recording the name. Returns the value
+    /// with the span of its key.
     #[tactic(auto, using(crate::proofs::Whole::placed_whole, crate::proofs::Whole::without_whole))]
     fn pass(&mut self, name: &'de str) -> Option<(Span, Value<'de>)>
         requires { AllWhole (state_of self.old) }
@@ -287,7 +291,8 @@ fn both_names_error<'s>(
     }
 }
 
-/// Returns the error `DuplicateKey` at `span`, with `first` as the earlier key. Fails if an allocation fails.
+/// Returns the error `DuplicateKey` at `span` for the key `name`, with `first` as the span of the earlier key. Fails if
+/// an allocation fails.
 fn duplicate_key<'s>(
     alloc: Global,
     name: &str,
@@ -300,8 +305,8 @@ fn duplicate_key<'s>(
     Ok(Error::from((ErrorKind::DuplicateKey { key, first }, span)))
 }
 
-/// Appends the warning that an old name is deprecated, at the span of its key. Without a span, appends nothing. If an
-/// allocation fails, the list is unchanged.
+/// Appends the warning that `old` is deprecated in favor of `name`, at `place`, the span of the old key. If `place` is
+/// `None`, appends nothing. If an allocation fails, the list is unchanged.
 fn warn<'s>(
     warnings: &mut Vec<Error<'s>>,
     name: &'s str,

@@ -57,8 +57,8 @@ impl<'de> TableHelper<'de> {
         self.optional(name)
     }
 
-    /// Returns the result of a read that the caller made itself, for example of an entry from `take`. If it failed,
-    /// keeps its errors, and returns `None`. If an allocation fails, no error is kept.
+    /// Returns the result of a read that the caller made itself, for example of an entry from `take`. If the read
+    /// failed, keeps its errors, and returns `None`. If an allocation fails, or failed in the read, no error is kept.
     pub fn kept<T: Drop>(
         &mut self,
         read: Result<T, Stop<DeserError<'de>>>,
@@ -78,8 +78,8 @@ impl<'de> TableHelper<'de> {
         }
     }
 
-    /// Ends the read, as `finalize(None)` does. Returns `Ok` if no error was kept and no entry remains, otherwise all
-    /// errors, that of the remaining keys last. Only that error needs an allocation.
+    /// Ends the read, as `finalize(None)` does. Returns `Ok` if no error was kept and no entry remains. Otherwise fails
+    /// with all errors, the one for the remaining keys last. Only that one needs an allocation.
     pub fn finish(self) -> Result<(), Stop<DeserError<'de>>>
         ensures answer { Finishes (state_of self.entry) result }
         ensures none { OnOk result (kept (state_of self.entry) ≡ 0) }
@@ -89,7 +89,7 @@ impl<'de> TableHelper<'de> {
     }
 
     /// Ends the read, as `finalize(Some(value))` does: puts the entries that remain back into `value`. Returns `Ok` if
-    /// no error was kept, otherwise all errors. Does not allocate.
+    /// no error was kept, otherwise fails with all errors. Does not allocate.
     pub fn finish_into(self, value: &mut Value<'de>) -> Result<(), Stop<DeserError<'de>>>
         ensures answer { FinishesInto (state_of self.entry) result }
         ensures none { OnOk result (kept (state_of self.entry) ≡ 0) }
@@ -99,8 +99,7 @@ impl<'de> TableHelper<'de> {
         Ok(())
     }
 
-    /// Records the name, moves its entry out of the table, and reads the value. Keeps all errors, and returns `None`
-    /// after one.
+    /// Reads the field of this name: see `read`.
     fn ask<T: Deserialize<'de>>(&mut self, name: &'de str) -> Result<Option<T>, AllocError>
         requires { IfSome (found name.now (state_of self.old)) (λ value. IsTrue (is_whole value)) }
         ensures answer { Asks T.reads name.now (state_of self.old) result (state_of self.new) }

@@ -23,8 +23,8 @@ impl<'de> TableHelper<'de> {
         Vec::new(self.alloc)
     }
 
-    /// Keeps an error for each name that occurs earlier in the list: `Marked` with the code `duplicate-name`, at the
-    /// name, which also marks the previous occurrence. If an allocation fails, no error is kept.
+    /// Keeps an error for each name that repeats an earlier one in the list: `Marked` with the code `duplicate-name`,
+    /// at the name. The error also marks the previous occurrence. If an allocation fails, no error is kept.
     pub fn keep_repeated(&mut self, names: &[&Spanned<String>]) -> Result<(), AllocError>
         ensures ok { OnOk result (state_of self.new
             ≡ keeping (spec.repeated (map (λ name. named name.now) names.now)) (state_of self.old)) }
@@ -37,7 +37,7 @@ impl<'de> TableHelper<'de> {
     }
 }
 
-/// Returns an error for each name that occurs earlier in the list, in order. Fails if an allocation fails.
+/// Returns an error for each name that repeats an earlier one in the list, in order. Fails if an allocation fails.
 fn repeated<'s>(alloc: Global, names: &[&Spanned<String>]) -> Result<Vec<Error<'s>>, AllocError>
     ensures { IfOk result (λ errors. map content_of errors.items
         ≡ spec.repeated (map (λ name. named name.now) names.now)) }

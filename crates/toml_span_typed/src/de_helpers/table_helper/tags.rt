@@ -75,8 +75,8 @@ impl<'de> TableHelper<'de> {
         }
     }
 
-    /// Reads all entries that remain as a table of type `T`, with the same span. If the read fails, keeps its errors,
-    /// and returns `None`. If an allocation fails, no error is kept.
+    /// Reads all entries that remain, as a table with the span of this one, into a `T`. If the read fails, keeps its
+    /// errors, and returns `None`. If an allocation fails, no error is kept, but the entries are gone.
     pub fn read_rest<T: Deserialize<'de>>(&mut self) -> Result<Option<T>, AllocError>
         requires { AllWhole (state_of self.old) }
         ensures answer { IfOk result (λ rest. ReadsRest T.reads (state_of self.old) rest (state_of self.new)) }
@@ -88,7 +88,7 @@ impl<'de> TableHelper<'de> {
         read_or_keep(self.alloc, rest, &mut self.errors)
     }
 
-    /// Moves the entries that remain out, as a table with the same span.
+    /// Moves the entries that remain into a new table, with the span of this one.
     fn take_rest(&mut self) -> Value<'de>
         ensures rest { view result ≡ remaining (state_of self.old) }
         ensures state { state_of self.new ≡ emptied (state_of self.old) }
@@ -103,7 +103,7 @@ impl<'de> TableHelper<'de> {
 /// case.
 ///
 /// Fails with `Wanted` if the value is not a string, and with `UnexpectedValue`, which lists the names, if the string
-/// is not one of them. Both are at the value's span. Only the second needs an allocation.
+/// is not one of them. Both errors are at the value's span. Only the second needs an allocation.
 pub fn name_of<'de>(
     alloc: Global,
     value: &mut Value<'de>,
@@ -146,7 +146,7 @@ fn tag_of<'de>(
     Ok(Err(Error::from((kind, span))))
 }
 
-/// Returns the first of the tags that equals the text.
+/// Returns the first of the tags that equals the text, or `None` if there is none.
 fn tag_among<'t>(text: &str, tags: &'t [&'t str]) -> Option<&'t str>
     ensures { option_map (λ tag. tag.now) result ≡ among text.now (map (λ t. t.now) tags.now) }
 {
