@@ -4,7 +4,11 @@
 mod branch;
 mod claims;
 pub mod de;
+pub mod direct;
+pub mod early;
+pub mod fold;
 mod from_text;
+mod lines;
 mod rest;
 mod scopes;
 mod sections;

@@ -5,14 +5,14 @@ pub mod dates;
 mod earlier;
 pub mod fault;
 pub mod gaps;
-mod keys;
+pub mod keys;
 mod lists;
 pub mod numbers;
 pub mod section;
 pub mod sections;
 pub mod strings;
 pub mod value;
-mod values;
+pub mod values;
 mod wanted;
 
 pub use section::Section;

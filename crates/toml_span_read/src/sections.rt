@@ -39,7 +39,7 @@ use toml_span_tree::Error;
 /// fails. `limit` is as in `read_sections`.
 ///
 /// `keyval = key keyval-sep val`, `keyval-sep = ws %x3D ws` (TOML 1.1, Key/Value Pair)
-fn assignment<'de>(
+pub fn assignment<'de>(
     alloc: Global,
     text: &'de str,
     at: usize,
@@ -158,17 +158,17 @@ fn header_close(alloc: Global, text: &str, at: usize, array: bool) -> Result<usi
 
 /// A header: its parts, whether it has double brackets, and the span of its line, including the line end.
 #[derive(Drop)]
-struct Header<'de> {
-    parts: SmallVec<Key<'de>, 3>,
-    array: bool,
-    extent: Span,
+pub struct Header<'de> {
+    pub parts: SmallVec<Key<'de>, 3>,
+    pub array: bool,
+    pub extent: Span,
 }
 
 /// Reads the header whose first bracket is at `at`, and the rest of its line. Fails with the first fault, or if an
 /// allocation fails. `limit` is the limit on the number of parts.
 ///
 /// `table = std-table / array-table` (TOML 1.1, Table)
-fn read_header<'de>(
+pub fn read_header<'de>(
     alloc: Global,
     text: &'de str,
     at: usize,
