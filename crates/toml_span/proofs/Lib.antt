@@ -21,3 +21,4 @@ pub mod Borrowing
 pub mod HeldValues
 pub mod AssemblyLemmas
 pub mod Memory
+pub mod LinesPlaced

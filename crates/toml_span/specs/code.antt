@@ -6,3 +6,4 @@ pub mod Relative
 pub mod Placing
 pub mod Borrowed
 pub mod Assembling
+pub mod Lines

@@ -4,11 +4,8 @@
 mod branch;
 mod claims;
 pub mod de;
-pub mod direct;
-pub mod early;
-pub mod fold;
 mod from_text;
-mod lines;
+pub mod lines;
 mod rest;
 mod scopes;
 mod sections;

@@ -102,7 +102,7 @@ fn check_beside_table<'de>(
 /// `span` is its span. Fails with the clash of the key or, if the key does not clash, with the error in `value`, or if
 /// an allocation fails.
 #[inline(never)]
-pub(crate) fn assign<'de>(
+fn assign<'de>(
     alloc: Global,
     node: &mut Branch<'de>,
     key: Key<'de>,
@@ -137,10 +137,10 @@ pub(crate) fn assign<'de>(
 /// A value that is about to be assigned. The functions that recurse along a path pass it by reference, so that it takes
 /// no room on their stack frames.
 #[derive(Drop)]
-pub(crate) struct Pending<'de> {
+struct Pending<'de> {
     /// The last part of the key.
-    pub last: Key<'de>,
-    pub value: Result<Value<'de>, PlaceError>,
+    last: Key<'de>,
+    value: Result<Value<'de>, PlaceError>,
 }
 
 /// Assigns the pending value in `node`, the branch to which the inner parts of its key have led. Fails with the first
@@ -172,7 +172,7 @@ fn assign_pending<'de>(
 /// not clash, because the key comes first in the text.
 #[cycle(place_pair)]
 #[inline(always)]
-pub(crate) fn place_pair<'de>(
+fn place_pair<'de>(
     alloc: Global,
     node: &mut Branch<'de>,
     inner: &[Key<'de>],
@@ -310,7 +310,7 @@ pub(crate) fn place_all<'de>(
 /// Returns the table that an inline table with these pairs defines. Fails with the first clash, or if an allocation
 /// fails.
 #[cycle(value_of)]
-pub(crate) fn table_of<'de>(alloc: Global, pairs: Vec<Assignment<'de>>) -> Result<Table<'de>, PlaceError>
+fn table_of<'de>(alloc: Global, pairs: Vec<Assignment<'de>>) -> Result<Table<'de>, PlaceError>
     ensures scope { ScopeGives result (λ t. inner_view (inners.Table t)) (claims_of pairs.entry.items) }
     ensures borrows { (text : List ℕ) → AreWrittenRight text (assignments_written pairs.entry.items)
         → IfOk result (λ table. AreBorrowedRight text (own_table table.entries)) }

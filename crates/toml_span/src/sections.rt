@@ -28,7 +28,7 @@ use toml_span_read::{Assignment, Section};
 use toml_span_tree::{Value, ValueInner};
 
 /// Returns the claim of this kind that a part of a header makes.
-pub(crate) fn part_info(head: HeaderInfo, kind: ClaimKind, key: &Key<'_>) -> ClaimInfo
+fn part_info(head: HeaderInfo, kind: ClaimKind, key: &Key<'_>) -> ClaimInfo
     ensures { result ≡ claims.part_info head kind key.now.span }
 {
     ClaimInfo {
@@ -40,7 +40,7 @@ pub(crate) fn part_info(head: HeaderInfo, kind: ClaimKind, key: &Key<'_>) -> Cla
 }
 
 /// Returns the kind of claim that a part of a header makes. `rest` are the parts after it.
-pub(crate) fn claim_kind(head: HeaderInfo, rest: &[Key<'_>]) -> ClaimKind
+fn claim_kind(head: HeaderInfo, rest: &[Key<'_>]) -> ClaimKind
     ensures { result ≡ part_kind head (map part_of rest.now) }
 {
     if !rest.is_empty() {

@@ -9,11 +9,7 @@ use std::alloc::Global;
 use std::process::ExitCode;
 use std::time::Instant;
 use std::{env, fs, io};
-use toml_span::direct::{read_by_lines, read_by_sections, read_document};
-use toml_span::early::parse_early;
-use toml_span::fold::parse_fold;
 use toml_span::parse;
-use toml_span::value::{Value, nodes};
 use toml_span::tokens::Tokenizer;
 
 /// How long to measure, in nanoseconds, if no number of passes is given.
@@ -25,68 +21,10 @@ const USAGE: &str = "usage: toml_span_bench FILE N
 Parses FILE N times, or for about a second where N is 0, and prints the best and the mean
 time of a pass in nanoseconds. The second form goes through the tokens alone.";
 
-/// Returns whether two trees are equal.
-fn same_text(alloc: Global, one: &Value<'_>, other: &Value<'_>) -> bool {
-    let (Ok(a), Ok(b)) = (nodes(alloc, one), nodes(alloc, other)) else {
-        return false;
-    };
-    if a.len() != b.len() {
-        return false;
-    }
-    for at in 0..a.len() {
-        let (x, y) = (&a[at], &b[at]);
-        if x.value.span.start != y.value.span.start || x.value.span.end != y.value.span.end {
-            return false;
-        }
-        match (x.key, y.key) {
-            (None, None) => {}
-            (Some(k), Some(l)) => {
-                if k.span.start != l.span.start || k.span.end != l.span.end || k.name.as_ref() != l.name.as_ref() {
-                    return false;
-                }
-            }
-            _ => return false,
-        }
-    }
-    match (format!(in alloc; "{one:?}"), format!(in alloc; "{other:?}")) {
-        (Ok(x), Ok(y)) => x.as_str() == y.as_str(),
-        _ => false,
-    }
-}
-
-/// Returns whether the fast path gives up, or its tree has the same nodes as that of `parse`.
-fn same(alloc: Global, text: &str) -> bool {
-    let Some(fast) = read_document(alloc, text, 128) else {
-        return true;
-    };
-    match parse(alloc, text) {
-        Ok(root) => same_text(alloc, &fast, &root),
-        Err(_) => false,
-    }
-}
-
 /// Parses a text once or, with `in_tokens`, splits it into tokens. Returns whether that succeeded.
-fn is_read(alloc: Global, text: &str, in_tokens: u64) -> bool {
-    if in_tokens == 0 {
+fn is_read(alloc: Global, text: &str, in_tokens: bool) -> bool {
+    if !in_tokens {
         return parse(alloc, text).is_ok();
-    }
-    if in_tokens == 2 {
-        return read_document(alloc, text, 128).is_some();
-    }
-    if in_tokens == 3 {
-        return parse_early(alloc, text, 128).is_some();
-    }
-    if in_tokens == 5 {
-        return parse_fold(alloc, text, 128).is_some();
-    }
-    if in_tokens == 6 {
-        return read_by_sections(alloc, text, 128).is_some();
-    }
-    if in_tokens == 7 {
-        return read_by_lines(alloc, text, 128).is_some();
-    }
-    if in_tokens == 4 {
-        return same(alloc, text);
     }
     let mut tokenizer = Tokenizer::new(text);
     for _ in 0..=text.len() {
@@ -105,7 +43,7 @@ fn measure(
     rt: &HostRuntime,
     file: &str,
     text: &str,
-    in_tokens: u64,
+    in_tokens: bool,
     passes: u64,
 ) -> io::Result<()> {
     let (mut best, mut sum, mut count) = (u128::MAX, 0, 0);
@@ -132,12 +70,11 @@ fn measure(
 fn main(rt: HostRuntime) -> io::Result<ExitCode> {
     let words: Vec<String> = env::args(&rt)?.skip(1).collect(rt.alloc())?;
     let (in_tokens, file, count) = match words.as_slice() {
-        [file, count] => (0, file.as_str(), count.as_str().parse::<u64>()),
-        [what, file, count] => {
-            let way = if what.as_str() == "direct" { 2 } else if what.as_str() == "early" { 3 } else if what.as_str() == "same" { 4 } else if what.as_str() == "fold" { 5 } else if what.as_str() == "sections" { 6 } else if what.as_str() == "lines" { 7 } else { 1 };
-            (way, file.as_str(), count.as_str().parse::<u64>())
+        [file, count] => (false, file.as_str(), count.as_str().parse::<u64>()),
+        [what, file, count] if what.as_str() == "tokens" => {
+            (true, file.as_str(), count.as_str().parse::<u64>())
         }
-        _ => (0, "", "".parse::<u64>()),
+        _ => (false, "", "".parse::<u64>()),
     };
     let Ok(passes) = count else {
         println!(rt; "{USAGE}")?;

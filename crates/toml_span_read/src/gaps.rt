@@ -90,7 +90,7 @@ pub fn dot(text: &str, at: usize) -> Option<usize>
 
 /// Returns the offset after the ASCII byte at `at`.
 #[inline]
-pub fn after_byte(text: &str, at: usize) -> usize
+pub(crate) fn after_byte(text: &str, at: usize) -> usize
     requires some { 0 < slice_index text.now at }
     requires ascii { slice_index text.now at < 128 }
     ensures value { result ≡ at + 1 }
@@ -105,7 +105,7 @@ pub fn after_byte(text: &str, at: usize) -> usize
 /// Returns the offset after the bracket or brace at `at`, and after the gap that follows it.
 ///
 /// `array-open = %x5B`, `inline-table-open = %x7B` (TOML 1.1, Array, Inline Table)
-pub fn opened(text: &str, at: usize) -> usize
+pub(crate) fn opened(text: &str, at: usize) -> usize
     requires some { 0 < slice_index text.now at }
     requires ascii { slice_index text.now at < 128 }
     ensures run { MaximalGap text.now (at + 1) result }
@@ -115,7 +115,7 @@ pub fn opened(text: &str, at: usize) -> usize
 }
 
 /// What follows an element of an array or a pair of an inline table.
-pub enum AfterElement {
+pub(crate) enum AfterElement {
     /// A comma. The number is the offset after it and after the gap that follows it.
     Comma(usize),
     /// The closing bracket or brace. The number is the offset after it.
@@ -130,7 +130,7 @@ pub enum AfterElement {
 /// `array-sep = %x2C`, `inline-table-sep = %x2C`, `array-close = %x5D`, `inline-table-close = %x7D` (TOML 1.1,
 /// Array, Inline Table)
 #[inline(always)]
-pub fn after_element(text: &str, at: usize, close: u8) -> AfterElement
+pub(crate) fn after_element(text: &str, at: usize, close: u8) -> AfterElement
     requires boundary { IsCharBoundary text.now at }
     requires some { 0 < close }
     requires ascii { close < 128 }
@@ -152,7 +152,7 @@ pub fn after_element(text: &str, at: usize, close: u8) -> AfterElement
 /// sign was expected.
 ///
 /// `keyval-sep = ws %x3D ws` (TOML 1.1, Inline Table). Unlike in the standard, line ends and comments are allowed too.
-pub fn pair_equals(text: &str, at: usize) -> Result<usize, usize>
+pub(crate) fn pair_equals(text: &str, at: usize) -> Result<usize, usize>
     requires { IsCharBoundary text.now at }
     ensures { SeparatorGives equals text.now at result }
 {
@@ -168,7 +168,7 @@ pub fn pair_equals(text: &str, at: usize) -> Result<usize, usize>
 /// offset at which the sign was expected.
 ///
 /// `keyval-sep = ws %x3D ws` (TOML 1.1, Key/Value Pair)
-pub fn line_equals(text: &str, at: usize) -> Result<usize, usize>
+pub(crate) fn line_equals(text: &str, at: usize) -> Result<usize, usize>
     requires { IsCharBoundary text.now at }
     ensures { EqualsGives text.now at result }
 {

@@ -65,7 +65,7 @@ fn quoted_key<'de>(
 /// `simple-key = quoted-key / unquoted-key` (TOML 1.1, Keys)
 #[tactic(auto, using(crate::proofs::KeyLemmas::wanted_stops))]
 #[inline(always)]
-pub fn simple_key<'de>(
+pub(crate) fn simple_key<'de>(
     alloc: Global,
     text: &'de str,
     at: usize,
@@ -136,7 +136,7 @@ fn part<'de>(
 /// `key = simple-key / dotted-key`, `dotted-key = simple-key 1*( dot-sep simple-key )` (TOML 1.1, Keys)
 #[tactic(auto, using(crate::proofs::KeyLemmas::part_placed, crate::proofs::KeyLemmas::none_after))]
 #[inline(always)]
-pub fn dotted_key<'de>(
+pub(crate) fn dotted_key<'de>(
     alloc: Global,
     text: &'de str,
     at: usize,

@@ -5,14 +5,14 @@ pub mod dates;
 mod earlier;
 pub mod fault;
 pub mod gaps;
-pub mod keys;
+mod keys;
 mod lists;
 pub mod numbers;
 pub mod section;
 pub mod sections;
 pub mod strings;
 pub mod value;
-pub mod values;
+mod values;
 mod wanted;
 
 pub use section::Section;

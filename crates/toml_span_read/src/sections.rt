@@ -69,7 +69,7 @@ pub fn assignment<'de>(
 ///
 /// `ws [ comment ]` and the line end in `expression =/ ws keyval ws [ comment ]` (TOML 1.1, Overall Structure)
 #[inline(always)]
-fn next_line(alloc: Global, text: &str, at: usize) -> Result<usize, Stop<Fault>>
+pub fn next_line(alloc: Global, text: &str, at: usize) -> Result<usize, Stop<Fault>>
     requires { IsCharBoundary text.now at }
     ensures reads { LineReads text.now at result }
     ensures rest { MatchesReading (λ j. j) (spec.tail text.now at) result }
@@ -158,17 +158,17 @@ fn header_close(alloc: Global, text: &str, at: usize, array: bool) -> Result<usi
 
 /// A header: its parts, whether it has double brackets, and the span of its line, including the line end.
 #[derive(Drop)]
-pub struct Header<'de> {
-    pub parts: SmallVec<Key<'de>, 3>,
-    pub array: bool,
-    pub extent: Span,
+struct Header<'de> {
+    parts: SmallVec<Key<'de>, 3>,
+    array: bool,
+    extent: Span,
 }
 
 /// Reads the header whose first bracket is at `at`, and the rest of its line. Fails with the first fault, or if an
 /// allocation fails. `limit` is the limit on the number of parts.
 ///
 /// `table = std-table / array-table` (TOML 1.1, Table)
-pub fn read_header<'de>(
+fn read_header<'de>(
     alloc: Global,
     text: &'de str,
     at: usize,
@@ -192,7 +192,7 @@ pub fn read_header<'de>(
 
 /// Returns the span of an assignment, from its key to the end of its value.
 #[inline]
-fn extent_of(assignment: &Assignment<'_>) -> Span
+pub fn extent_of(assignment: &Assignment<'_>) -> Span
     ensures { result ≡ (parsed_assignment assignment.now).extent }
 {
     assignment.extent

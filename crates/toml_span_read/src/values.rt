@@ -81,7 +81,7 @@ fn too_deep(text: &str, at: usize) -> Stop<Fault>
 ///
 /// `string = ml-basic-string / basic-string / ml-literal-string / literal-string` (TOML 1.1, String)
 #[inline(always)]
-pub fn string_value<'de>(
+fn string_value<'de>(
     alloc: Global,
     text: &'de str,
     at: usize,
@@ -103,7 +103,7 @@ pub fn string_value<'de>(
 
 /// Reads the value at `at`, which begins with neither a quote nor a bracket. Returns it with the offset after it. Fails
 /// like `value`.
-pub fn scalar<'de>(
+fn scalar<'de>(
     alloc: Global,
     text: &'de str,
     at: usize,

@@ -21,5 +21,4 @@ pub use error::{Error, ErrorKind};
 pub use float::FloatText;
 pub use lookup::Pointer;
 pub use order::in_text_order;
-pub use pointer::inner_of;
 pub use value::{Array, Table, Value, ValueInner};

@@ -250,7 +250,7 @@ impl<'de> Value<'de> {
 }
 
 /// Returns a mutable reference to the content of a value, which must not have been taken.
-pub fn inner_of<'v, 'de>(value: &'v mut Value<'de>) -> &'v mut ValueInner<'de>
+fn inner_of<'v, 'de>(value: &'v mut Value<'de>) -> &'v mut ValueInner<'de>
     requires { IsHeld value.old }
     ensures* writes_back { sem 𝓛 (lends_inner value.entry result) }
     ensures value { value.old.value ≡ Some result.now }
