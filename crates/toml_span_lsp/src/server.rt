@@ -141,23 +141,3 @@ pub fn serve<R: Source, W: Sink>(alloc: Global, reader: &mut R, writer: &mut W) 
     }
     end_with(3, "")
 }
-
-#[cfg(test)]
-mod tests {
-    use crate::state::State;
-    use crate::steps::step;
-    use std::test::Fail;
-
-    #[test]
-    fn answers(rt: HostRuntime) -> Result<(), Fail> {
-        let mut state = State::new(rt.alloc());
-        let first = r#"{"jsonrpc":"2.0","id":1,"method":"initialize","params":{}}"#;
-        let replies = step(rt.alloc(), &mut state, first.as_bytes())?;
-        assert_eq!(rt; replies.len(), 1);
-        println!(rt;
-            "{}",
-            str::from_utf8(replies[0].as_slice()).ok().unwrap_or("")
-        )?;
-        Ok(())
-    }
-}

@@ -31,8 +31,6 @@ mod read;
 mod report;
 mod schema;
 mod sources;
-#[cfg(test)]
-mod tests;
 mod valid;
 mod words;
 
