@@ -70,7 +70,7 @@ fn put(
     Ok(())
 }
 
-/// Appends a value for a message, unless it has others inside.
+/// Appends a value for a message. Of an array or object only the type is named.
 fn push_shown(out: &mut String, value: &Json<'_>) -> Result<(), AllocError> {
     match value {
         Json::Number(text) => out.push_str(*text),
@@ -81,7 +81,9 @@ fn push_shown(out: &mut String, value: &Json<'_>) -> Result<(), AllocError> {
         }
         Json::Bool(true) => out.push_str("`true`"),
         Json::Bool(false) => out.push_str("`false`"),
-        _ => Ok(()),
+        Json::Null => out.push_str("`null`"),
+        Json::Array(_) => out.push_str("a certain array"),
+        Json::Object(_) => out.push_str("a certain table"),
     }
 }
 

@@ -51,6 +51,22 @@ fn start_of(keyword: &Keyword) -> &'static str {
     }
 }
 
+/// Returns whether a message about a keyword ends with the keyword's value.
+fn shows_value(keyword: &Keyword) -> bool {
+    match keyword {
+        Keyword::Type(_)
+        | Keyword::Enum(_, _)
+        | Keyword::Minimum(_)
+        | Keyword::ExclusiveMinimum(_) => true,
+        Keyword::Maximum(_) | Keyword::ExclusiveMaximum(_) | Keyword::MultipleOf(_, _) => true,
+        Keyword::MinLength(_) | Keyword::MaxLength(_) | Keyword::Pattern(_) => true,
+        Keyword::Format(_, _, _) | Keyword::RegexFormat => true,
+        Keyword::MinItems(_) | Keyword::MaxItems(_) => true,
+        Keyword::MinProperties(_) | Keyword::MaxProperties(_) => true,
+        _ => false,
+    }
+}
+
 /// Returns the message that a keyword refuses a value.
 pub(crate) fn message_of(
     alloc: Global,
@@ -58,7 +74,7 @@ pub(crate) fn message_of(
     value: &Value<'_>,
 ) -> Result<String, AllocError> {
     let mut message = String::from_str(alloc, start_of(&placed.keyword))?;
-    if !placed.shown.is_empty() {
+    if shows_value(&placed.keyword) && !placed.shown.is_empty() {
         message.push(' ')?;
         message.push_str(placed.shown.as_str())?;
     }
