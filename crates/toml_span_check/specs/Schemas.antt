@@ -6,8 +6,8 @@ use Rattle.toml_span_report.specs.declared.report.Severity.{Severity}
 use Rattle.toml_span_report.specs.declared.report.Severity.TheVariants.{Error, Warning, Note}
 use Rattle.toml_span_tree.specs.Node.{Node}
 
--- What schemas say: who chooses the schema of a document, the name of the file, its text, its tree, the reports, and the
--- lines that say why the schema can't be used.
+-- What schemas say: who chooses the schema of a document, the name of the file, its text, its tree, the reports, and
+-- the lines that say why the schema can't be used.
 abbrev pub Says : Type 1
 Says = Chooser → List ℕ → List ℕ → Node → List ReportContent → List ℕ → Type 0
 

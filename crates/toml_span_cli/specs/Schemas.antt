@@ -29,8 +29,8 @@ IsWarning report = report.severity ≡ Warning
 abbrev pub AddsWarnings : List ReportContent → List ReportContent → Type 0
 AddsWarnings errors reports = (warnings : List ReportContent) × (reports ≡ errors ++ warnings) × All IsWarning warnings
 
--- A document is not checked against a schema, or the reports are those of a check against one: none, apart from warnings,
--- if and only if the document is valid.
+-- A document is not checked against a schema, or the reports are those of a check against one: none, apart from
+-- warnings, if and only if the document is valid. Which of the two holds is left open, since files have no contract.
 abbrev pub IsChecked : Node → List ReportContent → Type 0
 IsChecked root reports =
     (reports ≡ [])

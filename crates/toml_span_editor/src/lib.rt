@@ -1,5 +1,5 @@
-//! What an editor asks about a TOML text: positions, changes, outlines, hovers, completion, renames and more, as
-//! functions of values.
+//! Answers for editors about a TOML text, as functions of values: positions, changes, outlines, hovers, completion,
+//! renames and more.
 #![tactic(auto)]
 
 pub mod changes;

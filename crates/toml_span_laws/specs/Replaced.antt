@@ -48,7 +48,7 @@ IsDocumentWith path s root t limit =
     → without_spans (view other) ≡ without_spans (put path (node (scalar s) no_span) (view root)))
 
 -- The text has this scalar, with this span, and its tree has it at the path. With a part that spells another scalar in
--- place of its literal, quotes included, the text is a document too: the same one, except for that scalar and for spans.
+-- place of its literal, quotes included, the text is a document too: the same one, except for that scalar and spans.
 pub record TakesScalar (t : List ℕ) (limit : ℕ) (root : Value) (path : Path) (s : Scalar) (span : Span) : Type 0 where
   pub takes : TakesAnother t s span
   pub literal : literal_span t (node (scalar s) span) ≡ record { start = takes.i; end = takes.j }

@@ -1,6 +1,6 @@
--- Canonical texts. Two values are equal in the sense of the standard exactly if their canonical texts are the same: texts
--- byte by byte, numbers as numbers, arrays element by element in order, and tables entry by entry. Each text comes after
--- its length, so that where it ends is known.
+-- Canonical texts. Two values are equal in the sense of the standard exactly if their canonical texts are the same:
+-- texts byte by byte, numbers as numbers, arrays element by element in order, and tables entry by entry. Each text
+-- comes after its length, so that where it ends is known.
 use Rattle.std.specs.Prelude.{ℕ, List, [], ◌∷◌, ◌++◌, length, Bool, true, false, ◌&&◌, not, if◌then◌else◌, bytes_eq}
 use Rattle.std.specs.Char.{encode_utf8}
 use Rattle.std.specs.Fmt.{decimal}

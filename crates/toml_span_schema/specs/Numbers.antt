@@ -13,8 +13,8 @@ use Rattle.toml_span_schema.specs.declared.numbers.Decimal.{Decimal}
 use Rattle.toml_span_schema.specs.declared.numbers.Number.{Number}
 use Rattle.toml_span_schema.specs.declared.numbers.Number.TheVariants.{Finite, Infinite, NotANumber}
 
--- The number 0.d1d2d3.. times the power of ten `point - 2^65`, or its negative. The first and the last digit are not 0, so
--- that each number has one form; zero has no digits.
+-- The number 0.d1d2d3.. times the power of ten `point - 2^65`, or its negative. The first and the last digit are not 0,
+-- so that each number has one form; zero has no digits.
 pub record Plain : Type 0 where
   pub negative : Bool
   pub point : ℕ

@@ -1,7 +1,7 @@
 -- When a value is valid against a compiled schema, keyword by keyword in the words of the standard.
 --
--- A verdict is `Some true`, `Some false`, or None where the subschemas nest deeper than a limit: such a value is neither
--- valid nor invalid.
+-- A verdict is `Some true`, `Some false`, or None where the subschemas nest deeper than a limit: such a value is
+-- neither valid nor invalid.
 use Rattle.std.specs.Prelude.{ℕ, zero, suc, ◌+◌, ◌==◌, nat_le, List, [], ◌∷◌, Bool, true, false, ◌&&◌, not}
 use Rattle.std.specs.Prelude.{Option, Some, None, option_map, option_and_then, if◌then◌else◌, string_bytes, String, slice_get}
 use Rattle.std.specs.declared.alloc.Global.{Global}
@@ -57,8 +57,8 @@ abbrev pub optional : {A : Type 0} → (A → Verdict) → Verdict → Option A 
 optional f otherwise None = otherwise
 optional f otherwise (Some x) = f x
 
--- What is known of subschemas, by their positions: whether a value is valid against one, and whether one evaluates a part
--- of a value.
+-- What is known of subschemas, by their positions: whether a value is valid against one, and whether one evaluates a
+-- part of a value.
 pub record Judge : Type 0 where
   pub valid : ℕ → Node → Verdict
   pub evaluates : ℕ → Node → Part → Verdict
@@ -74,7 +74,7 @@ contains_enough j k least most (array ns) =
     option_map (λ c. nat_le least c && nat_le c most) (count (λ n. j.valid k n) 0 (elements ns))
 contains_enough j k least most _ = Some true
 
--- `unevaluatedItems` and `unevaluatedProperties`: whether a part of the kind is evaluated by the other keywords, or valid
+-- `unevaluatedItems` and `unevaluatedProperties`: whether a part of the kind is valid, or evaluated by other keywords
 abbrev pub allows_part : Judge → Bool → ℕ × ℕ → Node → Part → Verdict
 allows_part j entries nodes n part =
     if same_bool (is_entry part) entries

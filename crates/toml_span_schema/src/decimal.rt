@@ -193,7 +193,7 @@ impl Decimal {
             return Ok(true);
         }
         let own = self.exponent();
-        // The last digit is not 0, so a number with more decimals is no multiple.
+        // The last digit is not 0, so a number with more decimals is not a multiple.
         if own < power {
             return Ok(false);
         }
