@@ -1,4 +1,5 @@
 -- A value that is assigned to a name.
+use Rattle.std.specs.Option.{option_or}
 use Rattle.toml_span_lex.proofs.Common.{◌≡◌, ℕ, cond, List, [], ◌∷◌, Option, Some, None, Result, Ok, Err, refl, sym, ap, ◌∙◌, subst, insert_entry, lookup_entry, bytes_eq, none-some, arith, nat_tests, common_steps}
 use Rattle.toml_span_read.proofs.EarlierTree.{key_cmp}
 use Rattle.toml_span_lex.specs.declared.key.Key.{Key}
@@ -15,7 +16,6 @@ use Rattle.toml_span.specs.declared.branch.Branch.TheViews.{out-Branch, roll-Bra
 use Rattle.toml_span.specs.declared.branch.Branch.TheOpen.{Branch-F}
 use Rattle.toml_span.specs.Paths.{same_path, same_step}
 use Rattle.toml_span.specs.Claims.{claimed, assigned, pair_info, value_claims}
-use Rattle.toml_span.specs.Clashes.{first_some}
 use Rattle.toml_span.specs.code.Machine.{Cell, CellMap, no_cells, change, with_claim, OkOrClash, earliest_clash, clash_found, show_all, put_all, graft}
 use Rattle.toml_span.specs.code.Placing.{Places, IsFinished, ValueGives}
 use Rattle.toml_span.specs.code.Relative.{pair_at}
@@ -104,7 +104,7 @@ reported-free n k v missing free =
     let name = (simple_key k).name in
     let own = λ (f : CellMap). clash_found (change f [] (with_claim (assigned [] (simple_key k) v))) (value_claims v []) in
     reported-under (key name) (cells n) (claimed (assigned [] (simple_key k) v) (value_claims v []))
-    ∙ ap (λ f. first_some (earliest_clash (f []).infos (value_info k v) name) (own (λ q. cells n (key name ∷ q)))) (cells-at n (key name) None missing ∙ ap closed_cell free)
+    ∙ ap (λ f. option_or (earliest_clash (f []).infos (value_info k v) name) (own (λ q. cells n (key name ∷ q)))) (cells-at n (key name) None missing ∙ ap closed_cell free)
     ∙ reported-value (change (λ q. cells n (key name ∷ q)) [] (with_claim (assigned [] (simple_key k) v))) v []
 
 pub assigned-err : (n new : Branch) (k : Key) (v : Read) (value : Result Value PlaceError) (q : Result (Unit {0}) PlaceError) (e : PlaceError) (m : ClaimInfo) (d : Path → ℕ)

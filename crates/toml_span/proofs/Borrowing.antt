@@ -1,5 +1,6 @@
 -- The strings and keys in the tree under construction are borrowed like those that are put into it, and these as they
 -- were read.
+use Rattle.std.specs.Option.{option_or}
 use Rattle.toml_span_lex.proofs.Common.{◌≡◌, ℕ, zero, suc, Bool, List, [], ◌∷◌, ◌++◌, map, Option, Some, None, is_eq, rules, inl, inr, refl, sym, ap, ◌∙◌, subst, BTreeMap, ◌-◌, ◌<◌, ◌≤◌, length, take, drop, set, get_or, take_all, Result, Ok, arith, OnOk, insert_entry, keys_of, box_value, cow_str_bytes, IsBorrowedStr, Box, lookup, lookup_entry, cases_Bool, false≢true, none-some, same_Some, IfSome, IsErrAnd, nat_tests, common_steps}
 use Rattle.toml_span_lex.specs.declared.key.Key.{Key}
 use Rattle.toml_span_lex.specs.declared.span.Span.{Span}
@@ -11,7 +12,6 @@ use Rattle.toml_span.specs.declared.branch.Branch.TheOpen.{Branch-F}
 use Rattle.toml_span.specs.declared.branch.Branch.TheViews.{roll-Branch, out-Branch}
 use Rattle.toml_span.specs.declared.branch.Branch.TheFolds.{fold-roll-Branch}
 use Rattle.toml_span.specs.declared.claims.ClaimInfo.{ClaimInfo}
-use Rattle.toml_span.specs.Clashes.{first_some}
 use Rattle.toml_span.specs.Borrowed.{StringOrKey, IsBorrowedRight, AreBorrowedRight}
 use Rattle.toml_span.specs.code.Borrowed.{Contents, node_step, named_strings, name_span, own_held, branch_strings, value_strings, KeepsBorrows, KeepsName, IsWrittenAt}
 use Rattle.toml_span.specs.code.ClaimInfos.{PlaceError, remember}
@@ -80,14 +80,14 @@ err_ok r Q P h = grind (arith, nat_tests, common_steps)
 
 -- ---- where names are written
 
-first-remember : (ms : List ClaimInfo) (m : ClaimInfo) → name_span (remember ms m) ≡ first_some (name_span ms) (Some m.key)
+first-remember : (ms : List ClaimInfo) (m : ClaimInfo) → name_span (remember ms m) ≡ option_or (name_span ms) (Some m.key)
 first-remember [] m = refl
 first-remember (x ∷ ms) m = grind (arith, nat_tests, common_steps, remember-cases)
 
 -- of a branch that is claimed once more
 written-remember : (next at : Span) (n : Branch) (m : ClaimInfo) → m.key ≡ next → IsWrittenAt next at n → name_span (remember (infos n) m) ≡ Some at
-written-remember next at n m key (inl is) = first-remember (infos n) m ∙ ap (λ o. first_some o (Some m.key)) is
-written-remember next at n m key (inr (fresh, same)) = first-remember (infos n) m ∙ ap (λ ms. first_some (name_span ms) (Some m.key)) fresh.no_infos ∙ ap (λ s. Some s) (key ∙ same)
+written-remember next at n m key (inl is) = first-remember (infos n) m ∙ ap (λ o. option_or o (Some m.key)) is
+written-remember next at n m key (inr (fresh, same)) = first-remember (infos n) m ∙ ap (λ ms. option_or (name_span ms) (Some m.key)) fresh.no_infos ∙ ap (λ s. Some s) (key ∙ same)
 
 -- ---- parts and wholes
 

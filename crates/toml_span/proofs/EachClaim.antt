@@ -1,11 +1,11 @@
 -- What holds for each claim holds for what decides in the flat document.
-use Rattle.toml_span_lex.proofs.Common.{◌≡◌, ℕ, suc, true, List, [], ◌∷◌, Option, Some, option_map, refl, ⊤, IfSome, false≢true, and_parts, AllByRecursion, arith, nat_tests, common_steps}
+use Rattle.std.specs.Option.{option_or}
+use Rattle.toml_span_lex.proofs.Common.{◌≡◌, ℕ, suc, true, List, [], ◌∷◌, Option, Some, option_map, refl, ⊤, IfSome, false≢true, and_parts, AllByRecursion, arith, nat_tests, common_steps, find}
 use Rattle.toml_span_tree.specs.Path.{Path, Step, Place}
 use Rattle.toml_span_read.proofs.BorrowLemmas.{all_append}
 use Rattle.toml_span_read.specs.Data.{ParsedValue as Read, parsed, ParsedInner, scalar, array, inline, ParsedItems, no_items, item, ParsedPairs, no_pairs, pair, ParsedAssignment, SimpleKey}
 use Rattle.toml_span.specs.Claims.{Claim, Claims, no_claims, claimed, scope, followed, dotted, assigned, element, key_claims, value_claims, inner_claims, item_claims, pair_claims, assignments_claims}
-use Rattle.toml_span.specs.Clashes.{first_some}
-use Rattle.toml_span.specs.Flat.{flat, all_claims, claims_at, first_claim_by_header, deciding_claim}
+use Rattle.toml_span.specs.Flat.{by_header, flat, all_claims, claims_at, deciding_claim}
 use Rattle.toml_span.specs.Paths.{same_path, same_step, with_key, with_position}
 use Rattle.toml_span.proofs.Grafts.{same_step-eq}
 
@@ -82,17 +82,16 @@ unfolding claims_at
 each-at P q [] h = tt
 each-at P q (c ∷ cs) h = grind (arith, nat_tests, common_steps, same_path-eq, each-at P q cs)
 
-by_header-one : (P : Claim → Type 0) (cs : List Claim) → AllByRecursion P cs → IfSome (first_claim_by_header cs) P
-unfolding first_claim_by_header
+by_header-one : (P : Claim → Type 0) (cs : List Claim) → AllByRecursion P cs → IfSome (find (λ c. by_header c.info.kind) cs) P
 by_header-one P [] h = tt
 by_header-one P (c ∷ cs) h = grind (arith, nat_tests, common_steps, by_header-one P cs)
 
-pub either-one : {A : Type 0} (P : A → Type 0) (o p : Option A) → IfSome o P → IfSome p P → IfSome (first_some o p) P
+pub either-one : {A : Type 0} (P : A → Type 0) (o p : Option A) → IfSome o P → IfSome p P → IfSome (option_or o p) P
 either-one P o p h g = grind (arith, nat_tests, common_steps)
 
 deciding-one : (P : Claim → Type 0) (cs : List Claim) → AllByRecursion P cs → IfSome (deciding_claim cs) P
-unfolding first_claim_by_header
-deciding-one P cs h = grind (arith, nat_tests, common_steps, by_header-one, either-one)
+deciding-one P [] h = tt
+deciding-one P (c ∷ cs) h = either-one P (find (λ d. by_header d.info.kind) (c ∷ cs)) (Some c) (by_header-one P (c ∷ cs) h) h.0
 
 -- ---- the flat document
 

@@ -1,10 +1,10 @@
 -- States below a step, and claims one after another.
+use Rattle.std.specs.Option.{option_or}
 use Rattle.toml_span_lex.proofs.Common.{◌≡◌, true, false, [], ◌∷◌, Option, None, refl, sym, ap, ◌∙◌, inl, inr, cases_Bool, bytes_eq-Decides, arith, nat_tests, common_steps}
 use Rattle.std.proofs.lemmas.Bool.{eqb-true, eq-eqb}
 use Rattle.toml_span_tree.specs.Path.{Path, Step}
 use Rattle.toml_span.specs.Paths.{same_step, same_path}
 use Rattle.toml_span.specs.Claims.{Claims, no_claims, claimed, scope, followed}
-use Rattle.toml_span.specs.Clashes.{first_some}
 use Rattle.toml_span.specs.code.Machine.{Cell, CellMap, no_cells, change, with_claim, with_inner, show_all, put_all, clash_found, graft}
 use Rattle.toml_span.specs.code.Relative.{step_down, under}
 
@@ -88,8 +88,8 @@ unfolding clash_found under
 reported-under s st no_claims = refl
 reported-under s st (claimed c cs) = grind (arith, nat_tests, common_steps, sub-change-under, reported-under s (change st (s ∷ c.path) (with_claim c)) cs)
 reported-under s st (scope inner cs) =
-    ap (λ o. first_some o (clash_found (show_all st (under s inner)) (under s cs))) (reported-under s no_cells inner)
-    ∙ ap (first_some (clash_found no_cells inner))
+    ap (λ o. option_or o (clash_found (show_all st (under s inner)) (under s cs))) (reported-under s no_cells inner)
+    ∙ ap (option_or (clash_found no_cells inner))
     (reported-under s (show_all st (under s inner)) cs ∙ ap (λ f. clash_found f cs) (ap (λ f q. f (s ∷ q)) (show_all-under s st inner) ∙ sub-graft s st (show_all (λ q. st (s ∷ q)) inner)))
 
 pub under-followed : (s : Step) (xs ys : Claims) → under s (followed xs ys) ≡ followed (under s xs) (under s ys)
@@ -124,13 +124,13 @@ put_all-followed st no_claims ys = refl
 put_all-followed st (claimed c cs) ys = put_all-followed (change st c.path (with_claim c)) cs ys
 put_all-followed st (scope inner cs) ys = put_all-followed (show_all st inner) cs ys
 
-pub or_else-assoc : {A : Type 0} (x y z : Option A) → first_some (first_some x y) z ≡ first_some x (first_some y z)
+pub or_else-assoc : {A : Type 0} (x y z : Option A) → option_or (option_or x y) z ≡ option_or x (option_or y z)
 or_else-assoc x y z = grind (arith, nat_tests, common_steps)
 
-pub or_else-none : {A : Type 0} (x : Option A) → first_some x None ≡ x
+pub or_else-none : {A : Type 0} (x : Option A) → option_or x None ≡ x
 or_else-none x = grind (arith, nat_tests, common_steps)
 
-pub reported-followed : (st : CellMap) (xs ys : Claims) → clash_found st (followed xs ys) ≡ first_some (clash_found st xs) (clash_found (put_all st xs) ys)
+pub reported-followed : (st : CellMap) (xs ys : Claims) → clash_found st (followed xs ys) ≡ option_or (clash_found st xs) (clash_found (put_all st xs) ys)
 unfolding clash_found put_all followed
 reported-followed st no_claims ys = refl
 reported-followed st (claimed c cs) ys = grind (arith, nat_tests, common_steps, or_else-assoc, reported-followed (change st c.path (with_claim c)) cs ys)

@@ -1,5 +1,5 @@
 -- The strings and keys in finished values.
-use Rattle.toml_span_lex.proofs.Common.{◌≡◌, ℕ, zero, suc, ◌+◌, List, [], ◌∷◌, ◌++◌, map, Option, Some, None, option_map, rules, refl, sym, ap, ◌∙◌, subst, Global, Vec, BTreeMap, CowStr, cow_str_bytes, arith, none-some, same_Some}
+use Rattle.toml_span_lex.proofs.Common.{◌≡◌, ℕ, zero, suc, ◌+◌, List, [], ◌∷◌, ◌++◌, map, Option, Some, None, option_map, rules, refl, sym, ap, ◌∙◌, subst, Global, Vec, BTreeMap, CowStr, cow_str_bytes, arith, none-some, same_Some, option_map_or}
 use Rattle.toml_span_lex.specs.declared.span.Span.{Span}
 use Rattle.toml_span_lex.specs.declared.key.Key.{Key}
 use Rattle.toml_span_tree.specs.Node as tree
@@ -10,7 +10,7 @@ use Rattle.toml_span_tree.specs.declared.value.ValueInner.{ValueInner, the_lemma
 use Rattle.toml_span_tree.specs.declared.value.ValueInner.TheFolds.{fold-ValueInner}
 use Rattle.toml_span_tree.specs.declared.value.ValueInner.TheVariants as inners
 use Rattle.toml_span_read.proofs.BorrowLemmas.{all_append, all_front, all_after}
-use Rattle.toml_span.specs.Borrowed.{StringOrKey, KeySpans, StringsAndKeys, inner_step, value_step, strings_and_keys, held_or_none, elements_strings, entries_strings, IsBorrowedRight, AreBorrowedRight}
+use Rattle.toml_span.specs.Borrowed.{StringOrKey, KeySpans, StringsAndKeys, inner_step, value_step, strings_and_keys, elements_strings, entries_strings, IsBorrowedRight, AreBorrowedRight}
 use Rattle.toml_span.specs.code.Borrowed.{own_elements, own_held, own_spans, own_table, table_held}
 use Rattle.toml_span.specs.code.Tree.{item}
 use Rattle.toml_span_read.specs.Borrowed.{joined, string as string_written, written, kind_written, assignments_written, AreWrittenRight}
@@ -29,7 +29,7 @@ inner_held = fold-ValueInner (Span → StringsAndKeys) StringsAndKeys inner_step
 abbrev pub array_held : List Value → StringsAndKeys
 array_held vs = elements_strings 0 (map strings_and_keys vs)
 
-held_is : (v : Value) → strings_and_keys v ≡ held_or_none (option_map inner_held v.value) v.span
+held_is : (v : Value) → strings_and_keys v ≡ option_map_or (λ held. held v.span) (option_map inner_held v.value) (λ spans. [])
 held_is v = search (rules, tree_lemmas)
 
 kept_held : (v : Value) (i : ValueInner) (span : Span) → (v.value ≡ Some i) × (v.span ≡ span) → strings_and_keys v ≡ inner_held i span

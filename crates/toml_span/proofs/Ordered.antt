@@ -1,5 +1,5 @@
 -- Values whose tables have their entries in the order of the names.
-use Rattle.toml_span_lex.proofs.Common.{◌≡◌, ◌<◌, ℕ, List, [], ◌∷◌, Bool, true, false, cond, Option, Some, None, Ordering, Less, nat_cmp, is_lt, refl, sym, ap, ◌∙◌, inl, inr, arith, slice_cmp, cow_str_bytes, AllByRecursion, IsStrictlySortedBy, keys_of, lookup_entry, MatchOrdering, ordering_then, bytes_eq, cases_Bool, false≢true, ranked, is_eq-slice_cmp, none-some, nat_tests, common_steps, bytes_eq-Decides}
+use Rattle.toml_span_lex.proofs.Common.{◌≡◌, ◌<◌, ℕ, List, [], ◌∷◌, Bool, true, false, cond, Option, Some, None, Ordering, Less, nat_cmp, is_lt, refl, sym, ap, ◌∙◌, inl, inr, arith, slice_cmp, cow_str_bytes, AllByRecursion, IsStrictlySortedBy, keys_of, lookup_entry, MatchOrdering, ordering_then, bytes_eq, cases_Bool, false≢true, ranked, is_eq-slice_cmp, none-some, nat_tests, common_steps, bytes_eq-Decides, is_eq}
 use Rattle.std.proofs.lemmas.Map.Keys.{sorted_head, sorted_tail}
 use Rattle.toml_span_lex.specs.declared.key.Key.{Key}
 use Rattle.toml_span_lex.specs.declared.span.Span.{Span}
@@ -25,21 +25,10 @@ later-entry k a at n ms off = ap (λ b. cond b (Some (Some at, n)) (entry_at k m
 
 -- ---- the order of a map's keys
 
--- the first two bytes that differ decide
-before-then : (x y : ℕ) (xs ys : List ℕ) (o rest : Ordering) → MatchOrdering o (x < y) (x ≡ y) (y < x) → (rest ≡ Less → IsNameBefore xs ys) → ordering_then o rest ≡ Less
-    → IsNameBefore (x ∷ xs) (y ∷ ys)
-before-then x y xs ys o rest m f h = grind (arith, nat_tests, common_steps, is_lt)
-
-name-before : (xs ys : List ℕ) → slice_cmp nat_cmp xs ys ≡ Less → IsNameBefore xs ys
-name-before [] [] h = absurd (false≢true (ap is_lt h))
-name-before [] (y ∷ ys) h = tt
-name-before (x ∷ xs) [] h = absurd (false≢true (ap is_lt h))
-name-before (x ∷ xs) (y ∷ ys) h = before-then x y xs ys (nat_cmp x y) (slice_cmp nat_cmp xs ys) (ranked x y (nat_cmp x y) refl) (name-before xs ys) h
-
 -- a key is before all later ones
 names-after : (k : Key) (es : List (Key × Value)) → AllByRecursion (λ l. key_cmp k l ≡ Less) (keys_of es) → EachName (IsNameBefore (cow_str_bytes k.name)) (members_view es)
 names-after k [] h = tt
-names-after k (e ∷ es) h = (name-before (cow_str_bytes k.name) (cow_str_bytes e.0.name) h.0, names-after k es h.1)
+names-after k (e ∷ es) h = (h.0, names-after k es h.1)
 
 -- a key is of its own name
 named-itself : (k : Key) → is_named (cow_str_bytes k.name) k ≡ true
@@ -72,14 +61,12 @@ members-ordered (e ∷ es) sorted each =
 
 -- ---- each name once
 
+name-apart : (name other : List ℕ) → IsNameBefore name other → bytes_eq name other ≡ false
+name-apart name other h = sym (is_eq-slice_cmp name other) ∙ ap is_eq h
+
 -- no name is before itself
 pub not-before : (name : List ℕ) → IsNameBefore name name → ⊥
-not-before [] h = h
-not-before (x ∷ xs) (inl less) = omega (arith, less)
-not-before (x ∷ xs) (inr (same, h)) = not-before xs h
-
-name-apart : (name other : List ℕ) → IsNameBefore name other → bytes_eq name other ≡ false
-name-apart name other h = let itself = not-before name in grind (arith, nat_tests, common_steps, bytes_eq-Decides)
+not-before name h = false≢true (sym (name-apart name name h) ∙ same_step-self (key name))
 
 -- a name that is before all others is none of them
 not-again : (name : List ℕ) (ms : Members) → EachName (IsNameBefore name) ms → entry_at name ms ≡ None

@@ -1,11 +1,11 @@
 -- A state shows what the flat document says.
-use Rattle.toml_span_lex.proofs.Common.{◌≡◌, ℕ, Bool, true, false, List, [], ◌∷◌, ◌++◌, Option, Some, None, option_map, refl, sym, ap, ◌∙◌, inl, inr, if◌then◌else◌, ⊤, cases_Bool, arith, nat_tests, common_steps}
+use Rattle.std.specs.Option.{option_or}
+use Rattle.toml_span_lex.proofs.Common.{◌≡◌, ℕ, Bool, true, false, List, [], ◌∷◌, ◌++◌, Option, Some, None, option_map, refl, sym, ap, ◌∙◌, inl, inr, if◌then◌else◌, ⊤, cases_Bool, arith, nat_tests, common_steps, find, slice_get}
 use Rattle.toml_span_lex.specs.declared.span.Span.{Span}
 use Rattle.toml_span_tree.specs.Path.{Path, Step, Place}
 use Rattle.toml_span_read.specs.Data.{ParsedAssignment}
 use Rattle.toml_span.specs.Claims.{Claim, Claims, no_claims, claimed, scope, assignments_claims}
-use Rattle.toml_span.specs.Clashes.{first_some}
-use Rattle.toml_span.specs.Flat.{all_claims, claims_at, first_claim, first_claim_by_header, deciding_claim, flat}
+use Rattle.toml_span.specs.Flat.{by_header, all_claims, claims_at, deciding_claim, flat}
 use Rattle.toml_span.specs.Borrowed.{first_key}
 use Rattle.toml_span.specs.code.Machine.{Cell, CellMap, Decided, no_cells, decide, decided, key_spans, with_span, with_claim, with_inner, change, show_all, put_all}
 use Rattle.toml_span.specs.code.Placing.{place_shown}
@@ -37,13 +37,13 @@ module _ (A : Type 0) (d : A → Decided) (by : List A → Option A) where
     shown_by-header place span (x ∷ xs) = shown_by-header place span xs
 
     -- after an assignment the first header still decides
-    shown_by-plain : (place : Place) (span : Span) (xs : List A) → shown_by (by_some false place span) xs ≡ first_some (option_map (λ y. with_span span (d y)) (by xs)) (by_some false place span)
+    shown_by-plain : (place : Place) (span : Span) (xs : List A) → shown_by (by_some false place span) xs ≡ option_or (option_map (λ y. with_span span (d y)) (by xs)) (by_some false place span)
     unfolding shown_by
     shown_by-plain place span [] = rw none refl
     shown_by-plain place span (x ∷ xs) = grind (arith, nat_tests, common_steps, some x xs, shown_by-header (d x).place span xs, shown_by-plain place span xs)
 
     -- the first header decides, or else the first of them, which has the key
-    pub shown_by-none : (x : A) (xs : List A) → shown_by None (x ∷ xs) ≡ option_map (λ y. with_span (d x).key (d y)) (first_some (by (x ∷ xs)) (Some x))
+    pub shown_by-none : (x : A) (xs : List A) → shown_by None (x ∷ xs) ≡ option_map (λ y. with_span (d x).key (d y)) (option_or (by (x ∷ xs)) (Some x))
     unfolding shown_by
     shown_by-none x xs =
         elim (cases_Bool (d x).header) [
@@ -52,7 +52,7 @@ module _ (A : Type 0) (d : A → Decided) (by : List A → Option A) where
         ]
       where
         first_or : (o : Option A) → (d x).header ≡ false
-            → first_some (option_map (λ y. with_span (d x).key (d y)) o) (by_some false (d x).place (d x).key) ≡ option_map (λ y. with_span (d x).key (d y)) (first_some o (Some x))
+            → option_or (option_map (λ y. with_span (d x).key (d y)) o) (by_some false (d x).place (d x).key) ≡ option_map (λ y. with_span (d x).key (d y)) (option_or o (Some x))
         first_or None h = rw h
         first_or (Some y) h = refl
 
@@ -60,7 +60,7 @@ module _ (A : Type 0) (d : A → Decided) (by : List A → Option A) where
 
 -- what the claims on a path decide
 abbrev claims_show : Option Decided → List Claim → Option Decided
-claims_show = shown_by Claim decided first_claim_by_header
+claims_show = shown_by Claim decided (find (λ c. by_header c.info.kind))
 
 claims_at-append : (p : Path) (xs ys : List Claim) → claims_at p (xs ++ ys) ≡ claims_at p xs ++ claims_at p ys
 unfolding claims_at
@@ -139,15 +139,14 @@ shown-plain cs p h = plain-place (show_all no_cells cs p).shown (plain-shown no_
 -- ---- the flat document
 
 claims_show-none : (c : Claim) (cs : List Claim) → claims_show None (c ∷ cs) ≡ option_map (λ x. with_span c.info.key (decided x)) (deciding_claim (c ∷ cs))
-unfolding first_claim_by_header
-claims_show-none c cs = shown_by-none Claim decided first_claim_by_header refl (λ x xs. refl) c cs
+claims_show-none c cs = shown_by-none Claim decided (find (λ c. by_header c.info.kind)) refl (λ x xs. refl) c cs
 
 place-decided : (cs : List Claim) → option_map (λ d. d.place) (claims_show None cs) ≡ option_map (λ c. c.place) (deciding_claim cs)
-unfolding shown_by first_claim_by_header
+unfolding shown_by
 place-decided [] = refl
 place-decided (c ∷ cs) = grind (arith, nat_tests, common_steps, claims_show-none c cs)
 
-key-decided : (cs : List Claim) → option_map (λ d. d.key) (claims_show None cs) ≡ option_map (λ c. c.info.key) (first_claim cs)
+key-decided : (cs : List Claim) → option_map (λ d. d.key) (claims_show None cs) ≡ option_map (λ c. c.info.key) (slice_get cs 0)
 unfolding shown_by
 key-decided [] = refl
 key-decided (c ∷ cs) = grind (arith, nat_tests, common_steps, claims_show-none c cs)

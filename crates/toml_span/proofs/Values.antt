@@ -1,4 +1,5 @@
 -- What finished values show, and the clashes in them.
+use Rattle.std.specs.Option.{option_or}
 use Rattle.toml_span_lex.proofs.Common.{◌≡◌, ℕ, zero, suc, ◌+◌, ◌<◌, ◌≤◌, false, List, [], ◌∷◌, ◌++◌, map, Option, Some, None, option_map, Result, Ok, Err, Vec, Global, refl, sym, ap, ◌∙◌, append_assoc, append-nil, arith, option_and_then, AllZip, nat_tests, common_steps}
 use Rattle.std.proofs.lemmas.Bool.{ne_eqb}
 use Rattle.toml_span_tree.specs.Node as tree
@@ -20,7 +21,7 @@ use Rattle.toml_span_lex.specs.declared.stop.Stop.TheVariants.{Memory, Fault}
 use Rattle.toml_span.specs.Paths.{same_step, same_path}
 use Rattle.toml_span_lex.specs.declared.span.Span.{Span}
 use Rattle.toml_span.specs.Claims.{Claim, Claims, no_claims, claimed, scope, followed, parsed_inner, value_claims, inner_claims, item_claims, assignments_claims, element, value_shape}
-use Rattle.toml_span.specs.Clashes.{first_some, NamedClash}
+use Rattle.toml_span.specs.Clashes.{NamedClash}
 use Rattle.toml_span.specs.code.Machine.{Cell, CellMap, no_cells, no_cell, change, with_claim, with_inner, show_all, put_all, clash_found, graft}
 use Rattle.toml_span.specs.Ordered.{HoldsOrdered, AreOrdered}
 use Rattle.toml_span.specs.code.Placing.{IsFinished, ValueGives, ShowsPlain, ScopeGives}
@@ -113,7 +114,7 @@ apart i l h = ne_eqb i l (λ same. absurd (omega (arith, same)))
 
 unfoldable pub first_in : ParsedItems → Option NamedClash
 first_in no_items = None
-first_in (item v vs) = first_some (clash_found no_cells (value_claims v [])) (first_in vs)
+first_in (item v vs) = option_or (clash_found no_cells (value_claims v [])) (first_in vs)
 
 reported-items : (vs : ParsedItems) (i : ℕ) (st : CellMap) → ((l : ℕ) → i ≤ l → (st (position l ∷ [])).infos ≡ []) → clash_found st (item_claims vs i []) ≡ first_in vs
 unfolding clash_found item_claims first_in graft
@@ -124,8 +125,8 @@ reported-items (item v vs) i st none =
     let next = put_all st (under (position i) (own v)) in
     let here : clash_found below (own v) ≡ clash_found no_cells (value_claims v []) = rw (none i (omega arith)) (reported-value (change below [] (with_claim (element [] v))) v []) in
     ap (clash_found st) (item-under v vs i) ∙ reported-followed st (under (position i) (own v)) rest
-    ∙ ap (λ o. first_some o (clash_found next rest)) (reported-under (position i) st (own v) ∙ here)
-    ∙ ap (first_some (clash_found no_cells (value_claims v []))) (reported-items vs (suc i) next
+    ∙ ap (λ o. option_or o (clash_found next rest)) (reported-under (position i) st (own v) ∙ here)
+    ∙ ap (option_or (clash_found no_cells (value_claims v []))) (reported-items vs (suc i) next
     (λ l past. ap (λ f. (f (position l ∷ [])).infos) (put_all-under (position i) st (own v)) ∙ rw (apart i l (omega arith)) (none l (omega arith))))
 
 -- at any path

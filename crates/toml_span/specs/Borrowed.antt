@@ -3,9 +3,10 @@
 -- even if a later claim determines the span of its key.
 use Rattle.std.specs.Global.{Global}
 use Rattle.std.specs.declared.borrow.CowStr.{CowStr}
-use Rattle.std.specs.Prelude.{ℕ, suc, List, [], ◌∷◌, ◌++◌, Option, Some, None, option_map, IsSomeAnd}
+use Rattle.std.specs.Prelude.{ℕ, suc, List, [], ◌∷◌, ◌++◌, Option, Some, option_map, IsSomeAnd}
 use Rattle.std.specs.Cow.{cow_str_bytes}
-use Rattle.std.specs.List.{AllByRecursion}
+use Rattle.std.specs.List.{AllByRecursion, slice_get}
+use Rattle.std.specs.Option.{option_map_or}
 use Rattle.toml_span_lex.specs.declared.span.Span.{Span}
 use Rattle.toml_span_lex.specs.declared.key.Key.{Key}
 use Rattle.toml_span_lex.specs.Strings.{BorrowsWhereSame}
@@ -14,7 +15,7 @@ use Rattle.toml_span_tree.specs.declared.value.ValueInner.TheOpen.{ValueInner-F,
 use Rattle.toml_span_tree.specs.declared.value.Value.{Value}
 use Rattle.toml_span_tree.specs.declared.value.ValueInner.TheFolds.{fold-Value}
 use Rattle.toml_span.specs.Claims.{Claims}
-use Rattle.toml_span.specs.Flat.{all_claims, claims_at, first_claim}
+use Rattle.toml_span.specs.Flat.{all_claims, claims_at}
 
 -- ---- the strings and keys of a tree
 
@@ -48,12 +49,8 @@ inner_step (ValueInner-F.Array v) span spans = elements_strings 0 v.items spans
 inner_step (ValueInner-F.Table m) span spans = entries_strings m.entries spans
 inner_step _ span spans = []
 
-abbrev pub held_or_none : Option (Span → StringsAndKeys) → Span → StringsAndKeys
-held_or_none None span spans = []
-held_or_none (Some i) span spans = i span spans
-
 abbrev pub value_step : Value-F (Span → StringsAndKeys) StringsAndKeys → StringsAndKeys
-value_step v = held_or_none v.value v.span
+value_step v = option_map_or (λ held. held v.span) v.value (λ spans. [])
 
 -- the strings and keys in a value
 abbrev pub strings_and_keys : Value → StringsAndKeys
@@ -63,7 +60,7 @@ strings_and_keys = fold-Value (Span → StringsAndKeys) StringsAndKeys inner_ste
 
 -- for each path, the span of the key in the first claim on it
 abbrev pub first_key : Claims → KeySpans
-first_key cs p = option_map (λ c. c.info.key) (first_claim (claims_at p (all_claims cs)))
+first_key cs p = option_map (λ c. c.info.key) (slice_get (claims_at p (all_claims cs)) 0)
 
 -- It is known where the string or key is written, and it is borrowed if and only if it equals the text there.
 abbrev pub IsBorrowedRight : List ℕ → StringOrKey → Type 0

@@ -1,5 +1,6 @@
 -- Which claims clash, and how a clash is reported.
 use Rattle.std.specs.Prelude.{◌≡◌, ℕ, if◌then◌else◌, List, [], ◌∷◌, ◌++◌, Option, Some, None, option_map}
+use Rattle.std.specs.Option.{option_or}
 use Rattle.toml_span_tree.specs.Error.{Kind, duplicate_table, duplicate_key, redefine_as_array, ErrorContent}
 use Rattle.toml_span.specs.declared.claims.ClaimKind.{ClaimKind}
 use Rattle.toml_span.specs.declared.claims.ClaimKind.TheVariants.{Passed, StandardTable, ArrayOfTables, Dotted}
@@ -45,10 +46,6 @@ clash_info earlier later RedefineAsArray = record { kind = RedefineAsArray; firs
 abbrev pub clash_info_between : ClaimInfo → ClaimInfo → Option ClashInfo
 clash_info_between earlier later = option_map (clash_info earlier later) (clash_kind earlier.kind later.kind)
 
-abbrev pub first_some : {A : Type 0} → Option A → Option A → Option A
-first_some (Some x) o = Some x
-first_some None o = o
-
 -- a clash, and the name of the key that is claimed again
 pub record NamedClash : Type 0 where
   pub info : ClashInfo
@@ -66,14 +63,14 @@ clash earlier later =
 -- the clash of a claim with the first of these claims that it clashes with
 unfoldable pub clash_among : List Claim → Claim → Option NamedClash
 clash_among [] later = None
-clash_among (c ∷ earlier) later = first_some (clash c later) (clash_among earlier later)
+clash_among (c ∷ earlier) later = option_or (clash c later) (clash_among earlier later)
 
 -- The first clash in the order of the text, where the given claims came before in the same scope: the first claim that
 -- clashes with an earlier one of its scope determines it, together with the earliest such claim.
 unfoldable pub clash_after : List Claim → Claims → Option NamedClash
 clash_after earlier no_claims = None
-clash_after earlier (claimed c cs) = first_some (clash_among earlier c) (clash_after (earlier ++ (c ∷ [])) cs)
-clash_after earlier (scope inner cs) = first_some (clash_after [] inner) (clash_after earlier cs)
+clash_after earlier (claimed c cs) = option_or (clash_among earlier c) (clash_after (earlier ++ (c ∷ [])) cs)
+clash_after earlier (scope inner cs) = option_or (clash_after [] inner) (clash_after earlier cs)
 
 -- the first clash of a document's claims
 abbrev pub first_clash : Claims → Option NamedClash

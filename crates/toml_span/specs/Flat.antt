@@ -1,13 +1,14 @@
 -- The flat document: the place at each path.
 use Rattle.std.specs.Prelude.{◌≡◌, ℕ, Bool, true, false, if◌then◌else◌, List, [], ◌∷◌, ◌++◌, Option, Some, None}
 use Rattle.std.specs.Prelude.{option_map}
+use Rattle.std.specs.List.{find, slice_get}
+use Rattle.std.specs.Option.{option_or}
 use Rattle.toml_span_tree.specs.Path.{Path, shape_table, Place, place_at}
 use Rattle.toml_span_tree.specs.Node.{Node}
 use Rattle.toml_span.specs.Claims.{Claim, Claims, no_claims, claimed, scope}
 use Rattle.toml_span.specs.Paths.{same_path}
 use Rattle.toml_span.specs.declared.claims.ClaimKind.{ClaimKind}
 use Rattle.toml_span.specs.declared.claims.ClaimKind.TheVariants.{Dotted, Assigned}
-use Rattle.toml_span.specs.Clashes.{first_some}
 
 -- the claims of all scopes, in the order of the text
 unfoldable pub all_claims : Claims → List Claim
@@ -25,18 +26,10 @@ by_header Dotted = false
 by_header Assigned = false
 by_header _ = true
 
-unfoldable pub first_claim_by_header : List Claim → Option Claim
-first_claim_by_header [] = None
-first_claim_by_header (c ∷ cs) = if by_header c.info.kind then Some c else first_claim_by_header cs
-
-abbrev pub first_claim : List Claim → Option Claim
-first_claim [] = None
-first_claim (c ∷ cs) = Some c
-
 -- The claim that determines the place at a path: that of the first header that reaches or passes through it, or, if
 -- there is none, the first claim. If no claims clash, all claims on a path belong to one scope.
 abbrev pub deciding_claim : List Claim → Option Claim
-deciding_claim cs = first_some (first_claim_by_header cs) (first_claim cs)
+deciding_claim cs = option_or (find (λ c. by_header c.info.kind) cs) (slice_get cs 0)
 
 -- The place at each path of a document that is `size` bytes long: at the empty path the root, elsewhere what the
 -- deciding claim says.

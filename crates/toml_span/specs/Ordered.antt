@@ -1,18 +1,15 @@
 -- Trees in which the names in each table ascend, so that none occurs twice.
-use Rattle.std.specs.Prelude.{◌≡◌, ⊤, ℕ, ◌<◌, ◌⊎◌, List, [], ◌∷◌, None}
+use Rattle.std.specs.Prelude.{◌≡◌, ⊤, ℕ, List, None}
+use Rattle.std.specs.Cmp.Lexicographic.{slice_cmp}
+use Rattle.std.specs.Ordering.{nat_cmp}
+use Rattle.std.specs.declared.cmp.Ordering.TheVariants as orderings
 use Rattle.toml_span_tree.specs.Node.{Members, no_members, member, Node, node, Inner, taken, scalar, array, table}
 use Rattle.toml_span_tree.specs.Node.{Items, no_items, item, entry_at}
 
--- The lexicographic order of lists: the first two elements that differ decide, and a list comes before a longer one
--- that begins with it.
-abbrev pub IsBefore : {A : Type 0} → (A → A → Type 0) → List A → List A → Type 0
-IsBefore less xs [] = ⊥
-IsBefore less [] (y ∷ ys) = ⊤
-IsBefore less (x ∷ xs) (y ∷ ys) = less x y ⊎ ((x ≡ y) × IsBefore less xs ys)
-
--- the order of names, by their bytes
+-- the lexicographic order of names: the first two bytes that differ decide, and a name comes before a longer one that
+-- begins with it
 abbrev pub IsNameBefore : List ℕ → List ℕ → Type 0
-IsNameBefore name other = IsBefore (λ m n. m < n) name other
+IsNameBefore name other = slice_cmp nat_cmp name other ≡ orderings.Less
 
 -- P holds for each name.
 abbrev pub EachName : (List ℕ → Type 0) → Members → Type 0

@@ -6,7 +6,7 @@ use Rattle.toml_span_tree.specs.declared.value.Value.{Value}
 use Rattle.toml_span_tree.specs.Value.{view}
 use Rattle.toml_span_tree.specs.Node.{Members, node, table}
 use Rattle.toml_span_tree.specs.declared.error.Error.{Error}
-use Rattle.toml_span_tree.specs.Error.{ErrorContent, content_of}
+use Rattle.toml_span_tree.specs.Error.{content_of}
 use Rattle.toml_span_read.specs.Data.{ParsedSection}
 use Rattle.toml_span_read.specs.declared.fault.Fault.{Fault}
 use Rattle.toml_span_lex.specs.Lines.{line_info}
@@ -42,16 +42,13 @@ pub record IsTreeOf (sections : List ParsedSection) (size : ℕ) (root : Value) 
   pub shows : ShowsExactly (view root) (flat size (claims sections))
   pub ordered : IsOrdered (view root)
 
--- the error that reports a clash of a text
-abbrev pub clash_content : List ℕ → NamedClash → ErrorContent
-clash_content text clash = content_of_clash clash.info clash.name (line_info text clash.info.span.start)
-
 -- The answer for an outcome: the tree of these sections, or the error that reports this clash or this fault, with a
 -- span that starts inside the text. A failed allocation is an answer for any outcome.
 abbrev pub IsAnswerOf : List ℕ → Outcome → Result Value (Stop Error) → Type 0
 IsAnswerOf text (resolved sections) (Ok root) = IsTreeOf sections (length text) root
 IsAnswerOf text (clashed sections clash) (Err (stops.Fault error)) =
-    StartsInside text clash.info.span × (content_of error ≡ clash_content text clash)
+    StartsInside text clash.info.span
+    × (content_of error ≡ content_of_clash clash.info clash.name (line_info text clash.info.span.start))
 IsAnswerOf text (refused_at fault) (Err (stops.Fault error)) =
     StartsInside text fault.span × (content_of error ≡ fault_content text fault)
 IsAnswerOf text outcome (Err (stops.Memory e)) = ⊤

@@ -1,6 +1,6 @@
 -- A worked example, by evaluation: the claims of a document, that they do not clash, the places at its paths, and its
 -- tree.
-use Rattle.toml_span_lex.proofs.Common.{◌≡◌, refl, ⊤, ℕ, ◌+◌, Bool, false, List, [], ◌∷◌, map, length, Option, Some, None, codes, pos}
+use Rattle.toml_span_lex.proofs.Common.{◌≡◌, refl, ⊤, ℕ, ◌+◌, Bool, false, List, [], ◌∷◌, map, length, Option, Some, None, codes, pos, find}
 use Rattle.toml_span_lex.specs.declared.span.Span.{Span}
 use Rattle.toml_span_tree.specs.Node as tree
 use Rattle.toml_span_tree.specs.Node.{integer}
@@ -11,11 +11,11 @@ use Rattle.toml_span.specs.declared.claims.ClaimKind.TheVariants.{Passed, Standa
 use Rattle.toml_span.specs.Paths.{same_path, enter, target, opened_by}
 use Rattle.toml_span.specs.Claims.{Claim, Claims, no_claims, claimed, table_claim, followed, key_claims, value_claims, inner_claims, item_claims, pair_claims, assignments_claims, end_claims, header_claims, section_claims, claims_after, claims}
 use Rattle.toml_span.specs.Clashes.{Resolves, clash, clash_among, clash_after}
-use Rattle.toml_span.specs.Flat.{all_claims, claims_at, first_claim_by_header, flat}
+use Rattle.toml_span.specs.Flat.{all_claims, claims_at, flat}
 
 -- what the example evaluates
 computed : ⊤
-unfolding same_path enter target opened_by followed key_claims value_claims inner_claims item_claims pair_claims assignments_claims end_claims header_claims section_claims claims_after clash clash_among clash_after all_claims claims_at first_claim_by_header flat
+unfolding same_path enter target opened_by followed key_claims value_claims inner_claims item_claims pair_claims assignments_claims end_claims header_claims section_claims claims_after clash clash_among clash_after all_claims claims_at flat
 computed = tt
 
 -- ---- how sections are written

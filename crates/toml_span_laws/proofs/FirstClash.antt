@@ -1,7 +1,8 @@
 -- Claims without clashes, form by form.
+use Rattle.std.specs.Option.{option_or}
 use Rattle.toml_span_lex.proofs.Common.{⊤, ◌≡◌, List, [], ◌∷◌, ◌++◌, Option, Some, None, option_map, refl, ◌⊎◌, inl, inr, arith, nat_tests, common_steps}
 use Rattle.toml_span.specs.Claims.{Claim, Claims, no_claims, claimed, scope}
-use Rattle.toml_span.specs.Clashes.{first_some, clash_among, clash_after}
+use Rattle.toml_span.specs.Clashes.{clash_among, clash_after}
 
 -- none of the earlier claims clashes with it
 abbrev pub IsFree : List Claim → Claim → Type 0
@@ -20,7 +21,7 @@ cases_option (Some x) = inr (x, refl)
 pub mapped : {A B : Type 0} (f : A → B) (o : Option A) (y : B) → option_map f o ≡ Some y → (x : A) × (o ≡ Some x) × (f x ≡ y)
 mapped f o y h = grind (arith, nat_tests, common_steps)
 
-both-none : {A : Type 0} (x y : Option A) → first_some x y ≡ None → (x ≡ None) × (y ≡ None)
+both-none : {A : Type 0} (x y : Option A) → option_or x y ≡ None → (x ≡ None) × (y ≡ None)
 both-none x y h = grind (arith, nat_tests, common_steps)
 
 pub are-free : (earlier : List Claim) (cs : Claims) → clash_after earlier cs ≡ None → AreFree earlier cs

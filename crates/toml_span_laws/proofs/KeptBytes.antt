@@ -298,7 +298,7 @@ module _ {a b : List ℕ} {n : ℕ} (w : Same a b n) where
   token_kept i j s (whitespace x) l h = ((h.0.0, run is_blank i j (omega arith) h.0.1, h.0.2 ∙ range i j (omega arith)), h.1)
   token_kept i j s newline l h = (line i j (omega arith) h.0, h.1)
   token_kept i j s (comment x) l h = let f = h.0.1.0 in ((test (λ x. x) 35 i (omega arith) h.0.0, (f, run is_printed i j (omega arith) h.0.1.1, h.0.1.2 ∙ range i j (omega arith))), h.1)
-  token_kept i j s (punctuator c) l h = ((h.0.0, (test (λ x. x) c i (omega (arith, h.0.1.1)) h.0.1.0, h.0.1.1)), h.1)
+  token_kept i j s (punctuator c) l h = ((h.0.0, test (λ x. x) c i (omega (arith, h.0.2)) h.0.1, h.0.2), h.1)
   token_kept i j s (keylike x) l h = ((h.0.0, run is_keylike i j (omega arith) h.0.1, h.0.2 ∙ range i j (omega arith)), h.1)
   token_kept i j s (string src v multi) l h = string_kept i j s src v multi l h
 

@@ -1,5 +1,5 @@
 -- A number, or the fault of one, depends only on its bytes and the two after it.
-use Rattle.toml_span_lex.proofs.Common.{◌≡◌, ℕ, ℤ, zero, suc, ◌+◌, ◌-◌, ◌<◌, ◌≤◌, ◌⊎◌, Bool, true, false, not, List, length, get_or, drop, filter, arith, inl, inr, refl, sym, ap, ◌∙◌, ◌==◌, ◌&&◌, ◌||◌, nat_lt, Option, Some, None, Ok, Err, is_some, option_map_or, ok_or, if◌then◌else◌, slice_range, codes, list_all, range_with_len, prefix_len, get_or_past, nat_tests, common_steps, cases_lt, false≢true}
+use Rattle.toml_span_lex.proofs.Common.{◌≡◌, ℕ, ℤ, zero, suc, ◌+◌, ◌-◌, ◌<◌, ◌≤◌, ◌⊎◌, Bool, true, false, not, List, length, get_or, drop, filter, arith, inl, inr, refl, sym, ap, ◌∙◌, ◌==◌, ◌&&◌, ◌||◌, nat_lt, Option, Some, None, Ok, Err, is_some, option_map_or, ok_or, if◌then◌else◌, slice_range, codes, list_all, range_with_len, prefix_len, get_or_past, nat_tests, common_steps, cases_lt, false≢true, Result, digits_value}
 use Rattle.toml_span_lex.specs.Bytes.{is_keylike, MaximalRun}
 use Rattle.toml_span_lex.proofs.Unique.{run_unique}
 use Rattle.toml_span_tree.specs.Node.{Scalar, text as text_scalar, integer, float, boolean, datetime, finite, infinite, not_a_number}
@@ -10,7 +10,7 @@ use Rattle.toml_span_read.specs.declared.numbers.Numeral.TheVariants as numerals
 use Rattle.toml_span_read.specs.Dates.{is_date_byte}
 use Rattle.toml_span_read.specs.Numbers.{Digits, UnsignedDecimal, Exponent, Fraction, FloatLiteral, SpecialFloat, IsNumber}
 use Rattle.toml_span_read.specs.Numerals as spec
-use Rattle.toml_span_read.specs.Numerals.{NumberRead, ◌>>=◌, invalid_number, is_digit_in, is_figure, sum_of_digits, magnitude, run_end, figures_end, are_digits, digits_end, after_sign, is_negative, radix_at, integer_part, signed, radix_integer, is_exponent, exponent_digits, exponent, fraction, decimal, special, special_end, unsigned, numeral, cleaned, scalar_of, number}
+use Rattle.toml_span_read.specs.Numerals.{◌>>=◌, invalid_number, is_digit_in, is_figure, magnitude, run_end, figures_end, are_digits, digits_end, after_sign, is_negative, radix_at, integer_part, signed, radix_integer, is_exponent, exponent_digits, exponent, fraction, decimal, special, special_end, unsigned, numeral, cleaned, scalar_of, number}
 use Rattle.toml_span_read.proofs.NumberLemmas.{run_found, digits_on, sign_on, figure_keylike}
 use Rattle.toml_span_read.proofs.NumberReads.{zero_first}
 use Rattle.toml_span_laws.proofs.KeptBytes.{Same, test, run, range}
@@ -31,7 +31,7 @@ module _ {a b : List ℕ} {n : ℕ} (w : Same a b n) where
   sign i l = rw (w.byte i l) refl
 
   magnitudes : (radix i j : ℕ) → j ≤ n → magnitude radix a i j ≡ magnitude radix b i j
-  magnitudes radix i j l = ap (λ (r : List ℕ). sum_of_digits radix (filter (is_digit_in radix) r)) (range w i j l)
+  magnitudes radix i j l = ap (λ (r : List ℕ). digits_value radix (filter (is_digit_in radix) r)) (range w i j l)
 
   part : (i j : ℕ) → j < n → UnsignedDecimal a i j → UnsignedDecimal b i j
   part i j l u =
@@ -135,7 +135,7 @@ module _ (a : List ℕ) (i J : ℕ) (whole : MaximalRun is_date_byte a i J) wher
   Placed e = (i ≤ e.span.start) × (e.span.start ≤ J) × (e.kind ≡ kinds.InvalidNumber)
 
   -- What is read of a is read of each text with the same bytes up to J and two more; a fault starts in i..J.
-  record Walk {A : Type 0} (f : List ℕ → NumberRead A) (Q : A → Type 0) : Type 0 where
+  record Walk {A : Type 0} (f : List ℕ → Result A Fault) (Q : A → Type 0) : Type 0 where
     same : (b : List ℕ) → Same a b (J + 2) → f b ≡ f a
     given : (x : A) → f a ≡ Ok x → Q x
     told : (e : Fault) → f a ≡ Err e → Placed e
@@ -146,26 +146,26 @@ module _ (a : List ℕ) (i J : ℕ) (whole : MaximalRun is_date_byte a i J) wher
   walk_err : {A : Type 0} {Q : A → Type 0} (s e : ℕ) → i ≤ s → s ≤ J → Walk {A = A} (λ b. Err (invalid_number s e)) Q
   walk_err s e l m = record { same = λ b w. refl; given = λ y h. absurd cc; told = λ x h. (let same : invalid_number s e ≡ x = cc in rw (← same) (l, m, refl)) }
 
-  bind_same : {A B : Type 0} (r q : NumberRead A) (f g : A → NumberRead B) → q ≡ r → ((x : A) → r ≡ Ok x → f x ≡ g x) → (q >>= f) ≡ (r >>= g)
+  bind_same : {A B : Type 0} (r q : Result A Fault) (f g : A → Result B Fault) → q ≡ r → ((x : A) → r ≡ Ok x → f x ≡ g x) → (q >>= f) ≡ (r >>= g)
   bind_same (Ok x) q f g e h = rw e (h x refl)
   bind_same (Err x) q f g e h = rw e refl
 
-  bind_given : {A B : Type 0} (r : NumberRead A) (f : A → NumberRead B) (y : B) → (r >>= f) ≡ Ok y → (x : A) × (r ≡ Ok x) × (f x ≡ Ok y)
+  bind_given : {A B : Type 0} (r : Result A Fault) (f : A → Result B Fault) (y : B) → (r >>= f) ≡ Ok y → (x : A) × (r ≡ Ok x) × (f x ≡ Ok y)
   bind_given (Ok x) f y h = (x, refl, h)
   bind_given (Err x) f y h = absurd cc
 
-  bind_told : {A B : Type 0} (r : NumberRead A) (f : A → NumberRead B) (e : Fault) → (r >>= f) ≡ Err e → (r ≡ Err e) ⊎ ((x : A) × (r ≡ Ok x) × (f x ≡ Err e))
+  bind_told : {A B : Type 0} (r : Result A Fault) (f : A → Result B Fault) (e : Fault) → (r >>= f) ≡ Err e → (r ≡ Err e) ⊎ ((x : A) × (r ≡ Ok x) × (f x ≡ Err e))
   bind_told (Ok x) f e h = inr (x, refl, h)
   bind_told (Err x) f e h = inl (let s : x ≡ e = cc in rw s refl)
 
-  walk_bind : {A B : Type 0} {P : A → Type 0} {Q : B → Type 0} {f : List ℕ → NumberRead A} {g : List ℕ → A → NumberRead B} → Walk f P → ((x : A) → P x → Walk (λ b. g b x) Q) → Walk (λ b. f b >>= g b) Q
+  walk_bind : {A B : Type 0} {P : A → Type 0} {Q : B → Type 0} {f : List ℕ → Result A Fault} {g : List ℕ → A → Result B Fault} → Walk f P → ((x : A) → P x → Walk (λ b. g b x) Q) → Walk (λ b. f b >>= g b) Q
   walk_bind {f = f} {g = g} first each = record {
     same = λ b w. bind_same (f a) (f b) (g b) (g a) (first.same b w) (λ x e. (each x (first.given x e)).same b w);
     given = λ y e. (let (x, h, k) = bind_given (f a) (g a) y e in (each x (first.given x h)).given y k);
     told = λ e h. elim (bind_told (f a) (g a) e h) [ inl k ↦ first.told e k | inr (x, k, l) ↦ (each x (first.given x k)).told e l ];
   }
 
-  walk_if : {A : Type 0} {Q : A → Type 0} (c : List ℕ → Bool) (x y : List ℕ → NumberRead A) → ((b : List ℕ) → Same a b (J + 2) → c b ≡ c a) → (c a ≡ true → Walk x Q) → (c a ≡ false → Walk y Q) → Walk (λ b. if c b then x b else y b) Q
+  walk_if : {A : Type 0} {Q : A → Type 0} (c : List ℕ → Bool) (x y : List ℕ → Result A Fault) → ((b : List ℕ) → Same a b (J + 2) → c b ≡ c a) → (c a ≡ true → Walk x Q) → (c a ≡ false → Walk y Q) → Walk (λ b. if c b then x b else y b) Q
   walk_if {A} {Q} c x y same this that = record {
     same = λ b w. rw (same b w) (both (c a) b w refl);
     given = λ z e. given_in (c a) z refl e;
@@ -185,10 +185,10 @@ module _ (a : List ℕ) (i J : ℕ) (whole : MaximalRun is_date_byte a i J) wher
       told_in false z e h = (that e).told z h
 
   -- something that is the same in all these texts
-  walk_at : {A K : Type 0} {Q : A → Type 0} (k : List ℕ → K) (f : List ℕ → K → NumberRead A) → ((b : List ℕ) → Same a b (J + 2) → k b ≡ k a) → Walk (λ b. f b (k a)) Q → Walk (λ b. f b (k b)) Q
+  walk_at : {A K : Type 0} {Q : A → Type 0} (k : List ℕ → K) (f : List ℕ → K → Result A Fault) → ((b : List ℕ) → Same a b (J + 2) → k b ≡ k a) → Walk (λ b. f b (k a)) Q → Walk (λ b. f b (k b)) Q
   walk_at k f same h = record { same = λ b w. rw (same b w) (h.same b w); given = h.given; told = h.told }
 
-  walk_option : {A K : Type 0} {Q : A → Type 0} (o : List ℕ → Option K) (f : List ℕ → K → NumberRead A) (r : List ℕ → NumberRead A) → ((b : List ℕ) → Same a b (J + 2) → o b ≡ o a) → ((k : K) → o a ≡ Some k → Walk (λ b. f b k) Q) → (o a ≡ None → Walk r Q)
+  walk_option : {A K : Type 0} {Q : A → Type 0} (o : List ℕ → Option K) (f : List ℕ → K → Result A Fault) (r : List ℕ → Result A Fault) → ((b : List ℕ) → Same a b (J + 2) → o b ≡ o a) → ((k : K) → o a ≡ Some k → Walk (λ b. f b k) Q) → (o a ≡ None → Walk r Q)
       → Walk (λ b. option_map_or (f b) (o b) (r b)) Q
   walk_option {A} {K} {Q} o f r same some none = walk_at o (λ b k. option_map_or (f b) k (r b)) same (by (o a) refl)
     where
@@ -343,7 +343,7 @@ module _ (a : List ℕ) (i J : ℕ) (whole : MaximalRun is_date_byte a i J) wher
   abbrev EndsInside : Numeral × ℕ → Type 0
   EndsInside p = p.1 ≤ J
 
-  finite_walk : (f : List ℕ → NumberRead ℕ) → Walk f (λ z. z ≤ J) → Walk (λ b. spec.finite (f b)) EndsInside
+  finite_walk : (f : List ℕ → Result ℕ Fault) → Walk f (λ z. z ≤ J) → Walk (λ b. spec.finite (f b)) EndsInside
   finite_walk f h = walk_bind h (λ z u. walk_ok (numerals.Finite, z) u)
 
   decimal_walk : (s x y : ℕ) → Inside s → Inside x → Inside y → Walk (λ b. decimal b s x y) EndsInside

@@ -211,7 +211,7 @@ module _ (a : List ℕ) where
       space_return c z (inl x) = omega arith
       space_return c z (inr x) = omega arith
   whole_solid newline j i (inr h) t o = omega (arith, h.1)
-  whole_solid (punctuator d) j i h t o = absurd (sign_solid d (get_or a i 0) h.0 h.1.0 o)
+  whole_solid (punctuator d) j i h t o = absurd (sign_solid d (get_or a i 0) h.0 h.1 o)
     where
       sign_solid : (d c : ℕ) → is_punctuator d ≡ true → c ≡ d → (c ≡ 32) ⊎ (c ≡ 13) → ⊥
       sign_solid d c h e (inl x) = let z : d ≡ 32 = omega arith in absurd (false≢true (rw z at h))
@@ -224,7 +224,7 @@ module _ (a : List ℕ) where
   -- a punctuator or a line end, up to its last byte
   whole_kept : (b : List ℕ) (n i : ℕ) (l : Lexeme) → Same a b n → IsToken a i n l → is_whole (found_of l) ≡ true → IsToken b i n l
   whole_kept b n i newline w h t = line w i n (omega arith) h
-  whole_kept b n i (punctuator c) w h t = (h.0, (test w (λ x. x) c i (omega (arith, h.1.1)) h.1.0, h.1.1))
+  whole_kept b n i (punctuator c) w h t = (h.0, test w (λ x. x) c i (omega (arith, h.2)) h.1, h.2)
   whole_kept b n i (whitespace x) w h t = absurd cc
   whole_kept b n i (comment x) w h t = absurd cc
   whole_kept b n i (keylike x) w h t = absurd cc

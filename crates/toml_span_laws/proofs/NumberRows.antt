@@ -6,7 +6,7 @@ use Rattle.toml_span_read.specs.declared.numbers.Numeral.{Numeral}
 use Rattle.toml_span_read.specs.declared.numbers.Numeral.TheVariants as numerals
 use Rattle.toml_span_read.specs.Numbers.{Digits}
 use Rattle.toml_span_read.specs.Numerals as spec
-use Rattle.toml_span_read.specs.Numerals.{NumberRead, ◌>>=◌, invalid_number, run_end, figures_end, are_digits, digits_end, after_sign, is_negative, radix_at, magnitude, integer_part, signed, radix_integer, is_exponent, exponent_digits, decimal, special, special_end, unsigned, numeral, number}
+use Rattle.toml_span_read.specs.Numerals.{◌>>=◌, invalid_number, run_end, figures_end, are_digits, digits_end, after_sign, is_negative, radix_at, magnitude, integer_part, signed, radix_integer, is_exponent, exponent_digits, decimal, special, special_end, unsigned, numeral, number}
 use Rattle.toml_span_read.specs.code.Numbers.{Passes}
 use Rattle.toml_span_read.proofs.NumberLemmas.{byte_is, here, run_found, digits_sound, digits_complete, digits_on, sign_on}
 use Rattle.toml_span_read.proofs.NumberReads.{digits_to, prefix_some, Starts}
@@ -42,7 +42,7 @@ if_ok : (c : Bool) (e : Fault) (x m : ℕ) → ◌≡◌ {A = Result ℕ Fault} 
 if_ok true e x m h = absurd cc
 if_ok false e x m h = cc
 
-bind_given : {A B : Type 0} (r : NumberRead A) (f : A → NumberRead B) (y : B) → (r >>= f) ≡ Ok y → (x : A) × (r ≡ Ok x) × (f x ≡ Ok y)
+bind_given : {A B : Type 0} (r : Result A Fault) (f : A → Result B Fault) (y : B) → (r >>= f) ≡ Ok y → (x : A) × (r ≡ Ok x) × (f x ≡ Ok y)
 bind_given (Ok x) f y h = (x, refl, h)
 bind_given (Err x) f y h = absurd cc
 
@@ -55,7 +55,7 @@ part_sound text start from end m h =
 
 module _ (text : List ℕ) (i : ℕ) where
   -- the fault that is read, if any, is one of the table
-  abbrev Rows : {A : Type 0} → NumberRead A → Type 0
+  abbrev Rows : {A : Type 0} → Result A Fault → Type 0
   Rows r = (e : Fault) → r ≡ Err e → IsNumberFault text i e
 
   row : {A : Type 0} (s e : ℕ) → NumberFault text i s e → Rows {A = A} (Err (invalid_number s e))
@@ -64,15 +64,15 @@ module _ (text : List ℕ) (i : ℕ) where
   fine : {A : Type 0} (x : A) → Rows (Ok x)
   fine x e h = absurd cc
 
-  rows_if : {A : Type 0} (c : Bool) (x y : NumberRead A) → (c ≡ true → Rows x) → (c ≡ false → Rows y) → Rows (if c then x else y)
+  rows_if : {A : Type 0} (c : Bool) (x y : Result A Fault) → (c ≡ true → Rows x) → (c ≡ false → Rows y) → Rows (if c then x else y)
   rows_if true x y f g = f refl
   rows_if false x y f g = g refl
 
-  rows_bind : {A B : Type 0} (r : NumberRead A) (f : A → NumberRead B) → Rows r → ((x : A) → r ≡ Ok x → Rows (f x)) → Rows (r >>= f)
+  rows_bind : {A B : Type 0} (r : Result A Fault) (f : A → Result B Fault) → Rows r → ((x : A) → r ≡ Ok x → Rows (f x)) → Rows (r >>= f)
   rows_bind (Ok x) f first each e h = each x refl e h
   rows_bind (Err x) f first each e h = first e (let s : x ≡ e = cc in rw s refl)
 
-  rows_or : {A K : Type 0} (o : Option K) (f : K → NumberRead A) (r : NumberRead A) → ((k : K) → o ≡ Some k → Rows (f k)) → (o ≡ None → Rows r) → Rows (option_map_or f o r)
+  rows_or : {A K : Type 0} (o : Option K) (f : K → Result A Fault) (r : Result A Fault) → ((k : K) → o ≡ Some k → Rows (f k)) → (o ≡ None → Rows r) → Rows (option_map_or f o r)
   rows_or (Some k) f r some none = some k refl
   rows_or None f r some none = none refl
 
@@ -161,7 +161,7 @@ module _ (text : List ℕ) (i : ℕ) where
 
   -- ---- numbers
 
-  finite_rows : (r : NumberRead ℕ) → Rows r → Rows (spec.finite r)
+  finite_rows : (r : Result ℕ Fault) → Rows r → Rows (spec.finite r)
   finite_rows r h = rows_bind r _ h (λ x e. fine (numerals.Finite, x))
 
   decimal_rows : (a b : ℕ) → FirstRun text i a b → radix_at text a ≡ None → Rows (decimal text i a b)

@@ -1,12 +1,12 @@
 -- If no two claims clash, those on the same path belong to the same scope. At a position, a header that passes through
 -- never decides.
-use Rattle.toml_span_lex.proofs.Common.{◌≡◌, ◌⊎◌, ℕ, true, List, [], ◌∷◌, ◌++◌, Option, Some, None, refl, sym, ap, ◌∙◌, subst, inl, inr, ⊤, none-some, arith, nat_tests, common_steps, append_assoc, append-nil}
+use Rattle.toml_span_lex.proofs.Common.{◌≡◌, ◌⊎◌, ℕ, true, List, [], ◌∷◌, ◌++◌, Option, Some, None, refl, sym, ap, ◌∙◌, subst, inl, inr, ⊤, none-some, arith, nat_tests, common_steps, append_assoc, append-nil, find, slice_get}
 use Rattle.toml_span_tree.specs.Path.{Path, position}
 use Rattle.toml_span_read.specs.Data.{ParsedSection}
 use Rattle.toml_span_read.specs.Grammar.{SpellsDocument}
 use Rattle.toml_span.specs.declared.claims.ClaimKind.TheVariants.{Passed, TableElement, Assigned}
 use Rattle.toml_span.specs.Claims.{Claim, Claims, no_claims, claimed, scope, claims}
-use Rattle.toml_span.specs.Flat.{all_claims, claims_at, first_claim, first_claim_by_header, deciding_claim}
+use Rattle.toml_span.specs.Flat.{by_header, all_claims, claims_at, deciding_claim}
 use Rattle.toml_span.specs.Paths.{same_path}
 use Rattle.toml_span.proofs.Grafts.{same_step-self}
 use Rattle.toml_span.proofs.EachClaim.{same_path-eq}
@@ -63,23 +63,23 @@ scoped-entered p n S base earlier (Some a) (scope inner cs) scoped f =
     grind (arith, nat_tests, common_steps, scoped-entered p n S a.path [] None inner, scoped-entered p n S base earlier None cs, entered-append)
 
 -- the first header does not pass through
-first-passes : (q : Path) (S : Type 0) (l : List Claim) (c : Claim) → Entered q S l → first_claim_by_header (claims_at q l) ≡ Some c → c.info.kind ≡ Passed → S
-unfolding claims_at first_claim_by_header
+first-passes : (q : Path) (S : Type 0) (l : List Claim) (c : Claim) → Entered q S l → find (λ c. by_header c.info.kind) (claims_at q l) ≡ Some c → c.info.kind ≡ Passed → S
+unfolding claims_at
 first-passes q S [] c h is passed = absurd (none-some c is)
 first-passes q S (x ∷ l) c h is passed =
     let T = S ⊎ ((x.info.kind ≡ TableElement) × (x.path ≡ q)) in
     grind (arith, nat_tests, common_steps, path-self q, same_path-eq x.path q, first-passes q T l c h.1)
 
-first-plain : (l : List Claim) → first_claim_by_header l ≡ None → (c : Claim) → first_claim l ≡ Some c → c.info.kind ≡ Passed → ⊥
-unfolding first_claim_by_header
-first-plain l none c is passed = grind (arith, nat_tests, common_steps)
+first-plain : (l : List Claim) → find (λ c. by_header c.info.kind) l ≡ None → (c : Claim) → slice_get l 0 ≡ Some c → c.info.kind ≡ Passed → ⊥
+first-plain [] none c is passed = absurd cc
+first-plain (x ∷ xs) none c is passed = grind (arith, nat_tests, common_steps)
 
 pub no-passage : (text : List ℕ) (limit : ℕ) (bs : List ParsedSection) (p : Path) (n : ℕ) (c : Claim) → SpellsDocument bs text limit → deciding_claim (claims_at (p ++ (position n ∷ [])) (all_claims (claims bs))) ≡ Some c
     → c.info.kind ≡ Passed → ⊥
 no-passage text limit bs p n c h is passed =
     let q = p ++ (position n ∷ []) in
     let l = all_claims (claims bs) in
-    elim (cases_option (first_claim_by_header (claims_at q l))) [
+    elim (cases_option (find (λ c. by_header c.info.kind) (claims_at q l))) [
       | inl none ↦ first-plain (claims_at q l) none c (rw none at is) passed
       | inr (d, found) ↦
           let entered = scoped-entered p n ⊥ [] [] None (claims bs) (document-scoped bs (spelled-headed bs text limit h)) (λ has. has.1) in

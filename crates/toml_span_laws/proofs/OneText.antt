@@ -1,27 +1,21 @@
 -- Places have at most one output.
-use Rattle.toml_span_lex.proofs.Common.{common_steps, ◌≡◌, ◌<◌, ℕ, List, [], ◌∷◌, Option, flat_map, refl, sym, ap, subst, ◌∙◌, inl, inr, arith, AllByRecursion}
-use Rattle.toml_span_tree.specs.Path.{Path, key, position, Place}
-use Rattle.toml_span.specs.Ordered.{IsBefore}
+use Rattle.toml_span_lex.proofs.Common.{common_steps, ◌≡◌, ◌<◌, ℕ, List, [], ◌∷◌, Option, flat_map, refl, sym, ap, subst, ◌∙◌, inl, inr, arith, AllByRecursion, nat_list_cmp_total, false≢true, is_lt}
+use Rattle.toml_span_tree.specs.Path.{Path, Step, key, position, Place}
+use Rattle.std.specs.Ordering.{ordering_reverse}
 use Rattle.toml_span_lines.specs.Shown.{PlaceAt, entry_line, PathsAscend, HasPlaces, IsIn, IsPathBefore, IsStepBefore, ShowsPlaces}
 
 -- ---- two that are before each other
 
-abbrev IsOneWay : {A : Type 0} → (A → A → Type 0) → Type 0
-IsOneWay {A} less = (x y : A) → less x y → less y x → ⊥
-
-one-way : {A : Type 0} (less : A → A → Type 0) → IsOneWay less → IsOneWay (IsBefore less)
-one-way less f [] ys h g = grind (arith, common_steps)
-one-way less f (x ∷ xs) [] h g = h
-one-way less f (x ∷ xs) (y ∷ ys) h g = grind (arith, common_steps, f x y, f x x, one-way less f xs ys)
-
-step-one-way : IsOneWay IsStepBefore
-step-one-way (key name) (key other) h g = one-way (λ (m n : ℕ). m < n) (λ m n a b. omega (arith, a, b)) name other h g
+step-one-way : (s t : Step) → IsStepBefore s t → IsStepBefore t s → ⊥
+step-one-way (key name) (key other) h g = false≢true (sym (ap is_lt (sym h ∙ nat_list_cmp_total.antisymm name other ∙ ap ordering_reverse g)))
 step-one-way (position i) (position j) h g = omega (arith, h, g)
 step-one-way (key name) (position j) h g = h
 step-one-way (position i) (key name) h g = h
 
 path-one-way : (p q : Path) → IsPathBefore p q → IsPathBefore q p → ⊥
-path-one-way p q h g = one-way IsStepBefore step-one-way p q h g
+path-one-way [] q h g = grind (arith, common_steps)
+path-one-way (s ∷ p) [] h g = h
+path-one-way (s ∷ p) (t ∷ q) h g = grind (arith, common_steps, step-one-way s t, step-one-way s s, path-one-way p q)
 
 -- ---- lists with the same entries
 

@@ -1,5 +1,6 @@
 -- Two trees that are in order and show the same places are equal.
-use Rattle.toml_span_lex.proofs.Common.{◌≡◌, ◌⊎◌, ℕ, suc, List, [], ◌∷◌, Option, Some, None, option_map, refl, sym, ap, ◌∙◌, subst, inl, inr, arith, option_and_then, none-some, same_Some, nat_tests, common_steps}
+use Rattle.toml_span_lex.proofs.Common.{◌≡◌, ◌⊎◌, ℕ, suc, List, [], ◌∷◌, Option, Some, None, option_map, refl, sym, ap, ◌∙◌, subst, inl, inr, arith, option_and_then, none-some, same_Some, nat_tests, common_steps, slice_cmp, nat_cmp, Ordering, Less, Equal, Greater, is_eq-slice_cmp, is_eq, nat_list_cmp_total}
+use Rattle.std.specs.Ordering.{ordering_reverse}
 use Rattle.toml_span_lex.specs.declared.span.Span.{Span}
 use Rattle.toml_span_tree.specs.Node.{Node, node, Inner, taken, scalar, array, table, Items, no_items, item, Members, no_members, member, entry_at, element_at}
 use Rattle.toml_span_tree.specs.Path.{Path, Step, key, position, Place, shape_of, reached, at_step, place_of, place_at}
@@ -17,20 +18,16 @@ shown o p = option_map place_of (option_and_then (reached p) o)
 -- ---- names
 
 names-order : (a b : List ℕ) → (a ≡ b) ⊎ (IsNameBefore a b ⊎ IsNameBefore b a)
-names-order [] [] = inl refl
-names-order [] (y ∷ ys) = inr (inl tt)
-names-order (x ∷ xs) [] = inr (inr tt)
-names-order (x ∷ xs) (y ∷ ys) = grind (arith, nat_tests, common_steps, names-order xs ys)
-
-before-all : (a b c : List ℕ) → IsNameBefore a b → IsNameBefore b c → IsNameBefore a c
-before-all a [] c h g = absurd h
-before-all a (y ∷ ys) [] h g = absurd g
-before-all [] (y ∷ ys) (z ∷ zs) h g = tt
-before-all (x ∷ xs) (y ∷ ys) (z ∷ zs) h g = grind (arith, nat_tests, common_steps, before-all xs)
+names-order a b = by (slice_cmp nat_cmp a b) refl
+  where
+    by : (o : Ordering) → slice_cmp nat_cmp a b ≡ o → (a ≡ b) ⊎ (IsNameBefore a b ⊎ IsNameBefore b a)
+    by Less e = inr (inl e)
+    by Equal e = inl (same-name a b (sym (is_eq-slice_cmp a b) ∙ ap is_eq e))
+    by Greater e = inr (inr (nat_list_cmp_total.antisymm b a ∙ ap ordering_reverse e))
 
 each-before : (a b : List ℕ) (ms : Members) → IsNameBefore a b → EachName (IsNameBefore b) ms → EachName (IsNameBefore a) ms
 each-before a b no_members h each = tt
-each-before a b (member c at n ms) h each = (before-all a b c h each.0, each-before a b ms h each.1)
+each-before a b (member c at n ms) h each = (nat_list_cmp_total.trans a b c h each.0, each-before a b ms h each.1)
 
 -- ---- entries
 

@@ -1,11 +1,12 @@
 -- Claims do not depend on spans and scalars, except that they carry them: which claims clash, and which paths have a
 -- place, is the same without spans and with other scalars.
-use Rattle.toml_span_lex.proofs.Common.{◌≡◌, ℕ, zero, suc, Bool, true, false, if◌then◌else◌, List, [], ◌∷◌, ◌++◌, map, map-append, Option, Some, None, option_map, refl, sym, ap, ◌∙◌, inl, inr, cases_Bool}
+use Rattle.std.specs.Option.{option_or}
+use Rattle.toml_span_lex.proofs.Common.{◌≡◌, ℕ, zero, suc, Bool, true, false, if◌then◌else◌, List, [], ◌∷◌, ◌++◌, map, map-append, Option, Some, None, option_map, refl, sym, ap, ◌∙◌, inl, inr, cases_Bool, find, slice_get}
 use Rattle.toml_span_tree.specs.Path.{Path, Place, Shape, shape_scalar}
 use Rattle.toml_span_read.specs.Data.{SimpleKey, ParsedValue, parsed, scalar, array, inline, ParsedItems, no_items, item, ParsedPairs, no_pairs, pair, ParsedAssignment, ParsedSection}
 use Rattle.toml_span.specs.Claims.{Claim, Claims, no_claims, claimed, scope, followed, dotted, assigned, element, key_claims, value_claims, inner_claims, item_claims, pair_claims, assignments_claims, header_info, header_claim, array_claims, end_claims, header_claims, section_claims, claims_after, claims}
-use Rattle.toml_span.specs.Clashes.{NamedClash, with_name, clash_info, clash_kind, first_some, clash, clash_among, clash_after, Resolves}
-use Rattle.toml_span.specs.Flat.{all_claims, claims_at, by_header, first_claim_by_header, first_claim, deciding_claim, flat}
+use Rattle.toml_span.specs.Clashes.{NamedClash, with_name, clash_info, clash_kind, clash, clash_among, clash_after, Resolves}
+use Rattle.toml_span.specs.Flat.{all_claims, claims_at, by_header, deciding_claim, flat}
 use Rattle.toml_span.specs.Paths.{same_path, with_key, with_position, enter, target, opened_by, elements_added, section_path}
 use Rattle.toml_span.specs.declared.claims.ClaimInfo.{ClaimInfo}
 use Rattle.toml_span.specs.declared.claims.ClaimKind.{ClaimKind}
@@ -163,7 +164,7 @@ clash_plain : (c : Change) (x y : Claim) → clash (plain_claim c x) (plain_clai
 unfolding clash
 clash_plain c x y = clash_cases x.info y.info y.name (same_path x.path y.path) (clash_kind x.info.kind y.info.kind)
 
-first_mapped : {A B : Type 0} (f : A → B) (o p : Option A) → first_some (option_map f o) (option_map f p) ≡ option_map f (first_some o p)
+first_mapped : {A B : Type 0} (f : A → B) (o p : Option A) → option_or (option_map f o) (option_map f p) ≡ option_map f (option_or o p)
 first_mapped f (Some x) p = refl
 first_mapped f None p = refl
 
@@ -199,20 +200,19 @@ at_plain c p (x ∷ xs) = elim (cases_Bool (same_path x.path p)) [
   | inr other ↦ rw (other, at_plain c p xs) refl
 ]
 
-header_first_plain : (c : Change) (xs : List Claim) → first_claim_by_header (map (plain_claim c) xs) ≡ option_map (plain_claim c) (first_claim_by_header xs)
-unfolding first_claim_by_header
+header_first_plain : (c : Change) (xs : List Claim) → find (λ c. by_header c.info.kind) (map (plain_claim c) xs) ≡ option_map (plain_claim c) (find (λ c. by_header c.info.kind) xs)
 header_first_plain c [] = refl
 header_first_plain c (x ∷ xs) = elim (cases_Bool (by_header x.info.kind)) [
   | inl here ↦ rw here refl
   | inr other ↦ rw (other, header_first_plain c xs) refl
 ]
 
-first_plain : (c : Change) (xs : List Claim) → first_claim (map (plain_claim c) xs) ≡ option_map (plain_claim c) (first_claim xs)
+first_plain : (c : Change) (xs : List Claim) → slice_get (map (plain_claim c) xs) 0 ≡ option_map (plain_claim c) (slice_get xs 0)
 first_plain c [] = refl
 first_plain c (x ∷ xs) = refl
 
 deciding_plain : (c : Change) (xs : List Claim) → deciding_claim (map (plain_claim c) xs) ≡ option_map (plain_claim c) (deciding_claim xs)
-deciding_plain c xs = rw (header_first_plain c xs, first_plain c xs) (first_mapped (plain_claim c) (first_claim_by_header xs) (first_claim xs))
+deciding_plain c xs = rw (header_first_plain c xs, first_plain c xs) (first_mapped (plain_claim c) (find (λ c. by_header c.info.kind) xs) (slice_get xs 0))
 
 placed_plain : (c : Change) (o : Option Claim) → option_map (λ x. x.place) (option_map (plain_claim c) o) ≡ option_map (plain_place c) (option_map (λ x. x.place) o)
 placed_plain c None = refl

@@ -1,14 +1,15 @@
 -- An array in brackets or an inline table is a document of its own, which has the same places below its only key as the
 -- value has below its path.
-use Rattle.toml_span_lex.proofs.Common.{◌≡◌, ℕ, List, [], ◌∷◌, ◌++◌, Option, Some, None, refl, sym, ap, ◌∙◌, subst, append-nil, inl, inr, cases_Bool, arith, nat_tests, common_steps, suc, option_map, append_assoc, append_cancel_left, length, codes}
+use Rattle.std.specs.Option.{option_or}
+use Rattle.toml_span_lex.proofs.Common.{◌≡◌, ℕ, List, [], ◌∷◌, ◌++◌, Option, Some, None, refl, sym, ap, ◌∙◌, subst, append-nil, inl, inr, cases_Bool, arith, nat_tests, common_steps, suc, option_map, append_assoc, append_cancel_left, length, codes, find, slice_get}
 use Rattle.toml_span_tree.specs.Node.{Scalar}
 use Rattle.toml_span_tree.specs.Path.{Path, shape_scalar, Step, key, position, Place, place_at}
 use Rattle.toml_span_read.specs.Data.{ParsedValue, parsed, scalar, array, inline, parsed_span, ParsedSection, ParsedItems, no_items, item, ParsedPairs, no_pairs, pair, headerless_section, SimpleKey}
 use Rattle.toml_span_read.specs.Grammar.{SpellsDocument}
 use Rattle.toml_span.specs.declared.claims.ClaimKind.TheVariants.{Assigned}
 use Rattle.toml_span.specs.Claims.{Claim, Claims, no_claims, claimed, scope, followed, value_claims, inner_claims, item_claims, pair_claims, value_shape, parsed_inner, claims, key_claims, element, assigned, dotted, assignments_claims, header_claims, section_claims, claims_after}
-use Rattle.toml_span.specs.Clashes.{Resolves, clash_kind, first_some}
-use Rattle.toml_span.specs.Flat.{all_claims, claims_at, deciding_claim, first_claim, first_claim_by_header, flat}
+use Rattle.toml_span.specs.Clashes.{Resolves, clash_kind}
+use Rattle.toml_span.specs.Flat.{by_header, all_claims, claims_at, deciding_claim, flat}
 use Rattle.toml_span.specs.Paths.{same_path, with_key, with_position, target, opened_by}
 use Rattle.toml_span.proofs.EachClaim.{same_path-eq}
 use Rattle.toml_span_read.proofs.ReadSound.{document_sound}
@@ -240,16 +241,15 @@ at-moved from to p r _ _ q (one_more x y xs ys m h) =
 abbrev IsMoved : ℕ → ℕ → Option Claim → Option Claim → Type 0
 IsMoved from to o p = option_map (λ c. c.place) p ≡ option_map (moved_place from to) (option_map (λ c. c.place) o)
 
-first-moved : (from to : ℕ) (p r : Path) (xs ys : List Claim) → AllMoved from to p r xs ys → IsMoved from to (first_claim xs) (first_claim ys)
+first-moved : (from to : ℕ) (p r : Path) (xs ys : List Claim) → AllMoved from to p r xs ys → IsMoved from to (slice_get xs 0) (slice_get ys 0)
 first-moved from to p r _ _ no_more = refl
 first-moved from to p r _ _ (one_more x y xs ys m h) = ap Some m.place
 
-header-moved : (from to : ℕ) (p r : Path) (xs ys : List Claim) → AllMoved from to p r xs ys → IsMoved from to (first_claim_by_header xs) (first_claim_by_header ys)
-unfolding first_claim_by_header
+header-moved : (from to : ℕ) (p r : Path) (xs ys : List Claim) → AllMoved from to p r xs ys → IsMoved from to (find (λ c. by_header c.info.kind) xs) (find (λ c. by_header c.info.kind) ys)
 header-moved from to p r _ _ no_more = refl
 header-moved from to p r _ _ (one_more x y xs ys m h) = grind (arith, nat_tests, common_steps, header-moved from to p r xs ys h)
 
-or-moved : (from to : ℕ) (a b c d : Option Claim) → IsMoved from to a b → IsMoved from to c d → IsMoved from to (first_some a c) (first_some b d)
+or-moved : (from to : ℕ) (a b c d : Option Claim) → IsMoved from to a b → IsMoved from to c d → IsMoved from to (option_or a c) (option_or b d)
 or-moved from to a b c d h g = grind (arith, nat_tests, common_steps)
 
 pub decides-moved : (from to : ℕ) (p r : Path) (xs ys : List Claim) → AllMoved from to p r xs ys
@@ -303,7 +303,7 @@ flat-at n cs s p q is = rw is refl
 
 -- a value, and claims below it: the value decides on its path, and these claims below it
 value-decides : (c : Claim) (l : List Claim) → c.info.kind ≡ Assigned → ((d : Claim) → IsIn d l → IsUnder c.path d.path) → deciding_claim (claims_at c.path (c ∷ l)) ≡ Some c
-unfolding claims_at first_claim_by_header
+unfolding claims_at
 value-decides c l value under = grind (arith, nat_tests, common_steps, at-none, longer, path-self)
 
 below-decides : (c : Claim) (l : List Claim) (s : Step) (r : Path) → claims_at (c.path ++ (s ∷ r)) (c ∷ l) ≡ claims_at (c.path ++ (s ∷ r)) l

@@ -23,7 +23,7 @@ token_begins text i j s (whitespace x) h = inl (rw (h.0.1.passes i (omega arith)
 token_begins text i j s newline (inl h, e) = inl (rw h.0 refl)
 token_begins text i j s newline (inr h, e) = inr h.0
 token_begins text i j s (comment x) h = inl (rw h.0.0 refl)
-token_begins text i j s (punctuator c) h = inl (rw (h.0.1.0, h.0.0, or_true) refl)
+token_begins text i j s (punctuator c) h = inl (rw (h.0.1, h.0.0, or_true) refl)
 token_begins text i j s (keylike x) h = inl (rw (h.0.1.passes i (omega arith) h.0.0, or_true) refl)
 token_begins text i j s (string src v m) h = inl (elim h.quote [ inl e ↦ rw e refl | inr e ↦ rw e refl ])
 

@@ -41,7 +41,7 @@ same_token_tag text i j span (whitespace s) h = rw (h.0.1.passes i (omega arith)
 same_token_tag text i j span newline (inl h, e) = rw h.0 refl
 same_token_tag text i j span newline (inr h, e) = rw (crlf_first text i h.0) refl
 same_token_tag text i j span (comment s) h = rw h.0.0 refl
-same_token_tag text i j span (punctuator c) h = rw h.0.1.0 (sym (sign_tag c h.0.0))
+same_token_tag text i j span (punctuator c) h = rw h.0.1 (sym (sign_tag c h.0.0))
 same_token_tag text i j span (keylike s) h = sym (keylike_tag (get_or text i 0) (h.0.1.passes i (omega arith) h.0.0))
 same_token_tag text i j span (string src val multi) h = elim h.quote [ inl e ↦ rw e refl | inr e ↦ rw e refl ]
 
@@ -56,7 +56,7 @@ both text i j k s t newline newline a b e = let u = line_unique text i j k a.0 b
 both text i j k s t (comment x) (comment y) a b e =
     let u = run_unique is_printed text i j k a.0.1.1 b.0.1.1 in (u, parts i j k s t u a.1 b.1, ap (λ z. comment z) (a.0.1.2 ∙ (rw u (sym b.0.1.2))))
 both text i j k s t (punctuator c) (punctuator d) a b e =
-    let u : j ≡ k = omega (arith, a.0.1, b.0.1) in (u, parts i j k s t u a.1 b.1, ap (λ z. punctuator z) (sym a.0.1.0 ∙ b.0.1.0))
+    let u : j ≡ k = omega (arith, a.0.2, b.0.2) in (u, parts i j k s t u a.1 b.1, ap (λ z. punctuator z) (sym a.0.1 ∙ b.0.1))
 both text i j k s t (keylike x) (keylike y) a b e =
     let u = run_unique is_keylike text i j k a.0.1 b.0.1 in (u, parts i j k s t u a.1 b.1, ap (λ z. keylike z) (a.0.2 ∙ (rw u (sym b.0.2))))
 both text i j k s t (string x v m) (string y w n) a b e =

@@ -73,7 +73,7 @@ token_ends : (text : List ℕ) (i j : ℕ) (s : Span) (l : Lexeme) → IsLexeme 
 token_ends text i j s (whitespace x) h = after_run is_blank text i j refl h.0.0 h.0.1.within h.0.1.passes
 token_ends text i j s newline h = line_ends text i j h.0
 token_ends text i j s (comment x) h = after_run is_printed text i j refl h.0.1.0 h.0.1.1.within h.0.1.1.passes
-token_ends text i j s (punctuator c) h = after_byte text i j h.0.1.1 (read_within text i (rw h.0.1.0 (sign_some c h.0.0))) (rw h.0.1.0 (differs is_punctuator c 13 h.0.0))
+token_ends text i j s (punctuator c) h = after_byte text i j h.0.2 (read_within text i (rw h.0.1 (sign_some c h.0.0))) (rw h.0.1 (differs is_punctuator c 13 h.0.0))
 token_ends text i j s (keylike x) h = after_run is_keylike text i j refl h.0.0 h.0.1.within h.0.1.passes
 token_ends text i j s (string src v m) h =
     let q = get_or text i 0 in

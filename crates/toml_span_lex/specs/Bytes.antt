@@ -62,15 +62,6 @@ colon = 58
 abbrev pub equals : ℕ
 equals = 61
 
-abbrev pub capital_t : ℕ
-capital_t = 84
-
-abbrev pub capital_u : ℕ
-capital_u = 85
-
-abbrev pub capital_z : ℕ
-capital_z = 90
-
 abbrev pub left_bracket : ℕ
 left_bracket = 91
 
@@ -80,32 +71,11 @@ right_bracket = 93
 abbrev pub underscore : ℕ
 underscore = 95
 
-abbrev pub small_b : ℕ
-small_b = 98
-
 abbrev pub small_e : ℕ
 small_e = 101
 
-abbrev pub small_f : ℕ
-small_f = 102
-
-abbrev pub small_n : ℕ
-small_n = 110
-
-abbrev pub small_r : ℕ
-small_r = 114
-
-abbrev pub small_t : ℕ
-small_t = 116
-
-abbrev pub small_u : ℕ
-small_u = 117
-
 abbrev pub small_x : ℕ
 small_x = 120
-
-abbrev pub small_z : ℕ
-small_z = 122
 
 abbrev pub left_brace : ℕ
 left_brace = 123

@@ -3,31 +3,29 @@ use Rattle.std.specs.Prelude.{◌≡◌, ℕ, ◌+◌, ◌<◌, ◌≤◌, ◌�
 use Rattle.std.specs.Prelude.{List, take, drop, length, slice_index, Option, Some, None}
 use Rattle.std.specs.Char.{is_digit, IsScalar}
 use Rattle.std.specs.Str.Parse.{digits_value}
-use Rattle.toml_span_lex.specs.Bytes.{backspace, tab, line_feed, form_feed, carriage_return, escape_character}
-use Rattle.toml_span_lex.specs.Bytes.{quotation_mark, backslash, capital_u, small_b, small_e, small_f, small_n, small_r}
-use Rattle.toml_span_lex.specs.Bytes.{small_t, small_u, small_x}
 use Rattle.toml_span_lex.specs.Text.{CharAt}
 use Rattle.toml_span_lex.specs.declared.tokens.Error.{Error}
 use Rattle.toml_span_lex.specs.declared.tokens.Error.TheVariants as errors
 
 -- the character that a backslash and this letter stand for, if no digits follow: `escape-seq-char = %x22 / %x5C / %x62
--- / %x65 / %x66 / %x6E / %x72 / %x74`
+-- / %x65 / %x66 / %x6E / %x72 / %x74`, which is `"`, `\`, b (backspace), e (escape), f (form feed), n (line feed),
+-- r (carriage return) and t (tab)
 abbrev pub simple_escape : ℕ → Option ℕ
 simple_escape c =
-    if c == quotation_mark then Some quotation_mark
-    else if c == backslash then Some backslash
-    else if c == small_b then Some backspace
-    else if c == small_f then Some form_feed
-    else if c == small_n then Some line_feed
-    else if c == small_r then Some carriage_return
-    else if c == small_t then Some tab
-    else if c == small_e then Some escape_character
+    if c == 0x22 then Some 0x22
+    else if c == 0x5C then Some 0x5C
+    else if c == 0x62 then Some 0x08
+    else if c == 0x66 then Some 0x0C
+    else if c == 0x6E then Some 0x0A
+    else if c == 0x72 then Some 0x0D
+    else if c == 0x74 then Some 0x09
+    else if c == 0x65 then Some 0x1B
     else None
 
 -- `escape-seq-char =/ %x78 2HEXDIG / %x75 4HEXDIG / %x55 8HEXDIG`: how many hexadecimal digits follow this letter
--- after a backslash
+-- (x, u or U) after a backslash
 abbrev pub hex_len : ℕ → ℕ
-hex_len c = if c == small_x then 2 else if c == small_u then 4 else if c == capital_u then 8 else 0
+hex_len c = if c == 0x78 then 2 else if c == 0x75 then 4 else if c == 0x55 then 8 else 0
 
 -- `HEXDIG`: a hexadecimal digit, of either case
 abbrev pub is_hex : ℕ → Bool

@@ -121,12 +121,9 @@ Borrows text i j span val =
     (IsEmptyOnOneLine i j → IsBorrowedStr val)
     × ((IsEmptyOnOneLine i j → ⊥) → (IsBorrowedStr val ↔ (cow_str_bytes val ≡ slice_range text span.start span.end)))
 
--- The span is one quote, as that of an empty single-line string is.
-abbrev pub IsOneQuote : List ℕ → Span → Type 0
-IsOneQuote text span = IsQuote (slice_index text span.start) × (span.end ≡ span.start + 1)
-
 -- The same in terms of the span: a string is borrowed if and only if it equals the text at its span, or is empty and
--- its span is one quote.
+-- its span is one quote, as that of an empty single-line string is.
 abbrev pub BorrowsWhereSame : {Z : Type 0} → List ℕ → Span → CowStr Z → Type 0
 BorrowsWhereSame text span val = IsBorrowedStr val
-    ↔ ((cow_str_bytes val ≡ slice_range text span.start span.end) ⊎ ((cow_str_bytes val ≡ []) × IsOneQuote text span))
+    ↔ ((cow_str_bytes val ≡ slice_range text span.start span.end)
+    ⊎ ((cow_str_bytes val ≡ []) × IsQuote (slice_index text span.start) × (span.end ≡ span.start + 1)))

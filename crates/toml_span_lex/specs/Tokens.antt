@@ -76,9 +76,6 @@ words (string src value false) = codes "a string"
 abbrev pub RunAt : (ℕ → Bool) → List ℕ → ℕ → ℕ → List ℕ → Type 0
 RunAt p text i j part = (i < j) × MaximalRun p text i j × (part ≡ slice_range text i j)
 
-abbrev pub PunctuatorAt : ℕ → List ℕ → ℕ → ℕ → Type 0
-PunctuatorAt c text i j = (slice_index text i ≡ c) × (j ≡ i + 1)
-
 -- The text from i to j is this token, which is not a string:
 -- `ws = *wschar`, of one character at least
 -- `newline = %x0A / %x0D.0A`
@@ -88,7 +85,7 @@ abbrev pub IsToken : List ℕ → ℕ → ℕ → Lexeme → Type 0
 IsToken text i j (whitespace s) = RunAt is_blank text i j s
 IsToken text i j newline = LineEnd text i j
 IsToken text i j (comment s) = (slice_index text i ≡ hash) × RunAt is_printed text i j s
-IsToken text i j (punctuator c) = (is_punctuator c ≡ true) × PunctuatorAt c text i j
+IsToken text i j (punctuator c) = (is_punctuator c ≡ true) × (slice_index text i ≡ c) × (j ≡ i + 1)
 IsToken text i j (keylike s) = RunAt is_keylike text i j s
 IsToken text i j (string src value multi) = ⊥
 

@@ -12,7 +12,7 @@ use Rattle.toml_span_read.specs.Read.{document}
 use Rattle.toml_span.specs.Claims.{claims}
 use Rattle.toml_span.specs.Clashes.{Resolves}
 use Rattle.toml_span.specs.Flat.{flat}
-use Rattle.toml_span.specs.Ordered.{IsBefore, IsNameBefore}
+use Rattle.toml_span.specs.Ordered.{IsNameBefore}
 use Rattle.toml_span_lex.specs.declared.stop.Stop.TheVariants as stops
 use Rattle.toml_span.specs.Parsing.{IsRefusal}
 use Rattle.toml_span_lines.specs.Lines.{key_segment, position_segment, line, error_line}
@@ -26,8 +26,11 @@ IsStepBefore (position i) (position j) = i < j
 IsStepBefore (key name) (position j) = ⊥
 IsStepBefore (position i) (key other) = ⊥
 
+-- The first steps that differ decide, and a path comes before a longer one that begins with it.
 abbrev pub IsPathBefore : Path → Path → Type 0
-IsPathBefore p q = IsBefore IsStepBefore p q
+IsPathBefore p [] = ⊥
+IsPathBefore [] (t ∷ q) = ⊤
+IsPathBefore (s ∷ p) (t ∷ q) = IsStepBefore s t ⊎ ((s ≡ t) × IsPathBefore p q)
 
 -- ---- places
 

@@ -1,5 +1,5 @@
 -- The spellings of integers and floats are read again.
-use Rattle.toml_span_lex.proofs.Common.{◌≡◌, ℕ, zero, suc, ℤ, pos, negsuc, ◌+◌, ◌-◌, ◌^◌, ◌<◌, ◌≤◌, Bool, true, false, List, [], ◌∷◌, length, get_or, filter, arith, inl, sym, ◌∙◌, refl, ap, decimal, signed_decimal, is_ascii_digit, AllDigits, nat_tests, decimal_is_IsNumeral, digits_value-decimal, decimal_digit, first_decimal, IsNumeralModel, numerals_by_weight, tells_digits, digit_at, common_steps}
+use Rattle.toml_span_lex.proofs.Common.{◌≡◌, ℕ, zero, suc, ℤ, pos, negsuc, ◌+◌, ◌-◌, ◌^◌, ◌<◌, ◌≤◌, Bool, true, false, List, [], ◌∷◌, length, get_or, filter, arith, inl, sym, ◌∙◌, refl, ap, decimal, signed_decimal, is_ascii_digit, AllDigits, nat_tests, decimal_is_IsNumeral, digits_value-decimal, decimal_digit, first_decimal, IsNumeralModel, tells_digits, digit_at, common_steps, digits_value, numerals_by_value}
 use Rattle.std.specs.Int.{IsInRange}
 use lib.Signed.{mag}
 use Rattle.toml_span_tree.specs.Node.{integer}
@@ -7,7 +7,7 @@ use Rattle.toml_span_read.specs.Dates.{is_date_byte}
 use Rattle.toml_span_read.specs.Data.{from_to}
 use Rattle.toml_span_read.specs.Grammar.{SpellsScalar}
 use Rattle.toml_span_read.specs.Numbers.{IsSigned}
-use Rattle.toml_span_read.specs.Numerals.{is_digit_in, sum_of_digits, magnitude, after_sign, is_negative}
+use Rattle.toml_span_read.specs.Numerals.{is_digit_in, magnitude, after_sign, is_negative}
 use Rattle.toml_span_read.proofs.NumberLemmas.{no_keylike_figure, stands_alone}
 use Rattle.toml_span_read.proofs.ShortIntegers.{decimal_digit as digit_ten, short_spelled}
 use Rattle.toml_span_read.proofs.NumbersMove.{off_bytes, Plain, plain_in}
@@ -18,8 +18,8 @@ use Rattle.toml_span_read.proofs.Parts.{Part, tail, here, byte_at, next, range, 
 in_range : (c : ℕ) → IsInRange 48 57 c → is_ascii_digit c ≡ true
 in_range c h = grind (arith, nat_tests)
 
-sums : IsNumeralModel (AllDigits 10) (sum_of_digits 10)
-sums = numerals_by_weight (AllDigits 10) tells_digits (sum_of_digits 10) (grind (arith, nat_tests, common_steps))
+sums : IsNumeralModel (AllDigits 10) (digits_value 10)
+sums = numerals_by_value (AllDigits 10) tells_digits
 
 all_kept : (p : ℕ → Bool) (xs : List ℕ) → ((k : ℕ) → k < length xs → p (get_or xs k 0) ≡ true) → filter p xs ≡ xs
 all_kept p [] h = refl
@@ -51,7 +51,7 @@ decimal_in {text} {rest} {i} {j} n h p =
     record {
       some = omega arith;
       digits = each p is_ascii_digit digit;
-      value = ap (λ (l : List ℕ). sum_of_digits 10 (filter (is_digit_in 10) l)) (range p) ∙ (ap (sum_of_digits 10) kept ∙ digits_value-decimal sums n h);
+      value = ap (λ (l : List ℕ). digits_value 10 (filter (is_digit_in 10) l)) (range p) ∙ (ap (digits_value 10) kept ∙ digits_value-decimal sums n h);
       leading = λ e. (let z : i - i ≡ 0 = omega arith in
           let same : get_or text i 0 ≡ get_or (decimal n) 0 0 = rw z at (byte_at p i (omega arith) (omega arith)) in
           let one : length (decimal n) ≡ 1 = leads n h (sym same ∙ e) in omega arith);

@@ -1,11 +1,12 @@
 -- Steps of reading numbers, and their results.
-use Rattle.toml_span_lex.proofs.Common.{common_steps, ◌≡◌, ℕ, ◌+◌, ◌-◌, ◌<◌, ◌≤◌, ◌⊎◌, Bool, true, false, drop, take, zero, suc, Option, Some, None, is_some, Ok, Err, List, ◌∷◌, length, get_or, arith, inl, inr, refl, sym, ◌∙◌, length-drop, length-take, drop_more, get_or_past, prefix_len-le-length, prefix_len_passes, prefix_len_stops, prefix_len, list_all, range_with_len, ◌*◌, ◌^◌, filter, slice_range, not, ◌==◌, ◌||◌, ◌&&◌, cases_lt, and_parts, and_from, or_from, or_right, false≢true, nat_tests, digit_value}
-use Rattle.std.proofs.Math.Nat.{pow-succ', one-le-pow, le-mul_of_pos_right}
+use Rattle.std.specs.Str.Parse.{digits_value, digits_value_after}
+use Rattle.toml_span_lex.proofs.Common.{common_steps, ◌≡◌, ℕ, ◌+◌, ◌-◌, ◌<◌, ◌≤◌, ◌⊎◌, Bool, true, false, drop, take, zero, suc, Option, Some, None, is_some, Ok, Err, List, [], ◌∷◌, length, get_or, arith, inl, inr, refl, sym, ◌∙◌, length-drop, length-take, drop_more, get_or_past, prefix_len-le-length, prefix_len_passes, prefix_len_stops, prefix_len, list_all, range_with_len, ◌*◌, ◌^◌, filter, slice_range, not, ◌==◌, ◌||◌, ◌&&◌, cases_lt, and_parts, and_from, or_from, or_right, false≢true, nat_tests, digit_value}
+use Rattle.std.proofs.Math.Nat.{le-mul_of_pos_right}
 use Rattle.std.proofs.lemmas.List.{get_or-drop}
 use Rattle.toml_span_lex.specs.Bytes.{is_keylike, MaximalRun}
 use Rattle.toml_span_lex.proofs.Unique.{run_unique}
 use Rattle.toml_span_read.specs.Numbers.{Digits, FloatLiteral, Exponent, Fraction, goes_on}
-use Rattle.toml_span_read.specs.Numerals.{is_digit_in, is_figure, after_sign, is_exponent, sum_of_digits}
+use Rattle.toml_span_read.specs.Numerals.{is_digit_in, is_figure, after_sign, is_exponent}
 use Rattle.toml_span_read.specs.Numerals.{invalid_number, run_end, figures_end, are_digits, digits_end, signed}
 use Rattle.toml_span_read.specs.code.Numbers.{DigitGives, Passes}
 
@@ -228,33 +229,28 @@ stands_alone text j k d = or_from _ _ k d
 
 -- ---- values
 
--- one more digit
-pub sum_step : (radix v c : ℕ) (cs : List ℕ) → is_digit_in radix c ≡ true
-    → v * radix ^ length (filter (is_digit_in radix) (c ∷ cs)) + sum_of_digits radix (filter (is_digit_in radix) (c ∷ cs))
-    ≡ (v * radix + digit_value c) * radix ^ length (filter (is_digit_in radix) cs) + sum_of_digits radix (filter (is_digit_in radix) cs)
-sum_step radix v c cs h = grind (arith, pow-succ')
-
 -- v is the number that the digits before `rest` denote
 abbrev pub Summed : ℕ → ℕ → List ℕ → List ℕ → Type 0
-Summed radix v rest all = v * radix ^ length (filter (is_digit_in radix) rest) + sum_of_digits radix (filter (is_digit_in radix) rest) ≡ sum_of_digits radix (filter (is_digit_in radix) all)
+Summed radix v rest all = digits_value_after radix v (filter (is_digit_in radix) rest) ≡ digits_value radix (filter (is_digit_in radix) all)
 
 pub sum_goes_on : (radix v w i : ℕ) (digits : List ℕ) → i < length digits → is_digit_in radix (get_or digits i 0) ≡ true → w ≡ v * radix + digit_value (get_or digits i 0)
     → Summed radix v (drop i digits) digits → Summed radix w (drop (i + 1) digits) digits
-sum_goes_on radix v w i digits l h e s = grind (arith, drop_more, sum_step)
+sum_goes_on radix v w i digits l h e s = grind (arith, nat_tests, common_steps, drop_more)
 
 pub sum_passes : (radix v i : ℕ) (digits : List ℕ) → i < length digits → is_digit_in radix (get_or digits i 0) ≡ false
     → Summed radix v (drop i digits) digits → Summed radix v (drop (i + 1) digits) digits
 sum_passes radix v i digits l h s = grind (arith, nat_tests, common_steps)
 
 -- a number that exceeds 64 bits still does after more digits
-pub past_with_digits : (radix c n s k : ℕ) → is_digit_in radix c ≡ true → 2 ^ 64 ≤ n → 2 ^ 64 ≤ n * radix ^ k + s
-past_with_digits radix c n s k h l = grind (arith, nat_tests, one-le-pow, le-mul_of_pos_right)
+past_with_digits : (radix n : ℕ) (cs : List ℕ) → 1 ≤ radix → 2 ^ 64 ≤ n → 2 ^ 64 ≤ digits_value_after radix n cs
+past_with_digits radix n [] l h = h
+past_with_digits radix n (c ∷ cs) l h = past_with_digits radix (n * radix + digit_value c) cs l (omega (arith, h, le-mul_of_pos_right n l))
 
 pub sum_past : (radix v i d : ℕ) (digits : List ℕ) → i < length digits → is_digit_in radix (get_or digits i 0) ≡ true → d ≡ digit_value (get_or digits i 0)
-    → Summed radix v (drop i digits) digits → 2 ^ 64 ≤ v * radix + d → 2 ^ 64 ≤ sum_of_digits radix (filter (is_digit_in radix) digits)
+    → Summed radix v (drop i digits) digits → 2 ^ 64 ≤ v * radix + d → 2 ^ 64 ≤ digits_value radix (filter (is_digit_in radix) digits)
 sum_past radix v i d digits l h e s b =
     let g = sum_goes_on radix v (v * radix + d) i digits l h (rw e refl) s in
-    rw g at (past_with_digits radix (get_or digits i 0) (v * radix + d) (sum_of_digits radix (filter (is_digit_in radix) (drop (i + 1) digits))) (length (filter (is_digit_in radix) (drop (i + 1) digits))) h b)
+    rw g at (past_with_digits radix (v * radix + d) (filter (is_digit_in radix) (drop (i + 1) digits)) (grind (arith, nat_tests)) b)
 
 pub signed_past : (negative : Bool) (m : ℕ) → 2 ^ 64 ≤ m → signed negative m ≡ None
 unfolding signed

@@ -1,5 +1,5 @@
 -- A number that is read is spelled, and a fault is within the text.
-use Rattle.toml_span_lex.proofs.Common.{common_steps, nat_tests, ◌≡◌, ℕ, ◌+◌, ◌-◌, ◌<◌, ◌≤◌, ◌⊎◌, Bool, true, false, List, length, get_or, arith, Ok, Err, Option, Some, None, is_some, inl, inr, refl, subst, cases_lt, not-true, not-false, or_parts, eqb-false, ltb-false, false≢true, list_all_at, bytes_eq-Decides, list_all, option_map_or, ℤ, not, ◌==◌, ◌||◌, ◌&&◌, nat_lt, slice_range, codes, if◌then◌else◌, IsUtf8}
+use Rattle.toml_span_lex.proofs.Common.{common_steps, nat_tests, ◌≡◌, ℕ, ◌+◌, ◌-◌, ◌<◌, ◌≤◌, ◌⊎◌, Bool, true, false, List, length, get_or, arith, Ok, Err, Option, Some, None, is_some, inl, inr, refl, subst, cases_lt, not-true, not-false, or_parts, eqb-false, ltb-false, false≢true, list_all_at, bytes_eq-Decides, list_all, option_map_or, ℤ, not, ◌==◌, ◌||◌, ◌&&◌, nat_lt, slice_range, codes, if◌then◌else◌, IsUtf8, Result}
 use Rattle.std.proofs.lemmas.Bool.{ltb-true}
 use Rattle.toml_span_lex.specs.Bytes.{is_keylike}
 use Rattle.toml_span_lex.proofs.Runs.{after_ascii, keylike_ascii}
@@ -11,7 +11,7 @@ use Rattle.toml_span_read.specs.Numbers.{Digits, UnsignedDecimal, Exponent, Frac
 use Rattle.toml_span_read.specs.Numbers.{IsNumber, IsSigned}
 use Rattle.toml_span_read.specs.Numerals.{after_sign, is_negative, radix_at, magnitude, is_exponent}
 use Rattle.toml_span_read.specs.Numerals as spec
-use Rattle.toml_span_read.specs.Numerals.{NumberRead, ◌>>=◌, invalid_number, run_end, scalar_of, digits_end, integer_part, exponent_digits, exponent, fraction, signed, decimal, special, special_end, unsigned, numeral, number, radix_integer}
+use Rattle.toml_span_read.specs.Numerals.{◌>>=◌, invalid_number, run_end, scalar_of, digits_end, integer_part, exponent_digits, exponent, fraction, signed, decimal, special, special_end, unsigned, numeral, number, radix_integer}
 use Rattle.toml_span_read.specs.Faults.{StartsInside}
 use Rattle.toml_span_read.specs.code.Gaps.{Further}
 use Rattle.toml_span_read.specs.code.Numbers.{Passes, NumeralStands}
@@ -20,7 +20,7 @@ use Rattle.toml_span_read.proofs.NumberLemmas.{bool_cases, byte_is, here, figure
 -- ---- steps that may fail
 
 -- what holds for each number that is read; each fault is within the text
-pub record Reads {A : Type 0} (text : List ℕ) (r : NumberRead A) (Q : A → Type 0) : Type 0 where
+pub record Reads {A : Type 0} (text : List ℕ) (r : Result A Fault) (Q : A → Type 0) : Type 0 where
   pub given : (a : A) → r ≡ Ok a → Q a
   pub told : (e : Fault) → r ≡ Err e → StartsInside text e.span
 
@@ -34,16 +34,16 @@ Placed text s e = (s ≤ e) × (s ≤ length text)
 fails : {A : Type 0} (text : List ℕ) (s e : ℕ) (Q : A → Type 0) → Placed text s e → Reads text (Err (invalid_number s e)) Q
 fails text s e Q p = record { given = λ b h. absurd cc; told = λ x h. (let same : invalid_number s e ≡ x = cc in rw (← same) (record { within = p.1; forward = p.0 })) }
 
-pub after : {A B : Type 0} (text : List ℕ) (r : NumberRead A) (f : A → NumberRead B) (P : A → Type 0) (Q : B → Type 0) → Reads text r P → ((a : A) → P a → Reads text (f a) Q) → Reads text (r >>= f) Q
+pub after : {A B : Type 0} (text : List ℕ) (r : Result A Fault) (f : A → Result B Fault) (P : A → Type 0) (Q : B → Type 0) → Reads text r P → ((a : A) → P a → Reads text (f a) Q) → Reads text (r >>= f) Q
 after text r f P Q h g = grind (arith, nat_tests, common_steps)
 
-choice : {A : Type 0} (text : List ℕ) (c : Bool) (x y : NumberRead A) (Q : A → Type 0) → (c ≡ true → Reads text x Q) → (c ≡ false → Reads text y Q) → Reads text (if c then x else y) Q
+choice : {A : Type 0} (text : List ℕ) (c : Bool) (x y : Result A Fault) (Q : A → Type 0) → (c ≡ true → Reads text x Q) → (c ≡ false → Reads text y Q) → Reads text (if c then x else y) Q
 choice text c x y Q h g = grind (arith, nat_tests, common_steps)
 
-weaker : {A : Type 0} (text : List ℕ) (r : NumberRead A) (P Q : A → Type 0) → Reads text r P → ((a : A) → P a → Q a) → Reads text r Q
+weaker : {A : Type 0} (text : List ℕ) (r : Result A Fault) (P Q : A → Type 0) → Reads text r P → ((a : A) → P a → Q a) → Reads text r Q
 weaker text r P Q h g = record { given = λ a e. g a (h.given a e); told = h.told }
 
-some_or : {A B : Type 0} (text : List ℕ) (f : A → NumberRead B) (o : Option A) (r : NumberRead B) (Q : B → Type 0) → ((a : A) → o ≡ Some a → Reads text (f a) Q) → (o ≡ None → Reads text r Q) → Reads text (option_map_or f o r) Q
+some_or : {A B : Type 0} (text : List ℕ) (f : A → Result B Fault) (o : Option A) (r : Result B Fault) (Q : B → Type 0) → ((a : A) → o ≡ Some a → Reads text (f a) Q) → (o ≡ None → Reads text r Q) → Reads text (option_map_or f o r) Q
 some_or text f o r Q h g = grind (arith, nat_tests, common_steps)
 
 -- ---- digits

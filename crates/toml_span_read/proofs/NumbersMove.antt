@@ -1,11 +1,11 @@
 -- A number in a part of a text is also in a copy of that part, unless the byte after the copy extends it.
-use Rattle.toml_span_lex.proofs.Common.{◌≡◌, ℕ, ℤ, ◌+◌, ◌-◌, ◌<◌, ◌≤◌, Bool, true, false, List, length, get_or, filter, arith, inl, inr, sym, ◌∙◌, ap, codes, ◌==◌, ◌||◌, Some, cases_lt, false≢true, or_from, nat_tests, common_steps}
+use Rattle.toml_span_lex.proofs.Common.{◌≡◌, ℕ, ℤ, ◌+◌, ◌-◌, ◌<◌, ◌≤◌, Bool, true, false, List, length, get_or, filter, arith, inl, inr, sym, ◌∙◌, ap, codes, ◌==◌, ◌||◌, Some, cases_lt, false≢true, or_from, nat_tests, common_steps, digits_value}
 use Rattle.toml_span_lex.specs.Bytes.{is_keylike}
 use Rattle.toml_span_tree.specs.Node.{Scalar, text as text_scalar, integer, float, boolean, datetime, finite, infinite, not_a_number}
 use Rattle.toml_span_read.specs.Dates.{is_date_byte}
 use Rattle.toml_span_read.specs.Numbers.{Digits, UnsignedDecimal, DecimalInteger, RadixInteger, Exponent, Fraction}
 use Rattle.toml_span_read.specs.Numbers.{FloatLiteral, SpecialFloat, IsNumber}
-use Rattle.toml_span_read.specs.Numerals.{is_digit_in, is_figure, sum_of_digits, magnitude, after_sign, is_exponent}
+use Rattle.toml_span_read.specs.Numerals.{is_digit_in, is_figure, magnitude, after_sign, is_exponent}
 use Rattle.toml_span_read.specs.Numerals.{is_negative, radix_at, cleaned}
 use Rattle.toml_span_read.proofs.NumberLemmas.{digit_figure, digit_no_underscore, no_keylike_figure, digits_on, digits_stop, sign_on}
 use Rattle.toml_span_read.proofs.Moves.{Moves, either, said, also, Copied, At, further, in_sequence, nothing, byte, stays, first, run, same_range}
@@ -64,7 +64,7 @@ module _ {a b : List ℕ} {s t n c : ℕ} (w : Copied a b s t n c) (off : is_dat
   unsigned_on i j h = digits_on 10 a i j h.digits
 
   magnitude_same : (radix i j k l : ℕ) → i ≤ j → At s t n 0 i k → At s t n 0 j l → magnitude radix a i j ≡ magnitude radix b k l
-  magnitude_same radix i j k l o u v = ap (λ (r : List ℕ). sum_of_digits radix (filter (is_digit_in radix) r)) (same_range w i j k l o u v)
+  magnitude_same radix i j k l o u v = ap (λ (r : List ℕ). digits_value radix (filter (is_digit_in radix) r)) (same_range w i j k l o u v)
 
   decimal : (m : ℤ) → Alike (DecimalInteger m)
   decimal m = said (λ i j h. (h.digits, h)) (λ k l h. h.1)

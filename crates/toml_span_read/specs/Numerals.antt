@@ -8,11 +8,12 @@
 use Rattle.std.specs.Char.{is_ascii_hexdigit, digit_value}
 use Rattle.std.specs.List.{prefix_len, list_all, range_with_len}
 use Rattle.std.specs.Option.{ok_or, option_map_or}
-use Rattle.std.specs.Prelude.{ℕ, ℤ, pos, neg_ℤ, ◌+◌, ◌*◌, ◌-◌, ◌^◌, Bool, true, false, not, ◌&&◌, ◌||◌, ◌==◌, nat_lt}
-use Rattle.std.specs.Prelude.{nat_le, if◌then◌else◌, List, [], ◌∷◌, map, filter, length, drop, slice_index, slice_range}
+use Rattle.std.specs.Prelude.{ℕ, ℤ, pos, neg_ℤ, ◌+◌, ◌-◌, ◌^◌, Bool, true, false, not, ◌&&◌, ◌||◌, ◌==◌, nat_lt, nat_le}
+use Rattle.std.specs.Prelude.{if◌then◌else◌, List, map, filter, drop, slice_index, slice_range}
 use Rattle.std.specs.Prelude.{codes, Option, Some, None, is_some, Result, Ok, Err}
 use Rattle.std.specs.Str.{bytes_eq}
-use Rattle.toml_span_lex.specs.Bytes.{is_keylike, plus, dash, period, digit_zero, underscore, small_b, small_e, small_x}
+use Rattle.std.specs.Str.Parse.{digits_value}
+use Rattle.toml_span_lex.specs.Bytes.{is_keylike, plus, dash, period, digit_zero, underscore, small_e}
 use Rattle.toml_span_tree.specs.Node as scalars
 use Rattle.toml_span_tree.specs.Node.{Scalar, float, infinite, not_a_number}
 use Rattle.toml_span_read.specs.declared.fault.Fault.{Fault}
@@ -20,12 +21,8 @@ use Rattle.toml_span_read.specs.declared.fault.FaultKind.TheVariants as kinds
 use Rattle.toml_span_read.specs.declared.numbers.Numeral.{Numeral}
 use Rattle.toml_span_read.specs.declared.numbers.Numeral.TheVariants as numerals
 
--- the result of reading, or a fault
-abbrev pub NumberRead : Type 0 → Type 0
-NumberRead A = Result A Fault
-
 infixl 10 ◌>>=◌
-abbrev pub ◌>>=◌ : {A B : Type 0} → NumberRead A → (A → NumberRead B) → NumberRead B
+abbrev pub ◌>>=◌ : {A B : Type 0} → Result A Fault → (A → Result B Fault) → Result B Fault
 Ok a >>= f = f a
 Err e >>= f = Err e
 
@@ -37,9 +34,6 @@ invalid_number start end = record { kind = kinds.InvalidNumber; span = record { 
 abbrev pub capital_e : ℕ
 capital_e = 69
 
-abbrev pub small_o : ℕ
-small_o = 111
-
 -- ---- digits
 
 -- a digit of this radix: `DIGIT` for 10, `HEXDIG` for 16, `digit0-7` for 8, `digit0-1` for 2
@@ -50,14 +44,9 @@ is_digit_in radix c = is_ascii_hexdigit c && nat_lt (digit_value c) radix
 abbrev pub is_figure : ℕ → ℕ → Bool
 is_figure radix c = is_digit_in radix c || c == underscore
 
--- the number that a list of digits spells in this radix
-abbrev pub sum_of_digits : ℕ → List ℕ → ℕ
-sum_of_digits radix [] = 0
-sum_of_digits radix (c ∷ cs) = digit_value c * radix ^ length cs + sum_of_digits radix cs
-
 -- the number that the digits from i to j spell, with or without underscores
 abbrev pub magnitude : ℕ → List ℕ → ℕ → ℕ → ℕ
-magnitude radix text i j = sum_of_digits radix (filter (is_digit_in radix) (slice_range text i j))
+magnitude radix text i j = digits_value radix (filter (is_digit_in radix) (slice_range text i j))
 
 -- the end of the run of letters, digits, dashes and underscores from i on
 unfoldable pub run_end : List ℕ → ℕ → ℕ
@@ -75,7 +64,7 @@ are_digits radix text i j =
     (range_with_len i (j - i))
 
 -- `zero-prefixable-int = DIGIT *( DIGIT / underscore DIGIT )`, or the same for another radix
-unfoldable pub digits_end : ℕ → List ℕ → ℕ → ℕ → ℕ → NumberRead ℕ
+unfoldable pub digits_end : ℕ → List ℕ → ℕ → ℕ → ℕ → Result ℕ Fault
 digits_end radix text start from end =
     if slice_index text from == underscore then Err (invalid_number from end)
     else if are_digits radix text from (figures_end radix text from) then Ok (figures_end radix text from)
@@ -94,13 +83,13 @@ is_negative text i = slice_index text i == dash
 abbrev pub radix_at : List ℕ → ℕ → Option ℕ
 radix_at text i =
     if not (slice_index text i == digit_zero) then None
-    else (if slice_index text (i + 1) == small_x then Some 16
-    else (if slice_index text (i + 1) == small_o then Some 8
-    else (if slice_index text (i + 1) == small_b then Some 2 else None)))
+    else (if slice_index text (i + 1) == 0x78 then Some 16
+    else (if slice_index text (i + 1) == 0x6F then Some 8
+    else (if slice_index text (i + 1) == 0x62 then Some 2 else None)))
 
 -- `unsigned-dec-int = DIGIT / digit1-9 1*( DIGIT / underscore DIGIT )`: the fault of a leading 0 begins at the digit
 -- after it
-unfoldable pub integer_part : List ℕ → ℕ → ℕ → ℕ → NumberRead ℕ
+unfoldable pub integer_part : List ℕ → ℕ → ℕ → ℕ → Result ℕ Fault
 integer_part text start from end =
     digits_end 10 text start from end >>= (λ m.
     if slice_index text from == digit_zero && nat_lt (from + 1) m
@@ -113,12 +102,12 @@ signed false m = if nat_lt m (2 ^ 63) then Some (pos m) else None
 signed true m = if nat_le m (2 ^ 63) then Some (neg_ℤ (pos m)) else None
 
 -- the integer that the digits spell, or a fault if it is out of range
-unfoldable pub integer : ℕ → List ℕ → Bool → ℕ → ℕ → ℕ → NumberRead ℤ
+unfoldable pub integer : ℕ → List ℕ → Bool → ℕ → ℕ → ℕ → Result ℤ Fault
 integer radix text negative start from end =
     ok_or (signed negative (magnitude radix text from end)) (invalid_number start end)
 
 -- the digits of a `hex-int`, `oct-int` or `bin-int`, after the prefix
-unfoldable pub radix_integer : ℕ → List ℕ → ℕ → ℕ → NumberRead ℤ
+unfoldable pub radix_integer : ℕ → List ℕ → ℕ → ℕ → Result ℤ Fault
 radix_integer radix text start end =
     digits_end radix text start start end >>= (λ m.
     if nat_lt m end then Err (invalid_number start end) else integer radix text false start start end)
@@ -130,13 +119,13 @@ abbrev pub is_exponent : ℕ → Bool
 is_exponent c = c == small_e || c == capital_e
 
 -- the digits of an exponent, which must extend to the end of their piece
-unfoldable pub exponent_digits : List ℕ → ℕ → ℕ → ℕ → ℕ → ℕ → NumberRead ℕ
+unfoldable pub exponent_digits : List ℕ → ℕ → ℕ → ℕ → ℕ → ℕ → Result ℕ Fault
 exponent_digits text a b start from end =
     digits_end 10 text start from end >>= (λ m. if nat_lt m end then Err (invalid_number a b) else Ok end)
 
 -- `exp = "e" float-exp-part`, with its letter in a run that ends at `end`: the digits are in the same run or, after a
 -- plus sign, in the next one
-unfoldable pub exponent : List ℕ → ℕ → ℕ → ℕ → ℕ → NumberRead ℕ
+unfoldable pub exponent : List ℕ → ℕ → ℕ → ℕ → ℕ → Result ℕ Fault
 exponent text a b letter end =
     if nat_lt (letter + 1) end then exponent_digits text a b (letter + 1) (after_sign text (letter + 1)) end
     else if not (slice_index text end == plus) then Err (invalid_number a b)
@@ -144,7 +133,7 @@ exponent text a b letter end =
     else exponent_digits text a b (end + 1) (end + 1) (run_end text (end + 1))
 
 -- `frac [ exp ]`, whose decimal point is at b
-unfoldable pub fraction : List ℕ → ℕ → ℕ → ℕ → NumberRead ℕ
+unfoldable pub fraction : List ℕ → ℕ → ℕ → ℕ → Result ℕ Fault
 fraction text i a b =
     if run_end text (b + 1) == b + 1 then Err (invalid_number i (b + 1))
     else digits_end 10 text (b + 1) (b + 1) (run_end text (b + 1)) >>= (λ m.
@@ -152,11 +141,11 @@ fraction text i a b =
     else if is_exponent (slice_index text m) then exponent text a b m (run_end text (b + 1))
     else Err (invalid_number a b))
 
-abbrev pub finite : NumberRead ℕ → NumberRead (Numeral × ℕ)
+abbrev pub finite : Result ℕ Fault → Result (Numeral × ℕ) Fault
 finite end = end >>= (λ j. Ok (numerals.Finite, j))
 
 -- `dec-int`, or `float-int-part ( exp / frac [ exp ] )`
-unfoldable pub decimal : List ℕ → ℕ → ℕ → ℕ → NumberRead (Numeral × ℕ)
+unfoldable pub decimal : List ℕ → ℕ → ℕ → ℕ → Result (Numeral × ℕ) Fault
 decimal text i a b =
     integer_part text a (after_sign text a) b >>= (λ m.
     if nat_lt m b
@@ -172,7 +161,7 @@ special negative word =
     else None
 
 -- `inf` and `nan` must not be followed by a dot
-unfoldable pub special_end : List ℕ → ℕ → ℕ → ℕ → Numeral → NumberRead (Numeral × ℕ)
+unfoldable pub special_end : List ℕ → ℕ → ℕ → ℕ → Numeral → Result (Numeral × ℕ) Fault
 special_end text i a b n =
     if not (slice_index text b == period) then Ok (n, b)
     else if run_end text (b + 1) == b + 1 then Err (invalid_number i (b + 1))
@@ -181,7 +170,7 @@ special_end text i a b n =
 -- ---- numbers
 
 -- a number whose first run is from a to b
-unfoldable pub unsigned : List ℕ → ℕ → ℕ → ℕ → NumberRead (Numeral × ℕ)
+unfoldable pub unsigned : List ℕ → ℕ → ℕ → ℕ → Result (Numeral × ℕ) Fault
 unsigned text i a b =
     option_map_or (λ radix. radix_integer radix text (a + 2) b >>= (λ n. Ok (numerals.Integer n, b)))
     (radix_at text a)
@@ -191,7 +180,7 @@ unsigned text i a b =
 
 -- `integer = dec-int / hex-int / oct-int / bin-int`, `float = float-int-part ( exp / frac [ exp ] )`,
 -- `float =/ special-float`: a plus sign must not be followed by another sign or by a prefix
-unfoldable pub numeral : List ℕ → ℕ → NumberRead (Numeral × ℕ)
+unfoldable pub numeral : List ℕ → ℕ → Result (Numeral × ℕ) Fault
 numeral text i =
     if not (slice_index text i == plus) then unsigned text i i (run_end text i)
     else if run_end text (i + 1) == i + 1 then Err (invalid_number (i + 1) (i + 1))
@@ -212,5 +201,5 @@ scalar_of (numerals.Infinite negative) literal = float (infinite negative)
 scalar_of (numerals.NotANumber negative) literal = float (not_a_number negative)
 
 -- the number at i and its end, or a fault
-unfoldable pub number : List ℕ → ℕ → NumberRead (Scalar × ℕ)
+unfoldable pub number : List ℕ → ℕ → Result (Scalar × ℕ) Fault
 number text i = numeral text i >>= (λ p. Ok (scalar_of p.0 (slice_range text i p.1), p.1))

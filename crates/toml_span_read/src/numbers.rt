@@ -3,12 +3,13 @@ ghost use Rattle.std.specs.Prelude.{◌≡◌, ℕ, ◌+◌, ◌*◌, ◌<◌, �
 ghost use Rattle.std.specs.Prelude.{slice_index, slice_range, filter, string_bytes, IfOk, IfSome, Ok};
 ghost use Rattle.std.specs.Char.{is_ascii_digit};
 ghost use Rattle.std.specs.Str.{IsCharBoundary};
+ghost use Rattle.std.specs.Str.Parse.{digits_value};
 ghost use Rattle.toml_span_lex.specs.Bytes.{is_keylike, period, underscore, plus, small_e};
 ghost use Rattle.toml_span_tree.specs.Node.{integer, float};
 ghost use Rattle.toml_span_tree.specs.Value.{float_value};
 ghost use Rattle.toml_span_read.specs.Data.{parsed_kind, scalar};
 ghost use Rattle.toml_span_read.specs.Numbers as spec;
-ghost use Rattle.toml_span_read.specs.Numerals.{sum_of_digits, is_digit_in, after_sign};
+ghost use Rattle.toml_span_read.specs.Numerals.{is_digit_in, after_sign};
 ghost use Rattle.toml_span_read.specs.Numerals as numerals;
 ghost use Rattle.toml_span_read.specs.code.Faults.{Advances};
 ghost use Rattle.toml_span_read.specs.code.Gaps.{Further};
@@ -108,7 +109,7 @@ fn with_digit(number: u64, radix: u8, digit: u8) -> Option<u64>
 
 /// Returns the number that the digits spell, with or without underscores, or `None` if it is 2^64 or more.
 fn magnitude(digits: &[u8], radix: u8) -> Option<u64>
-    ensures { WithinGives (sum_of_digits radix (filter (is_digit_in radix) digits.now)) result }
+    ensures { WithinGives (digits_value radix (filter (is_digit_in radix) digits.now)) result }
 {
     let mut value: u64 = 0;
     for byte in digits {

@@ -1,5 +1,5 @@
 -- What is lent, and the tree after the borrow has ended.
-use Rattle.toml_span_lex.proofs.Common.{common_steps, nat_tests, ◌≡◌, ℕ, ◌<◌, ◌^◌, [], ◌∷◌, length, drop, arith, rules, ◌⊎◌, inl, inr, BTreeMap, Vec, Global, vec_len, slice_index_or, List, Option, Some, None, IsSome, option_map, option_and_then, refl, sym, ap, subst, ◌∙◌, MutBor, lookup, with_item, cow_str_bytes}
+use Rattle.toml_span_lex.proofs.Common.{common_steps, nat_tests, ◌≡◌, ℕ, ◌<◌, ◌^◌, [], ◌∷◌, length, drop, arith, rules, ◌⊎◌, inl, inr, BTreeMap, Vec, Global, vec_len, slice_index_or, List, Option, Some, None, IsSome, option_map, option_and_then, refl, sym, ap, subst, ◌∙◌, MutBor, lookup, with_item, cow_str_bytes, unwrap_or}
 use Rattle.toml_span_tree.specs.declared.value.Value.{Value}
 use Rattle.toml_span_tree.specs.declared.value.ValueInner.{ValueInner, Array, Table, the_lemmas}
 use Rattle.toml_span_tree.specs.declared.value.ValueInner.TheOpen.{ValueInner-F}
@@ -7,7 +7,7 @@ use Rattle.toml_span_tree.specs.declared.value.ValueInner.TheViews.{out-ValueInn
 use Rattle.toml_span_lex.specs.declared.key.Key.{Key}
 use Rattle.toml_span_tree.specs.code.Lending.{IsTable, IsArray}
 use Rattle.toml_span_tree.specs.Node.{Node, node, Scalar, taken, scalar, array, table, get_member, get_item}
-use Rattle.toml_span_tree.specs.Value.{view, inner_view, items_view, members_view, inner_of, span_of, inner_or_taken, float_value, date_bytes}
+use Rattle.toml_span_tree.specs.Value.{view, inner_view, items_view, members_view, inner_of, span_of, float_value, date_bytes}
 use Rattle.toml_span_tree.specs.Pointer.{pointer_segments, pointed, put_pointed, segments, position_of}
 use Rattle.toml_span_tree.specs.code.Pointer.{SplitAtSlash, segments_after, value_named, put_named, entry, untaken_entry, set_named, set_where_named}
 use Rattle.toml_span_tree.specs.Path.{position, set_entry}
@@ -20,10 +20,10 @@ member-some y name es e h = grind (arith, nat_tests, common_steps, member-lent y
 
 -- a value and its content
 pub view-held : (s : Value) (i : ValueInner) → s.value ≡ Some i → view s ≡ node (inner_view i) s.span
-view-held s i is = view_is s ∙ ap (λ (o : Option ValueInner). node (inner_or_taken (option_map inner_view o)) s.span) is
+view-held s i is = view_is s ∙ ap (λ (o : Option ValueInner). node (unwrap_or (option_map inner_view o) taken) s.span) is
 
 view-empty : (s : Value) → s.value ≡ None → view s ≡ node taken s.span
-view-empty s is = view_is s ∙ ap (λ (o : Option ValueInner). node (inner_or_taken (option_map inner_view o)) s.span) is
+view-empty s is = view_is s ∙ ap (λ (o : Option ValueInner). node (unwrap_or (option_map inner_view o) taken) s.span) is
 
 pub held-of : (s : Value) (text : List ℕ) → IsSome (untaken_entry text (view s)) → (i : ValueInner) × (s.value ≡ Some i)
 held-of s text h = grind (arith, nat_tests, common_steps, view-empty s)

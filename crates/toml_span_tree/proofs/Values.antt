@@ -2,17 +2,17 @@
 -- Toolchain: a fold cannot be unfolded outside its crate ("this module may not unfold: `fold-ValueInner`"). Cite
 -- `inner_view-Table`, `inner_view-Array` and `view_is` instead. A recursion over `&Value` takes a measure of
 -- `Sizes.antt`.
-use Rattle.toml_span_lex.proofs.Common.{arith, common_steps, nat_tests, ◌≡◌, ℕ, List, [], ◌∷◌, Option, Some, option_map, is_some, BTreeMap, Vec, Global, nat_cmp, Bool, Bor, refl, rules, cow_str_bytes, slice_cmp, lookup, lookup_entry, is_at, is_eq-slice_cmp}
+use Rattle.toml_span_lex.proofs.Common.{arith, common_steps, nat_tests, ◌≡◌, ℕ, List, [], ◌∷◌, Option, Some, option_map, is_some, BTreeMap, Vec, Global, nat_cmp, Bool, Bor, refl, rules, cow_str_bytes, slice_cmp, lookup, lookup_entry, is_at, is_eq-slice_cmp, unwrap_or}
 use Rattle.toml_span_lex.specs.declared.key.Key.{Key}
 use Rattle.toml_span_tree.specs.declared.value.Value.{Value}
 use Rattle.toml_span_tree.specs.declared.value.ValueInner.{Array, Table, the_lemmas}
-use Rattle.toml_span_tree.specs.Node.{node, array, table, entry_at, get_member}
-use Rattle.toml_span_tree.specs.Value.{view, inner_view, items_view, members_view, inner_or_taken}
+use Rattle.toml_span_tree.specs.Node.{node, array, table, entry_at, get_member, taken}
+use Rattle.toml_span_tree.specs.Value.{view, inner_view, items_view, members_view}
 
 abbrev pub Entry : Type 0
 Entry = Key × Value
 
-pub view_is : (v : Value) → view v ≡ node (inner_or_taken (option_map inner_view v.value)) v.span
+pub view_is : (v : Value) → view v ≡ node (unwrap_or (option_map inner_view v.value) taken) v.span
 view_is v = search (rules, the_lemmas)
 
 pub inner_view-Array : (v : Vec Value Global) → inner_view (Array v) ≡ array (items_view v.items)

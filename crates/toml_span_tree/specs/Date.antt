@@ -5,8 +5,7 @@ use Rattle.std.specs.Prelude.{◌≡◌, ◌⊎◌, [], ◌∷◌, ◌++◌, ℕ
 use Rattle.std.specs.Prelude.{nat_le, List, length, take, drop, slice_index, if◌then◌else◌}
 use Rattle.std.specs.List.{list_all}
 use Rattle.std.specs.Char.{is_ascii_digit}
-use Rattle.toml_span_lex.specs.Bytes.{space, plus, dash, period, digit_zero, colon, capital_t, capital_z, small_t}
-use Rattle.toml_span_lex.specs.Bytes.{small_z}
+use Rattle.toml_span_lex.specs.Bytes.{space, plus, dash, period, digit_zero, colon}
 
 -- Toolchain: as `abbrev` the tests of a date take too long ("computing it took more than 200000 steps"), so they are
 -- Bool-valued and `unfoldable`.
@@ -63,9 +62,9 @@ is_seconds text =
 unfoldable pub is_partial_time : List ℕ → Bool
 is_partial_time text = has_hour_minute text && is_seconds (drop 5 text)
 
--- `"Z"`, of either case
+-- `"Z"`, of either case: %x5A or %x7A
 abbrev pub is_utc : List ℕ → Bool
-is_utc text = length text == 1 && (slice_index text 0 == capital_z || slice_index text 0 == small_z)
+is_utc text = length text == 1 && (slice_index text 0 == 0x5A || slice_index text 0 == 0x7A)
 
 -- `time-numoffset = ( "+" / "-" ) time-hour ":" time-minute`
 abbrev pub is_time_numoffset : List ℕ → Bool
@@ -85,9 +84,9 @@ is_time_with n text =
 unfoldable pub is_time : List ℕ → Bool
 is_time text = is_partial_time text || is_time_with 1 text || is_time_with 6 text
 
--- `time-delim = "T" / %x20`
+-- `time-delim = "T" / %x20`, where `"T"` is of either case: %x54 or %x74
 abbrev pub is_time_delim : ℕ → Bool
-is_time_delim c = c == capital_t || c == small_t || c == space
+is_time_delim c = c == 0x54 || c == 0x74 || c == space
 
 -- `offset-date-time = full-date time-delim full-time`, `full-time = partial-time time-offset`
 -- `local-date-time = full-date time-delim partial-time`

@@ -3,6 +3,7 @@
 use Rattle.std.specs.Prelude.{ℕ, ℤ, List, [], ◌∷◌, map, Bool, true, false, Option, Some, None, option_and_then, ◌&&◌}
 use Rattle.std.specs.Prelude.{codes, string_bytes}
 use Rattle.std.specs.Cow.{cow_str_bytes}
+use Rattle.std.specs.Option.{unwrap_or}
 use Rattle.toml_span_lex.specs.declared.key.Key.{Key}
 use Rattle.toml_span_lex.specs.declared.span.Span.{Span}
 use Rattle.toml_span_tree.specs.declared.date.DateText.{DateText}
@@ -33,10 +34,6 @@ abbrev pub members_of : List (Key × Node) → Members
 members_of [] = no_members
 members_of (m ∷ ms) = member (cow_str_bytes m.0.name) m.0.span m.1 (members_of ms)
 
-abbrev pub inner_or_taken : Option Inner → Inner
-inner_or_taken None = taken
-inner_or_taken (Some i) = i
-
 -- one level of each type, with the values inside already converted
 abbrev pub inner_step : ValueInner-F Inner Node → Inner
 inner_step (ValueInner-F.String s) = scalar (text (cow_str_bytes s))
@@ -48,7 +45,7 @@ inner_step (ValueInner-F.Array v) = array (items_of v.items)
 inner_step (ValueInner-F.Table m) = table (members_of m.entries)
 
 abbrev pub value_step : Value-F Inner Node → Node
-value_step v = node (inner_or_taken v.value) v.span
+value_step v = node (unwrap_or v.value taken) v.span
 
 -- a value as plain data
 abbrev pub view : Value → Node

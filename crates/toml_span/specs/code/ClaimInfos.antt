@@ -1,4 +1,5 @@
 -- What a branch of the tree under construction keeps of its claims.
+use Rattle.std.specs.Option.{option_or}
 use Rattle.std.specs.Box.{box_value}
 use Rattle.std.specs.Global.{Box}
 use Rattle.toml_span.specs.declared.claims.Clash as code
@@ -14,7 +15,7 @@ use Rattle.toml_span.specs.declared.claims.ClashInfo.{ClashInfo}
 use Rattle.toml_span_lex.specs.declared.stop.Stop.{Stop}
 use Rattle.toml_span_lex.specs.declared.stop.Stop.TheVariants.{Memory, Fault}
 use Rattle.toml_span.specs.Flat.{by_header}
-use Rattle.toml_span.specs.Clashes.{clash_info_between, first_some}
+use Rattle.toml_span.specs.Clashes.{clash_info_between}
 
 abbrev pub kind_number : ClaimKind → ℕ
 kind_number Passed = 0
@@ -39,7 +40,7 @@ remember infos info = if has_kind infos info.kind then infos else infos ++ info 
 abbrev pub earliest_clash_info : List ClaimInfo → ClaimInfo → Option ClashInfo
 earliest_clash_info [] later = None
 earliest_clash_info (earlier ∷ infos) later =
-    first_some (clash_info_between earlier later) (earliest_clash_info infos later)
+    option_or (clash_info_between earlier later) (earliest_clash_info infos later)
 
 -- why a section could not be placed: a clash, or a failed allocation
 abbrev pub PlaceError : Type 0
@@ -64,7 +65,7 @@ first (info ∷ infos) = Some info
 
 -- the claim that determines a branch: that of the first header or, if there is none, the first claim
 abbrev pub deciding : List ClaimInfo → Option ClaimInfo
-deciding infos = first_some (first_by_header infos) (first infos)
+deciding infos = option_or (first_by_header infos) (first infos)
 
 -- If this is a clash, its span is inside the first n bytes.
 abbrev pub IsPlaceErrorInside : ℕ → PlaceError → Type 0

@@ -1,4 +1,5 @@
 -- What the tree under construction keeps of the claims so far, for each path, and which clash that leads to.
+use Rattle.std.specs.Option.{option_or}
 use Rattle.std.specs.Box.{box_value}
 use Rattle.std.specs.Global.{Box}
 use Rattle.std.specs.Prelude.{◌≡◌, ⊤, ℕ, Bool, not, ◌||◌, if◌then◌else◌, List, [], ◌∷◌, Result, Ok, Err, Option, Some}
@@ -10,7 +11,7 @@ use Rattle.toml_span.specs.Claims.{Claim, Claims, no_claims, claimed, scope}
 use Rattle.toml_span.specs.Flat.{by_header}
 use Rattle.toml_span.specs.code.ClaimInfos.{PlaceError, earliest_clash_info, remember}
 use Rattle.toml_span.specs.Paths.{same_path, same_step}
-use Rattle.toml_span.specs.Clashes.{NamedClash, with_name, first_some}
+use Rattle.toml_span.specs.Clashes.{NamedClash, with_name}
 use Rattle.toml_span.specs.declared.claims.Clash as code
 use Rattle.toml_span_lex.specs.declared.stop.Stop.TheVariants.{Memory, Fault}
 
@@ -81,8 +82,8 @@ earliest_clash infos info name = option_map (with_name name) (earliest_clash_inf
 unfoldable pub clash_found : CellMap → Claims → Option NamedClash
 clash_found st no_claims = None
 clash_found st (claimed c cs) =
-    first_some (earliest_clash (st c.path).infos c.info c.name) (clash_found (change st c.path (with_claim c)) cs)
-clash_found st (scope inner cs) = first_some (clash_found no_cells inner) (clash_found (show_all st inner) cs)
+    option_or (earliest_clash (st c.path).infos c.info c.name) (clash_found (change st c.path (with_claim c)) cs)
+clash_found st (scope inner cs) = option_or (clash_found no_cells inner) (clash_found (show_all st inner) cs)
 
 -- the clash that a `PlaceError` reports
 abbrev pub named_clash : Box code.Clash → NamedClash

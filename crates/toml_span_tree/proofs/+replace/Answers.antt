@@ -1,10 +1,10 @@
 use Rattle.toml_span_tree.specs.declared.value.ValueInner.{the_lemmas}
-use Rattle.toml_span_lex.proofs.Common.{rules, ◌≡◌, BTreeMap, List, ℕ, Some, refl, option_map, option_and_then, sym, ap, ◌∙◌, arith, lookup, set_value}
+use Rattle.toml_span_lex.proofs.Common.{rules, ◌≡◌, BTreeMap, List, ℕ, Some, refl, option_map, option_and_then, sym, ap, ◌∙◌, arith, lookup, set_value, unwrap_or}
 use Rattle.toml_span_lex.specs.declared.key.Key.{Key}
 use Rattle.toml_span_tree.specs.declared.value.Value.{Value}
-use Rattle.toml_span_tree.specs.Node.{get_item, node, table}
+use Rattle.toml_span_tree.specs.Node.{get_item, node, table, taken}
 use Rattle.toml_span_tree.specs.Path.{set_entry, set_element}
-use Rattle.toml_span_tree.specs.Value.{view, inner_view, items_view, members_view, inner_or_taken}
+use Rattle.toml_span_tree.specs.Value.{view, inner_view, items_view, members_view}
 use Rattle.toml_span_tree.specs.code.Pointer.{set_item, segments_after, value_named, put_named}
 use Rattle.toml_span_tree.specs.Pointer.{segments}
 use Rattle.toml_span_tree.proofs.Values.{view_is, inner_view-Table, at_name}
@@ -74,7 +74,7 @@ value::Value::replace_found-returns-in-Some t c =
     let span = c.args.self.now.span in
     let i = inner_view c.in-Some.inner in
     let j = inner_view c.replace_found.new.self in
-    let was : view c.args.self.now ≡ node i span = view_is c.args.self.now ∙ ap (λ o. node (inner_or_taken (option_map inner_view o)) span) c.in-Some.is in
+    let was : view c.args.self.now ≡ node i span = view_is c.args.self.now ∙ ap (λ o. node (unwrap_or (option_map inner_view o) taken) span) c.in-Some.is in
     let is = view-made c.replace_found.new.self span in
     exchanged-as c.replace_found.result c.args.new (segments c.args.path.now) (Some (node i span)) (Some (view c.args.self.now)) (λ w. node j span ≡ w) _ (node j span ≡ node i span) _
     (ap Some (sym was))

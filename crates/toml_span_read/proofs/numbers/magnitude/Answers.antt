@@ -1,5 +1,5 @@
-use Rattle.toml_span_lex.proofs.Common.{rules, ◌≡◌, ◌≤◌, ◌^◌, false, get_or, refl, filter}
-use Rattle.toml_span_read.specs.Numerals.{is_digit_in, sum_of_digits}
+use Rattle.toml_span_lex.proofs.Common.{rules, ◌≡◌, ◌≤◌, ◌^◌, false, get_or, refl, filter, digits_value}
+use Rattle.toml_span_read.specs.Numerals.{is_digit_in}
 use Rattle.toml_span_read.proofs.NumberLemmas.{sum_goes_on, sum_passes, sum_past}
 use Rattle.toml_span_read.proofs.numbers.magnitude.Goals as goal
 use Rattle.toml_span_read.proofs.numbers.magnitude.Goals.{in-Some+in_ok-value, in_default}
@@ -15,6 +15,6 @@ loop-byte-preserved c = elim c.match-digit.branch [
 
 pub returns-in_err-value : goal.returns-in_err-value
 returns-in_err-value c =
-    let h : 2 ^ 64 ≤ sum_of_digits c.args.radix (filter (is_digit_in c.args.radix) c.args.digits.now) =
+    let h : 2 ^ 64 ≤ digits_value c.args.radix (filter (is_digit_in c.args.radix) c.args.digits.now) =
     sum_past _ _ _ _ _ c.loop-byte-test.true c.in-Some.ensures.0 c.in-Some.ensures.1 c.loop-byte.invariant c.in_err-value.ensures in
     search (rules, h)
