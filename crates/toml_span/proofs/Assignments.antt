@@ -63,7 +63,7 @@ pub remains-first : (n : Branch) (rest all : List Assignment) → rest ≡ all �
 unfolding clash_found put_all followed
 remains-first n rest all same = record { done = no_claims; split = ap (λ es. assignments_claims (map parsed_assignment es) []) (sym same); placed = λ scope. (refl, (refl, refl, (scope, refl))) }
 
-placed-then : (first n w : Branch) (r : Result (Unit {0}) PlaceError) (xs ys : Claims) → Places first n (Ok tt) xs (counts first) → Places n w r ys (counts n) → Places first w r (followed xs ys) (counts first)
+pub placed-then : (first n w : Branch) (r : Result (Unit {0}) PlaceError) (xs ys : Claims) → Places first n (Ok tt) xs (counts first) → Places n w r ys (counts n) → Places first w r (followed xs ys) (counts first)
 placed-then first n w r xs ys h g before =
     reaches-then IsScope (λ m. IsScope m × (infos m ≡ infos first)) (λ m. IsScope m × (infos m ≡ infos first)) first n w r xs ys (counts first) (counts first) h
     (λ now. gives-map r _ _ _ _ refl (λ u k. (k.0, k.1 ∙ (h before).1.1, (k.2.0, k.2.1 ∙ now.1))) (g now.0)) before

@@ -34,7 +34,7 @@ each-followed P (scope inner xs) ys h g = (h.0, each-followed P xs ys h.1 g)
 -- P holds for all claims of values and assignments, if it does for each part of a key and for each element
 module _ (P : Claim → Type 0) (of_inner : (p : Path) (k : SimpleKey) (v : Read) → P (dotted (with_key p k) k v)) (of_last : (p : Path) (k : SimpleKey) (v : Read) → P (assigned (with_key p k) k v))
     (of_element : (p : Path) (i : ℕ) (v : Read) → P (element (with_position p i) v)) where
-  key-each : (p : Path) (parts : List SimpleKey) (v : Read) (inside : Path → Claims) → ((q : Path) → Each P (inside q)) → Each P (key_claims p parts v inside)
+  pub key-each : (p : Path) (parts : List SimpleKey) (v : Read) (inside : Path → Claims) → ((q : Path) → Each P (inside q)) → Each P (key_claims p parts v inside)
   unfolding key_claims
   key-each p [] v inside h = tt
   key-each p (k ∷ []) v inside h = (of_last p k v, h (with_key p k))

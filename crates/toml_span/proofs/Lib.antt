@@ -21,3 +21,11 @@ pub mod Borrowing
 pub mod HeldValues
 pub mod AssemblyLemmas
 pub mod Memory
+pub mod ClearKeys
+pub mod LinesPlaced
+pub mod SectionBuilt
+pub mod BuiltTables
+pub mod BuiltArrays
+pub mod LateValues
+pub mod RootTable
+pub mod FinishedRoot

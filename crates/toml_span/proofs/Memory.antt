@@ -3,6 +3,7 @@ use Rattle.toml_span_lex.proofs.Common.{◌≡◌, ℕ, ◌<◌, ◌≤◌, Bool
 use Rattle.toml_span_lex.specs.declared.stop.Stop.{Stop}
 use Rattle.toml_span_lex.specs.declared.stop.Stop.TheVariants as stops
 use Rattle.toml_span_lex.specs.Text.{FirstPlace}
+use Rattle.toml_span.specs.Parsing.{IsTree}
 use Rattle.toml_span.specs.declared.sections.Assembly.{Assembly}
 use Rattle.toml_span_read.specs.declared.fault.Fault.{Fault}
 use Rattle.toml_span_tree.specs.declared.error.Error.{Error}
@@ -48,6 +49,10 @@ keeps-placed ss text limit (Err (stops.Fault error)) given bare = let h = docume
 keeps-placed ss text limit (Err (stops.Memory e)) given bare =
     let h = document_sound (map parsed_section ss) text limit given in
     (h.start, h.begins, sections-hold h.first h.rest text limit h.start h.lines.0 h.end h.lines.1 h.lines.2 h.sections (λ none. false≢true (bare (no-sections ss (h.all ∙ none)))))
+
+-- where the reading of a document begins that has a tree
+pub begun-tree : (text : List ℕ) (limit : ℕ) (root : Value) → IsTree text limit root → (start : ℕ) × FirstPlace text start × OnlyFormsTakeMemory {A = Value} {E = Error} text start (Ok root)
+begun-tree text limit root (bs, (given, resolves), tree) = let h = document_sound bs text limit given in (h.start, h.begins, tt)
 
 -- a failed allocation is passed on
 pub keeps-on : (text : List ℕ) (stop : Stop Fault) (e : AllocError) → stop ≡ stops.Memory e → ((start : ℕ) × FirstPlace text start × OnlyFormsTakeMemory {A = Assembly} text start (Err stop))

@@ -6,3 +6,6 @@ pub mod Relative
 pub mod Placing
 pub mod Borrowed
 pub mod Assembling
+pub mod Lines
+pub mod Built
+pub mod RootTable

@@ -19,8 +19,8 @@ pub type Branches<'de> = BTreeMap<Key<'de>, Box<Branch<'de>>>;
 
 /// A table or an array of tables under construction.
 ///
-/// Assigned values are final: `values` holds them as the finished tree will. Of their claims, only the spans of the
-/// keys are kept. No name is in both `values` and `tables`.
+/// Assigned values are final: `values` holds them as the finished tree will. Only the key spans of their claims are
+/// kept. No name is in both `values` and `tables`.
 #[derive(Drop)]
 pub struct Branch<'de> {
     /// The claims on this branch.
@@ -29,7 +29,7 @@ pub struct Branch<'de> {
     pub values: Table<'de>,
     /// The tables and arrays of tables that headers and dotted keys created.
     pub tables: Branches<'de>,
-    /// The elements of an array of tables, which has at least one. Empty if this is a table.
+    /// The elements of an array of tables: at least one. Empty if this is a table.
     pub entries: Vec<Branch<'de>>,
 }
 
@@ -54,7 +54,7 @@ fn by_header(kind: ClaimKind) -> bool
     !matches!(kind, ClaimKind::Dotted | ClaimKind::Assigned)
 }
 
-/// Returns the claim that determines the spans of a branch: that of the first header or, if no header claims the
+/// Returns the claim that determines the spans of a branch: the claim of the first header or, if no header claims the
 /// branch, the first claim. Returns `None` if there are no claims.
 fn deciding(infos: &[ClaimInfo]) -> Option<ClaimInfo>
     ensures { result ≡ code.deciding infos.now }
@@ -79,7 +79,7 @@ fn spans(infos: &[ClaimInfo]) -> (Span, Span)
 }
 
 /// Proves that the names in a table ascend, so that none occurs twice. Does nothing at run time.
-fn in_order(table: &Table<'_>)
+pub(crate) fn in_order(table: &Table<'_>)
     ensures { NamesAscend table.now }
 {
     // The contract of the map's `len` says that its keys ascend.

@@ -12,6 +12,7 @@ ghost use Rattle.toml_span.specs.code.Assembling.{IsAssemblyInside};
 ghost use Rattle.toml_span_read.specs.Read.{document};
 ghost use Rattle.toml_span.specs.Parsing.{IsParseResult, IsBorrowedTree, IsRoot};
 
+use crate::plain::plain_tree;
 use crate::sections::{Assembly, add_section, begin, finish};
 use std::alloc::Global;
 use toml_span_lex::lines::line_info;
@@ -48,7 +49,8 @@ fn assemble<'de>(alloc: Global, text: &'de str, limit: usize) -> Result<Assembly
     Ok(assembly)
 }
 
-/// Returns the finished tree, or the first clash as an error. Fails if an allocation fails.
+/// Returns the finished tree. Fails with the error that reports the first clash, if there is a clash, or if an
+/// allocation fails.
 fn tree_of<'de>(assembly: Assembly<'de>, text: &'de str) -> Result<Value<'de>, Stop<Error<'de>>>
     requires inside { IsAssemblyInside (length text.now) assembly }
     ensures answers { (bs : List ParsedSection) (limit : ℕ) → document text.now limit (Ok bs)
@@ -71,7 +73,8 @@ fn tree_of<'de>(assembly: Assembly<'de>, text: &'de str) -> Result<Value<'de>, S
     }
 }
 
-/// Parses a TOML 1.1 document with the default limit of 128: see `parse_with_limit`.
+/// Parses a TOML 1.1 document with the default limit of 128 on the depth of values and on the number of parts of a key:
+/// see `parse_with_limit`.
 ///
 /// Fails with the first fault, that is, the first thing in the text that can't be read. If there is none, fails with
 /// the first clash of two keys or headers, such as a table that is defined twice. Fails with `Stop::Memory` if an
@@ -89,9 +92,9 @@ pub fn parse<'de>(alloc: Global, s: &'de str) -> Result<Value<'de>, Stop<Error<'
 
 /// Parses a TOML 1.1 document into a tree. Spans are byte offsets in `s`, the end exclusive.
 ///
-/// Values may be nested `limit` levels deep, where each bracket, brace and part of a key counts as one, and each header
-/// and dotted key may have `limit` parts. Beyond that the error is `ExceededDepthLimit`. The other errors are those of
-/// `parse`. `limit` must be from 1 to 128: callers must prove this, and it is not checked at run time.
+/// Values may be nested `limit` levels deep, where each bracket, brace and part of a key counts as one level, and each
+/// header and dotted key may have `limit` parts. Beyond that the error is `ExceededDepthLimit`. The other errors are
+/// those of `parse`. `limit` must be from 1 to 128: callers must prove this, and it is not checked at run time.
 pub fn parse_with_limit<'de>(
     alloc: Global,
     s: &'de str,
@@ -106,6 +109,9 @@ pub fn parse_with_limit<'de>(
     // Nothing is allocated for a text of comments and blank lines.
     ensures memory { (start : ℕ) × FirstPlace s.now start × OnlyFormsTakeMemory s.now start result }
 {
+    if let Some(root) = plain_tree(alloc, s, limit) {
+        return Ok(root);
+    }
     match assemble(alloc, s, limit) {
         Ok(assembly) => tree_of(assembly, s),
         Err(Stop::Memory(error)) => Err(Stop::Memory(error)),

@@ -1,4 +1,4 @@
-//! Places assignments below a branch: those of a section or of an inline table.
+//! Places the assignments of a section or of an inline table below a branch of the tree under construction.
 ghost use Rattle.std.specs.Prelude.{◌≡◌, ⊤, ℕ, List, map, [], IfOk, Some};
 ghost use Rattle.std.specs.Cow.{cow_str_bytes};
 ghost use Rattle.toml_span_tree.specs.Value.{inner_view};
@@ -28,8 +28,8 @@ use toml_span_lex::span::Span;
 use toml_span_read::{Assignment, DottedKey, Val, ValKind};
 use toml_span_tree::{Array, Table, Value, ValueInner};
 
-/// A list of at most this many assignments keeps its buffer until all are placed. Freeing it earlier would cost time,
-/// because the system clears memory before it hands it out again.
+/// A list of at most this many assignments keeps its buffer until all are placed. Freeing the buffer earlier would cost
+/// time, because the system clears freed memory before handing it out again.
 const SHORT_LIST: usize = 65_536;
 
 /// Returns the claim that a part of an assignment's key makes. `span` is the span of the value.
@@ -65,7 +65,8 @@ fn check_beside_value<'de>(
     }
 }
 
-/// Returns a new branch for `key`, without claims. Fails like `check_beside_value`, or if an allocation fails.
+/// Returns a new branch for `key`, without claims. Fails if the claim `info` clashes with the value in `values` that
+/// `key` names, or if an allocation fails.
 #[inline(never)]
 pub(crate) fn fresh_child<'de>(
     alloc: Global,
@@ -98,9 +99,9 @@ fn check_beside_table<'de>(
     }
 }
 
-/// Assigns a value to the name `key` in a branch. `value` is the converted value, or the error of its conversion, and
-/// `span` is its span. Fails with the clash of the key or, if the key does not clash, with the error in `value`, or if
-/// an allocation fails.
+/// Assigns a value to the name `key` in the branch `node`. `value` is the converted value, or the error of its
+/// conversion; `span` is the span of the value in the text. Fails with the clash of the key or, if the key does not
+/// clash, with the error in `value`, or if an allocation fails.
 #[inline(never)]
 fn assign<'de>(
     alloc: Global,
@@ -134,8 +135,8 @@ fn assign<'de>(
     }
 }
 
-/// A value that is about to be assigned. The functions that recurse along a path pass it by reference, so that it takes
-/// no room on their stack frames.
+/// A value that is about to be assigned. It is passed by reference to the functions that recurse along a path, so that
+/// it takes no room in their stack frames.
 #[derive(Drop)]
 struct Pending<'de> {
     /// The last part of the key.
@@ -168,8 +169,8 @@ fn assign_pending<'de>(
 /// the branch to which they lead. `span` is the span of the value. Fails with the first clash, or if an allocation
 /// fails.
 ///
-/// An inline table is a scope of its own. A clash inside it is reported only if the key to which it is assigned does
-/// not clash, because the key comes first in the text.
+/// Claims inside an inline table can clash only with each other. Such a clash is reported only if the key to which the
+/// inline table is assigned does not clash, because that key comes first in the text.
 #[cycle(place_pair)]
 #[inline(always)]
 fn place_pair<'de>(
@@ -197,7 +198,9 @@ fn place_pair<'de>(
     }
 }
 
-/// Calls `pass_pair` for a branch that was found in the map or added to it.
+/// Claims `child`, the branch that the inner part `part` names, and places the pending value where the inner parts
+/// `rest` lead from there. The branch is boxed, because it is in a map. Fails with the first clash, or if an allocation
+/// fails.
 #[cycle(place_pair)]
 fn pass_child<'de>(
     alloc: Global,
@@ -217,8 +220,8 @@ fn pass_child<'de>(
     pass_pair(alloc, child.as_mut(), part, rest, pending, span)
 }
 
-/// Claims `node`, the branch that the inner part `part` names, and places the pending value below it. Fails like
-/// `place_pair`.
+/// Claims `node`, the branch that the inner part `part` names, and places the pending value where the inner parts
+/// `rest` lead from there. Fails with the first clash, or if an allocation fails.
 #[cycle(place_pair)]
 #[inline(always)]
 fn pass_pair<'de>(
@@ -243,10 +246,10 @@ fn pass_pair<'de>(
     place_pair(alloc, node, rest, pending, span)
 }
 
-/// Places one assignment below a branch. Fails with the first clash, or if an allocation fails.
+/// Places one assignment below the branch `node`. Fails with the first clash, or if an allocation fails.
 #[cycle(value_of)]
 #[inline(always)]
-fn place_one<'de>(
+pub(crate) fn place_one<'de>(
     alloc: Global,
     pair: Assignment<'de>,
     node: &mut Branch<'de>,
@@ -270,7 +273,7 @@ fn place_one<'de>(
     place_pair(alloc, node, inner.as_slice(), &mut pending, span)
 }
 
-/// Places assignments below a branch, in order. Fails with the first clash, or if an allocation fails.
+/// Places assignments below the branch `node`, in order. Fails with the first clash, or if an allocation fails.
 #[cycle(value_of)]
 fn place_pairs<'de>(
     alloc: Global,
@@ -287,8 +290,8 @@ fn place_pairs<'de>(
     Ok(())
 }
 
-/// Places the assignments of a section below its branch, in order, and frees long lists on the way. Fails with the
-/// first clash, or if an allocation fails.
+/// Places the assignments of a section, in order, below `node`, the branch of the section. Frees a long list while it
+/// is consumed. Fails with the first clash, or if an allocation fails.
 pub(crate) fn place_all<'de>(
     alloc: Global,
     pairs: Vec<Assignment<'de>>,

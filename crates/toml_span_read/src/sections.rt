@@ -36,10 +36,10 @@ use toml_span_lex::tokenizer::first_place;
 use toml_span_tree::Error;
 
 /// Reads the assignment at `at`. Returns it with the offset after it. Fails with its first fault, or if an allocation
-/// fails. `limit` is as in `read_sections`.
+/// fails. `limit` is the limit on the depth of its value and on the number of parts of a key.
 ///
 /// `keyval = key keyval-sep val`, `keyval-sep = ws %x3D ws` (TOML 1.1, Key/Value Pair)
-fn assignment<'de>(
+pub fn assignment<'de>(
     alloc: Global,
     text: &'de str,
     at: usize,
@@ -65,11 +65,11 @@ fn assignment<'de>(
 }
 
 /// Returns the offset after the line whose rest begins at `at`. Fails if the rest has anything but spaces, tabs and a
-/// comment.
+/// comment, or if an allocation fails.
 ///
 /// `ws [ comment ]` and the line end in `expression =/ ws keyval ws [ comment ]` (TOML 1.1, Overall Structure)
 #[inline(always)]
-fn next_line(alloc: Global, text: &str, at: usize) -> Result<usize, Stop<Fault>>
+pub fn next_line(alloc: Global, text: &str, at: usize) -> Result<usize, Stop<Fault>>
     requires { IsCharBoundary text.now at }
     ensures reads { LineReads text.now at result }
     ensures rest { MatchesReading (λ j. j) (spec.tail text.now at) result }
@@ -81,7 +81,8 @@ fn next_line(alloc: Global, text: &str, at: usize) -> Result<usize, Stop<Fault>>
 }
 
 /// Reads the assignments from `from` up to the next header or the end of the text. Returns them with the offset after
-/// them. Fails with the first fault, or if an allocation fails. `limit` is as in `read_sections`.
+/// them. Fails with the first fault, or if an allocation fails. `limit` is the limit on the depth of values and on the
+/// number of parts of a key.
 fn assignments<'de>(
     alloc: Global,
     text: &'de str,
@@ -132,8 +133,8 @@ fn header_open(text: &str, at: usize) -> (bool, usize)
     }
 }
 
-/// Returns the offset after the closing brackets of a header, two if `array`, otherwise one. Before them, from `at`,
-/// there may be spaces and tabs. Fails if a bracket is missing.
+/// Skips the spaces and tabs from `at`, and the closing brackets of a header: two brackets if `array`, otherwise one.
+/// Returns the offset after the brackets. Fails if a bracket is missing, or if an allocation fails.
 ///
 /// `std-table-close = ws %x5D`, `array-table-close = ws %x5D.5D` (TOML 1.1, Table, Array of Tables)
 fn header_close(alloc: Global, text: &str, at: usize, array: bool) -> Result<usize, Stop<Fault>>
@@ -158,17 +159,17 @@ fn header_close(alloc: Global, text: &str, at: usize, array: bool) -> Result<usi
 
 /// A header: its parts, whether it has double brackets, and the span of its line, including the line end.
 #[derive(Drop)]
-struct Header<'de> {
-    parts: SmallVec<Key<'de>, 3>,
-    array: bool,
-    extent: Span,
+pub struct Header<'de> {
+    pub parts: SmallVec<Key<'de>, 3>,
+    pub array: bool,
+    pub extent: Span,
 }
 
 /// Reads the header whose first bracket is at `at`, and the rest of its line. Fails with the first fault, or if an
 /// allocation fails. `limit` is the limit on the number of parts.
 ///
 /// `table = std-table / array-table` (TOML 1.1, Table)
-fn read_header<'de>(
+pub fn read_header<'de>(
     alloc: Global,
     text: &'de str,
     at: usize,
@@ -192,13 +193,13 @@ fn read_header<'de>(
 
 /// Returns the span of an assignment, from its key to the end of its value.
 #[inline]
-fn extent_of(assignment: &Assignment<'_>) -> Span
+pub fn extent_of(assignment: &Assignment<'_>) -> Span
     ensures { result ≡ (parsed_assignment assignment.now).extent }
 {
     assignment.extent
 }
 
-/// Returns the end of the last assignment, or `without` if there is none.
+/// Returns the offset after the last assignment, or `without` if the list is empty.
 fn last_end(assignments: &[Assignment<'_>], without: usize) -> usize
     ensures { result ≡ plain.last_end without (map parsed_assignment assignments.now) }
 {
@@ -251,11 +252,11 @@ fn first_section<'de>(alloc: Global, assignments: Vec<Assignment<'de>>) -> Optio
     })
 }
 
-/// Reads the assignments before the first header. Returns their section, if there are any, with the offset of the first
-/// header, or of the end of the text.
+/// Reads the assignments before the first header. Returns their section, or `None` if the text has no such assignments,
+/// with the offset of the first header, or of the end of the text.
 ///
-/// Fails with the first fault there, or if an allocation fails. `limit` is the limit on the depth of values and on the
-/// number of parts of a key.
+/// Fails with the first fault before that offset, or if an allocation fails. `limit`, which must be at most 128, is the
+/// limit on the depth of values and on the number of parts of a key.
 pub fn read_first<'de>(
     alloc: Global,
     text: &'de str,
@@ -273,8 +274,8 @@ pub fn read_first<'de>(
 /// Reads the section whose header begins at the byte offset `at`. Returns it with the offset of the next header, or of
 /// the end of the text.
 ///
-/// Fails with the first fault there, or if an allocation fails. `limit` is the limit on the depth of values and on the
-/// number of parts of a key.
+/// Fails with its first fault, or if an allocation fails. `limit`, which must be at most 128, is the limit on the depth
+/// of values and on the number of parts of a key.
 #[inline(never)]
 pub fn read_section<'de>(
     alloc: Global,
@@ -292,8 +293,8 @@ pub fn read_section<'de>(
     Ok((section_of(header, after), end))
 }
 
-/// Reads all sections of a text. Fails with the first fault, or if an allocation fails. `limit` is as in
-/// `read_sections`.
+/// Reads all sections of a text. Fails with the first fault, or if an allocation fails. `limit` is the limit on the
+/// depth of values and on the number of parts of a key.
 fn sections<'de>(
     alloc: Global,
     text: &'de str,
@@ -326,7 +327,7 @@ fn sections<'de>(
 }
 
 /// Reads the sections of a document, in the order of the text. They may clash. `limit` is the limit on the depth of
-/// values and on the number of parts of a key, as in `parse_with_limit`.
+/// values and on the number of parts of a key, as in `parse_with_limit`, and must be from 1 to 128.
 ///
 /// Fails with the first fault, or if an allocation fails.
 ///

@@ -1,13 +1,19 @@
-use Rattle.toml_span_lex.proofs.Common.{map}
+use Rattle.toml_span_lex.proofs.Common.{Ok, map}
 use Rattle.toml_span_read.specs.Data.{parsed_section}
 use Rattle.toml_span.proofs.AssemblyLemmas.{tree_borrows}
-use Rattle.toml_span.proofs.Memory.{keeps-on, keeps-placed}
+use Rattle.toml_span.proofs.Memory.{begun-tree, keeps-on, keeps-placed}
 use Rattle.toml_span.proofs.PlaceLemmas.{assembly_inside}
 use Rattle.toml_span.proofs.Refusals.{answers-fault, whole-tree}
 use Rattle.toml_span.proofs.de.parse_with_limit.Goals as goal
 
 pub tree_of-requires : goal.tree_of-requires
 tree_of-requires c = let g = c.in-Ok.ensures.assembly in record { inside = assembly_inside c.args.s.now c.args.limit g.sections c.in-Ok.assembly g.document g.assembles }
+
+pub returns-in-Some-clause-whole : goal.returns-in-Some-clause-whole
+returns-in-Some-clause-whole c = whole-tree c.args.s.now c.args.limit (Ok c.in-Some.root) c.in-Some.ensures.tree
+
+pub returns-in-Some-clause-memory : goal.returns-in-Some-clause-memory
+returns-in-Some-clause-memory c = begun-tree c.args.s.now c.args.limit c.in-Some.root c.in-Some.ensures.tree
 
 pub returns-in-Ok-clause-answers : goal.returns-in-Ok-clause-answers
 returns-in-Ok-clause-answers c = let g = c.in-Ok.ensures.assembly in c.tree_of.ensures.answers (map parsed_section g.sections) c.args.limit g.document g.assembles

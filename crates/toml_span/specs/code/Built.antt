@@ -1,0 +1,130 @@
+-- Finished tables to which headers still add tables.
+use Rattle.std.specs.Prelude.{◌≡◌, ℕ, ◌<◌, ◌≤◌, Bool, true, false, List, [], ◌∷◌, length, Option, Some, None, IsSomeAnd}
+use Rattle.std.specs.Prelude.{option_map}
+use Rattle.std.specs.Cow.{cow_str_bytes}
+use Rattle.std.specs.List.{AllByRecursion}
+use Rattle.std.specs.Map.{lookup_entry}
+use Rattle.toml_span_lex.specs.declared.key.Key.{Key}
+use Rattle.toml_span_tree.specs.Path.{Path, Step, key, position, reached, place_of as tree_place}
+use Rattle.toml_span_tree.specs.Value.{view}
+use Rattle.toml_span_tree.specs.declared.value.Value.{Value}
+use Rattle.toml_span_tree.specs.declared.value.ValueInner.TheVariants.{Table as table_inner, Array as array_inner}
+use Rattle.toml_span_read.specs.Borrowed.{keys_written, AreWrittenRight}
+use Rattle.toml_span.specs.Borrowed.{KeySpans, strings_and_keys, IsBorrowedRight, AreBorrowedRight}
+use Rattle.toml_span.specs.Claims.{Claims}
+use Rattle.toml_span.specs.Ordered.{IsOrdered}
+use Rattle.toml_span.specs.code.Machine.{Cell, CellMap, no_cell, no_cells, key_spans, put_all, clash_found}
+use Rattle.toml_span.specs.code.Placing.{Array, NamesAscend, Table, place_shown}
+use Rattle.toml_span.specs.code.Tree.{is_named}
+use Rattle.toml_span.specs.declared.claims.ClaimInfo.{ClaimInfo}
+use Rattle.toml_span.specs.declared.claims.HeaderInfo.{HeaderInfo}
+use Rattle.toml_span.specs.declared.claims.ClaimKind.{ClaimKind}
+use Rattle.toml_span.specs.declared.claims.ClaimKind.TheVariants.{Assigned}
+
+-- ---- entries
+
+-- A header made the entry: it begins with the header's bracket. What an assignment makes begins after its key.
+abbrev pub IsByHeader : Key × Value → Type 0
+IsByHeader e = e.1.span.start < e.0.span.start
+
+-- The strings and keys in the entry are borrowed where they equal the text, with the keys at these spans.
+abbrev pub EntryRight : List ℕ → KeySpans → Key × Value → Type 0
+EntryRight text spans e = IsBorrowedRight text (e.0.name, spans []) × AreBorrowedRight text (strings_and_keys e.1 spans)
+
+-- The entry shows the state at its path and below. Its tables are in order, and it is borrowed correctly.
+pub record EntryShows (text : List ℕ) (e : Key × Value) (st : CellMap) : Type 0 where
+  pub places : (p : Path) → option_map tree_place (reached p (Some e.0.span, view e.1)) ≡ place_shown (st p)
+  pub ordered : IsOrdered (view e.1)
+  pub right : EntryRight text (key_spans st) e
+
+abbrev pub is_assigned : ClaimKind → Bool
+is_assigned Assigned = true
+is_assigned _ = false
+
+-- No value has been assigned, and a header determines the path.
+pub record IsTableCell (x : Cell) : Type 0 where
+  pub free : AllByRecursion (λ (m : ClaimInfo). is_assigned m.kind ≡ false) x.infos
+  pub header : IsSomeAnd x.shown (λ d. d.header ≡ true)
+
+-- the elements of an array of tables; nothing has been claimed after them
+pub record HasElements (vs : List Value) (st : CellMap) (e : Path → ℕ) : Type 0 where
+  pub count : e [] ≡ length vs
+  pub some : vs ≡ [] → ⊥
+  pub free : (i : ℕ) (p : Path) → length vs ≤ i → st (position i ∷ p) ≡ no_cell
+
+-- the state and the numbers of elements at an entry that a header made
+pub record IsMade (v : Value) (st : CellMap) (e : Path → ℕ) : Type 0 where
+  pub table : (t : Table) → v.value ≡ Some (table_inner t) → (e [] ≡ 0) × IsTableCell (st [])
+  pub array : (a : Array) → v.value ≡ Some (array_inner a) → HasElements a.items st e
+
+abbrev pub EntryAt : List ℕ → Option (Key × Value) → CellMap → (Path → ℕ) → Type 0
+EntryAt text None st e = (st ≡ no_cells) × (e ≡ (λ p. 0))
+EntryAt text (Some x) st e = EntryShows text x st × (IsByHeader x → IsMade x.1 st e)
+
+-- ---- tables
+
+-- The table shows this state of the claims, where the arrays of tables have these numbers of elements. It is borrowed
+-- correctly.
+pub data IsBuilt (text : List ℕ) : Table → CellMap → (Path → ℕ) → Type 0 where
+  built : (t : Table) (st : CellMap) (e : Path → ℕ)
+      → ((i : ℕ) (p : Path) → st (position i ∷ p) ≡ no_cell)
+      → ((name : List ℕ) → EntryAt text (lookup_entry (is_named name) t.entries)
+      (λ p. st (key name ∷ p)) (λ p. e (key name ∷ p)))
+      → ((name : List ℕ) (x : Key × Value) (u : Table) → lookup_entry (is_named name) t.entries ≡ Some x
+      → IsByHeader x → x.1.value ≡ Some (table_inner u)
+      → IsBuilt text u (λ p. st (key name ∷ p)) (λ p. e (key name ∷ p)))
+      → IsBuilt text t st e
+
+-- an entry that a header made, or through which it passed
+pub record EntryBuilt (text : List ℕ) (x : Key × Value) (st : CellMap) (e : Path → ℕ) : Type 0 where
+  pub shows : EntryShows text x st
+  pub made : IsMade x.1 st e
+  pub inside : (u : Table) → x.1.value ≡ Some (table_inner u) → IsBuilt text u st e
+
+-- The claims do not clash with those before, and the new table shows them too.
+abbrev pub BuildsOn : List ℕ → Table → Table → ((Path → ℕ) → Claims) → ((Path → ℕ) → Path → ℕ) → Type 0
+BuildsOn text old new cs after =
+    (st : CellMap) (e : Path → ℕ) → IsBuilt text old st e
+    → (clash_found st (cs e) ≡ None) × IsBuilt text new (put_all st (cs e)) (after e)
+
+-- the same for an entry
+abbrev pub EntryBuildsOn : List ℕ → Key → Value → Value → ((Path → ℕ) → Claims) → ((Path → ℕ) → Path → ℕ) → Type 0
+EntryBuildsOn text k old new cs after =
+    (st : CellMap) (e : Path → ℕ) → EntryBuilt text (k, old) st e
+    → (clash_found st (cs e) ≡ None) × EntryBuilt text (k, new) (put_all st (cs e)) (after e)
+
+-- ---- sections
+
+abbrev pub IsEmptyBelow : CellMap → Type 0
+IsEmptyBelow st = (s : Step) (p : Path) → st (s ∷ p) ≡ no_cell
+
+-- The claims are those of a section, as paths below its table, and the table shows them where nothing is claimed yet.
+pub record IsSection (text : List ℕ) (tail : Claims) (t : Table) : Type 0 where
+  pub free : (st : CellMap) → IsEmptyBelow st → clash_found st tail ≡ None
+  pub here : (st : CellMap) → put_all st tail [] ≡ st []
+  pub built : (st : CellMap) → IsEmptyBelow st → IsBuilt text t (put_all st tail) (λ p. 0)
+
+-- The value is the table of a section with this header, and these are its claims. The parts of the header that are left
+-- are borrowed correctly.
+pub record Placed (text : List ℕ) (h : HeaderInfo) (tail : Claims) (parts : List Key) (array : Bool) (v : Value)
+    : Type 0 where
+  pub brackets : h.array ≡ array
+  pub extent : h.extent ≡ v.span
+  pub keys : AreWrittenRight text (keys_written parts)
+  pub table : Table
+  pub held : v.value ≡ Some (table_inner table)
+  pub ascend : NamesAscend table
+  pub section : IsSection text tail table
+
+-- The key has the name and the span of the part, and is borrowed correctly.
+abbrev pub IsKeyFor : List ℕ → Key → Key → Type 0
+IsKeyFor text k part =
+    (cow_str_bytes k.name ≡ cow_str_bytes part.name) × (k.span ≡ part.span) × IsBorrowedRight text (k.name, Some k.span)
+
+-- The claims do not clash, and the entry shows them.
+abbrev pub MakesEntry : List ℕ → Key × Value → Claims → (Path → ℕ) → Type 0
+MakesEntry text x cs e = (clash_found no_cells cs ≡ None) × EntryBuilt text x (put_all no_cells cs) e
+
+-- An assignment made the entry: its value begins after its key.
+abbrev pub IsLate : Key × Value → Type 0
+IsLate x = x.0.span.start ≤ x.1.span.start

@@ -1,0 +1,132 @@
+//! Places the finished tables of sections in a finished table, at the paths of their headers.
+ghost use Rattle.std.specs.Prelude.{ℕ, List, map, IfSome};
+ghost use Rattle.toml_span_read.specs.Data.{simple_key, SimpleKey};
+ghost use Rattle.toml_span.specs.Claims.{Claims};
+ghost use Rattle.toml_span.specs.code.Built.{BuildsOn, EntryBuildsOn, IsKeyFor, MakesEntry, Placed};
+ghost use Rattle.toml_span.specs.code.Relative.{counts_after, counts_after_through, section_at, through};
+ghost use Rattle.toml_span.specs.declared.claims.HeaderInfo.{HeaderInfo};
+
+use crate::branch::in_order;
+use std::alloc::Global;
+use std::collections::BTreeMap;
+use std::collections::btree_map::Entry;
+use toml_span_lex::key::Key;
+use toml_span_tree::{Array, Table, Value, ValueInner};
+
+/// Follows `parts`, the remaining parts of a section's header, from `table`, and places `value`, the table of the
+/// section, at the path to which they lead. `array` says whether the header has double brackets.
+///
+/// Returns `None` if the path leads through anything but tables that headers made, if what it leads to is neither new
+/// nor an array of tables to which the header adds an element, or if an allocation fails. The table is of no use then.
+#[cycle(header_paths)]
+#[inline(always)]
+pub(crate) fn place_table<'de>(
+    alloc: Global,
+    table: &mut Table<'de>,
+    parts: &[Key<'de>],
+    array: bool,
+    value: Value<'de>,
+) -> Option<()>
+    ensures { (text : List ℕ) (h : HeaderInfo) (tail : Claims) → Placed text h tail parts.now array value.entry
+        → IfSome result (λ _. BuildsOn text table.old table.new
+        (λ e. section_at e h (map simple_key parts.now) tail) (λ e. counts_after e h (map simple_key parts.now))) }
+{
+    let [part, rest @ ..] = parts else {
+        return None;
+    };
+    let key = match part.clone(alloc) {
+        Ok(key) => key,
+        Err(_) => return None,
+    };
+    match table.entry(key) {
+        Ok(Entry::Occupied(entry)) => {
+            if entry.get().span.start >= entry.key().span.start {
+                return None;
+            }
+            pass_value(alloc, entry.into_mut(), rest, array, value)
+        }
+        Ok(Entry::Vacant(entry)) => {
+            let made = new_value(alloc, rest, array, value)?;
+            let _ = entry.insert(made);
+            Some(())
+        }
+        Err(_) => None,
+    }
+}
+
+/// Places the table of a section at or below `child`, a value that headers made. `rest` are the parts of the header
+/// after the one that names `child`. Fails like `place_table`.
+#[cycle(header_paths)]
+fn pass_value<'de>(
+    alloc: Global,
+    child: &mut Value<'de>,
+    rest: &[Key<'de>],
+    array: bool,
+    value: Value<'de>,
+) -> Option<()>
+    ensures { (text : List ℕ) (h : HeaderInfo) (tail : Claims) (k : Key) (part : SimpleKey)
+        → Placed text h tail rest.now array value.entry
+        → IfSome result (λ _. EntryBuildsOn text k child.old child.new
+        (λ e. through e h part (map simple_key rest.now) tail)
+        (λ e. counts_after_through e h (map simple_key rest.now))) }
+{
+    if child.is_taken() {
+        return None;
+    }
+    let span = child.span;
+    match child.take() {
+        ValueInner::Table(mut below) => {
+            if rest.is_empty() {
+                return None;
+            }
+            place_table(alloc, &mut below, rest, array, value)?;
+            in_order(&below);
+            *child = Value::with_span(ValueInner::Table(below), span);
+            Some(())
+        }
+        ValueInner::Array(mut elements) => {
+            if !array || !rest.is_empty() {
+                return None;
+            }
+            match elements.push(value) {
+                Ok(()) => {
+                    *child = Value::with_span(ValueInner::Array(elements), span);
+                    Some(())
+                }
+                Err(_) => None,
+            }
+        }
+        _ => None,
+    }
+}
+
+/// Returns the value for a name that is new, with the table of a section at the path to which `rest` leads, the parts
+/// of the header after that name. Returns `None` if an allocation fails.
+#[cycle(header_paths)]
+fn new_value<'de>(
+    alloc: Global,
+    rest: &[Key<'de>],
+    array: bool,
+    value: Value<'de>,
+) -> Option<Value<'de>>
+    ensures { (text : List ℕ) (h : HeaderInfo) (tail : Claims) (k part : Key)
+        → Placed text h tail rest.now array value.entry → IsKeyFor text k part
+        → IfSome result (λ v. MakesEntry text (k, v) (through (λ p. 0) h (simple_key part) (map simple_key rest.now) tail)
+        (counts_after_through (λ p. 0) h (map simple_key rest.now))) }
+{
+    let span = value.span;
+    if !rest.is_empty() {
+        let mut below = BTreeMap::new(alloc);
+        place_table(alloc, &mut below, rest, array, value)?;
+        in_order(&below);
+        return Some(Value::with_span(ValueInner::Table(below), span));
+    }
+    if !array {
+        return Some(value);
+    }
+    let mut elements: Array<'de> = Vec::new(alloc);
+    match elements.push(value) {
+        Ok(()) => Some(Value::with_span(ValueInner::Array(elements), span)),
+        Err(_) => None,
+    }
+}

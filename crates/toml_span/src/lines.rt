@@ -1,0 +1,81 @@
+//! Reads the assignments of a section and places each one as soon as it is read.
+ghost use Rattle.std.specs.Prelude.{◌≤◌, IfSome};
+ghost use Rattle.std.specs.Str.{IsCharBoundary};
+ghost use Rattle.toml_span_read.specs.Data.{depth_limit};
+ghost use Rattle.toml_span.specs.code.Lines.{IsSectionTable, PlacesLines};
+
+use crate::branch::{Branch, into_table};
+use crate::scopes::place_one;
+use std::alloc::Global;
+use toml_span_read::gaps::{byte_at, gap_end};
+use toml_span_read::sections::{assignment, extent_of, next_line};
+use toml_span_tree::Table;
+
+/// Reads the assignments from `from` up to the next header or the end of the text, and places them in a branch. Returns
+/// the end of the last one, or `from` if there is none, and the offset of the header or of the end of the text.
+///
+/// Returns `None` at the first fault or clash, or if an allocation fails. The branch is of no use then.
+pub(crate) fn place_lines<'de>(
+    alloc: Global,
+    text: &'de str,
+    from: usize,
+    limit: usize,
+    node: &mut Branch<'de>,
+) -> Option<(usize, usize)>
+    requires boundary { IsCharBoundary text.now from }
+    requires small { limit ≤ depth_limit }
+    ensures lines { IfSome result (λ ends. PlacesLines text.now limit from node.old node.new ends.0 ends.1) }
+{
+    let mut end = from;
+    let mut at = gap_end(text, from);
+    'lines: while at < text.len() && byte_at(text, at) != b'[' {
+        let (next, after) = match assignment(alloc, text, at, limit) {
+            Ok(read) => read,
+            Err(_) => return None,
+        };
+        let line = match next_line(alloc, text, after) {
+            Ok(line) => line,
+            Err(_) => return None,
+        };
+        end = extent_of(&next).end;
+        match place_one(alloc, next, node) {
+            Ok(()) => {}
+            Err(_) => return None,
+        }
+        at = gap_end(text, line);
+    }
+    Some((end, at))
+}
+
+/// The table of a section, read without its header.
+#[derive(Drop)]
+pub(crate) struct Lines<'de> {
+    pub table: Table<'de>,
+    /// The end of the last assignment, or the offset from which the section was read if there is none.
+    pub end: usize,
+    /// The offset of the next header, or of the end of the text.
+    pub next: usize,
+}
+
+/// Reads the assignments from `from` up to the next header or the end of the text. Returns the finished table that they
+/// define, or `None` at the first fault or clash, or if an allocation fails.
+pub(crate) fn section_table<'de>(
+    alloc: Global,
+    text: &'de str,
+    from: usize,
+    limit: usize,
+) -> Option<Lines<'de>>
+    requires boundary { IsCharBoundary text.now from }
+    requires small { limit ≤ depth_limit }
+    ensures lines { IfSome result (IsSectionTable text.now limit from) }
+{
+    let mut scope = Branch::new(alloc);
+    let (end, next) = match place_lines(alloc, text, from, limit, &mut scope) {
+        Some(ends) => ends,
+        None => return None,
+    };
+    match into_table(scope.tables, scope.values) {
+        Ok(table) => Some(Lines { table, end, next }),
+        Err(_) => None,
+    }
+}
