@@ -135,6 +135,7 @@ colored '' TERM=dumb python3 -c "$terminal"
 colored '' TERM=xterm NO_COLOR=1 python3 -c "$terminal"
 holds python3 formats.py "$program"
 holds python3 sessions.py "$program" sessions/*
+holds python3 sessions.py "$program" --refused "$work/faults.so" sessions/*
 input=$PWD/runs/data/tree.toml
 go check --format sarif - settings.toml
 cp "$work/stdout" "$work/usual"

@@ -2,9 +2,14 @@
 """Tests the language server: python3 sessions.py PROGRAM FILE..
 
 A session is a file of lines: `-> JSON` is a message to the server, `<- JSON` one that it must send next, `=> TEXT`
-bytes that are sent as they are (with the escapes of Python), and `status N` the exit status, by default 0. `"jsonrpc": "2.0"`
-is added to messages without it, and not compared; `"..."` stands for any value. Lines that begin with `#` are comments.
-A line that begins with spaces goes on with the line before it.
+bytes that are sent as they are (with the escapes of Python), and `status N` the exit status, by default 0.
+`"jsonrpc": "2.0"` is added to messages without it, and not compared; `"..."` stands for any value. `file PATH TEXT`
+writes a file in the folder in which the server runs, once all messages before it have come; `HERE` stands for the path
+of that folder. Lines that begin with `#` are comments. A line that begins with spaces goes on with the line before it.
+
+With `--refused FAULTS FILE..`, where FAULTS is scripts/c_tests/faults.c as a library, runs the sessions again with each
+request for memory refused in turn. The server must write whole frames, and either end with status 4 or go on. What it
+has written until then, or writes after that, must be as usual, except for one error or message.
 
 With `--fuzz COUNT [SEED]`, sends that many frames at random, most of them wrong, and checks after each hundred that a
 right request is answered. With `--speed FILE`, opens the file and measures how long the server takes for a keystroke
@@ -13,10 +18,14 @@ until its diagnostics are there, and how much memory it has after many of them.
 
 import difflib
 import json
+import os
 import random
 import re
+import shutil
 import subprocess
 import sys
+import tempfile
+import threading
 import time
 
 
@@ -72,27 +81,139 @@ def lines_of(name):
     return lines
 
 
-def session(program, name):
-    """Runs a session. Returns the differences."""
-    sent, wanted, status = b"", [], 0
+class Part:
+    """What is sent after some files are written, and how many messages must have come after it."""
+
+    def __init__(self):
+        self.files, self.sent, self.wanted = [], b"", 0
+
+
+def read_session(name, here):
+    """Returns the parts of a session, the messages that must come, and the exit status."""
+    parts, wanted, status = [Part()], [], 0
     for line in lines_of(name):
         kind, _, text = line.partition(" ")
-        if kind == "->":
-            sent += encoded(json.loads(text))
+        text = text.replace("HERE", here)
+        if kind == "file":
+            if parts[-1].sent:
+                parts.append(Part())
+            parts[-1].files.append(text.partition(" "))
+        elif kind == "->":
+            parts[-1].sent += encoded(json.loads(text))
         elif kind == "=>":
-            sent += text.encode().decode("unicode_escape").encode("latin-1")
+            parts[-1].sent += text.encode().decode("unicode_escape").encode("latin-1")
         elif kind == "<-":
             wanted.append(json.loads(text))
         elif kind == "status":
             status = int(text)
         else:
             sys.exit(f"{name}: neither a message nor a status: {line}")
-    run = subprocess.run([program, "lsp"], input=sent, capture_output=True, timeout=120)
-    made = contents(run.stdout)
+        parts[-1].wanted = len(wanted)
+    return parts, wanted, status
+
+
+def write(here, files):
+    """Writes files, whose paths are relative to the folder `here`."""
+    for path, _, text in files:
+        path = os.path.join(here, path)
+        os.makedirs(os.path.dirname(path), exist_ok=True)
+        with open(path, "wb") as file:
+            file.write(text.encode().decode("unicode_escape").encode("latin-1") if "\\x" in text else text.encode())
+
+
+def send(process, data):
+    """Sends bytes to a server, unless it has ended."""
+    try:
+        process.stdin.raw.write(data)
+    except BrokenPipeError:
+        pass
+
+
+def send_last(process, data):
+    """Sends bytes to a server, and ends its input."""
+    send(process, data)
+    process.stdin.close()
+
+
+def answers(program, parts, here, **settings):
+    """Runs the parts of a session in the folder `here`. Returns the output and the exit status."""
+    pipe, null = subprocess.PIPE, subprocess.DEVNULL
+    process = subprocess.Popen([program, "lsp"], stdin=pipe, stdout=pipe, stderr=null, cwd=here, **settings)
+    watch = threading.Timer(120, process.kill)
+    watch.start()
+    data, count = b"", 0
+    for part in parts[:-1]:
+        write(here, part.files)
+        send(process, part.sent)
+        while count < part.wanted and (head := process.stdout.readline()):
+            size = int(head.split(b":")[1])
+            data += head + process.stdout.readline() + process.stdout.read(size)
+            count += 1
+    write(here, parts[-1].files)
+    sender = threading.Thread(target=send_last, args=(process, parts[-1].sent))
+    sender.start()
+    data += process.stdout.read()
+    sender.join()
+    status = process.wait()
+    watch.cancel()
+    process.stdout.close()
+    return data, status
+
+
+def session(program, name):
+    """Runs a session. Returns the differences."""
+    with tempfile.TemporaryDirectory() as here:
+        here = os.path.realpath(here)
+        parts, wanted, status = read_session(name, here)
+        data, ended = answers(os.path.abspath(program), parts, here)
+    made = contents(data)
     made = [masked(*pair) for pair in zip(wanted + [None] * len(made), made)]
     wanted = [*map(shown, wanted), f"status {status}"]
-    made = [*map(shown, made), f"status {run.returncode}"]
-    return list(difflib.unified_diff(wanted, made, name, "the server", lineterm="", n=1))
+    made = [*map(shown, made), f"status {ended}"]
+    lines = difflib.unified_diff(wanted, made, name, "the server", lineterm="", n=1)
+    return [line.replace(here, "HERE") for line in lines]
+
+
+def is_explained(usual, made):
+    """Returns whether the frames are as usual, or only begin so, but for one that says that memory was refused."""
+    spare = 1
+    at = 0
+    for message in made:
+        if at < len(usual) and message == usual[at]:
+            at += 1
+        elif spare and at < len(usual) and message.get("id") == usual[at].get("id") and "error" in message:
+            spare, at = 0, at + 1
+        elif spare and message.get("method") in ("window/logMessage", "window/showMessage"):
+            spare = 0
+        else:
+            return False, at
+    return True, at
+
+
+def refused(program, faults, name):
+    """Runs a session with each request for memory refused in turn."""
+    number, made, ended, usual = 0, 0, 0, []
+    with tempfile.TemporaryDirectory() as folder, tempfile.TemporaryFile() as count:
+        here = os.path.join(os.path.realpath(folder), "here")
+        parts, _, status = read_session(name, here)
+        os.dup2(count.fileno(), 9)
+        while number <= made:
+            shutil.rmtree(here, ignore_errors=True)
+            os.mkdir(here)
+            environment = {**os.environ, "LD_PRELOAD": os.path.abspath(faults), "REFUSED": str(number)}
+            count.truncate(0)
+            os.lseek(9, 0, os.SEEK_SET)
+            data, code = answers(os.path.abspath(program), parts, here, env=environment, pass_fds=[9])
+            frames = contents(data)
+            if number == 0:
+                count.seek(0)
+                made, usual = int(count.read()), frames
+            explained, at = is_explained(usual, frames)
+            if not explained or code != 4 and (code != status or at < len(usual)):
+                sys.exit(f"{name}: request {number} of {made} refused: status {code}, {frames}")
+            ended += code == 4
+            number += 1
+    print(f"{name}: each of {made} requests for memory refused in turn; {ended} ended the server")
 
 
 class Server:
@@ -129,8 +250,8 @@ METHODS = """textDocument/documentSymbol textDocument/foldingRange textDocument/
 textDocument/documentHighlight textDocument/references textDocument/definition textDocument/hover textDocument/rename
 textDocument/prepareRename textDocument/formatting textDocument/rangeFormatting textDocument/codeAction
 textDocument/completion textDocument/semanticTokens/full textDocument/diagnostic textDocument/didOpen
-textDocument/didChange textDocument/didSave textDocument/didClose workspace/symbol $/cancelRequest $/other initialized
-initialize""".split()
+textDocument/didChange textDocument/didSave textDocument/didClose textDocument/documentLink workspace/symbol
+workspace/didChangeConfiguration $/cancelRequest $/other initialized initialize""".split()
 
 TEXTS = [
     "",
@@ -140,9 +261,24 @@ TEXTS = [
     "a = 1\na = 2\nb = True\n[t\nx = 'y\n",
     'a = {b = 1979-05-27T07:32:00Z, c = 0xFF}\n"\U0001f600" = """\n\U0001f600\n"""\n',
     "\r\r\n\n\ra=1\r",
+    "#:schema schema.json\na = ",
+    "[x.a]\nb = [\n{na}, tr, \"\n[[x]]\nkind = {",
     "[" * 200,
     "a." * 140 + "b = 1",
 ]
+
+
+# a schema for the texts, in which each way to a subschema occurs
+SCHEMA = {
+    "$defs": {"any": {"anyOf": [{"type": "string", "enum": ["n", "m"]}, {"$ref": "#/$defs/table"}, {"items": {"$ref": "#"}}]},
+              "table": {"properties": {"name": {"type": "string", "default": "\U0001f600"}, "kind": {"const": 1}},
+                        "additionalProperties": {"$ref": "#/$defs/any"}}},
+    "properties": {"a": {"$ref": "#/$defs/any"}, "b": {"type": ["boolean", "object"], "deprecated": True, "title": "b"},
+                   "x": {"prefixItems": [{"$ref": "#/$defs/table"}], "items": {"$ref": "#/$defs/any"}}},
+    "patternProperties": {"^t": {"type": "array", "items": {"enum": [1, "y", None, [2]]}}},
+    "if": {"required": ["a"]}, "then": {"required": ["c"]}, "else": {"properties": {"d": {"default": {"e": 1}}}},
+    "dependentSchemas": {"b": {"properties": {"f": True}}}, "unevaluatedProperties": {"$ref": "#/$defs/any"},
+}
 
 
 class Fuzz:
@@ -193,6 +329,7 @@ class Fuzz:
             "contentChanges": [change] * self.random.randrange(3),
             "context": {"includeDeclaration": self.one(True, False), "only": self.one(["quickfix"], ["source"], [""], None)},
             "options": {"tabSize": self.number()},
+            "settings": {"toml-span": self.one({}, {"schema": "schema.json"}, {"schema": "none"}, {"width": 1}, self.junk(2))},
         }
         while self.random.random() < 0.2:
             params[self.one(*params)] = self.junk(3)
@@ -218,9 +355,13 @@ def fuzz(program, count, seed):
     """Sends frames at random. The server must answer a right request after each hundred."""
     makes = Fuzz(seed)
     done = 0
+    here = tempfile.mkdtemp()
+    write(here, [("schema.json", "", json.dumps(SCHEMA))])
     while done < count:
         rounds = 20
-        sent = encoded({"id": "start", "method": "initialize", "params": {}})
+        settings = makes.one({}, {"schema": "schema.json"}, {"toml": "1.0", "schema": "schema.json"}, makes.junk(2))
+        params = {"rootUri": f"file://{here}", "initializationOptions": settings}
+        sent = encoded({"id": "start", "method": "initialize", "params": params})
         for number in range(rounds):
             sent += b"".join(makes.frame() for _ in range(100))
             sent += encoded(opened("right", "a = 1\n"))
@@ -235,6 +376,7 @@ def fuzz(program, count, seed):
                 file.write(sent)
             sys.exit(f"sessions.py: status {run.returncode}, unanswered: {wrong}; the input is in fuzz.bin")
         done += 100 * rounds
+    shutil.rmtree(here)
     print(f"{done} frames, seed {seed}: each right request after them was answered")
 
 
@@ -278,6 +420,9 @@ def main(words):
     if "--fuzz" in words:
         seed = int(words[3]) if len(words) > 3 else 1
         fuzz(words[0], int(words[2]), seed)
+    elif "--refused" in words:
+        for name in words[3:]:
+            refused(words[0], words[2], name)
     elif "--speed" in words:
         speed(words[0], words[2])
     else:

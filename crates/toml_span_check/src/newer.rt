@@ -1,4 +1,4 @@
-//! Checks documents as TOML 1.0: reports and replaces what TOML 1.0 lacks.
+//! Checks documents as TOML 1.0: reports and replaces syntax that TOML 1.0 lacks, called newer forms.
 ghost use Rattle.std.specs.Prelude.{◌≡◌, ◌++◌, IfOk, OnOk, map, string_bytes};
 ghost use Rattle.toml_span_places.specs.Replace.{edit_of};
 ghost use Rattle.toml_span_report.specs.Report.{repair_of, report_content};
@@ -45,7 +45,7 @@ pub(crate) fn is_older(version: Version, name: &str) -> bool
     }
 }
 
-/// Returns the message of the report of a form of this kind.
+/// Returns the message of the report on a newer form of this kind.
 fn message_of(kind: NewerKind) -> &'static str
     ensures { result.now ≡ spec.message_of kind }
 {
@@ -62,7 +62,7 @@ fn message_of(kind: NewerKind) -> &'static str
     }
 }
 
-/// Returns the help of the report of a form of this kind.
+/// Returns the help of the report on a newer form of this kind.
 fn help_of(kind: NewerKind) -> &'static str
     ensures { result.now ≡ spec.help_of kind }
 {
@@ -78,7 +78,7 @@ fn help_of(kind: NewerKind) -> &'static str
     }
 }
 
-/// Returns the escape `\u00` with the two digits before the byte offset `end`. Fails if an allocation fails.
+/// Returns `\u00` followed by the two digits before the byte offset `end`. Fails if an allocation fails.
 fn four_digits(alloc: Global, text: &str, end: usize) -> Result<String, AllocError>
     ensures { IfOk result (λ out. string_bytes out ≡ spec.four_digits text.now end) }
 {
@@ -115,7 +115,7 @@ fn with_older(
     }
 }
 
-/// Returns the report of a newer form, without replacements and notes. Fails if an allocation fails.
+/// Returns the report on a newer form, without replacements and notes. Fails if an allocation fails.
 fn plain_report(alloc: Global, form: NewerForm) -> Result<Report, AllocError>
     ensures { IfOk result (λ made. report_content made ≡ spec.plain_report form) }
 {
@@ -136,8 +136,8 @@ fn with_reason(report: Report, is_default: bool) -> Result<Report, AllocError>
     }
 }
 
-/// Returns the report of a newer form. `is_default` says whether the name of the file decided to check it as TOML 1.0.
-/// Fails if an allocation fails.
+/// Returns the report on a newer form, with its replacement and note. `is_default` says whether the name of the file
+/// decided to check it as TOML 1.0. Fails if an allocation fails.
 fn newer_report(
     alloc: Global,
     text: &str,
@@ -151,7 +151,8 @@ fn newer_report(
     with_reason(repaired, is_default)
 }
 
-/// Returns the report of each newer form, as `newer_report` does. Fails if an allocation fails.
+/// Returns the report on each newer form, with its replacement and note. `is_default` says whether the name of the file
+/// decided to check it as TOML 1.0. Fails if an allocation fails.
 fn reports_of(
     alloc: Global,
     text: &str,
@@ -186,7 +187,7 @@ pub fn newer_reports(alloc: Global, text: &str, is_default: bool) -> Result<Vec<
 
 /// Returns a report for each place where a valid document uses syntax that this version lacks. `name` is the name of
 /// the file. Fails if an allocation fails.
-pub(crate) fn version_reports(
+pub fn version_reports(
     alloc: Global,
     text: &str,
     version: Version,

@@ -1,4 +1,3 @@
 pub mod Added
 pub mod Rows
 pub mod Said
-pub mod Warned

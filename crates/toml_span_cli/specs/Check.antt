@@ -1,11 +1,11 @@
--- What `check` does: a run, before which `--fix` fixes errors.
+-- What `check` does: with `--fix`, it fixes errors first; then it checks the files.
 use Rattle.std.specs.Prelude.{◌≡◌, ◌⊎◌, ℕ, Bool, true, List, Option, None}
 use Rattle.std.specs.Io.KnownBytes.{Keeps}
 use Rattle.toml_span_lines.specs.Run.{HasWritten}
 use Rattle.toml_span_check.specs.declared.answer.Task.{Task}
 use Rattle.toml_span_check.specs.declared.faults.Format.{Format}
 use Rattle.toml_span_cli.specs.Options.{Asks}
-use Rattle.toml_span_cli.specs.Schemas.{file_says}
+use Rattle.toml_span_lookup.specs.Findings.{file_says}
 use Rattle.toml_span_cli.specs.Start.{Starts}
 use Rattle.toml_span_cli.specs.declared.options.Reader.TheVariants as readers
 
@@ -15,8 +15,8 @@ AsksForFixing words is_terminal =
     (format : Format) × (task : Task) × (pointer : List ℕ) × (excludes names : List (List ℕ)) × (is_quiet : Bool)
     × Asks readers.Check words is_terminal format task pointer excludes names is_quiet true
 
--- After files have been fixed, a line says how many errors were fixed, and the files are checked. If the line says that
--- a file can't be written, or can't be written itself (status 3), no file is checked.
+-- After files have been fixed, a line is written which says how many errors were fixed, and the files are checked. If a
+-- fixed file or this line can't be written (status 3), no file is checked.
 abbrev pub ChecksFixed : List (List ℕ) → Bool → Bool → Option (List ℕ) → Option (List ℕ) → Bool → Option (List ℕ)
     → Option (List ℕ) → Bool → ℕ → Type 0
 ChecksFixed words is_terminal is_watched stdout stdout' out_failed stderr stderr' err_failed status =

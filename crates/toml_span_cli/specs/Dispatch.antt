@@ -1,4 +1,4 @@
--- What the arguments ask for, and how it is carried out.
+-- The request that the arguments make, and how it is carried out.
 use Rattle.std.specs.Prelude.{◌≤◌, ℕ, Bool, true, false, ◌||◌, List, drop, Option, Some, None, slice_get}
 use Rattle.std.specs.Prelude.{if◌then◌else◌}
 use Rattle.std.specs.Io.KnownBytes.{Keeps}
@@ -16,21 +16,23 @@ use Rattle.toml_span_cli.specs.declared.dispatch.Request.TheVariants as requests
 use Rattle.toml_span_cli.specs.declared.help.TheConstants.{HELP, VERSION}
 use Rattle.toml_span_cli.specs.declared.options.Reader.TheVariants as readers
 
--- the command of this name or, if a file has this name, a check of files
+-- the request for this command or, for a name that only a file has, for a check of files
 abbrev pub named : Option Command → Bool → Request
 named (Some command) is_file = requests.Command command
 named None true = requests.Files
 named None false = requests.Unknown
 
--- What the first argument is. The flag says whether a file has this name.
+-- The request that the first argument makes. The flag says whether there is a file with this name.
 unfoldable pub request_of : List ℕ → Bool → Request
 request_of word exists =
     if is_help word then requests.Help
     else if is_version word then requests.Version
     else named (command_named word) (is_file word || exists)
 
--- What a command does. The first of the words is its name, or that of the program. Then standard output before and
--- after, and whether a write to it failed; the same for standard error; and the status, which is at most 4.
+-- What a command does. The first of the words is the name of the command or of the program. After the two flags
+-- (whether `--color auto` means colors, and whether standard error is a terminal), the arguments are standard output
+-- before and after, and whether a write to it failed; the same for standard error; and the exit status, which is at
+-- most 4.
 abbrev pub Performs : Command → List (List ℕ) → Bool → Bool → Option (List ℕ) → Option (List ℕ) → Bool → Option (List ℕ)
     → Option (List ℕ) → Bool → ℕ → Type 0
 Performs commands.Check words is_coloured is_watched stdout stdout' out_failed stderr stderr' err_failed status =
@@ -55,7 +57,8 @@ Answers requests.Version words is_coloured is_watched stdout stdout' out_failed 
 Answers requests.Unknown words is_coloured is_watched stdout stdout' out_failed stderr stderr' err_failed status =
     Keeps stdout stdout' × Warns stderr stderr' err_failed 2 status
 
--- how the first argument is carried out, or none
+-- How the request of the first argument is carried out. Without an argument, the help is printed to standard error,
+-- with status 2.
 abbrev pub AnswersFirst : Option (List ℕ) → List (List ℕ) → Bool → Bool → Option (List ℕ) → Option (List ℕ) → Bool
     → Option (List ℕ) → Option (List ℕ) → Bool → ℕ → Type 0
 AnswersFirst None words is_coloured is_watched stdout stdout' out_failed stderr stderr' err_failed status =

@@ -7,7 +7,7 @@ use Rattle.toml_span_cli.specs.declared.schema_pages.TheConstants.{SCHEMA_PAGES}
 use Rattle.toml_span_cli.specs.declared.explain.TheConstants.{NOT_UTF_8, TOO_LONG, TOO_MANY_ERRORS}
 use Rattle.toml_span_cli.specs.declared.explain.TheConstants.{NOTHING_THERE}
 
--- that of a report about a schema
+-- the explanation of a code of a report about a schema
 unfoldable pub schema_page : List ℕ → Option (List ℕ)
 schema_page code = text_in (map (λ entry. (entry.0.now, entry.1.now)) SCHEMA_PAGES) code
 
@@ -15,7 +15,8 @@ abbrev pub or_error : Option (List ℕ) → List ℕ → Option (List ℕ)
 or_error (Some page) code = Some page
 or_error None code = explained code
 
--- that of an error of a document, of a report about a schema, or of another error of `check` and `get`
+-- the explanation of any code: of an error of a document, of a report about a schema, or of another error of `check`
+-- and `get`
 unfoldable pub page_of : List ℕ → Option (List ℕ)
 page_of code =
     if bytes_eq code (codes "too-many-errors") then Some TOO_MANY_ERRORS.now

@@ -6,7 +6,6 @@ pub mod Explain
 pub mod Options
 pub mod Paths
 pub mod Say
-pub mod Schemas
 pub mod Show
 pub mod Start
 pub mod Words

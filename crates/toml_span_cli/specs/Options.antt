@@ -1,5 +1,5 @@
--- The options in the arguments. The kit's `clap` splits the arguments into options: its `matches_of` and `fault_of` are
--- functions of them.
+-- The options in the arguments. The kit's `clap` splits the arguments into options, as its `matches_of` and `fault_of`
+-- define.
 use Rattle.std.specs.Prelude.{◌≡◌, ◌==◌, ◌&&◌, ℕ, Bool, true, false, List, [], ◌∷◌, length, Option, Some, None, codes}
 use Rattle.std.specs.Prelude.{unwrap_or, if◌then◌else◌, Result, Ok, Err}
 use Rattle.std.specs.Str.{bytes_eq}
@@ -58,7 +58,7 @@ files = record (new_rule (codes "FILE")) {
 abbrev pub required : List ℕ → Rule
 required name = record (new_rule name) { required = true }
 
--- a program that has a version, and so `--version`
+-- a program that has a version, and so the option `--version`
 abbrev pub with_version : App → App
 with_version app = record app { top = record app.top { has_version = true } }
 
@@ -94,9 +94,9 @@ abbrev pub program : Reader → App
 program readers.Check = check
 program readers.Get = get
 
--- ---- what they mean
+-- ---- the meaning of the options
 
--- the value of an option, or nothing
+-- the value of an option, or an empty text if the option has no value
 abbrev pub value_of : List Row → List ℕ → List ℕ
 value_of rows name = unwrap_or (first_of name rows) []
 
@@ -123,14 +123,14 @@ format_named name style =
     else if bytes_eq name (codes "sarif") then Some Sarif
     else None
 
--- the form that is chosen, after one more flag
+-- the form that is chosen, after one more flag; two flags that choose a form are a mistake
 abbrev pub with_form : Result (Option Form) Mistake → Bool → Form → Result (Option Form) Mistake
 with_form chosen false form = chosen
 with_form (Ok None) true form = Ok (Some form)
 with_form (Ok (Some earlier)) true form = Err mistake.Forms
 with_form (Err mistake) true form = Err mistake
 
--- the form of the value, if a flag chooses one
+-- the form in which to print the value, if a flag chooses one
 abbrev pub form_of : List Row → Result (Option Form) Mistake
 form_of rows =
     with_form (with_form (with_form (with_form (with_form (Ok None)
@@ -149,7 +149,7 @@ version_named name =
     else if bytes_eq name (codes "1.1") then Some version.Toml11
     else None
 
--- who chooses the schemas of files
+-- who chooses the schemas of files: the arguments, if `--schema` or `--catalog` is given, otherwise the files
 abbrev pub chooser_of : List Row → Chooser
 chooser_of rows =
     if length (value_of rows (codes "schema")) == 0 && length (value_of rows (codes "catalog")) == 0 then Files
@@ -159,12 +159,12 @@ abbrev pub checks : Option Version → Chooser → Result Task Mistake
 checks (Some version) chooser = Ok (Check version chooser)
 checks None chooser = Err mistake.Version
 
--- whether each of these values has a `=`
+-- whether each of these values contains an `=`
 unfoldable pub are_maps : List (List ℕ) → Bool
 are_maps [] = true
 are_maps (m ∷ ms) = if has 61 m then are_maps ms else false
 
--- the task
+-- the task, or the mistake in the arguments
 abbrev pub task_of : Reader → List Row → Result Task Mistake
 task_of readers.Check rows =
     if are_maps (values_of rows (codes "schema-map"))
@@ -174,7 +174,7 @@ task_of readers.Get rows =
     if is_bytes (value_of rows (codes "PATH")) then Err mistake.Path
     else shows (form_of rows)
 
--- If a document is printed, errors can't be reported as one document.
+-- the format and the task; SARIF is a mistake if the task is to print a document
 abbrev pub with_task : Format → Task → Result (Format × Task) Mistake
 with_task Sarif (Show form) = Err mistake.Sarif
 with_task format task = Ok (format, task)
@@ -192,7 +192,7 @@ with_style (Some style) reader rows =
     with_format (format_named (value_of rows (codes "format")) style) (task_of reader rows)
 with_style None reader rows = Err mistake.Color
 
--- the format and the task, or what is wrong
+-- the format and the task, or the mistake in the arguments
 abbrev pub asked : Reader → List Row → Bool → Result (Format × Task) Mistake
 asked reader rows is_terminal = with_style (style_named (value_of rows (codes "color")) is_terminal) reader rows
 
@@ -200,8 +200,8 @@ asked reader rows is_terminal = with_style (style_named (value_of rows (codes "c
 unfoldable pub options : Reader → List (List ℕ) → List Row
 options reader words = matches_of (program reader) words
 
--- What the words mean if they are right: the format and the task, the path of the value to print, the patterns of what
--- to leave out, the names of the files, whether to print nothing, and whether to fix errors.
+-- The words are right, and mean this: the format and the task, the path of the value to print, the patterns of files to
+-- leave out, the names of the files, whether to print nothing, and whether to fix errors.
 pub record Asks (reader : Reader) (words : List (List ℕ)) (is_terminal : Bool) (format : Format) (task : Task)
     (pointer : List ℕ) (excludes names : List (List ℕ)) (is_quiet is_fixing : Bool) : Type 0 where
   pub what : asked reader (options reader words) is_terminal ≡ Ok (format, task)
@@ -211,7 +211,7 @@ pub record Asks (reader : Reader) (words : List (List ℕ)) (is_terminal : Bool)
   pub quiet : is_quiet ≡ is_given (options reader words) (codes "quiet")
   pub fixing : is_fixing ≡ is_given (options reader words) (codes "fix")
 
--- ---- what is wrong with them
+-- ---- mistakes in the options
 
 abbrev pub kind_of : Mistake → ErrorKind
 kind_of mistake.Format = InvalidValue

@@ -14,14 +14,15 @@ pub record SaysUnread (name reason : List ℕ) (stderr stderr' : Option (List �
     : Type 0 where
   pub says : Says stderr stderr' err_failed (complaint (shown_word name) reason) 2 status
 
--- The lines that `toml_span_lines` prints for the bytes of a file; or it can't be read, which is status 2.
+-- The lines that `toml_span_lines` prints for the bytes of a file are written. Or the file can't be read, and the
+-- status is 2.
 pub record ShowsFile (name : List ℕ) (stdout stdout' : Option (List ℕ)) (out_failed : Bool)
     (stderr stderr' : Option (List ℕ)) (err_failed : Bool) (status : ℕ) : Type 0 where
   pub shows : ((bytes : List ℕ) × (left : Option (List ℕ)) × (unread : Bool)
       × Runs depth_limit (Some bytes) left unread stdout stdout' out_failed status × Keeps stderr stderr')
       ⊎ (Keeps stdout stdout' × ((reason : List ℕ) × SaysUnread name reason stderr stderr' err_failed status))
 
--- the help, if the argument asks for it, otherwise the file with this name
+-- The help is printed if the argument asks for it (`true`), otherwise the file with this name is shown.
 abbrev pub ShowsWord : Bool → List ℕ → Option (List ℕ) → Option (List ℕ) → Bool → Option (List ℕ) → Option (List ℕ)
     → Bool → ℕ → Type 0
 ShowsWord true word stdout stdout' out_failed stderr stderr' err_failed status =

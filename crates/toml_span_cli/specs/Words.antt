@@ -1,4 +1,4 @@
--- What single arguments are.
+-- Kinds of single arguments.
 use Rattle.std.specs.Prelude.{ℕ, Bool, ◌==◌, ◌||◌, false, List, [], ◌∷◌, codes}
 use Rattle.std.specs.List.{list_any}
 use Rattle.std.specs.Str.{bytes_eq}
@@ -16,7 +16,7 @@ begins_with byte (first ∷ rest) = first == byte
 abbrev pub has : ℕ → List ℕ → Bool
 has byte word = list_any (λ other. other == byte) word
 
--- An option, `-`, or the name of a file: a misspelled command contains no dot, no slash, and no byte that is not UTF-8,
--- which has a NUL before it.
+-- Whether an argument is an option, `-`, or the name of a file rather than a misspelled command: it begins with a dash,
+-- or contains a dot, a slash, or a NUL, which marks a byte that is not UTF-8.
 abbrev pub is_file : List ℕ → Bool
 is_file word = begins_with 45 word || has 46 word || has 47 word || has 0 word

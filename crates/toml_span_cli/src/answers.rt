@@ -1,4 +1,4 @@
-//! What a command prints at its end.
+//! The output of a command, which it prints at its end.
 ghost use Rattle.std.specs.Prelude.{◌≡◌, ◌≤◌, false};
 
 use crate::say::quoted_word;
@@ -7,7 +7,7 @@ use toml_span_lines::run::write_bytes;
 use toml_span_lines::sink::Sink;
 use toml_span_report::visible::push_visible;
 
-/// What a command prints, and its exit status.
+/// What a command prints on standard output (`out`) and on standard error (`errors`), and its exit status.
 #[derive(Drop)]
 pub(crate) struct Answer {
     pub(crate) out: String,
@@ -16,7 +16,7 @@ pub(crate) struct Answer {
     ghost small: { status ≤ 4 },
 }
 
-/// Returns the answer of a command that succeeds and prints this text.
+/// Returns the answer of a command that succeeds and prints `out`.
 pub(crate) fn printed(alloc: Global, out: String) -> Answer {
     Answer {
         out,
@@ -25,8 +25,8 @@ pub(crate) fn printed(alloc: Global, out: String) -> Answer {
     }
 }
 
-/// Returns the answer of a command that fails with this status: a line with `front`, the name of the file in backticks,
-/// and the reason. Fails if an allocation fails.
+/// Returns the answer of a command that fails with this status and prints one line to standard error: `front`, the name
+/// of the file in backticks, and the reason. Fails if an allocation fails.
 pub(crate) fn failed(
     alloc: Global,
     front: &str,

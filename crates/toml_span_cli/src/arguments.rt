@@ -11,11 +11,11 @@ const MOST_WAIT: u64 = 86_400;
 /// What to do with the result of the edits.
 #[derive(Clone, Copy, PartialEq, Eq)]
 pub(crate) enum Show {
-    /// Replace the file with it.
+    /// Replace the file with the result.
     No,
-    /// Print it.
+    /// Print the result.
     Text,
-    /// Print how it differs from the file.
+    /// Print how the result differs from the file.
     Diff,
 }
 
@@ -36,13 +36,13 @@ pub(crate) struct Arguments<'w> {
 /// The option whose value is the next argument.
 #[derive(Clone, Copy)]
 enum Waiting {
-    /// None: the next argument is not the value of an option.
+    /// The next argument is not the value of an option.
     No,
     /// `--wait`
     Wait,
     /// `-e`
     Edit,
-    /// None, and no later argument is an option.
+    /// `--` has occurred, so no later argument is an option or the value of one.
     Never,
 }
 
@@ -55,8 +55,8 @@ struct Reading<'w> {
     waiting: Waiting,
 }
 
-/// Parses a number of seconds. Fails with a message if it is not a number from 0 to `MOST_WAIT`, or if an allocation
-/// fails.
+/// Parses a number of seconds. Fails with a message if `word` is not a number from 0 to `MOST_WAIT`, and with
+/// `Stop::Memory` if an allocation fails.
 fn seconds(alloc: Global, word: &str) -> Result<u64, Stop<String>> {
     match word.parse::<u64>() {
         Ok(number) if number <= MOST_WAIT => Ok(number),
@@ -67,7 +67,8 @@ fn seconds(alloc: Global, word: &str) -> Result<u64, Stop<String>> {
 }
 
 impl<'w> Reading<'w> {
-    /// Always fails: with the message that the argument `word` is unexpected, or if an allocation fails.
+    /// Fails with the message that the argument `word` is unexpected, or with `Stop::Memory` if an allocation fails.
+    /// Never returns `Ok`.
     fn unexpected(&self, word: &str) -> Result<(), Stop<String>> {
         let word = quoted_word(self.alloc, word)?;
         Err(Stop::Fault(format!(in self.alloc;
@@ -75,7 +76,8 @@ impl<'w> Reading<'w> {
         )?))
     }
 
-    /// Parses an argument that begins with a dash. Fails with a message, or if an allocation fails.
+    /// Parses an argument that begins with a dash. An unknown argument with only one dash, such as `-1`, is taken as a
+    /// value. Fails with a message if the argument is wrong, and with `Stop::Memory` if an allocation fails.
     fn option(&mut self, word: &'w str) -> Result<(), Stop<String>> {
         match word {
             "-h" | "--help" => self.asked.is_help = true,
@@ -96,7 +98,8 @@ impl<'w> Reading<'w> {
         Ok(())
     }
 
-    /// Parses the next argument. Fails with a message, or if an allocation fails.
+    /// Parses the next argument. Fails with a message if the argument is wrong, and with `Stop::Memory` if an
+    /// allocation fails.
     fn take(&mut self, word: &'w str) -> Result<(), Stop<String>> {
         match self.waiting {
             Waiting::Wait => self.asked.options.wait = seconds(self.alloc, word)?,
@@ -116,7 +119,8 @@ impl<'w> Reading<'w> {
     }
 }
 
-/// Parses the arguments of a command. Fails with a message, or if an allocation fails.
+/// Parses the arguments of a command. Fails with a message if an argument is wrong or missing, and with `Stop::Memory`
+/// if an allocation fails.
 pub(crate) fn arguments_asked<'w>(
     alloc: Global,
     command: Command,

@@ -24,7 +24,7 @@ pub(crate) enum Task<'w> {
     Add(&'w str, &'w str),
     /// Adds an element at the end of the array.
     Append(&'w str),
-    /// Adds an element before the one at the path.
+    /// Adds an element before the element at the path.
     Insert(&'w str),
     /// Moves the value to this path.
     Move(&'w str),
@@ -40,8 +40,8 @@ pub(crate) fn count_of(command: Command) -> usize {
     }
 }
 
-/// Returns the edit that a command makes. `words` are its arguments after the name of the file. Returns `None` if their
-/// number is wrong.
+/// Returns the edit that a command makes. `words` are the command's arguments after the name of the file. Returns
+/// `None` if their number is wrong, or if the command does not make a single edit.
 pub(crate) fn change_of<'w>(command: Command, words: &[&'w str]) -> Option<Change<'w>> {
     let [path, rest @ ..] = words else {
         return None;
@@ -60,7 +60,7 @@ pub(crate) fn change_of<'w>(command: Command, words: &[&'w str]) -> Option<Chang
 }
 
 impl<'w> Change<'w> {
-    /// Returns `None` if the paths of the edit can be read, otherwise what is wrong with the first one that can't.
+    /// Returns the message about the first path of the edit that can't be read, or `None` if all its paths can be read.
     /// Fails if an allocation fails.
     pub(crate) fn wrong_path(&self, alloc: Global) -> Result<Option<String>, AllocError> {
         match (wrong_path(alloc, self.path)?, self.task) {
@@ -99,8 +99,8 @@ fn first_word(line: &str) -> Option<(&str, &str)> {
     Some((word, rest.trim_start()))
 }
 
-/// Parses a line of a script: a command and its arguments, separated by blanks. The last argument is the rest of the
-/// line. Returns `None` if the line is not an edit.
+/// Parses a line of a script: a command and its arguments, separated by blanks. A value is the rest of the line.
+/// Returns `None` if the line is not an edit.
 fn line_change(line: &str) -> Option<Change<'_>> {
     let (name, rest) = first_word(line)?;
     let command = scripted(name)?;
@@ -119,8 +119,8 @@ fn line_change(line: &str) -> Option<Change<'_>> {
     }
 }
 
-/// Parses an edit in a script or in `-e`. `front` and the number `at` name it in messages, as in `line 2`. Fails with a
-/// message, or if an allocation fails.
+/// Parses an edit in a script or in `-e`. `front` and the number `at` name the edit in messages, as in `line 2`. Fails
+/// with a message if the edit is wrong, and with `Stop::Memory` if an allocation fails.
 fn checked<'w>(
     alloc: Global,
     front: &str,
@@ -137,7 +137,8 @@ fn checked<'w>(
     Err(Stop::Fault(format!(in alloc; "{front} {at}: {reason}")?))
 }
 
-/// Parses the edits of the options `-e`. Fails with a message, or if an allocation fails.
+/// Parses the edits of the options `-e`. Fails with a message if an edit is wrong, and with `Stop::Memory` if an
+/// allocation fails.
 pub(crate) fn option_changes<'w>(
     alloc: Global,
     edits: &[&'w str],
@@ -149,8 +150,8 @@ pub(crate) fn option_changes<'w>(
     Ok(changes)
 }
 
-/// Parses a script with one edit per line. Ignores blank lines, and lines that begin with `#`. Fails with a message, or
-/// if an allocation fails.
+/// Parses a script with one edit per line. Ignores blank lines, and lines that begin with `#`. Fails with a message if
+/// an edit is wrong, and with `Stop::Memory` if an allocation fails.
 pub(crate) fn script_changes(alloc: Global, script: &str) -> Result<Vec<Change<'_>>, Stop<String>> {
     let mut changes = Vec::new(alloc);
     for (at, line) in script.lines().enumerate() {

@@ -6,7 +6,7 @@ use crate::answers::Answer;
 use crate::files::{read_file, replace};
 use crate::options::{Options, Reader, options_of};
 use crate::say::say;
-use crate::schemas::{FileSchemas, SchemaOptions};
+use crate::schemas::FileSchemas;
 use crate::start::start;
 use std::alloc::{AllocError, Global};
 use toml_span_check::answer::Task;
@@ -37,9 +37,9 @@ fn fixed(alloc: Global, text: &str, task: Task, name: &str) -> Result<Fixed, All
     })
 }
 
-/// Fixes the errors of a file, and replaces the file if there were any. Returns the number of fixes, or the answer for
-/// a file that could not be written. Returns 0 for standard input, and for a file that can't be read or is not a text
-/// of at most 16 MiB, which the check reports. Fails if an allocation fails.
+/// Fixes the errors of a file, and replaces the file if errors were fixed. Returns the number of fixes, or the answer
+/// for a file that could not be written. Returns 0 for standard input, and for a file that can't be read, is larger
+/// than 16 MiB or is not valid UTF-8; the check reports these. Fails if an allocation fails.
 fn fix_file(
     alloc: Global,
     host: &mut Host,
@@ -91,8 +91,8 @@ fn counted(alloc: Global, count: Count, is_quiet: bool) -> Result<Outcome, Alloc
     })
 }
 
-/// Fixes the errors of the files that the arguments stand for, except for standard input. Stops at the first file that
-/// can't be written. Fails if an allocation fails.
+/// Fixes the errors of the files that the arguments name, also of those in directories, except for standard input.
+/// Stops at the first file that can't be written. Fails if an allocation fails.
 fn fix_files(alloc: Global, options: &Options<'_>, host: &mut Host) -> Result<Outcome, AllocError> {
     let mut count = Count {
         errors: 0,
@@ -120,17 +120,13 @@ fn fix_files(alloc: Global, options: &Options<'_>, host: &mut Host) -> Result<Ou
     counted(alloc, count, options.is_quiet)
 }
 
-/// Returns the schemas that arguments and files name. If the arguments are wrong, these are of no use. Fails if an
+/// Returns the schemas that arguments and files name. If the arguments are wrong, the result is not used. Fails if an
 /// allocation fails.
-fn file_schemas<'w>(
-    alloc: Global,
-    words: &'w [String],
-    host: &Host,
-) -> Result<FileSchemas<'w>, AllocError> {
+fn file_schemas(alloc: Global, words: &[String], host: &Host) -> Result<FileSchemas, AllocError> {
     match options_of(alloc, Reader::Check, words, false) {
-        Ok(options) => Ok(FileSchemas::new(alloc, host.rt, options.schemas)),
+        Ok(options) => FileSchemas::new(alloc, host.rt, &options.schemas),
         Err(error) if error.kind() == clap::error::ErrorKind::OutOfMemory => Err(AllocError),
-        Err(_) => Ok(FileSchemas::new(alloc, host.rt, SchemaOptions::none(alloc))),
+        Err(_) => Ok(FileSchemas::without_options(alloc, host.rt)),
     }
 }
 
@@ -152,7 +148,8 @@ fn fix(
     }
 }
 
-/// Prints the line of `outcome` and, if all fixes were written, checks the files. Returns the exit status.
+/// Prints the line of `outcome` and, if all fixes were written, checks the files. Returns the exit status of the check,
+/// or 3 if a fix or the line was not written.
 fn check_fixed<O: Sink, E: Sink>(
     alloc: Global,
     outcome: &Outcome,
@@ -160,7 +157,7 @@ fn check_fixed<O: Sink, E: Sink>(
     is_coloured: bool,
     is_watched: bool,
     host: &mut Host,
-    schemas: &mut FileSchemas<'_>,
+    schemas: &mut FileSchemas,
     out: &mut O,
     errors: &mut E,
 ) -> u8
@@ -190,8 +187,52 @@ fn check_fixed<O: Sink, E: Sink>(
     }
 }
 
-/// Checks files and, with `--fix`, first fixes their errors. `words` are the name of the command and its arguments. The
-/// other parameters are those of `dispatch`. Returns the exit status. Fails if an allocation fails.
+/// Does what `check` does, with these schemas. Fails if an allocation fails.
+fn check_with<O: Sink, E: Sink>(
+    alloc: Global,
+    words: &[String],
+    is_coloured: bool,
+    is_watched: bool,
+    host: &mut Host,
+    schemas: &mut FileSchemas,
+    out: &mut O,
+    errors: &mut E,
+) -> Result<u8, AllocError>
+    requires out { O.failed out.old ≡ false }
+    requires errors { E.failed errors.old ≡ false }
+    ensures { IfOk result (λ status. Checks (map (λ w. string_bytes w) words.now) is_coloured is_watched
+        (O.contents out.old) (O.contents out.new) (O.failed out.new)
+        (E.contents errors.old) (E.contents errors.new) (E.failed errors.new) status) }
+{
+    match fix(alloc, words, is_coloured, host)? {
+        Some(outcome) => Ok(check_fixed(
+            alloc,
+            &outcome,
+            words,
+            is_coloured,
+            is_watched,
+            host,
+            schemas,
+            out,
+            errors,
+        )),
+        None => Ok(start(
+            alloc,
+            Reader::Check,
+            words,
+            is_coloured,
+            is_watched,
+            host,
+            schemas,
+            out,
+            errors,
+        )),
+    }
+}
+
+/// Checks files and, with `--fix`, first fixes their errors. `words` are the name of the command and its arguments.
+/// `is_coloured` says whether `--color auto` means colors, and `is_watched` whether standard error is a terminal.
+/// Returns the exit status. Fails if an allocation fails.
 pub(crate) fn check<O: Sink, E: Sink>(
     alloc: Global,
     words: &[String],
@@ -208,30 +249,14 @@ pub(crate) fn check<O: Sink, E: Sink>(
         (E.contents errors.old) (E.contents errors.new) (E.failed errors.new) status) }
 {
     let mut schemas = file_schemas(alloc, words, host)?;
-    match fix(alloc, words, is_coloured, host)? {
-        Some(outcome) => {
-            Ok(check_fixed(
-                alloc,
-                &outcome,
-                words,
-                is_coloured,
-                is_watched,
-                host,
-                &mut schemas,
-                out,
-                errors,
-            ))
-        }
-        None => Ok(start(
-            alloc,
-            Reader::Check,
-            words,
-            is_coloured,
-            is_watched,
-            host,
-            &mut schemas,
-            out,
-            errors,
-        )),
-    }
+    check_with(
+        alloc,
+        words,
+        is_coloured,
+        is_watched,
+        host,
+        &mut schemas,
+        out,
+        errors,
+    )
 }

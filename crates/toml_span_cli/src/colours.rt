@@ -1,4 +1,4 @@
-//! Decides whether reports have colors if no option does.
+//! Decides whether reports have colors for `--color auto`.
 ghost use Rattle.std.specs.Prelude.{◌≡◌};
 ghost use Rattle.toml_span_cli.specs.Colours as spec;
 
@@ -6,8 +6,9 @@ use std::alloc::AllocError;
 use std::env;
 use std::env::VarError;
 
-/// Returns whether reports have colors. `no_color`, `force` and `term` are the values of the variables `NO_COLOR`,
-/// `CLICOLOR_FORCE` and `TERM`, each of them empty if it is not set.
+/// Returns whether reports have colors. They have none if `no_color` is not empty. Otherwise they have colors if
+/// `force` is neither empty nor `0`, or on a terminal unless `term` is `dumb`. The three texts are the values of the
+/// variables `NO_COLOR`, `CLICOLOR_FORCE` and `TERM`, each empty if the variable is not set.
 fn has_colours(is_terminal: bool, no_color: &str, force: &str, term: &str) -> bool
     ensures { result ≡ spec.has_colours is_terminal no_color.now force.now term.now }
 {

@@ -38,7 +38,7 @@ enum Request {
     Unknown,
 }
 
-/// Returns what the first argument asks for. `exists` says whether a file has this name.
+/// Returns what the first argument asks for. `exists` says whether there is a file or directory with this name.
 #[tactic(auto, unfolding(crate::specs::Dispatch::request_of))]
 fn request_of(word: &str, exists: bool) -> Request
     ensures { result ≡ spec.request_of word.now exists }
@@ -56,8 +56,8 @@ fn request_of(word: &str, exists: bool) -> Request
     }
 }
 
-/// Prints to `errors` that an argument is neither a command nor a file, with the nearest command. Returns status 2, or
-/// 3 if the write fails. Fails if an allocation fails.
+/// Prints to `errors` that an argument is neither a command nor a file, and the command with the most similar name, if
+/// one is similar. Returns status 2, or 3 if the write fails. Fails if an allocation fails.
 fn say_unknown<E: Sink>(alloc: Global, word: &str, errors: &mut E) -> Result<u8, AllocError>
     requires { E.failed errors.old ≡ false }
     ensures { IfOk result (λ status.
@@ -114,9 +114,9 @@ fn say_help<O: Sink>(alloc: Global, command: Command, out: &mut O) -> Result<u8,
     }
 }
 
-/// Carries out a command. `words` are its name, or that of the program, and its arguments. `is_coloured` says whether
-/// `--color auto` means colors, and `is_watched` whether standard error is a terminal. Returns the exit status. Fails
-/// if an allocation fails.
+/// Carries out a command. `words` are the name of the command, or of the program, and the command's arguments.
+/// `is_coloured` says whether `--color auto` means colors, and `is_watched` whether standard error is a terminal.
+/// Returns the exit status. Fails if an allocation fails.
 fn perform<O: Sink, E: Sink>(
     alloc: Global,
     command: Command,
@@ -166,8 +166,8 @@ fn perform<O: Sink, E: Sink>(
 /// whether `--color auto` means colors, and `is_watched` whether standard error is a terminal.
 ///
 /// Returns the exit status: 0 for success, 1 for an error in a file or a refused edit, 2 if a file can't be read or the
-/// arguments are wrong, 3 if a write fails, 4 if an allocation fails in `check` or `get`. Fails if any other allocation
-/// fails.
+/// arguments are wrong, 3 if a write fails, 4 if an allocation fails. Some failed allocations are returned as an
+/// `AllocError` instead; the exit status is 4 for these too.
 pub(crate) fn dispatch<O: Sink, E: Sink>(
     alloc: Global,
     words: &[String],

@@ -41,8 +41,8 @@ fn refused(alloc: Global, file: &str, stop: Stop<String>) -> Result<Answer, Allo
     failed(alloc, "error: cannot edit ", file, reason.as_str(), 1)
 }
 
-/// Makes edits of a file without replacing it. Returns the answer, which prints the result or how it differs from the
-/// file. Fails if an allocation fails.
+/// Makes edits of a file without replacing the file. Returns the answer, which has the result or how the result differs
+/// from the file. Fails if an allocation fails.
 fn show(
     alloc: Global,
     file: &str,
@@ -153,7 +153,7 @@ fn misuse(alloc: Global, command: Command, message: &str) -> Result<Answer, Allo
     })
 }
 
-/// Returns the answer for a wrong number of arguments, which is `given`. Fails if an allocation fails.
+/// Returns the answer for `given` arguments, which are too few or too many. Fails if an allocation fails.
 fn miscounted(alloc: Global, command: Command, given: usize) -> Result<Answer, AllocError> {
     let wanted = count_of(command).saturating_add(1);
     let arguments = if wanted == 1 { "argument" } else { "arguments" };
@@ -207,7 +207,8 @@ fn edit_once(
     }
 }
 
-/// Parses the arguments of a command that edits, and carries it out. Returns the answer. Fails if an allocation fails.
+/// Parses the arguments of a command that edits, and carries out the command. Returns the answer. Fails if an
+/// allocation fails.
 fn answer_of(
     alloc: Global,
     command: Command,

@@ -14,13 +14,14 @@ use toml_span_report::{CODES, explain as page_of_error, nearest};
 /// The error codes of `check` and `get` that `toml_span_report::explain` does not know.
 const OWN_CODES: [&str; 4] = ["too-many-errors", "not-utf-8", "too-long", "nothing-there"];
 
-/// The explanations of these codes.
+/// The explanation of `too-many-errors`.
 const TOO_MANY_ERRORS: &str = "\
 more errors than are reported
 
 At most 100 errors of a file are reported, and fewer if it is larger than
 1.28 MiB. Correct some of them and check again.";
 
+/// The explanation of `not-utf-8`.
 const NOT_UTF_8: &str = "\
 a file that is not valid UTF-8
 
@@ -29,11 +30,13 @@ or it is not a text file.
 
     iconv -f LATIN1 -t UTF-8 old.toml >new.toml";
 
+/// The explanation of `too-long`.
 const TOO_LONG: &str = "\
 a file that is larger than 16 MiB
 
 The program reads TOML files of at most 16 MiB. Split the file.";
 
+/// The explanation of `nothing-there`.
 const NOTHING_THERE: &str = "\
 no value at the given path
 
@@ -93,8 +96,8 @@ fn say_all<O: Sink>(alloc: Global, out: &mut O) -> Result<u8, AllocError>
     Ok(say(out, text.as_str(), 0))
 }
 
-/// Prints to `errors` that a code is not known, with the nearest one. Returns status 2, or 3 if the write fails. Fails
-/// if an allocation fails.
+/// Prints to `errors` that a code is not known, and the most similar code, if one is similar. Returns status 2, or 3 if
+/// the write fails. Fails if an allocation fails.
 fn say_unknown<E: Sink>(alloc: Global, code: &str, errors: &mut E) -> Result<u8, AllocError>
     requires { E.failed errors.old ≡ false }
     ensures { IfOk result (λ status. status ≤ 4) }
@@ -113,8 +116,8 @@ fn say_unknown<E: Sink>(alloc: Global, code: &str, errors: &mut E) -> Result<u8,
     Ok(say(errors, text.as_str(), 2))
 }
 
-/// Prints the explanation of a code, or reports that it is not known. Returns the exit status. Fails if an allocation
-/// fails.
+/// Prints the explanation of a code, or reports that the code is not known. Returns the exit status. Fails if an
+/// allocation fails.
 fn say_page<O: Sink, E: Sink>(
     alloc: Global,
     code: &str,

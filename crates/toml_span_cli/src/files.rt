@@ -4,9 +4,9 @@ ghost use Rattle.std.specs.Prelude.{◌≤◌};
 use crate::answers::{Answer, failed};
 use std::alloc::{AllocError, Global};
 use std::io::ErrorKind;
-use toml_span_check::folder::is_folder;
-use toml_span_check::input::{Host, Inputs};
+use toml_span_check::input::Host;
 use toml_span_files::{Failure, Options, put_file};
+use toml_span_lookup::disk::Disk;
 
 /// Returns the bytes of a file, or of standard input for `-`, or else a message that says why they can't be read. A
 /// directory can't be read. Fails if an allocation fails.
@@ -15,13 +15,10 @@ pub(crate) fn read_file(
     host: &mut Host,
     name: &str,
 ) -> Result<Result<Vec<u8>, String>, AllocError> {
-    if name != "-" && is_folder(&host.rt, name) {
-        return Ok(Err(String::from_str(alloc, "is a directory")?));
-    }
-    host.read(alloc, name)
+    host.read_file(alloc, name)
 }
 
-/// Returns the first words of the message for a failure, and the exit status.
+/// Returns the first words of the message about a file that was not edited, and the exit status.
 fn beginning(failure: &Failure) -> (&'static str, u8)
     ensures { result.1 ≤ 3 }
 {
@@ -44,7 +41,7 @@ fn words_of(alloc: Global, failure: &Failure) -> Result<String, AllocError> {
     }
 }
 
-/// Returns a hint at the options that help with a failure, or an empty text.
+/// Returns a help line that names the option to use after a failure, or an empty text if no option helps.
 fn hint(failure: &Failure) -> &'static str {
     match failure {
         Failure::ReadOnly => "help: `--force` edits it all the same\n",
@@ -63,7 +60,7 @@ fn hint(failure: &Failure) -> &'static str {
 }
 
 /// Returns the answer for a file that was not edited. If `has_options`, the answer names the options that help. Fails
-/// if an allocation fails.
+/// if `failure` is `Memory`, or if an allocation fails.
 pub(crate) fn unedited(
     alloc: Global,
     file: &str,

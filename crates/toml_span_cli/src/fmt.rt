@@ -48,7 +48,8 @@ struct Asked<'w> {
     is_over: bool,
 }
 
-/// Parses `word`, the value of `option`, as a number from 0 to `most`. Fails with a message, or if an allocation fails.
+/// Parses `word`, the value of `option`, as a number from 0 to `most`. Fails with a message if `word` is not such a
+/// number, and with `Stop::Memory` if an allocation fails.
 fn number_of(alloc: Global, option: &str, word: &str, most: usize) -> Result<usize, Stop<String>> {
     match word.parse::<usize>() {
         Ok(number) if number <= most => Ok(number),
@@ -59,7 +60,8 @@ fn number_of(alloc: Global, option: &str, word: &str, most: usize) -> Result<usi
 }
 
 impl<'w> Asked<'w> {
-    /// Parses `word` as the value of an option, and stores it. Fails with a message, or if an allocation fails.
+    /// Parses `word` as the value of an option, and stores it. Fails with a message if the value is wrong, and with
+    /// `Stop::Memory` if an allocation fails.
     fn set(&mut self, alloc: Global, option: Number, word: &str) -> Result<(), Stop<String>> {
         match option {
             Number::Width => {
@@ -72,7 +74,8 @@ impl<'w> Asked<'w> {
         Ok(())
     }
 
-    /// Parses an option without `=VALUE`. Fails with a message if it is unknown, or if an allocation fails.
+    /// Parses an option without `=VALUE`. Fails with a message if the option is unknown, and with `Stop::Memory` if an
+    /// allocation fails.
     fn option(&mut self, alloc: Global, word: &str) -> Result<(), Stop<String>> {
         match word {
             "--check" => self.is_check = true,
@@ -90,7 +93,8 @@ impl<'w> Asked<'w> {
         Ok(())
     }
 
-    /// Parses the next argument. Fails with a message, or if an allocation fails.
+    /// Parses the next argument. Fails with a message if the argument is wrong, and with `Stop::Memory` if an
+    /// allocation fails.
     fn take(&mut self, alloc: Global, word: &'w str) -> Result<(), Stop<String>> {
         if let Some(option) = self.waiting.take() {
             return self.set(alloc, option, word);
@@ -107,7 +111,8 @@ impl<'w> Asked<'w> {
     }
 }
 
-/// Parses all arguments. Fails with a message, or if an allocation fails.
+/// Parses all arguments. Without names of files, the current directory is taken. Fails with a message if an argument is
+/// wrong or missing, and with `Stop::Memory` if an allocation fails.
 fn asked_of<'w>(alloc: Global, arguments: &'w [String]) -> Result<Asked<'w>, Stop<String>> {
     let mut asked = Asked {
         options: Options::new(),
@@ -154,8 +159,8 @@ fn refused(
     }
 }
 
-/// Returns the answer for a file that is not valid UTF-8 from the offset `at` on: the report of `check`. Fails if an
-/// allocation fails.
+/// Returns the answer for a file that is valid UTF-8 only up to the offset `at`: the report that `check` makes. Fails
+/// if an allocation fails.
 fn not_text(alloc: Global, name: &str, bytes: &[u8], at: usize) -> Result<Answer, AllocError>
     requires { IsValidUpTo bytes.now at }
 {
@@ -167,7 +172,8 @@ fn not_text(alloc: Global, name: &str, bytes: &[u8], at: usize) -> Result<Answer
     })
 }
 
-/// Returns the answer for a file that would change but is not to be written. Fails if an allocation fails.
+/// Returns the answer for a file whose text `text` would change to `new`, but which must not be written. Fails if an
+/// allocation fails.
 fn would_change(
     alloc: Global,
     asked: &Asked<'_>,
@@ -193,8 +199,8 @@ fn would_change(
     })
 }
 
-/// Returns the answer for a formatted file, and replaces its content, unless it is standard input, or `--check` or
-/// `--diff` is given. `text` is the old text. Fails if an allocation fails.
+/// Returns the answer for a file whose text `text` was formatted to `new`. Replaces the file, unless it is standard
+/// input, or `--check` or `--diff` is given. Fails if an allocation fails.
 fn put(
     alloc: Global,
     asked: &Asked<'_>,
@@ -257,7 +263,8 @@ fn format_file(
     }
 }
 
-/// Appends the answer for a file to that for the files before it. Fails if an allocation fails.
+/// Appends `one`, the answer for a file, to `all`, the answer for the files before. The higher status counts. Fails if
+/// an allocation fails.
 fn add(all: &mut Answer, one: &Answer) -> Result<(), AllocError> {
     all.out.push_str(one.out.as_str())?;
     all.errors.push_str(one.errors.as_str())?;
@@ -265,7 +272,8 @@ fn add(all: &mut Answer, one: &Answer) -> Result<(), AllocError> {
     Ok(())
 }
 
-/// Formats the files that the arguments stand for. Returns one answer for all of them. Fails if an allocation fails.
+/// Formats the files that the arguments name, also those in directories. Returns one answer for all of them. Fails if
+/// an allocation fails.
 fn format_each(alloc: Global, asked: &Asked<'_>, host: &mut Host) -> Result<Answer, AllocError> {
     let mut all = printed(alloc, String::new(alloc));
     for name in &asked.names {
@@ -278,8 +286,8 @@ fn format_each(alloc: Global, asked: &Asked<'_>, host: &mut Host) -> Result<Answ
     Ok(all)
 }
 
-/// Formats the files that the arguments stand for. Returns one answer for all of them, in which differences are escaped
-/// if they go to a terminal. Fails if an allocation fails.
+/// Formats the files that the arguments name, also those in directories. Returns one answer for all of them.
+/// Differences are escaped if standard output is a terminal. Fails if an allocation fails.
 fn format_all(alloc: Global, asked: &Asked<'_>, host: &mut Host) -> Result<Answer, AllocError> {
     let answer = format_each(alloc, asked, host)?;
     if !asked.is_diff {
@@ -298,9 +306,9 @@ fn format_all(alloc: Global, asked: &Asked<'_>, host: &mut Host) -> Result<Answe
     })
 }
 
-/// Formats files. `words` are the name of the command and its arguments. Returns the exit status: 1 if a file is not
-/// valid, or would change and is not to be written, 2 if a file can't be read or the arguments are wrong, 3 if a write
-/// fails. Fails if an allocation fails.
+/// Formats files. `words` are the name of the command and its arguments. Returns the exit status: 0 for success, 1 if a
+/// file can't be formatted, or would change with `--check` or `--diff`, 2 if a file can't be read or the arguments are
+/// wrong, 3 if a write fails. Fails if an allocation fails.
 pub(crate) fn fmt<O: Sink, E: Sink>(
     alloc: Global,
     words: &[String],

@@ -1,4 +1,4 @@
-//! What `--help` and `--version` print.
+//! The texts that `--help` and `--version` print.
 
 /// The help of the program.
 pub(crate) const HELP: &str = "\
@@ -65,7 +65,7 @@ Options:
   --no-formats     ignore the keyword `format` of schemas
   --exclude GLOB   leave out what matches in directories: a name, or with a `/`
                    a path, as in a `.gitignore` file; can be repeated
-  --quiet          print nothing; only the exit status tells the result
+  --quiet          print nothing; only the exit status shows the result
   --               take all later arguments as files
   -h, --help       print this help
 
@@ -83,9 +83,9 @@ Prints every value of a TOML file with its path, type and byte range.
 
 Usage: toml-span show FILE
 
-One line for each value, as `/server/port integer 16..20`. For `-`, standard
-input is read. A file with an error gives one line, `error CODE START..END
-LINE:COLUMN`, where lines and columns count from 0.
+One line for each value, such as `/server/port integer 16..20`. For `-`,
+standard input is read. For a file with an error, one line is printed: `error
+CODE START..END LINE:COLUMN`, where lines and columns count from 0.
 
 Exit status:
   0  the file is valid
@@ -102,13 +102,13 @@ Prints one value of a TOML file.
 
 Usage: toml-span get [OPTION].. FILE PATH
 
-PATH is a dotted key, as server.ports[0], or a pointer, as /server/ports/0, with
-positions in arrays from 0. The empty path '' is the whole document. For `-`,
-standard input is read.
+PATH is a dotted key such as server.ports[0], or a pointer such as
+/server/ports/0; positions in arrays count from 0. The empty path '' is the
+whole document. For `-`, standard input is read.
 
 Options:
   --json           as JSON, floats and dates as strings (the default)
-  --raw            strings, floats and dates without quotes, all else as JSON
+  --raw            strings, floats and dates without quotes, the rest as JSON
   --toml           as TOML on one line
   --tagged         as JSON with the type of each scalar, as toml-test reads it
   --items          as lines with the byte range of each value, as `show` does
@@ -167,7 +167,7 @@ Options:
 
 Exit status:
   0  done, or with --check or --diff: no file would change
-  1  a file is not valid TOML, or with --check or --diff: a file would change
+  1  a file has a syntax error, or with --check or --diff: a file would change
   2  a file can't be read, or the arguments are wrong
   3  a result can't be written
   4  out of memory
@@ -184,13 +184,13 @@ their fixes, completion, hovers, outlines, renames and formatting. An editor
 starts it; `docs/EDITORS.md` says how to set that up.
 
 Options:
-  --stdio     the same as without it
+  --stdio     accepted, and has no effect
   -h, --help  print this help
 
 Exit status:
   0  the editor has shut the server down
   1  the input has ended without that
-  2  the input has something else than messages, or the arguments are wrong
+  2  the input is not a sequence of messages, or the arguments are wrong
   3  a read or a write has failed
   4  out of memory
 ";
@@ -202,9 +202,10 @@ other bytes.
 
 Usage: toml-span set [OPTION].. FILE PATH VALUE
 
-PATH is a dotted key, as server.ports[0], or a pointer, as /server/ports/0, with
-positions in arrays from 0. VALUE is TOML, so a string needs its quotes:
-'\"text\"'.
+PATH is a dotted key such as server.ports[0], or a pointer such as
+/server/ports/0; positions in arrays count from 0. VALUE is TOML, so a string
+needs its quotes: '\"text\"'. A table or array that headers or dotted keys define is
+replaced only with --force.
 
   toml-span set Cargo.toml package.version '\"1.3.0\"'
 ";
@@ -215,7 +216,7 @@ Renames a key in a TOML file wherever it is written, and keeps all other bytes.
 
 Usage: toml-span rename [OPTION].. FILE PATH NAME
 
-PATH is a dotted key, as dependencies.serde, or a pointer, as
+PATH is a dotted key such as dependencies.serde, or a pointer such as
 /dependencies/serde. NAME is quoted in the file if TOML requires it.
 
   toml-span rename Cargo.toml dependencies.serde serde1
@@ -227,8 +228,9 @@ Removes a value with its key, or an array element, from a TOML file.
 
 Usage: toml-span remove [OPTION].. FILE PATH
 
-PATH is a dotted key, as server.ports[0], or a pointer, as /server/ports/0, with
-positions in arrays from 0. A table is removed with all its sections.
+PATH is a dotted key such as server.ports[0], or a pointer such as
+/server/ports/0; positions in arrays count from 0. A table is removed with all
+its sections.
 
   toml-span remove Cargo.toml dependencies.serde
 ";
@@ -239,7 +241,7 @@ Adds a key with a value to a table of a TOML file, and keeps all other bytes.
 
 Usage: toml-span add [OPTION].. FILE PATH KEY VALUE
 
-PATH is the dotted key of the table, as server.tls, or a pointer, as
+PATH is the dotted key of the table, such as server.tls, or a pointer such as
 /server/tls; the empty path '' is the document. KEY is quoted in the file if
 TOML requires it. VALUE is TOML, so a string needs its quotes: '\"text\"'.
 
@@ -252,8 +254,8 @@ Adds an element at the end of an array in a TOML file.
 
 Usage: toml-span append [OPTION].. FILE PATH VALUE
 
-PATH is the dotted key of the array, as package.keywords, or a pointer, as
-/package/keywords. VALUE is TOML, so a string needs its quotes: '\"text\"'.
+PATH is the dotted key of the array, such as package.keywords, or a pointer such
+as /package/keywords. VALUE is TOML, so a string needs its quotes: '\"text\"'.
 
   toml-span append Cargo.toml package.keywords '\"parser\"'
 ";
@@ -272,13 +274,13 @@ PATH names the element that will follow: package.keywords[0], or as a pointer
 
 /// The help of `move`.
 pub(crate) const MOVE: &str = "\
-Moves a value of a TOML file to another path. A line keeps its comments.
+Moves a value of a TOML file to another path, with the comments of its lines.
 
 Usage: toml-span move [OPTION].. FILE PATH PATH
 
-A PATH is a dotted key, as server.ports[0], or a pointer, as /server/ports/0,
-with positions in arrays from 0. There must be no value at the second one,
-except if both are elements of one array.
+A PATH is a dotted key such as server.ports[0], or a pointer such as
+/server/ports/0; positions in arrays count from 0. There must be no value at the
+second one, except if both are elements of one array.
 
   toml-span move Cargo.toml dependencies.log dev-dependencies.log
 ";
@@ -289,7 +291,7 @@ Makes several edits in a TOML file at once: all of them or none.
 
 Usage: toml-span edit [OPTION].. FILE [-e EDIT]..
 
-An EDIT is a command that edits, with its arguments except FILE, as
+An EDIT is a command that edits, with its arguments except FILE, such as
 `set package.version \"1.3.0\"`. Its last argument is the rest of the line. A
 path or key that contains blanks, or begins with a quote, needs quotes:
 `remove '\"a b\".c'`. Without `-e`, the edits are read from standard input, one
@@ -299,7 +301,7 @@ on a line; blank lines and lines that begin with `#` are ignored.
       -e 'remove dependencies.log'
 ";
 
-/// What the help of each command that edits a file ends in.
+/// The end of the help of each command that edits a file.
 pub(crate) const EDITING: &str = "
 The file is replaced only if the result is valid TOML and nothing else in it
 differs. For `-`, standard input is read, and the result is written to standard
@@ -324,5 +326,5 @@ Exit status:
   4  out of memory
 ";
 
-/// The version: of the Rust crate that the libraries port, and of the language.
+/// The output of `--version`: the version of the Rust crate that the libraries port, and that of TOML.
 pub(crate) const VERSION: &str = "toml-span 0.7.2, for TOML 1.1\n";

@@ -22,7 +22,8 @@ fn run<O: Sink, E: Sink>(
     requires errors { E.failed errors.old ≡ false }
     ensures { IfOk result (λ status. status ≤ 4) }
 {
-    let end = serve(alloc, &mut Tracked::new(host.rt.stdin()), out);
+    let input = host.rt.stdin();
+    let end = serve(alloc, host, &mut Tracked::new(input), out);
     if end.reason.is_empty() {
         return Ok(end.status);
     }

@@ -5,12 +5,10 @@ ghost use Rattle.std.specs.Prelude.{◌≤◌, IfOk};
 
 mod answers;
 mod arguments;
-mod catalog;
 mod changes;
 mod check;
 mod colours;
 mod commands;
-mod directive;
 mod dispatch;
 mod edit;
 mod explain;
@@ -61,6 +59,7 @@ fn status_of(rt: HostRuntime) -> Result<u8, AllocError>
     )
 }
 
+/// Runs the program. Exits with status 4 if an allocation fails.
 fn main(rt: HostRuntime) -> ExitCode {
     match status_of(rt) {
         Ok(status) => ExitCode::from(status),

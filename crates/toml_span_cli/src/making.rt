@@ -29,7 +29,7 @@ enum Kind {
 struct Located<'w> {
     change: Change<'w>,
     path: Vec<CowStr<'w>>,
-    /// Where a value is moved to. Empty for any other change.
+    /// The segments of the path to which a value is moved. Empty for any other change.
     target: Vec<CowStr<'w>>,
 }
 
@@ -38,14 +38,14 @@ struct Located<'w> {
 struct Prepared<'w> {
     kind: Kind,
     path: Vec<&'w str>,
-    /// Where a value is moved to.
+    /// The segments of the path to which a value is moved. Empty for any other edit.
     target: Vec<&'w str>,
     /// The value, or the new name.
     value: String,
 }
 
-/// Returns the segments of a path, which can be read, since the caller has tested it with `Change::wrong_path`. Fails
-/// if an allocation fails.
+/// Returns the segments of a path. The list is empty if the path can't be read, which the caller must have ruled out
+/// with `Change::wrong_path`. Fails if an allocation fails.
 fn segments_of<'w>(alloc: Global, path: &'w str) -> Result<Vec<CowStr<'w>>, AllocError> {
     match path_segments(alloc, path) {
         Ok(segments) => Ok(segments),
@@ -101,8 +101,8 @@ fn locate_all<'w>(alloc: Global, changes: &[Change<'w>]) -> Result<Vec<Located<'
     Ok(list)
 }
 
-/// Prepares an edit for the library. If `is_string`, its value is a text rather than TOML. Fails if an allocation
-/// fails.
+/// Prepares an edit for the library. If `is_string`, the value in the edit is a text rather than TOML. Fails if an
+/// allocation fails.
 fn prepare<'w>(
     alloc: Global,
     located: &'w Located<'_>,
@@ -128,8 +128,8 @@ fn prepare<'w>(
     Ok(prepared)
 }
 
-/// Prepares edits for the library. If `is_string`, their values are texts rather than TOML. Fails if an allocation
-/// fails.
+/// Prepares edits for the library. If `is_string`, the values in the edits are texts rather than TOML. Fails if an
+/// allocation fails.
 fn prepare_all<'w>(
     alloc: Global,
     changes: &'w [Located<'_>],
@@ -161,7 +161,8 @@ fn edit_of<'w>(prepared: &'w Prepared<'w>) -> Edit<'w> {
     }
 }
 
-/// Makes prepared edits, and returns the new text. Fails with the edit that is refused, or if an allocation fails.
+/// Makes prepared edits, and returns the new text. Fails with the position of the edit that is refused and the reason,
+/// and with `Stop::Memory` if an allocation fails.
 fn finished<'w>(
     alloc: Global,
     text: &'w str,
@@ -174,8 +175,8 @@ fn finished<'w>(
     edits.finish()
 }
 
-/// Returns the message for a refused edit, one of `count`, with its number if there are several. Fails if an allocation
-/// fails.
+/// Returns the message for a refused edit. If there are several edits (`count`), the message begins with the edit's
+/// number. Fails if an allocation fails.
 fn words_of(alloc: Global, error: &EditError, count: usize) -> Result<String, AllocError> {
     let mut words = String::new(alloc);
     if count > 1 {
@@ -204,8 +205,8 @@ fn force(list: &mut [Prepared<'_>], error: &EditError) -> bool {
     }
 }
 
-/// Makes prepared edits, and returns the new text. If `is_forced`, values may be set over tables. Fails with a message,
-/// or if an allocation fails.
+/// Makes prepared edits, and returns the new text. If `is_forced`, values may replace tables. Fails with a message if
+/// an edit is refused, and with `Stop::Memory` if an allocation fails.
 fn forced(
     alloc: Global,
     text: &str,
@@ -226,8 +227,8 @@ fn forced(
     Err(Stop::Fault(String::from_str(alloc, "the tables in the way are not replaced")?))
 }
 
-/// Returns the reason that a file is not valid UTF-8, with the place of its first byte that is not, which is at the
-/// offset `at`. Fails if an allocation fails.
+/// Returns the message that a file is not valid UTF-8, with the line and the column, both counted from 1, of its first
+/// invalid byte, which is at the offset `at`. Fails if an allocation fails.
 fn not_text(alloc: Global, bytes: &[u8], at: usize) -> Result<String, AllocError>
     requires { IsValidUpTo bytes.now at }
 {
@@ -238,7 +239,8 @@ fn not_text(alloc: Global, bytes: &[u8], at: usize) -> Result<String, AllocError
 }
 
 /// Makes edits of the bytes of a file, and returns the new text. If `is_string`, values are texts rather than TOML. If
-/// `is_forced`, values may be set over tables. Fails with a message, or if an allocation fails.
+/// `is_forced`, values may replace tables. Fails with a message if the file is not valid UTF-8 or an edit is refused,
+/// and with `Stop::Memory` if an allocation fails.
 pub(crate) fn new_text(
     alloc: Global,
     bytes: &[u8],

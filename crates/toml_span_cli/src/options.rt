@@ -26,7 +26,7 @@ pub(crate) enum Reader {
     Get,
 }
 
-/// What arguments ask for.
+/// The parsed arguments of `check` or `get`.
 #[derive(Drop)]
 pub(crate) struct Options<'w> {
     pub(crate) format: Format,
@@ -43,7 +43,7 @@ pub(crate) struct Options<'w> {
     pub(crate) schemas: SchemaOptions<'w>,
 }
 
-/// What is wrong with arguments that clap accepts.
+/// A mistake in arguments that clap accepts.
 #[derive(Clone, Copy, PartialEq, Eq)]
 enum Mistake {
     /// There is no such format.
@@ -110,8 +110,8 @@ fn required<'w>(alloc: Global, name: &'w str) -> Arg<'w>
     Arg::new(alloc, name).required(true)
 }
 
-/// Returns a command with the options of both commands. `name` is its name in messages, and `help` its help text. Fails
-/// if an allocation fails.
+/// Returns a command with the options that `check` and `get` have in common. `name` is the command's name in messages,
+/// and `help` its help text. Fails if an allocation fails.
 fn common<'w>(alloc: Global, name: &'w str, help: &'w str) -> Result<Command<'w>, AllocError>
     ensures { IfOk result (λ c. app_of c ≡ spec.common) }
 {
@@ -123,7 +123,8 @@ fn common<'w>(alloc: Global, name: &'w str, help: &'w str) -> Result<Command<'w>
         .arg(choice(alloc, "color", "auto"))
 }
 
-/// Returns `check` with its schema options and those of `common`. Fails if an allocation fails.
+/// Returns the command `check` with the options about schemas and those that `get` has too, without its other
+/// arguments. Fails if an allocation fails.
 fn schema_command<'w>(alloc: Global) -> Result<Command<'w>, AllocError>
     ensures { IfOk result (λ c. app_of c ≡ spec.schemas) }
 {
@@ -177,7 +178,8 @@ fn command<'w>(alloc: Global, reader: Reader) -> Result<Command<'w>, AllocError>
     }
 }
 
-/// Returns the output format with this name, or `None` for any other name. `style` is used for source lines.
+/// Returns the output format with this name, or `None` for any other name. `style` is the style of the source lines in
+/// the format `text`.
 fn format_named(name: &str, style: Style) -> Option<Format>
     ensures { result ≡ spec.format_named name.now style }
 {
@@ -204,14 +206,14 @@ fn style_named(name: &str, is_terminal: bool) -> Option<Style>
     }
 }
 
-/// Returns the value of an option, or an empty text if it has no value.
+/// Returns the value of an option, or an empty text if the option has no value.
 fn value_of<'w>(matches: &ArgMatches<'w>, name: &str) -> &'w str
     ensures { result.now ≡ spec.value_of (rows_of (found_of matches.now)) name.now }
 {
     matches.get_str(name).unwrap_or("")
 }
 
-/// Returns whether each of these values has a `=`.
+/// Returns whether each of these values contains an `=`.
 #[tactic(auto, unfolding(crate::specs::Options::are_maps))]
 fn are_maps(maps: &[&str]) -> bool
     ensures { result ≡ spec.are_maps (map (λ m. m.now) maps.now) }
@@ -224,7 +226,7 @@ fn are_maps(maps: &[&str]) -> bool
     true
 }
 
-/// Returns whether each value of `--schema-map` has a `=`.
+/// Returns whether each value of `--schema-map` contains an `=`.
 fn has_maps(matches: &ArgMatches<'_>) -> bool
     ensures { result ≡ spec.are_maps (spec.values_of (rows_of (found_of matches.now)) (codes "schema-map")) }
 {
@@ -238,8 +240,8 @@ fn is_given(matches: &ArgMatches<'_>, name: &str) -> bool
     value_of(matches, name) == "true"
 }
 
-/// Returns the form `chosen` so far or, if the flag of `form` is given, `form`. Fails with `Mistake::Forms` if both
-/// choose a form, or with the mistake in `chosen`.
+/// Returns the form `chosen` so far or, if `is_given`, `form`. `is_given` says whether the arguments have the flag of
+/// `form`. Fails with `Mistake::Forms` if they have it and a form is chosen already, or with the mistake in `chosen`.
 fn with_form(
     chosen: Result<Option<Form>, Mistake>,
     is_given: bool,
@@ -254,7 +256,7 @@ fn with_form(
     }
 }
 
-/// Returns the form of the value, if a flag chooses one. Fails with `Mistake::Forms` if several do.
+/// Returns the form of the value, if a flag chooses one. Fails with `Mistake::Forms` if several flags do.
 fn form_of(matches: &ArgMatches<'_>) -> Result<Option<Form>, Mistake>
     ensures { result ≡ spec.form_of (rows_of (found_of matches.now)) }
 {
@@ -277,7 +279,7 @@ fn version_named(name: &str) -> Option<Version>
     }
 }
 
-/// Returns who chooses the schemas of files.
+/// Returns who chooses the schemas of files: the arguments, if `--schema` or `--catalog` is given, otherwise the files.
 fn chooser_of(matches: &ArgMatches<'_>) -> Chooser
     ensures { result ≡ spec.chooser_of (rows_of (found_of matches.now)) }
 {
@@ -288,7 +290,7 @@ fn chooser_of(matches: &ArgMatches<'_>) -> Chooser
     }
 }
 
-/// Returns what to do with the files. Fails with a mistake.
+/// Returns what to do with the files. Fails with a `Mistake` if the arguments are wrong.
 fn task_of(reader: Reader, matches: &ArgMatches<'_>) -> Result<Task, Mistake>
     ensures { result ≡ spec.task_of reader (rows_of (found_of matches.now)) }
 {
@@ -306,7 +308,8 @@ fn task_of(reader: Reader, matches: &ArgMatches<'_>) -> Result<Task, Mistake>
     }
 }
 
-/// Returns the format and the task. Fails with `Mistake::Sarif` if they don't go together.
+/// Returns the format and the task. Fails with `Mistake::Sarif` if the format is SARIF and the task is to print a
+/// value.
 fn with_task(format: Format, task: Task) -> Result<(Format, Task), Mistake>
     ensures { result ≡ spec.with_task format task }
 {
@@ -316,7 +319,7 @@ fn with_task(format: Format, task: Task) -> Result<(Format, Task), Mistake>
     }
 }
 
-/// Returns how to report errors, and what to do with the files. Fails with a mistake.
+/// Returns how to report errors, and what to do with the files. Fails with a `Mistake` if the arguments are wrong.
 fn asked(
     reader: Reader,
     matches: &ArgMatches<'_>,
@@ -336,7 +339,7 @@ fn asked(
     }
 }
 
-/// Returns the kind of clap's error for a mistake.
+/// Returns the kind of error that clap has for a mistake.
 fn kind_of(mistake: Mistake) -> ErrorKind
     ensures { result ≡ spec.kind_of mistake }
 {
@@ -362,7 +365,8 @@ fn message_of(mistake: Mistake) -> &'static str {
 }
 
 /// Parses the arguments of a command. The first of `words` is the name of the command or the program. Fails with clap's
-/// error, which may also be a request for help, or if an allocation fails.
+/// error, which may also be a request for the help or the version, or have the kind `OutOfMemory` if an allocation
+/// fails.
 pub(crate) fn options_of<'w>(
     alloc: Global,
     reader: Reader,

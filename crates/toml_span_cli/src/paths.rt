@@ -6,7 +6,8 @@ use crate::say::quoted_word;
 use std::alloc::{AllocError, Global};
 use toml_span_edit::{PathError, PathFault, path_error_text, path_segments};
 
-/// Returns what to add to the error of a path: a hint if it stops at a character that is not part of a bare key.
+/// Returns the text to add to the error of a path: a hint if the error is at a character that is not part of a bare
+/// key, otherwise an empty text.
 fn hint(path: &str, error: &PathError) -> &'static str {
     match (error.fault, path.as_bytes().get(error.at)) {
         (PathFault::Step, Some(b'/')) => "; a pointer begins with `/`",
@@ -15,7 +16,8 @@ fn hint(path: &str, error: &PathError) -> &'static str {
     }
 }
 
-/// Returns `None` if a path can be read, otherwise where it can't, and why. Fails if an allocation fails.
+/// Returns the message about a path that can't be read, which says where and why, or `None` if the path can be read.
+/// Fails if an allocation fails.
 pub(crate) fn wrong_path(alloc: Global, path: &str) -> Result<Option<String>, AllocError>
     ensures { IfOk result (IsWrong path.now) }
 {

@@ -1,4 +1,4 @@
-//! Prints help, and what is wrong with arguments.
+//! Prints help, and messages about wrong arguments.
 ghost use Rattle.std.specs.Prelude.{◌≡◌, ℕ, List, IfOk, false, string_bytes};
 ghost use Rattle.toml_span_report.specs.Visible.{visible_lines as shown_lines};
 ghost use Rattle.toml_span_cli.specs.Say.{Says, Warns};
@@ -31,8 +31,8 @@ pub(crate) fn quoted_word(alloc: Global, word: &str) -> Result<String, AllocErro
     Ok(out)
 }
 
-/// Returns what is wrong with the arguments of a command, and its usage, as lines that are escaped for a terminal.
-/// Fails if an allocation fails.
+/// Returns the message that the arguments of a command are wrong, and its usage, as lines that are escaped for a
+/// terminal. Fails if an allocation fails.
 pub(crate) fn misuse_text(
     alloc: Global,
     command: Command,

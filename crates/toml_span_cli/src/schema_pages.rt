@@ -1,4 +1,4 @@
-//! What the codes of schemas mean.
+//! Explanations of the codes of reports about schemas.
 ghost use Rattle.std.specs.Prelude.{◌≡◌, map, option_map};
 ghost use Rattle.toml_span_cli.specs.Explain as spec;
 ghost use Rattle.toml_span_report.specs.Tables.{text_in as text_in_table};
@@ -78,7 +78,7 @@ const SCHEMA_PAGES: [(&str, &str); 31] = [
     ),
     (
         "schema-multiple-of",
-        "a number that is no multiple of the one in the schema\n\n    size = 10         # for `multipleOf: 4`, write 8 or 12",
+        "a number that is not a multiple of the one in the schema\n\n    size = 10         # for `multipleOf: 4`, write 8 or 12",
     ),
     (
         "schema-min-length",
@@ -166,7 +166,7 @@ const SCHEMA_PAGES: [(&str, &str); 31] = [
     ),
 ];
 
-/// Returns the text that a table has for a key, or `None` if it has none.
+/// Returns the text that a table of pairs has for a key, or `None` if it does not have the key.
 #[tactic(auto, unfolding(toml_span_report::specs::Tables::text_in))]
 fn text_in<'p>(table: &[(&'p str, &'p str)], key: &str) -> Option<&'p str>
     ensures { option_map (λ text. text.now) result
@@ -180,7 +180,7 @@ fn text_in<'p>(table: &[(&'p str, &'p str)], key: &str) -> Option<&'p str>
     None
 }
 
-/// Returns the explanation of a code of a report about a schema, if it is one.
+/// Returns the explanation of a code, or `None` if it is not a code of reports about schemas.
 pub(crate) fn schema_page(code: &str) -> Option<&'static str>
     ensures { option_map (λ page. page.now) result ≡ spec.schema_page code.now }
 {

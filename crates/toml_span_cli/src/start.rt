@@ -47,7 +47,7 @@ fn message_of(alloc: Global, reader: Reader, words: &[String]) -> Result<String,
     }
 }
 
-/// Returns what is wrong with the arguments, as lines that are escaped for a terminal. Fails if an allocation fails.
+/// Returns the message about wrong arguments, as lines that are escaped for a terminal. Fails if an allocation fails.
 fn mistake(alloc: Global, reader: Reader, words: &[String]) -> Result<String, AllocError>
     ensures { IfOk result (λ out. (message : List ℕ) × (string_bytes out ≡ visible_lines message)) }
 {
@@ -60,8 +60,8 @@ fn mistake(alloc: Global, reader: Reader, words: &[String]) -> Result<String, Al
     visible_lines(alloc, message.as_str())
 }
 
-/// Returns `None` if the path of the value to print can be read, otherwise what is wrong with it, as lines that are
-/// escaped for a terminal. Fails if an allocation fails.
+/// Returns the message about a path of `get` that can't be read, as lines that are escaped for a terminal, or `None` if
+/// the path can be read. Fails if an allocation fails.
 fn path_mistake(alloc: Global, path: &str) -> Result<Option<String>, AllocError>
     ensures { IfOk result (spec.SaysOfPath path.now) }
 {
@@ -71,8 +71,9 @@ fn path_mistake(alloc: Global, path: &str) -> Result<Option<String>, AllocError>
     }
 }
 
-/// Prints the help or the version, if the arguments ask for it, otherwise what is wrong with them. `error` is clap's
-/// error for `words`. Returns the exit status.
+/// Prints the help or the version, if the arguments ask for it, otherwise what is wrong with the arguments. `error` is
+/// clap's error for `words`. Returns the exit status: 0 for the help or the version, 2 for wrong arguments, 3 if a
+/// write fails, 4 if an allocation fails.
 fn refuse<O: Sink, E: Sink>(
     alloc: Global,
     reader: Reader,
@@ -99,8 +100,8 @@ fn refuse<O: Sink, E: Sink>(
 
 /// Carries out `check` or `get`: runs on files (see `run`), prints the help or the version with status 0, or prints
 /// what is wrong with the arguments or the path with status 2. `words` are the name of the command or program and its
-/// arguments. `is_terminal` says whether `--color auto` means colors, and `is_watched` is passed on to `run`. Returns
-/// the exit status: 3 if a write fails, 4 if an allocation fails.
+/// arguments. `is_terminal` says whether `--color auto` means colors, and `is_watched` whether standard error is a
+/// terminal. Returns the exit status: 3 if a write fails, 4 if an allocation fails.
 pub(crate) fn start<I: Inputs, S: Schemas, O: Sink, E: Sink>(
     alloc: Global,
     reader: Reader,

@@ -24,8 +24,8 @@ fn word(rt: &HostRuntime, at: usize) -> Result<Option<Vec<u8>>, AllocError> {
     Err(AllocError)
 }
 
-/// Returns all arguments as texts (see `word_text`). The first is the name of the program. Fails if an allocation
-/// fails.
+/// Returns all arguments as texts, also those that are not valid UTF-8 (see `word_text`). The first is the name of the
+/// program. Fails if an allocation fails.
 pub(crate) fn given_words(rt: &HostRuntime) -> Result<Vec<String>, AllocError> {
     let mut words = Vec::new(rt.alloc());
     for at in 0..usize::MAX {
@@ -68,7 +68,8 @@ pub(crate) fn has(word: &str, byte: u8) -> bool
     word.as_bytes().contains(&byte)
 }
 
-/// Returns whether an argument is an option, `-`, or the name of a file rather than a misspelled command.
+/// Returns whether an argument is an option or `-`, or looks like the name of a file rather than a misspelled command:
+/// it contains `.` or `/`, or is not valid UTF-8.
 pub(crate) fn is_file(word: &str) -> bool
     ensures { result ≡ spec.is_file word.now }
 {

@@ -1,9 +1,20 @@
 -- Diagnostics: reports as an editor shows them.
-use Rattle.std.specs.Prelude.{◌≡◌, ℕ, Bool, ◌==◌, ◌&&◌, not, List, [], ◌∷◌, ◌++◌, codes, fold, length, map}
+use Rattle.std.specs.Prelude.{◌≡◌, ◌⊎◌, ℕ, Bool, ◌==◌, ◌&&◌, not, List, [], ◌∷◌, ◌++◌, codes, fold, length, map}
 use Rattle.std.specs.Prelude.{string_bytes, if◌then◌else◌}
 use Rattle.std.specs.Str.{bytes_eq}
 use Rattle.toml_span_lex.specs.declared.span.Span.{Span}
+use Rattle.toml_span_lex.specs.declared.stop.Stop.TheVariants.{Fault}
+use Rattle.toml_span.specs.Parsing.{IsTree, IsRefusal}
+use Rattle.toml_span_read.specs.Data.{depth_limit}
+use Rattle.toml_span_tree.specs.Node.{Node}
+use Rattle.toml_span_tree.specs.Value.{view}
+use Rattle.toml_span_tree.specs.declared.error.Error.{Error}
+use Rattle.toml_span_tree.specs.declared.value.Value.{Value}
 use Rattle.toml_span_check.specs.Every.{Checks}
+use Rattle.toml_span_check.specs.Newer.{Lacks}
+use Rattle.toml_span_check.specs.Schemas.{Says}
+use Rattle.toml_span_check.specs.declared.newer.Version.{Version}
+use Rattle.toml_span_check.specs.declared.schemas.Chooser.{Chooser}
 use Rattle.toml_span_report.specs.Report.{Place, ReportContent}
 use Rattle.toml_span_report.specs.declared.report.Severity.{Severity}
 use Rattle.toml_span_editor.specs.declared.diagnostics.Diagnostic.{Diagnostic}
@@ -32,18 +43,19 @@ diagnostic_content d = record {
   related = map related_content d.related.items;
 }
 
--- the span of the first primary label, or the start of the text
+-- the span of the first primary label, or 0..0 without such a label
 abbrev pub main_span : List Place → Span
 main_span [] = record { start = 0; end = 0 }
 main_span (label ∷ labels) = if label.primary then label.span else main_span labels
 
--- a text with one more line below it, unless that is empty
+-- the text `out` followed by a line that consists of `front` and `line`; `out` alone if `line` is empty
 unfoldable pub with_line : List ℕ → List ℕ → List ℕ → List ℕ
 with_line front out line =
     if length line == 0 then out
     else (if length out == 0 then out else out ++ codes "\n") ++ front ++ line
 
--- a text with the message of a label, if that is primary and says something else than the report
+-- a text followed by the message of a label, if the label is primary and its message differs from the message of the
+-- report
 abbrev pub with_label : List ℕ → List ℕ → Place → List ℕ
 with_label message out label =
     if label.primary && not (bytes_eq label.message message) then with_line [] out label.message else out
@@ -55,7 +67,7 @@ message_of report =
     (fold (with_line (codes "note: ")) (fold (with_label report.message) report.message report.labels) report.notes)
     report.help
 
--- the places of the labels that are not primary, with their messages
+-- the ranges and messages of the labels that are not primary
 abbrev pub related_of : Encoding → List ℕ → List Place → List (Range × List ℕ)
 related_of encoding text [] = []
 related_of encoding text (label ∷ labels) =
@@ -72,7 +84,24 @@ diagnostic_of encoding text report = record {
   related = related_of encoding text report.labels;
 }
 
--- The diagnostics of a text are the reports of `check`, in the same order.
-abbrev pub AreDiagnostics : Encoding → List ℕ → List DiagnosticContent → Type 0
-AreDiagnostics encoding text diagnostics =
-    (reports : List ReportContent) × Checks text reports × (diagnostics ≡ map (diagnostic_of encoding text) reports)
+-- The reports on a document, and the lines that say why its schema can't be used: as in `check`, first the reports on
+-- syntax that the version of TOML lacks, and then those of its schema.
+abbrev pub AreDocumentReports : Says → Version → Chooser → List ℕ → List ℕ → Node → List ReportContent → List ℕ
+    → Type 0
+AreDocumentReports says version chooser name text root reports complaint =
+    (lacks found : List ReportContent) × Lacks version name text lacks × says chooser name text root found complaint
+    × (reports ≡ lacks ++ found)
+
+-- The reports on a text with this name: those on the document or, if the text is not valid TOML, those on its errors.
+abbrev pub AreReports : Says → Version → Chooser → List ℕ → List ℕ → List ReportContent → List ℕ → Type 0
+AreReports says version chooser name text reports complaint =
+    ((root : Value) × IsTree text depth_limit root
+    × AreDocumentReports says version chooser name text (view root) reports complaint)
+    ⊎ ((error : Error) × IsRefusal text depth_limit (Fault error) × Checks text reports × (complaint ≡ []))
+
+-- The diagnostics of a text are the reports on it, in the same order.
+abbrev pub Diagnoses : Says → Version → Chooser → List ℕ → Encoding → List ℕ → List DiagnosticContent → List ℕ
+    → Type 0
+Diagnoses says version chooser name encoding text diagnostics complaint =
+    (reports : List ReportContent) × AreReports says version chooser name text reports complaint
+    × (diagnostics ≡ map (diagnostic_of encoding text) reports)

@@ -1,4 +1,5 @@
 pub mod Changes
+pub mod Conversions
 pub mod Diagnostics
 pub mod Edits
 pub mod Formatting

@@ -7,19 +7,20 @@ use Rattle.toml_span_editor.specs.declared.positions.Position.{Position}
 use Rattle.toml_span_editor.specs.declared.positions.Range.{Range}
 use Rattle.toml_span_lex.specs.declared.span.Span.{Span}
 
--- The largest number of the protocol (uinteger). A count stops there.
+-- The largest number of the protocol (uinteger), at which counts stop.
 abbrev pub largest : ℕ
 largest = 2147483647
 
 abbrev pub plus : ℕ → ℕ → ℕ
 plus n k = min (n + k) largest
 
--- the code units of a character of several bytes that begins with this byte: its bytes, or one or two UTF-16 units
+-- the number of code units of a character of several bytes that begins with this byte: its bytes, or one or two UTF-16
+-- units
 abbrev pub wide_units : Encoding → ℕ → ℕ
 wide_units Utf8 byte = if nat_lt byte 224 then 2 else if nat_lt byte 240 then 3 else 4
 wide_units Utf16 byte = if nat_lt byte 240 then 1 else 2
 
--- the code units of the character that begins with this byte of a UTF-8 text; a byte inside a character counts nothing
+-- the number of code units of the character that begins with this byte of a UTF-8 text; 0 for a byte inside a character
 abbrev pub units : Encoding → ℕ → ℕ
 units encoding byte = if nat_lt byte 128 then 1 else if nat_lt byte 192 then 0 else wide_units encoding byte
 
@@ -27,15 +28,15 @@ units encoding byte = if nat_lt byte 128 then 1 else if nat_lt byte 192 then 0 e
 abbrev pub ends_line : ℕ → ℕ → Bool
 ends_line byte next = byte == 10 || (byte == 13 && not (next == 10))
 
--- The position after a byte: on the next line after a line's end, otherwise further on the line. There is no position
--- between CR and LF.
+-- The position after a byte, which the byte `next` follows: the start of the next line after a line end, otherwise a
+-- later position on the same line. There is no position between CR and LF.
 abbrev pub after : Encoding → Position → ℕ → ℕ → Position
 after encoding p byte next =
     if ends_line byte next then record { line = plus p.line 1; character = 0 }
     else if byte == 13 then p
     else record { line = p.line; character = plus p.character (units encoding byte) }
 
--- the position after the first n bytes of what follows a position
+-- the position after the first n bytes of a text that begins at the position `p`
 unfoldable pub position_from : Encoding → Position → ℕ → List ℕ → Position
 position_from encoding p zero text = p
 position_from encoding p (suc n) [] = p
@@ -56,8 +57,8 @@ line_start (suc line) [] = 0
 line_start (suc line) (byte ∷ text) =
     suc (line_start (if ends_line byte (slice_index text 0) then line else suc line) text)
 
--- The bytes of a line before the character at a count of code units. If the line is shorter, they are the whole line
--- without its end; and before a character that has only some of the units, they end.
+-- The number of bytes of a line before the character at this count of code units. If the line is shorter, the number of
+-- its bytes without the line end. If the count ends inside a character, the number of bytes before that character.
 unfoldable pub column : Encoding → ℕ → List ℕ → ℕ
 column encoding left [] = 0
 column encoding left (byte ∷ line) =

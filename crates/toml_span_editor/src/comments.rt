@@ -5,7 +5,7 @@ use toml_span_lex::stop::Stop;
 use toml_span_lex::tokenizer::Tokenizer;
 use toml_span_lex::tokens::Token;
 
-/// Returns the spans of the comments of a text, in order. What can't be split into tokens is skipped. Fails if an
+/// Returns the spans of the comments of a text, in order. Text that can't be split into tokens is skipped. Fails if an
 /// allocation fails.
 pub(crate) fn comment_spans(alloc: Global, text: &str) -> Result<Vec<Span>, AllocError> {
     let mut tokenizer = Tokenizer::new(text);

@@ -1,4 +1,4 @@
-//! What can be written at an offset.
+//! Proposes text to write at an offset.
 use crate::document::Document;
 use crate::keys::{is_spelled, value_of};
 use std::alloc::{AllocError, Global};
@@ -6,10 +6,10 @@ use toml_span::Value;
 use toml_span::value::{Step, nodes};
 use toml_span_places::{literal_span, quote_key, section_places};
 
-/// The most elements of an array that are searched for keys.
+/// The maximum number of elements of an array that are searched for keys.
 const MOST_TABLES: usize = 100;
 
-/// The most proposals.
+/// The maximum number of proposals.
 const MOST: usize = 200;
 
 /// Something that can be written at an offset.
@@ -17,12 +17,12 @@ const MOST: usize = 200;
 pub struct Proposal {
     /// The text to write.
     pub text: String,
-    /// The kind of the value that the key has elsewhere, or `boolean`.
+    /// For a key, the kind of its value in another table. Otherwise `boolean`.
     pub kind: &'static str,
     pub is_key: bool,
 }
 
-/// The part of a statement in which an offset is.
+/// The part of a statement that contains an offset.
 #[derive(Clone, Copy, Debug, PartialEq, Eq)]
 pub enum Part {
     Key,
@@ -31,18 +31,19 @@ pub enum Part {
     Other,
 }
 
-/// Returns the line of an offset up to it, or an empty text if the offset is not at a character boundary.
+/// Returns the text of a line from its start to the offset `at`, or an empty string if `at` is not at a character
+/// boundary.
 fn line_front(text: &str, at: usize) -> &str {
     let front = text.get(..at).unwrap_or("");
     front.rsplit('\n').next().unwrap_or("")
 }
 
-/// Returns whether a text has nothing but letters of a boolean.
+/// Returns whether a text, such as `true`, has only ASCII letters, or is empty.
 fn is_word(text: &str) -> bool {
     text.chars().all(|c| c.is_ascii_alphabetic())
 }
 
-/// Returns the part of a statement in which an offset is, given the text of its line before it.
+/// Returns the part of a statement that contains an offset. `front` is the text before the offset on the same line.
 fn part_of(front: &str) -> Part {
     let front = front.trim_ascii_start();
     match front.rsplit_once('=') {
@@ -53,9 +54,9 @@ fn part_of(front: &str) -> Part {
     }
 }
 
-/// Returns the path of the table that the section around an offset fills: that of the last header before it, or of the
-/// root. Fails if an allocation fails.
-fn table_path<'d>(
+/// Returns the path of the table to which an assignment at an offset belongs: the path of the last header before the
+/// offset, or an empty path before the first header. Fails if an allocation fails.
+pub(crate) fn table_path<'d>(
     alloc: Global,
     document: &'d Document<'_>,
     at: usize,
@@ -69,7 +70,7 @@ fn table_path<'d>(
     Ok(path)
 }
 
-/// Returns the index of the last position in a path, if it has one.
+/// Returns the index of the last step of a path that is a position in an array, or `None` if no step is a position.
 fn last_position(path: &[Step<'_>]) -> Option<usize> {
     let mut found = None;
     for (index, step) in path.iter().enumerate() {
@@ -88,14 +89,15 @@ fn is_proposed(proposals: &[Proposal], text: &str) -> bool {
 }
 
 /// Returns whether a value is a table with this key.
-fn has_key(value: Option<&Value<'_>>, name: &str) -> bool {
+pub(crate) fn has_key(value: Option<&Value<'_>>, name: &str) -> bool {
     let Some(table) = value.and_then(|value| value.as_table()) else {
         return false;
     };
     table.iter().any(|(key, _)| key.name.as_ref() == name)
 }
 
-/// Appends the keys of a table that another one lacks. Fails if an allocation fails.
+/// Appends the keys of `table` that `own` lacks, unless they are proposed already. Stops at `MOST` proposals. Fails if
+/// an allocation fails.
 fn push_keys(
     alloc: Global,
     table: &Value<'_>,
@@ -121,8 +123,9 @@ fn push_keys(
     Ok(())
 }
 
-/// Returns the keys that the same tables in the other elements of an array have, and that the table at a path lacks.
-/// Fails if an allocation fails.
+/// Returns proposals for the keys that the table around an offset lacks, but that the corresponding tables in other
+/// elements of the innermost array have. The list is empty if the table is not in an array. Fails if an allocation
+/// fails.
 fn sibling_keys(
     alloc: Global,
     document: &Document<'_>,
@@ -148,7 +151,8 @@ fn sibling_keys(
     Ok(proposals)
 }
 
-/// Returns whether an offset is within a value that is spelled as such. Fails if an allocation fails.
+/// Returns whether an offset is inside the literal of a value, such as a string of several lines. Fails if an
+/// allocation fails.
 fn is_in_value(alloc: Global, document: &Document<'_>, at: usize) -> Result<bool, AllocError> {
     for node in nodes(alloc, &document.root)? {
         let span = literal_span(document.text, node.value);
@@ -159,7 +163,7 @@ fn is_in_value(alloc: Global, document: &Document<'_>, at: usize) -> Result<bool
     Ok(false)
 }
 
-/// Returns the booleans. Fails if an allocation fails.
+/// Returns a proposal for `true` and one for `false`. Fails if an allocation fails.
 fn booleans(alloc: Global) -> Result<Vec<Proposal>, AllocError> {
     let mut proposals = Vec::new(alloc);
     for word in ["true", "false"] {
@@ -172,9 +176,9 @@ fn booleans(alloc: Global) -> Result<Vec<Proposal>, AllocError> {
     Ok(proposals)
 }
 
-/// Returns what can be written at an offset: in a value the booleans, and in a key of a table in an array the keys of
-/// the tables beside it. `text` is the text itself, and `document` as much of it as can be read. Fails if an allocation
-/// fails.
+/// Returns proposals for an offset. For a value, these are the booleans. For a key in a table inside an array, these
+/// are the keys that the corresponding tables in other elements have. Elsewhere, the list is empty. `document` is as
+/// much of `text` as can be read (see `readable`). Fails if an allocation fails.
 pub fn proposals(
     alloc: Global,
     text: &str,

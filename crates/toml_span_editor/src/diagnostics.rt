@@ -1,7 +1,8 @@
-//! The errors of a text as diagnostics, and the edits that repair them.
+//! Converts the errors of a text to diagnostics, and returns the edits that repair them.
 ghost use Rattle.std.specs.Prelude.{◌≡◌, IfOk, OnOk, fold, map, string_bytes};
 ghost use Rattle.toml_span_tree.specs.Diagnostic.{label_content};
 ghost use Rattle.toml_span_report.specs.Report.{report_content};
+ghost use Rattle.toml_span_tree.specs.Value.{view};
 ghost use Rattle.toml_span_editor.specs.Diagnostics as spec;
 
 use crate::edits::{Edit, differences, edited};
@@ -9,13 +10,17 @@ use crate::positions::Range;
 use crate::spans::touches;
 use crate::table::PositionTable;
 use std::alloc::{AllocError, Global};
+use toml_span::de::parse;
+use toml_span::{Stop, Value};
 use toml_span_check::every::check;
 use toml_span_check::fixing::with_fixes;
+use toml_span_check::newer::{Version, version_reports};
+use toml_span_check::schemas::{Chooser, SchemaReports, Schemas};
 use toml_span_lex::span::Span;
 use toml_span_report::{Report, Severity};
 use toml_span_tree::Label;
 
-/// A place that is related to a diagnostic.
+/// A range that is related to a diagnostic, with a message.
 #[derive(Debug, Drop)]
 pub struct Related {
     pub range: Range,
@@ -29,24 +34,24 @@ pub struct Diagnostic {
     pub range: Range,
     pub severity: Severity,
     pub code: String,
-    /// The message, and below it the labels, the notes and the help, each on a line.
+    /// The message, and below it the primary labels, the notes and the help, each on a line.
     pub message: String,
-    /// The places of the other labels.
+    /// The ranges and messages of the labels that are not primary.
     pub related: Vec<Related>,
 }
 
 /// A repair of an error.
 #[derive(Debug, Drop)]
 pub struct Repair {
-    /// What it does.
+    /// What the repair does: the first help of the report or, if the report has no help, its message.
     pub title: String,
-    /// The position in the list of the reports.
+    /// The position of the error's report in the list that `toml_span_check::every::check` returns.
     pub report: usize,
     pub edits: Vec<Edit>,
     pub is_safe: bool,
 }
 
-/// Returns the span of the first primary label, or of the start of the text.
+/// Returns the span of the first primary label, or 0..0 without such a label.
 fn main_span(labels: &[Label<()>]) -> Span
     ensures { result ≡ spec.main_span (map label_content labels.now) }
 {
@@ -58,7 +63,7 @@ fn main_span(labels: &[Label<()>]) -> Span
     Span { start: 0, end: 0 }
 }
 
-/// Appends a line with a front, unless the text is empty. Fails if an allocation fails.
+/// Appends `front` and `text` on a new line. Does nothing if `text` is empty. Fails if an allocation fails.
 #[tactic(auto, unfolding(crate::specs::Diagnostics::with_line))]
 fn push_line(out: &mut String, front: &str, text: &str) -> Result<(), AllocError>
     ensures { OnOk result (string_bytes out.new ≡ spec.with_line front.now (string_bytes out.old) text.now) }
@@ -73,7 +78,7 @@ fn push_line(out: &mut String, front: &str, text: &str) -> Result<(), AllocError
     out.push_str(text)
 }
 
-/// Appends lines with a front. Fails if an allocation fails.
+/// Appends each non-empty line of `lines` on a new line, with `front` before it. Fails if an allocation fails.
 fn push_lines(out: &mut String, front: &str, lines: &[String]) -> Result<(), AllocError>
     ensures { OnOk result (string_bytes out.new
         ≡ fold (spec.with_line front.now) (string_bytes out.old) (map string_bytes lines.now)) }
@@ -84,8 +89,8 @@ fn push_lines(out: &mut String, front: &str, lines: &[String]) -> Result<(), All
     Ok(())
 }
 
-/// Appends the message of a label, if it is primary and says something else than the report. Fails if an allocation
-/// fails.
+/// Appends the message of a label on a new line, if the label is primary and its message differs from `message`, the
+/// message of the report. Fails if an allocation fails.
 fn push_label(out: &mut String, message: &str, label: &Label<()>) -> Result<(), AllocError>
     ensures { OnOk result (string_bytes out.new
         ≡ spec.with_label message.now (string_bytes out.old) (label_content label.now)) }
@@ -96,7 +101,8 @@ fn push_label(out: &mut String, message: &str, label: &Label<()>) -> Result<(), 
     Ok(())
 }
 
-/// Appends the messages of labels, as `push_label` does. Fails if an allocation fails.
+/// Appends the messages of the primary labels, each on a new line, except for those that equal `message`, the message
+/// of the report. Fails if an allocation fails.
 fn push_labels(out: &mut String, message: &str, labels: &[Label<()>]) -> Result<(), AllocError>
     ensures { OnOk result (string_bytes out.new
         ≡ fold (spec.with_label message.now) (string_bytes out.old) (map label_content labels.now)) }
@@ -107,7 +113,8 @@ fn push_labels(out: &mut String, message: &str, labels: &[Label<()>]) -> Result<
     Ok(())
 }
 
-/// Returns the message of a report with its primary labels, its notes and its help. Fails if an allocation fails.
+/// Returns the message of a report, followed by its primary labels, its notes and its help, each on a line. Fails if an
+/// allocation fails.
 fn message_of(alloc: Global, report: &Report) -> Result<String, AllocError>
     ensures { IfOk result (λ out. string_bytes out ≡ spec.message_of (report_content report.now)) }
 {
@@ -118,7 +125,7 @@ fn message_of(alloc: Global, report: &Report) -> Result<String, AllocError>
     Ok(out)
 }
 
-/// Returns the places of the labels that are not primary. Fails if an allocation fails.
+/// Returns the ranges and messages of the labels that are not primary. Fails if an allocation fails.
 fn related_of(
     alloc: Global,
     table: &PositionTable<'_>,
@@ -174,14 +181,80 @@ fn diagnostics_of(
     Ok(found)
 }
 
-/// Returns the errors of a text: a diagnostic for each report of `toml_span_check::every::check`, in the same order.
-/// Fails if an allocation fails.
-pub fn diagnostics(alloc: Global, table: &PositionTable<'_>) -> Result<Vec<Diagnostic>, AllocError>
-    ensures { IfOk result (λ found. spec.AreDiagnostics table.now.encoding table.now.text.now
-        (map spec.diagnostic_content found.items)) }
+/// The diagnostics of a text, and why its schema can't be used.
+#[derive(Debug, Drop)]
+pub struct Diagnosed {
+    pub diagnostics: Vec<Diagnostic>,
+    /// If the schema can't be used: error lines that say why. Otherwise empty.
+    pub complaint: String,
+}
+
+/// Returns the reports on a document: on syntax that this version of TOML lacks, and then those of its schema. `name`
+/// is the name of the file, `text` its source, and `root` its tree. Fails if an allocation fails.
+#[tactic(auto, using(crate::proofs::DiagnosticLemmas::reports_append))]
+fn document_reports<S: Schemas>(
+    alloc: Global,
+    version: Version,
+    chooser: Chooser,
+    name: &str,
+    text: &str,
+    root: &Value<'_>,
+    schemas: &mut S,
+) -> Result<SchemaReports, AllocError>
+    ensures { IfOk result (λ made. spec.AreDocumentReports S.says version chooser name.now text.now (view root.now)
+        (map report_content made.reports.items) (string_bytes made.complaint)) }
 {
-    let reports = check(alloc, table.text)?;
-    diagnostics_of(alloc, table, reports.as_slice())
+    let mut reports = version_reports(alloc, text, version, name)?;
+    let mut found = schemas.check(alloc, chooser, name, text, root)?;
+    reports.append(&mut found.reports)?;
+    Ok(SchemaReports {
+        reports,
+        complaint: found.complaint,
+    })
+}
+
+/// Returns the reports on a text: on all its errors or, if there are none, those of `document_reports`. `name` is the
+/// name of the file. Fails if an allocation fails.
+fn text_reports<S: Schemas>(
+    alloc: Global,
+    version: Version,
+    chooser: Chooser,
+    name: &str,
+    text: &str,
+    schemas: &mut S,
+) -> Result<SchemaReports, AllocError>
+    ensures { IfOk result (λ made. spec.AreReports S.says version chooser name.now text.now
+        (map report_content made.reports.items) (string_bytes made.complaint)) }
+{
+    match parse(alloc, text) {
+        Ok(root) => document_reports(alloc, version, chooser, name, text, &root, schemas),
+        Err(Stop::Memory(error)) => Err(error),
+        Err(Stop::Fault(_error)) => Ok(SchemaReports {
+            reports: check(alloc, text)?,
+            complaint: String::new(alloc),
+        }),
+    }
+}
+
+/// Returns the diagnostics of a text, in the order of the reports of `toml-span check`: of all errors or, if there are
+/// none, of syntax that this version of TOML lacks, and then of what the schema of the file reports. `name` is the name
+/// of the file. Fails if an allocation fails.
+pub fn diagnostics<S: Schemas>(
+    alloc: Global,
+    table: &PositionTable<'_>,
+    version: Version,
+    chooser: Chooser,
+    name: &str,
+    schemas: &mut S,
+) -> Result<Diagnosed, AllocError>
+    ensures { IfOk result (λ made. spec.Diagnoses S.says version chooser name.now table.now.encoding table.now.text.now
+        (map spec.diagnostic_content made.diagnostics.items) (string_bytes made.complaint)) }
+{
+    let found = text_reports(alloc, version, chooser, name, table.text, schemas)?;
+    Ok(Diagnosed {
+        diagnostics: diagnostics_of(alloc, table, found.reports.as_slice())?,
+        complaint: found.complaint,
+    })
 }
 
 /// Returns the replacements of a report as edits. Fails if an allocation fails.
@@ -196,7 +269,8 @@ fn edits_of(alloc: Global, report: &Report) -> Result<Vec<Edit>, AllocError> {
     Ok(edits)
 }
 
-/// Returns the repair of a report, or `None` if it has none or its edits can't be made. Fails if an allocation fails.
+/// Returns the repair of a report, or `None` if the report has no replacements or they don't fit the text. `index` is
+/// the position of the report in the list of reports. Fails if an allocation fails.
 fn repair_of(
     alloc: Global,
     text: &str,
@@ -219,8 +293,8 @@ fn repair_of(
     }))
 }
 
-/// Returns the repairs of the errors that touch a span, in the order of the reports. Each can be made. Fails if an
-/// allocation fails.
+/// Returns the repairs of the errors that touch a span, in the order of the reports. The edits of each repair fit the
+/// text. Fails if an allocation fails.
 pub fn repairs(alloc: Global, text: &str, span: Span) -> Result<Vec<Repair>, AllocError> {
     let mut found = Vec::new(alloc);
     for (index, report) in check(alloc, text)?.iter().enumerate() {

@@ -20,7 +20,8 @@ pub struct Document<'t> {
     pub sections: Vec<Section<'t>>,
 }
 
-/// Returns the offset of the error for which a text is not valid TOML, if it has one. Fails if an allocation fails.
+/// Returns the start of the error that `parse` returns for a text, or `None` if the text is valid TOML. Fails if an
+/// allocation fails.
 fn error_place(alloc: Global, text: &str) -> Result<Option<usize>, AllocError> {
     match parse(alloc, text) {
         Ok(_) => Ok(None),
@@ -31,7 +32,7 @@ fn error_place(alloc: Global, text: &str) -> Result<Option<usize>, AllocError> {
     }
 }
 
-/// Returns the character boundary at the start of the line of an offset, or at the start of the text.
+/// Returns the offset at which the line that contains an offset begins.
 fn line_begin(text: &str, at: usize) -> usize {
     let at = text.floor_char_boundary(at);
     match text[..at].rfind('\n') {
@@ -40,7 +41,8 @@ fn line_begin(text: &str, at: usize) -> usize {
     }
 }
 
-/// Returns the text with spaces in place of the line of an offset, without its line end. Fails if an allocation fails.
+/// Returns the text with spaces in place of the line that contains an offset. The line end stays. Fails if an
+/// allocation fails.
 #[tactic(auto, using(crate::proofs::DocumentLemmas::spaces_length, crate::proofs::DocumentLemmas::spliced_length))]
 fn without_line(alloc: Global, text: &str, at: usize) -> Result<String, AllocError>
     ensures { IfOk result (λ kept. length (string_bytes kept) ≡ length text.now) }
@@ -75,7 +77,7 @@ pub fn readable<'t>(alloc: Global, text: &'t str) -> Result<Option<CowStr<'t>>, 
     Ok(None)
 }
 
-/// Reads a text. Returns `None` if it is not valid TOML. Fails if an allocation fails.
+/// Reads a text. Returns `None` if the text is not valid TOML. Fails if an allocation fails.
 pub fn read<'t>(alloc: Global, text: &'t str) -> Result<Option<Document<'t>>, AllocError> {
     let root = match parse(alloc, text) {
         Ok(root) => root,

@@ -17,7 +17,7 @@ pub struct Edit {
     pub text: String,
 }
 
-/// Edits of a text, and the text with them made.
+/// Edits of a text, and the new text that they make.
 #[derive(Debug, Drop)]
 pub struct Rewritten {
     pub edits: Vec<Edit>,
@@ -38,8 +38,8 @@ fn replacements<'e>(alloc: Global, edits: &'e [Edit]) -> Result<Vec<Replacement<
     Ok(list)
 }
 
-/// Returns the text with all edits made, or `None` if their spans overlap, are not in order or not in the text. Fails
-/// if an allocation fails.
+/// Returns the text with all edits made, or `None` if their spans overlap, are not in order, or are not in the text.
+/// Fails if an allocation fails.
 pub fn edited(alloc: Global, text: &str, edits: &[Edit]) -> Result<Option<String>, AllocError>
     ensures { IfOk result (λ new. option_map string_bytes new
         ≡ places.replaced text.now (map edit_content edits.now)) }
@@ -52,7 +52,7 @@ pub fn edited(alloc: Global, text: &str, edits: &[Edit]) -> Result<Option<String
     }
 }
 
-/// Returns whether these edits turn one text into the other. Fails if an allocation fails.
+/// Returns whether the edits turn `old` into `new`. Fails if an allocation fails.
 #[tactic(auto, unfolding(crate::specs::Edits::Turns))]
 pub(crate) fn turns(alloc: Global, old: &str, edits: &[Edit], new: &str) -> Result<bool, AllocError>
     ensures { IfOk result (λ does. IsTrue does → Turns old.now (map edit_content edits.now) new.now) }
@@ -63,7 +63,7 @@ pub(crate) fn turns(alloc: Global, old: &str, edits: &[Edit], new: &str) -> Resu
     }
 }
 
-/// An edit under construction: the lines that are replaced so far.
+/// An edit under construction: the lines of the old text from `start` to `end`, in bytes, which `text` replaces.
 #[derive(Drop)]
 struct Hunk {
     start: usize,
@@ -71,8 +71,8 @@ struct Hunk {
     text: String,
 }
 
-/// Returns an edit for each group of lines that differ. That they turn one text into the other is checked by `turns`.
-/// Fails if an allocation fails.
+/// Returns an edit for each group of lines in which the texts differ. The caller checks with `turns` that the edits
+/// turn `old` into `new`. Fails if an allocation fails.
 fn guessed(alloc: Global, old: &str, new: &str) -> Result<Vec<Edit>, AllocError> {
     let mut edits = Vec::new(alloc);
     let mut hunk = Hunk {
@@ -109,7 +109,7 @@ fn push_hunk(hunk: Hunk, edits: &mut Vec<Edit>) -> Result<(), AllocError> {
     Ok(())
 }
 
-/// Returns the edit that replaces a whole text. Fails if an allocation fails.
+/// Returns the edit that replaces the whole text `old` with `new`. Fails if an allocation fails.
 #[tactic(auto, using(crate::proofs::EditLemmas::whole_turns))]
 fn whole(alloc: Global, old: &str, new: &str) -> Result<Vec<Edit>, AllocError>
     ensures { IfOk result (λ edits. Turns old.now (map edit_content edits.items) new.now) }
@@ -124,8 +124,7 @@ fn whole(alloc: Global, old: &str, new: &str) -> Result<Vec<Edit>, AllocError>
     Ok(edits)
 }
 
-/// Returns the edits that turn one text into another, one for each group of lines that differ. Fails if an allocation
-/// fails.
+/// Returns the edits that turn `old` into `new`, one for each group of lines that differ. Fails if an allocation fails.
 pub fn differences(alloc: Global, old: &str, new: &str) -> Result<Vec<Edit>, AllocError>
     ensures { IfOk result (λ edits. Turns old.now (map edit_content edits.items) new.now) }
 {

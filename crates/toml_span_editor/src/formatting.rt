@@ -10,7 +10,8 @@ use toml_span_edit::validated;
 use toml_span_format::{Options, format};
 use toml_span_lex::span::Span;
 
-/// Returns the edits that format a document. `None` if the text is not valid TOML. Fails if an allocation fails.
+/// Returns the edits that format a document, with the new text, or `None` if the text is not valid TOML or can't be
+/// formatted. Fails if an allocation fails.
 pub fn formatting(
     alloc: Global,
     text: &str,
@@ -28,7 +29,7 @@ pub fn formatting(
     }
 }
 
-/// Returns the edits of a list that touch a span.
+/// Returns the edits of a list that touch a span. Fails if an allocation fails.
 fn within(alloc: Global, edits: Vec<Edit>, span: Span) -> Result<Vec<Edit>, AllocError> {
     let mut kept = Vec::new(alloc);
     for edit in edits {
@@ -39,8 +40,9 @@ fn within(alloc: Global, edits: Vec<Edit>, span: Span) -> Result<Vec<Edit>, Allo
     Ok(kept)
 }
 
-/// Returns the edits that format the lines of a span. The result has the same keys and values: it is validated. `None`
-/// if the text is not valid TOML, or if the lines can't be formatted alone. Fails if an allocation fails.
+/// Returns the edits that format the lines of a span, with the new text, which has the same keys and values. Returns
+/// `None` if the text is not valid TOML, or if these lines can't be formatted without others. Fails if an allocation
+/// fails.
 #[tactic(auto, unfolding(crate::specs::Edits::Turns))]
 pub fn formatting_of(
     alloc: Global,

@@ -1,15 +1,17 @@
-//! What is known about a key or a value.
+//! Describes a key or a value.
 use crate::document::Document;
 use crate::keys::{key_at, value_of};
 use crate::paths::{dotted, pointer};
+use crate::schemas::{documentation, subschemas_at};
 use std::alloc::{AllocError, Global};
 use std::fmt::Write;
 use toml_span::Value;
 use toml_span::value::Step;
 use toml_span_lex::span::Span;
 use toml_span_places::{key_places, literal_span, node_at};
+use toml_span_schema::Guide;
 
-/// The most names of keys that are listed.
+/// The maximum number of keys that are listed.
 const MOST: usize = 12;
 
 /// The names of the months.
@@ -28,14 +30,15 @@ const MONTHS: [&str; 12] = [
     "December",
 ];
 
-/// What is known about a key or a value, as Markdown, and where it is.
+/// The description of a key or a value, as Markdown, and its span.
 #[derive(Debug, Drop)]
 pub struct Hover {
     pub span: Span,
     pub text: String,
 }
 
-/// Returns the part of a text between two offsets, or an empty text if there is none.
+/// Returns the text between two offsets, or an empty string if the offsets are not in order or not at character
+/// boundaries.
 fn part(text: &str, from: usize, to: usize) -> &str {
     if from > to {
         return "";
@@ -43,7 +46,8 @@ fn part(text: &str, from: usize, to: usize) -> &str {
     text.get(from..to).unwrap_or("")
 }
 
-/// Returns the name of a month, given its two digits.
+/// Returns the name of a month, given its number from `01` to `12`. Returns an empty string for a larger number, or for
+/// a text that is not a number.
 fn month_of(digits: &str) -> &'static str {
     match digits.parse::<usize>() {
         Ok(month) => MONTHS.get(month.saturating_sub(1)).copied().unwrap_or(""),
@@ -61,7 +65,7 @@ fn push_day(date: &str, out: &mut String) -> Result<(), AllocError> {
     out.push_str(part(date, 0, 4))
 }
 
-/// Appends a time with its offset from UTC, if it has one. Fails if an allocation fails.
+/// Appends a time with its offset from UTC, if the time has one. Fails if an allocation fails.
 fn push_time(time: &str, out: &mut String) -> Result<(), AllocError> {
     let is_utc = time.ends_with('Z') || time.ends_with('z');
     let local = time
@@ -90,7 +94,7 @@ fn push_date(date: &str, out: &mut String) -> Result<(), AllocError> {
     Ok(())
 }
 
-/// Appends a count with its word, such as `3 elements`. Fails if an allocation fails.
+/// Appends a count and a noun, such as `3 elements`. `word` is the singular of the noun. Fails if an allocation fails.
 fn push_count(out: &mut String, count: usize, word: &str) -> Result<(), AllocError> {
     write!(out, "{count} {word}")?;
     if count != 1 {
@@ -99,7 +103,8 @@ fn push_count(out: &mut String, count: usize, word: &str) -> Result<(), AllocErr
     Ok(())
 }
 
-/// Appends the names of a table's keys, at most `MOST` of them. Fails if an allocation fails.
+/// Appends the number of a table's keys and their names, at most `MOST` of them. Appends nothing for any other value.
+/// Fails if an allocation fails.
 fn push_names(value: &Value<'_>, out: &mut String) -> Result<(), AllocError> {
     let Some(table) = value.as_table() else {
         return Ok(());
@@ -116,8 +121,9 @@ fn push_names(value: &Value<'_>, out: &mut String) -> Result<(), AllocError> {
     Ok(())
 }
 
-/// Appends what there is to say about a value besides its kind. `literal` is the text that spells it. Fails if an
-/// allocation fails.
+/// Appends the value of an integer that is not written in plain decimal, a date spelled out, the size of a string or
+/// array, or the number and the names of a table's keys. Appends nothing for other values. `literal` is the text that
+/// spells the value. Fails if an allocation fails.
 fn push_details(value: &Value<'_>, literal: &str, out: &mut String) -> Result<(), AllocError> {
     if let Some(number) = value.as_integer() {
         let number = format!(in *out.allocator(); "{number}")?;
@@ -137,7 +143,26 @@ fn push_details(value: &Value<'_>, literal: &str, out: &mut String) -> Result<()
     push_names(value, out)
 }
 
-/// Returns what is known about the value at a path, as Markdown. Fails if an allocation fails.
+/// Appends a blank line and the description in the schema `guide` of the value at a path, or nothing if the schema has
+/// no description. Fails if an allocation fails.
+fn push_said(
+    alloc: Global,
+    guide: &Guide,
+    root: &Value<'_>,
+    path: &[Step<'_>],
+    out: &mut String,
+) -> Result<(), AllocError> {
+    let found = subschemas_at(alloc, guide, root, path)?;
+    let said = documentation(alloc, guide, &found)?;
+    if !said.is_empty() {
+        out.push_str("\n\n")?;
+        out.push_str(said.as_str())?;
+    }
+    Ok(())
+}
+
+/// Returns the description of the value at a path, as Markdown: the path, the kind and the details. Fails if an
+/// allocation fails.
 fn described(
     alloc: Global,
     text: &str,
@@ -158,10 +183,12 @@ fn described(
     Ok(out)
 }
 
-/// Returns what is known about the key at an offset, if there is one. Fails if an allocation fails.
+/// Returns the description of the key at an offset, or `None` if the offset is not at a key. Fails if an allocation
+/// fails.
 fn key_hover(
     alloc: Global,
     document: &Document<'_>,
+    guide: Option<&Guide>,
     at: usize,
 ) -> Result<Option<Hover>, AllocError> {
     let keys = key_places(alloc, document.text, document.sections.as_slice())?;
@@ -172,20 +199,26 @@ fn key_hover(
     let Some(value) = value_of(&document.root, path) else {
         return Ok(None);
     };
+    let mut text = described(alloc, document.text, path, value)?;
+    if let Some(known) = guide {
+        push_said(alloc, known, &document.root, path, &mut text)?;
+    }
     Ok(Some(Hover {
         span: key.whole,
-        text: described(alloc, document.text, path, value)?,
+        text,
     }))
 }
 
-/// Returns what is known about the key or the value at an offset: its path, its kind, the decimal value of an integer,
-/// a date spelled out, and the size of what has a size. `None` if there is neither. Fails if an allocation fails.
+/// Returns the description of the key or the value at an offset: its path, its kind, the decimal value of an integer, a
+/// date spelled out, the size of a string, array or table, and the description in the schema `guide`. Returns `None` if
+/// the offset is neither at a key nor at a value other than a table. Fails if an allocation fails.
 pub fn hover_at(
     alloc: Global,
     document: &Document<'_>,
+    guide: Option<&Guide>,
     at: usize,
 ) -> Result<Option<Hover>, AllocError> {
-    if let Some(found) = key_hover(alloc, document, at)? {
+    if let Some(found) = key_hover(alloc, document, guide, at)? {
         return Ok(Some(found));
     }
     let Some(place) = node_at(alloc, &document.root, document.text, at)? else {
@@ -194,8 +227,13 @@ pub fn hover_at(
     if place.path.is_empty() || place.value.as_table().is_some() {
         return Ok(None);
     }
+    let path = place.path.as_slice();
+    let mut text = described(alloc, document.text, path, place.value)?;
+    if let Some(known) = guide {
+        push_said(alloc, known, &document.root, path, &mut text)?;
+    }
     Ok(Some(Hover {
         span: place.span,
-        text: described(alloc, document.text, place.path.as_slice(), place.value)?,
+        text,
     }))
 }

@@ -12,11 +12,11 @@ use toml_span_places::{KeyPlace, Role, key_places};
 pub struct Mention {
     /// The bytes of the key with its quotes.
     pub span: Span,
-    /// Whether it is the last part of a header, or of the key of an assignment.
+    /// Whether the key is here the last part of a header, or of the key of an assignment.
     pub is_definition: bool,
 }
 
-/// Returns the key at an offset, or that ends there.
+/// Returns the first key that contains an offset or ends at the offset, or `None` if no key does.
 pub(crate) fn key_at<'p, 't>(keys: &'p [KeyPlace<'t>], at: usize) -> Option<&'p KeyPlace<'t>> {
     for key in keys {
         if touches(key.whole, at) {
@@ -26,7 +26,7 @@ pub(crate) fn key_at<'p, 't>(keys: &'p [KeyPlace<'t>], at: usize) -> Option<&'p 
     None
 }
 
-/// Returns whether a part of a key is its last one.
+/// Returns whether a part of a key or header with this role is the last part.
 fn is_last(role: Role) -> bool {
     matches!(role, Role::HeaderLast | Role::Last)
 }
@@ -54,8 +54,9 @@ pub fn mentions(
     Ok(found)
 }
 
-/// Returns the place where the key at an offset is defined: the first where it is the last part of a header or of a key
-/// or, if there is none, the first at all. Fails if an allocation fails.
+/// Returns the place where the key at an offset is defined: the first place where the key is the last part of a header
+/// or of an assignment's key. Without such a place, returns the first place where the key is written. Returns `None` if
+/// the offset is not at a key. Fails if an allocation fails.
 pub fn definition(
     alloc: Global,
     document: &Document<'_>,
@@ -70,7 +71,7 @@ pub fn definition(
     Ok(mentions.first().map(|mention| mention.span))
 }
 
-/// Returns whether a value is spelled as a value, and not defined by headers or dotted keys.
+/// Returns whether a value is written as a literal, and not defined by headers or dotted keys.
 pub(crate) fn is_spelled(text: &str, value: &Value<'_>) -> bool {
     if value.as_table().is_some() {
         return text.as_bytes().get(value.span.start) == Some(&b'{');
@@ -81,7 +82,7 @@ pub(crate) fn is_spelled(text: &str, value: &Value<'_>) -> bool {
     }
 }
 
-/// Returns the value to which a step leads.
+/// Returns the entry of a table, or the element of an array, that a step names, if it exists.
 pub(crate) fn child<'v, 'de>(value: &'v Value<'de>, step: Step<'_>) -> Option<&'v Value<'de>> {
     match step {
         Step::Position(at) => value.as_array()?.get(at),
@@ -96,7 +97,7 @@ pub(crate) fn child<'v, 'de>(value: &'v Value<'de>, step: Step<'_>) -> Option<&'
     }
 }
 
-/// Returns the value at a path.
+/// Returns the value at a path, if it exists.
 pub(crate) fn value_of<'v, 'de>(root: &'v Value<'de>, path: &[Step<'_>]) -> Option<&'v Value<'de>> {
     let [step, rest @ ..] = path else {
         return Some(root);

@@ -1,12 +1,13 @@
 //! Laws of positions, stated as functions that do nothing.
 ghost use Rattle.toml_span_editor.specs.Laws as law;
 
-/// The offset of the position of an offset is that offset.
+/// In a text of less than 512 MiB, converting a character boundary to a position and back returns the same boundary,
+/// unless the boundary is between CR and LF.
 pub fn positions_return()
     ensures { law.PositionsReturn }
 {}
 
-/// The bytes of a character together count its code units.
+/// The results of `units` for the bytes of a character add up to the number of the character's code units.
 pub fn counts_characters()
     ensures { law.CountsCharacters }
 {}

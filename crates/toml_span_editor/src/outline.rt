@@ -6,22 +6,22 @@ use toml_span::value::{Table, Value, ValueInner};
 use toml_span_lex::span::Span;
 use toml_span_places::{literal_span, with_quotes};
 
-/// A table, an array or a key, and those inside it.
+/// An entry of a table, or an element of an array, with the symbols inside it.
 #[derive(Debug, Drop)]
 pub struct Symbol {
     /// The name of the key, or the position of the element.
     pub name: String,
     /// The kind of the value, such as `table` or `integer`.
     pub kind: &'static str,
-    /// The bytes of the key and of everything inside it.
+    /// The bytes of the key or element, and of everything inside it.
     pub span: Span,
     /// The bytes of the key, or of the element. They are within `span`.
     pub selection: Span,
-    /// The symbols inside it, in the order of the text.
+    /// The symbols inside this one, in the order of the text.
     pub children: Vec<Symbol>,
 }
 
-/// Returns the shortest span that contains a span and the symbols.
+/// Returns the shortest span that contains `span` and the spans of the symbols.
 fn around(span: Span, symbols: &[Symbol]) -> Span {
     let mut span = span;
     for symbol in symbols {
@@ -30,7 +30,7 @@ fn around(span: Span, symbols: &[Symbol]) -> Span {
     span
 }
 
-/// Makes the symbol of a value.
+/// Returns the symbol of a value. The symbol's span contains `selection`, the literal of the value, and the children.
 fn symbol_of(
     text: &str,
     name: String,
@@ -101,8 +101,8 @@ fn has_inner(value: &Value<'_>) -> bool {
     value.as_table().is_some() || value.as_array().is_some()
 }
 
-/// Returns the symbols of a document, in the order of the text. Of the elements of an array, only tables and arrays are
-/// listed. Fails if an allocation fails.
+/// Returns the symbols of a document, in the order of the text. An array lists only those elements that are tables or
+/// arrays. Fails if an allocation fails.
 pub fn outline(alloc: Global, document: &Document<'_>) -> Result<Vec<Symbol>, AllocError> {
     symbols_in(alloc, document.text, &document.root)
 }

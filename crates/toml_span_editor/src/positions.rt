@@ -33,7 +33,7 @@ pub const FIRST: Position = Position {
     character: 0,
 };
 
-/// Adds two counts.
+/// Returns the sum of two counts, or `LARGEST` if the sum is larger.
 fn plus(count: usize, more: usize) -> usize
     ensures { result ≡ spec.plus count more }
 {
@@ -48,7 +48,7 @@ pub(crate) fn byte_at(text: &str, at: usize) -> u8
     if at < bytes.len() { bytes[at] } else { 0 }
 }
 
-/// Returns the code units of a character of several bytes, given its first byte.
+/// Returns the number of code units of a character of several bytes, given its first byte.
 fn wide_units(encoding: Encoding, byte: u8) -> usize
     ensures { result ≡ spec.wide_units encoding byte }
 {
@@ -61,7 +61,8 @@ fn wide_units(encoding: Encoding, byte: u8) -> usize
     }
 }
 
-/// Returns the code units of the character that begins with this byte, or 0 if the byte is inside a character.
+/// Returns the number of code units of the character that begins with this byte, or 0 if the byte is inside a
+/// character.
 fn units(encoding: Encoding, byte: u8) -> usize
     ensures { result ≡ spec.units encoding byte }
 {
@@ -72,14 +73,15 @@ fn units(encoding: Encoding, byte: u8) -> usize
     }
 }
 
-/// Returns whether a line ends with this byte, given the one after it: with LF, CRLF, or a CR alone.
+/// Returns whether a line ends with `byte`, which is followed by `next`. Lines end with LF, CRLF, or a CR alone.
 fn ends_line(byte: u8, next: u8) -> bool
     ensures { result ≡ spec.ends_line byte next }
 {
     byte == b'\n' || (byte == b'\r' && next != b'\n')
 }
 
-/// Returns the position after a byte, given the one after it. There is no position between CR and LF.
+/// Returns the position after `byte`, which is at `position` and followed by the byte `next`. There is no position
+/// between CR and LF.
 fn after(encoding: Encoding, position: Position, byte: u8, next: u8) -> Position
     ensures { result ≡ spec.after encoding position byte next }
 {
@@ -99,7 +101,8 @@ fn after(encoding: Encoding, position: Position, byte: u8, next: u8) -> Position
     }
 }
 
-/// Returns the position of the offset `to`, given the position of the offset `from` before it.
+/// Returns the position of the byte offset `to`. `position` is the position of the byte offset `from`, which must not
+/// be after `to`.
 pub(crate) fn advanced(
     encoding: Encoding,
     text: &str,
@@ -117,7 +120,7 @@ pub(crate) fn advanced(
     position
 }
 
-/// Returns the position of a byte offset. After the end of the text, it is that of the end.
+/// Returns the position of a byte offset. An offset after the end of the text has the position of the end.
 pub fn position_at(encoding: Encoding, text: &str, at: usize) -> Position
     ensures { result ≡ spec.position_of encoding text.now at }
 {
@@ -141,7 +144,8 @@ pub fn line_start(text: &str, line: usize) -> usize
 }
 
 /// Returns the byte offset of the character after `character` code units on the line that begins at `start`. If the
-/// line is shorter, it is the end of the line; inside a character, it is where the character begins.
+/// line is shorter, returns the end of the line. If the count ends inside a character, returns the start of that
+/// character.
 fn column_end(encoding: Encoding, text: &str, start: usize, character: usize) -> usize
     requires { start ≤ length text.now }
     ensures value { result ≡ start + spec.column encoding character (drop start text.now) }
@@ -162,7 +166,7 @@ fn column_end(encoding: Encoding, text: &str, start: usize, character: usize) ->
 }
 
 /// Returns the byte offset of a position. A character past the end of its line counts as the line's end, a line past
-/// the end of the text as the text's end, and a position inside a character as its start.
+/// the end of the text as the text's end, and a position inside a character as the character's start.
 pub fn offset_at(encoding: Encoding, text: &str, position: Position) -> usize
     ensures value { result ≡ spec.offset_of encoding text.now position }
     ensures boundary { IsCharBoundary text.now result }

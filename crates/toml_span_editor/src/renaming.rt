@@ -19,7 +19,7 @@ pub struct Renamable {
     pub span: Span,
     /// The name without quotes and escapes.
     pub name: String,
-    /// The segments of the path from the root to what the key names. Its last one is the name.
+    /// The segments of the path from the root to the value of the key. The last one is the name.
     pub path: Vec<String>,
 }
 
@@ -68,8 +68,8 @@ fn refusal(alloc: Global, error: &EditError) -> Result<String, AllocError> {
     Ok(message)
 }
 
-/// Returns the text in which the key at a path has a new name. Fails with the reason if that is refused, or if an
-/// allocation fails.
+/// Returns the text with the key at a path renamed to `name`. Fails with the reason if the rename is refused, and with
+/// `Stop::Memory` if an allocation fails.
 fn renamed(alloc: Global, text: &str, path: &[&str], name: &str) -> Result<String, Stop<String>>
     ensures { IfOk result (λ new. Renames name.now text.now (string_bytes new)) }
 {
@@ -87,7 +87,7 @@ fn renamed(alloc: Global, text: &str, path: &[&str], name: &str) -> Result<Strin
     }
 }
 
-/// Returns an edit for each mention of the key at an offset. Fails if an allocation fails.
+/// Returns edits that replace each mention of the key at an offset with the key `name`. Fails if an allocation fails.
 fn mention_edits(
     alloc: Global,
     document: &Document<'_>,
@@ -104,9 +104,9 @@ fn mention_edits(
     Ok(edits)
 }
 
-/// Returns the edits that rename the key at an offset, at each place where it is written. With them made, the document
-/// is valid, and only the name has changed. Fails with the reason if there is no key or the rename is refused, or if an
-/// allocation fails.
+/// Returns the edits that rename the key at an offset, at each place where it is written. With these edits made, the
+/// document is valid, and only the name has changed. Fails with the reason if there is no key at the offset or the
+/// rename is refused, and with `Stop::Memory` if an allocation fails.
 pub fn rename(
     alloc: Global,
     document: &Document<'_>,

@@ -1,4 +1,4 @@
-//! The parts of a document around an offset, from the smallest to the whole text.
+//! Finds the parts of a document around an offset, from the smallest to the whole text.
 use crate::document::Document;
 use crate::spans::{contains, cover, touches};
 use std::alloc::{AllocError, Global};
@@ -6,7 +6,7 @@ use toml_span::value::nodes;
 use toml_span_lex::span::Span;
 use toml_span_places::{key_places, literal_span, section_places, with_quotes};
 
-/// Appends a span, if it touches an offset. Fails if an allocation fails.
+/// Appends a span, if it is not empty and touches an offset. Fails if an allocation fails.
 fn push_touching(span: Span, at: usize, spans: &mut Vec<Span>) -> Result<(), AllocError> {
     if touches(span, at) && span.start < span.end {
         spans.push(span)?;
@@ -14,7 +14,8 @@ fn push_touching(span: Span, at: usize, spans: &mut Vec<Span>) -> Result<(), All
     Ok(())
 }
 
-/// Returns the spans that touch an offset: of keys, values, entries and sections. Fails if an allocation fails.
+/// Returns the spans of keys, values, entries and sections that touch an offset, and the span of the whole text. Fails
+/// if an allocation fails.
 fn spans_at(alloc: Global, document: &Document<'_>, at: usize) -> Result<Vec<Span>, AllocError> {
     let text = document.text;
     let sections = document.sections.as_slice();
@@ -40,8 +41,8 @@ fn spans_at(alloc: Global, document: &Document<'_>, at: usize) -> Result<Vec<Spa
     Ok(spans)
 }
 
-/// Returns the spans around an offset, each within the next one: of the key or value there, its entry, the values and
-/// sections around it, and the whole text. Fails if an allocation fails.
+/// Returns the spans around an offset, each within the next one: those of the key or value there, of its entry, of the
+/// values and sections around it, and of the whole text. Fails if an allocation fails.
 pub fn selections(
     alloc: Global,
     document: &Document<'_>,

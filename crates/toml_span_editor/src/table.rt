@@ -1,4 +1,4 @@
-//! A table of positions, with which that of any offset is found at once.
+//! A table of positions, with which the position of any offset is found in constant time.
 ghost use Rattle.std.specs.Prelude.{◌≡◌, ℕ, ◌*◌, ◌<◌, IfOk, length, slice_index_or};
 ghost use Rattle.toml_span_editor.specs.Positions as spec;
 ghost use Rattle.toml_span_editor.specs.declared.positions.Position.{Position};
@@ -10,7 +10,7 @@ use toml_span_lex::span::Span;
 /// The number of bytes between two offsets of the table.
 const STEP: usize = 256;
 
-/// The positions of each 256th byte offset of a text.
+/// A text, and the positions of every 256th byte offset in it.
 #[derive(Drop)]
 pub struct PositionTable<'t> {
     pub text: &'t str,
@@ -42,7 +42,7 @@ impl<'t> PositionTable<'t> {
         })
     }
 
-    /// Returns the position of a byte offset. After the end of the text, it is that of the end.
+    /// Returns the position of a byte offset. An offset after the end of the text has the position of the end.
     pub fn position(&self, at: usize) -> Position
         ensures { result ≡ spec.position_of self.now.encoding self.now.text.now at }
     {

@@ -1,4 +1,4 @@
-//! The tokens of a document with their meanings, for colours.
+//! Returns the tokens of a document with their meanings, for syntax highlighting.
 use crate::comments::comment_spans;
 use crate::document::Document;
 use std::alloc::{AllocError, Global};
@@ -7,7 +7,7 @@ use toml_span::value::nodes;
 use toml_span_lex::span::Span;
 use toml_span_places::{Role, key_places, literal_span};
 
-/// What a token means.
+/// The meaning of a token.
 #[derive(Clone, Copy, Debug, PartialEq, Eq)]
 pub enum Meaning {
     Comment,
@@ -21,14 +21,14 @@ pub enum Meaning {
     Boolean,
 }
 
-/// A token. It has no line end.
+/// A token. Its span does not include a line end.
 #[derive(Clone, Copy, Debug, PartialEq, Eq)]
 pub struct Token {
     pub span: Span,
     pub meaning: Meaning,
 }
 
-/// Returns what a part of a key means.
+/// Returns the meaning of a part of a key or header.
 fn key_meaning(role: Role) -> Meaning {
     match role {
         Role::Header | Role::HeaderLast => Meaning::Table,
@@ -36,7 +36,7 @@ fn key_meaning(role: Role) -> Meaning {
     }
 }
 
-/// Returns what a value means, unless it is a table or an array.
+/// Returns the meaning of a value, or `None` for a table or an array.
 fn value_meaning(value: &Value<'_>) -> Option<Meaning> {
     if value.as_table().is_some() || value.as_array().is_some() {
         None

@@ -1,4 +1,4 @@
--- What a formatted document keeps.
+-- The sections and comments that a formatted document keeps.
 use Rattle.std.specs.Prelude.{◌≡◌, ℕ, List, map, Vec, Result, Ok, Err, String, string_bytes}
 use Rattle.std.specs.Global.{Global}
 use Rattle.toml_span_lex.specs.declared.stop.Stop.{Stop}
@@ -16,7 +16,7 @@ use Rattle.toml_span_format.specs.Same.{bare_section}
 use Rattle.toml_span_format.specs.declared.errors.FormatError.{FormatError}
 use Rattle.toml_span_format.specs.declared.errors.FormatError.TheVariants as errors
 
--- the sections of a text, or its first fault
+-- The result has the sections of a text, or its first fault.
 abbrev pub ReadsSections : List ℕ → Result (Vec Section Global) (Stop FormatError) → Type 0
 ReadsSections text (Ok found) = document text depth_limit (Ok (map parsed_section found.items))
 ReadsSections text (Err (stops.Memory e)) = Unit {0}
@@ -45,12 +45,13 @@ CommentsPermuted text us = (ts : List (List ℕ)) × HasComments text ts × IsPe
 abbrev pub PermutedComments : List ℕ → List ℕ → Type 0
 PermutedComments old new = (us : List (List ℕ)) × CommentsPermuted old us × CommentsPermuted new us
 
--- Both texts have the same sections, except for the order of the assignments in each, and such comments.
+-- Both texts have the same sections, except for the order of the assignments in each, and the same comments, except for
+-- their order.
 abbrev pub PermutedDocument : List ℕ → List ℕ → Type 0
 PermutedDocument old new = ((bs : List ParsedSection) × (cs : List ParsedSection) × document old depth_limit (Ok bs)
     × document new depth_limit (Ok cs) × PermutedSections bs cs) × PermutedComments old new
 
--- a text that keeps this of the document, or the first fault of the document
+-- The result is a text to which P relates the document, or the first fault of the document.
 abbrev pub Keeps : (List ℕ → List ℕ → Type 0) → List ℕ → Result (String Global) (Stop FormatError) → Type 0
 Keeps P text (Ok new) = P text (string_bytes new)
 Keeps P text (Err (stops.Memory e)) = Unit {0}
@@ -58,7 +59,7 @@ Keeps P text (Err (stops.Fault (errors.Invalid error))) =
     (fault : Fault) × document text depth_limit (Err fault) × (content_of error ≡ fault_content text fault)
 Keeps P text (Err (stops.Fault errors.WouldDiffer)) = (bs : List ParsedSection) × document text depth_limit (Ok bs)
 
--- the same sections and comments
+-- the result of `format`: a text with the same sections and comments, or the first fault
 abbrev pub Formats : List ℕ → Result (String Global) (Stop FormatError) → Type 0
 Formats text result = Keeps SameDocument text result
 

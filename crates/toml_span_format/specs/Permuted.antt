@@ -1,4 +1,4 @@
--- When two texts have the same sections, with the assignments of each in any order.
+-- When two lists of sections are equal, except for the order of the assignments in each section.
 use Rattle.std.specs.Prelude.{◌≡◌, ℕ, ◌<◌, List, length, map, slice_index_or}
 use Rattle.std.specs.List.Sorted.{IsPermutation}
 use Rattle.toml_span_read.specs.Data.{ParsedSection}

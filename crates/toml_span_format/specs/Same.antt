@@ -5,7 +5,7 @@ use Rattle.toml_span_read.specs.Data.{SimpleKey, ParsedValue, parsed, ParsedInne
 use Rattle.toml_span_read.specs.Data.{no_items, item, ParsedPairs, no_pairs, pair, ParsedAssignment, ParsedSection}
 use Rattle.toml_span_read.specs.Data.{from_to}
 
--- ---- what was read, without spans: each span is 0..0
+-- ---- sections, keys and values without their spans: each span is 0..0
 
 abbrev pub no_span : Span
 no_span = from_to 0 0

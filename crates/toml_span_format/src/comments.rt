@@ -36,7 +36,7 @@ fn push_comment<'t>(token: &Token<'t>, found: &mut Vec<&'t str>) -> Result<(), A
 
 /// Returns the comments of a text in order, each with its `#` and without trailing spaces and tabs.
 ///
-/// Fails with the first fault of the tokenizer, or if an allocation fails.
+/// Fails with the first fault of the tokenizer, and with `Stop::Memory` if an allocation fails.
 pub fn comments_of<'t>(alloc: Global, text: &'t str) -> Result<Vec<&'t str>, Stop<Error>>
     ensures { IfOk result (λ found. HasComments text.now (map (λ t. t.now) found.items)) }
 {

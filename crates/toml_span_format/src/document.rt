@@ -15,7 +15,8 @@ use std::alloc::{AllocError, Global};
 use toml_span_lex::stop::Stop;
 use toml_span_read::{Section, read_sections};
 
-/// Returns the sections of a text. Fails with `FormatError::Invalid` if it can't be read, or if an allocation fails.
+/// Returns the sections of a text. Fails with `FormatError::Invalid` if it can't be read, and with `Stop::Memory` if an
+/// allocation fails.
 pub(crate) fn sections_of<'t>(
     alloc: Global,
     text: &'t str,
@@ -72,7 +73,8 @@ pub(crate) fn same_texts(a: &[&str], b: &[&str]) -> bool
     a == b
 }
 
-/// Returns whether two texts have the same comments in the same order. Fails if an allocation fails.
+/// Returns whether two texts have the same comments in the same order. Returns false if one of them can't be split into
+/// tokens. Fails if an allocation fails.
 fn same_comments(alloc: Global, old: &str, new: &str) -> Result<bool, AllocError>
     ensures { IfOk result (λ same. IsTrue same → spec.SameComments old.now new.now) }
 {
@@ -85,8 +87,8 @@ fn same_comments(alloc: Global, old: &str, new: &str) -> Result<bool, AllocError
     Ok(same_texts(before.as_slice(), after.as_slice()))
 }
 
-/// Returns whether the text `new` has these sections, without regard to spans, and the comments of `text`. Fails if an
-/// allocation fails.
+/// Returns whether the text `new` has these sections, without regard to spans, and the comments of `text`. Returns
+/// false if `new` can't be read. Fails if an allocation fails.
 fn is_same(
     alloc: Global,
     text: &str,

@@ -17,4 +17,4 @@ pub use comments::comments_of;
 pub use document::format;
 pub use errors::FormatError;
 pub use options::Options;
-pub use sorted::format_sorted;
+pub use sorted::{format_sorted, permuted_comments};

@@ -21,14 +21,14 @@ pub(crate) fn names_of<'s>(
 #[derive_where(PartialEq, Eq, PartialOrd, Ord)]
 struct Entry<'s> {
     names: Vec<&'s str>,
-    /// `start`: the position of its first piece. `end`: the position of the first piece after it.
+    /// `start`: the position of the entry's first piece. `end`: the position of the first piece after the entry.
     #[derive_where(skip(EqHashOrd))]
     start: usize,
     #[derive_where(skip(EqHashOrd))]
     end: usize,
 }
 
-/// A sort in progress: the pieces so far.
+/// A sort in progress.
 #[derive(Drop)]
 struct Sorter<'p, 't, 's> {
     pieces: &'p [Piece<'t>],
@@ -105,9 +105,9 @@ impl Sorter<'_, '_, '_> {
         }
     }
 
-    /// Begins a line with the piece at the position `at`, and ends the entry above it. But comments directly above an
-    /// assignment belong to it, and do not end there. A blank line or a header also ends the run. Fails if an
-    /// allocation fails.
+    /// Begins a line with the piece at the position `at`, and ends the entry above it. If the lines above are only
+    /// comments, they belong to this line and are not ended. But if a blank line or a header begins here, it ends both
+    /// such comments and the run. Fails if an allocation fails.
     fn begin_line(&mut self, alloc: Global, at: usize) -> Result<(), AllocError> {
         let Some(piece) = self.pieces.get(at) else {
             return Ok(());
@@ -124,7 +124,8 @@ impl Sorter<'_, '_, '_> {
     }
 }
 
-/// Returns the pieces of a document with its assignments sorted as `format_sorted` says. Fails if an allocation fails.
+/// Returns the pieces of a document, with the assignments between two blank lines or headers sorted by their keys.
+/// Fails if an allocation fails.
 pub(crate) fn sorted_lines<'t>(
     alloc: Global,
     sections: &[Section<'_>],

@@ -41,7 +41,7 @@ impl Options {
 impl Default for Options {
     ghost is_default = { λ options. options ≡ record { width = 80; indent = 4 } };
 
-    /// Returns the same as `new`.
+    /// Returns the defaults: 80 columns and 4 spaces.
     fn default() -> Self {
         Options::new()
     }

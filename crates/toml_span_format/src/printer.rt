@@ -53,7 +53,7 @@ impl Printer {
         Ok(())
     }
 
-    /// Begins a line. A blank line is written before it if the gap has one, except at the start and after an opening
+    /// Begins a line. If the gap has a blank line, writes a blank line first, except at the start and after an opening
     /// bracket. Fails if an allocation fails.
     fn begin_line(&mut self, gap: Gap) -> Result<(), AllocError> {
         if self.is_begun {
@@ -71,7 +71,7 @@ impl Printer {
         Ok(())
     }
 
-    /// Returns the number of columns of the current line.
+    /// Returns the number of columns printed so far on the current line.
     fn column(&mut self) -> usize {
         let more = columns(self.out.as_str().get(self.counted..).unwrap_or(""));
         self.counted = self.out.len();
@@ -79,8 +79,8 @@ impl Printer {
         self.column
     }
 
-    /// Begins an element of the innermost open array or inline table, on a new line or after a comma. Fails if an
-    /// allocation fails.
+    /// Begins an element of the innermost open array or inline table: on a new line, or on the same line, after a comma
+    /// if it is not the first element. Fails if an allocation fails.
     fn begin_element(&mut self, gap: Gap) -> Result<(), AllocError> {
         let Some(frame) = self.open.last_mut() else {
             return Ok(());
@@ -104,7 +104,8 @@ impl Printer {
         self.begin_element(gap)
     }
 
-    /// Ends an element of the innermost open array or inline table. Fails if an allocation fails.
+    /// Ends an element of the innermost open array or inline table, with a comma if its elements are on lines of their
+    /// own. Fails if an allocation fails.
     fn end_element(&mut self) -> Result<(), AllocError> {
         match self.open.last() {
             Some(

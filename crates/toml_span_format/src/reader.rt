@@ -6,7 +6,7 @@ use toml_span_lex::stop::Stop;
 use toml_span_lex::tokenizer::Tokenizer;
 use toml_span_lex::tokens::{Error, Token};
 
-/// What the next tokens belong to.
+/// Where the next tokens are.
 #[derive(Clone, Copy, PartialEq, Eq)]
 enum Place {
     /// A header, or the key of a line.
@@ -20,7 +20,7 @@ enum Place {
 #[derive(Drop)]
 struct Frame {
     is_table: bool,
-    /// The position of the piece that opens it.
+    /// The position of the piece that opens the array or inline table.
     at: usize,
     /// The number of columns of its elements, with the equals signs of pairs but without commas.
     width: usize,
@@ -28,8 +28,8 @@ struct Frame {
     /// Whether a comma follows its last element.
     ends_in_comma: bool,
     has_comment: bool,
-    /// Whether it has a line end outside its elements, or an element that is an inline table without the form
-    /// `OneLine`.
+    /// Whether the array or inline table has a line end outside its elements, or an element that is an inline table
+    /// without the form `OneLine`.
     has_line_end: bool,
     /// Whether an element takes more than one line.
     has_lines: bool,
@@ -112,7 +112,7 @@ impl<'t> Reader<'t> {
         }
     }
 
-    /// Adds the columns of a text to those of the innermost open array or inline table.
+    /// Adds the columns of a text to the columns of the innermost open array or inline table.
     fn widen_by(&mut self, text: &str) {
         if let Some(frame) = self.open.last_mut() {
             frame.width = frame.width.saturating_add(columns(text));
@@ -127,7 +127,7 @@ impl<'t> Reader<'t> {
         }
     }
 
-    /// Returns whether an inline table is the innermost thing that is open.
+    /// Returns whether the innermost open array or inline table is an inline table.
     fn is_in_table(&self) -> bool {
         match self.open.last() {
             Some(frame) => frame.is_table,
@@ -171,8 +171,8 @@ impl<'t> Reader<'t> {
         Ok(())
     }
 
-    /// Begins a header, with a blank line before it and before the comments right above it. Fails if an allocation
-    /// fails.
+    /// Begins a header. Puts a blank line before it or, if comments are directly above it, before these comments. Fails
+    /// if an allocation fails.
     fn header(&mut self, start: usize) -> Result<(), AllocError> {
         let piece = self.piece(Kind::Header, "[", start);
         self.place = Place::Header;
@@ -229,7 +229,7 @@ impl<'t> Reader<'t> {
         self.pieces.append(&mut self.key)
     }
 
-    /// Processes a scalar, or a token that continues one. Fails if an allocation fails.
+    /// Processes a scalar, or a token that continues a scalar. Fails if an allocation fails.
     fn scalar(&mut self, text: &'t str, start: usize) -> Result<(), AllocError> {
         if !self.in_scalar {
             self.begin_value()?;
@@ -275,8 +275,8 @@ impl<'t> Reader<'t> {
         Ok(())
     }
 
-    /// Updates the innermost open array or inline table. `frame`, which is an element of it or the value of a pair in
-    /// it, has just been closed, and is written in this form.
+    /// Adds `frame`, an array or inline table that was just closed and is written in this form, to the innermost array
+    /// or inline table that is still open, if there is one.
     fn hold(&mut self, frame: &Frame, form: Form) {
         self.widen(frame.whole_width());
         if let Some(outer) = self.open.last_mut() {

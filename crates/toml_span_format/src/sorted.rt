@@ -15,8 +15,8 @@ use std::alloc::{AllocError, Global};
 use toml_span_lex::stop::Stop;
 use toml_span_read::Section;
 
-/// Returns the text in its new layout, with its keys sorted. `sections` are those of the text. Fails if an allocation
-/// fails.
+/// Returns the text in its new layout, with its keys sorted. `sections` are the sections of the text. Fails if an
+/// allocation fails.
 fn laid_out_sorted(
     alloc: Global,
     text: &str,
@@ -47,8 +47,9 @@ fn sorted_comments<'t>(alloc: Global, text: &'t str) -> Result<Option<Vec<&'t st
     Ok(Some(found))
 }
 
-/// Returns whether two texts have the same comments, in any order. Fails if an allocation fails.
-fn permuted_comments(alloc: Global, old: &str, new: &str) -> Result<bool, AllocError>
+/// Returns whether two texts have the same comments, in any order. Spaces and tabs at the end of a comment do not count
+/// as part of it. Returns false if one of the texts can't be split into tokens. Fails if an allocation fails.
+pub fn permuted_comments(alloc: Global, old: &str, new: &str) -> Result<bool, AllocError>
     ensures { IfOk result (λ same. IsTrue same → spec.PermutedComments old.now new.now) }
 {
     let Some(before) = sorted_comments(alloc, old)? else {
@@ -61,7 +62,8 @@ fn permuted_comments(alloc: Global, old: &str, new: &str) -> Result<bool, AllocE
 }
 
 /// Returns whether the text `new` has these sections and the comments of `text`. The spans, the order of the
-/// assignments in each section, and the order of the comments may differ. Fails if an allocation fails.
+/// assignments in each section, and the order of the comments may differ. Returns false if `new` can't be read. Fails
+/// if an allocation fails.
 fn is_permuted(
     alloc: Global,
     text: &str,
@@ -93,7 +95,8 @@ fn is_permuted(
 ///
 /// # Errors
 ///
-/// The same as `format`.
+/// `FormatError::Invalid` if the text can't be read as TOML, or `Stop::Memory` if an allocation fails.
+/// `FormatError::WouldDiffer` is a bug of the formatter.
 pub fn format_sorted<'t>(
     alloc: Global,
     text: &'t str,

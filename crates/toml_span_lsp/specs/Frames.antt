@@ -12,14 +12,14 @@ frame_of content = codes "Content-Length: " ++ decimal (length content) ++ codes
 abbrev pub AreFrames : List ℕ → Type 0
 AreFrames bytes = (contents : List (List ℕ)) × (bytes ≡ flat_map frame_of contents)
 
--- Frames were written, and nothing else.
+-- Only whole frames were written.
 abbrev pub WritesFrames : Option (List ℕ) → Option (List ℕ) → Type 0
 WritesFrames old new = (bytes : List ℕ) × AreFrames bytes × Appends old new bytes
 
--- the same, or a front of them, since a write failed
+-- Frames were written, or only a prefix of them, since a write failed.
 abbrev pub WritesFront : Option (List ℕ) → Option (List ℕ) → Type 0
 WritesFront old new = (bytes : List ℕ) × AreFrames bytes × HasWritten old new bytes
 
--- Frames were written, but a front of them is enough if the server ends.
+-- Frames were written. If the server ends, a prefix of them is enough.
 abbrev pub Writes : {A : Type 0} → Option A → Option (List ℕ) → Option (List ℕ) → Type 0
 Writes result old new = MatchOption result (WritesFrames old new) (λ _. WritesFront old new)

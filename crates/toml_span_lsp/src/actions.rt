@@ -1,8 +1,9 @@
-//! Code actions: the repairs of errors.
+//! Code actions: the repairs of errors, and conversions of tables and arrays.
 use crate::incoming::{member, range_of};
 use crate::outgoing::{flag, text, write_workspace_edit};
 use json::{Value, Writer};
 use std::alloc::{AllocError, Global};
+use toml_span_editor::conversions::{OFFERS, converting};
 use toml_span_editor::diagnostics::{all_repairs, repairs};
 use toml_span_editor::edits::Edit;
 use toml_span_editor::positions::offset_at;
@@ -15,7 +16,10 @@ const QUICK_FIX: &str = "quickfix";
 /// The kind of an action that makes all safe repairs.
 const FIX_ALL: &str = "source.fixAll";
 
-/// Returns whether a kind of actions is another one, or a part of it.
+/// The kind of an action that converts a table or an array to another form.
+const REWRITE: &str = "refactor.rewrite";
+
+/// Returns whether the kind of actions `kind` is `wanted` or inside it, as `source.fixAll` is inside `source`.
 fn is_kind(kind: &str, wanted: &str) -> bool {
     match kind.strip_prefix(wanted) {
         Some(rest) => rest.is_empty() || wanted.is_empty() || rest.starts_with('.'),
@@ -23,7 +27,8 @@ fn is_kind(kind: &str, wanted: &str) -> bool {
     }
 }
 
-/// Returns whether a client wants actions of a kind.
+/// Returns whether a client wants actions of this kind: the request lists the kind or a kind that contains it, or has
+/// no list of kinds.
 fn is_wanted(params: &Value<'_>, kind: &str) -> bool {
     match member(params, &["context", "only"]) {
         Some(Value::Array(kinds)) => kinds.iter().any(|wanted| wanted
@@ -52,8 +57,33 @@ fn write_action(
     out.end_object()
 }
 
-/// Writes the repairs of the errors that touch a range, and the action that makes all safe repairs. Fails if an
-/// allocation fails.
+/// Writes an action for each conversion of the table or array at the offset `at`. Fails if an allocation fails.
+fn write_conversions(
+    alloc: Global,
+    out: &mut Writer,
+    uri: &str,
+    table: &PositionTable<'_>,
+    at: usize,
+) -> Result<(), AllocError> {
+    for offer in &OFFERS {
+        if let Some(made) = converting(alloc, table.text, offer.conversion, at)? {
+            write_action(
+                out,
+                uri,
+                table,
+                offer.title,
+                REWRITE,
+                false,
+                made.edits.as_slice(),
+            )?;
+        }
+    }
+    Ok(())
+}
+
+/// Writes an action for each repair of an error that touches a span, an action that makes all safe repairs of the
+/// document, and an action for each conversion of the table or array at the start of the span. Leaves out kinds that
+/// the client does not want. Fails if an allocation fails.
 pub(crate) fn write_actions(
     alloc: Global,
     out: &mut Writer,
@@ -77,10 +107,13 @@ pub(crate) fn write_actions(
             write_action(out, uri, table, title, FIX_ALL, false, edits.as_slice())?;
         }
     }
+    if is_wanted(params, REWRITE) {
+        write_conversions(alloc, out, uri, table, span.start)?;
+    }
     out.end_array()
 }
 
-/// Returns the span of the range of a request, if it has one.
+/// Returns the range of a request as a span, or `None` if the request has no range.
 pub(crate) fn span_of(table: &PositionTable<'_>, params: &Value<'_>) -> Option<Span> {
     let range = range_of(params.get("range")?)?;
     let start = offset_at(table.encoding, table.text, range.start);

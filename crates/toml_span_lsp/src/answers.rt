@@ -1,14 +1,18 @@
 //! Answers about what is at a position: definitions, hovers and completion.
 use crate::outgoing::{flag, number, range, text, write_location};
+use crate::suggested::write_suggestions;
 use json::Writer;
 use std::alloc::{AllocError, Global};
 use toml_span_editor::completion::{Proposal, proposals};
 use toml_span_editor::document::Document;
 use toml_span_editor::hover::hover_at;
 use toml_span_editor::keys::definition;
+use toml_span_editor::suggestions::suggestions;
 use toml_span_editor::table::PositionTable;
+use toml_span_schema::Guide;
 
-/// Writes the place where the key at an offset is defined, or null. Fails if an allocation fails.
+/// Writes the place where the key at an offset is defined, or null if the offset is not at a key. Fails if an
+/// allocation fails.
 pub(crate) fn write_definition(
     alloc: Global,
     out: &mut Writer,
@@ -23,15 +27,16 @@ pub(crate) fn write_definition(
     }
 }
 
-/// Writes what is known about the key or value at an offset, or null. Fails if an allocation fails.
+/// Writes the description of the key or value at an offset, or null if there is neither. Fails if an allocation fails.
 pub(crate) fn write_hover(
     alloc: Global,
     out: &mut Writer,
     table: &PositionTable<'_>,
     document: &Document<'_>,
+    guide: Option<&Guide>,
     at: usize,
 ) -> Result<(), AllocError> {
-    let Some(found) = hover_at(alloc, document, at)? else {
+    let Some(found) = hover_at(alloc, document, guide, at)? else {
         return out.null();
     };
     out.begin_object()?;
@@ -44,7 +49,7 @@ pub(crate) fn write_hover(
     out.end_object()
 }
 
-/// Writes a proposal. Fails if an allocation fails.
+/// Writes a proposal as a completion item. Fails if an allocation fails.
 fn write_proposal(out: &mut Writer, proposal: &Proposal) -> Result<(), AllocError> {
     out.begin_object()?;
     text(out, "label", proposal.text.as_str())?;
@@ -53,8 +58,27 @@ fn write_proposal(out: &mut Writer, proposal: &Proposal) -> Result<(), AllocErro
     out.end_object()
 }
 
-/// Writes what can be written at an offset. Fails if an allocation fails.
-pub(crate) fn write_proposals(
+/// Writes the proposals for an offset: those of the schema `guide` or, if there is no schema or it says nothing about
+/// the place, those of `write_proposals`. Fails if an allocation fails.
+pub(crate) fn write_completion(
+    alloc: Global,
+    out: &mut Writer,
+    table: &PositionTable<'_>,
+    document: &Document<'_>,
+    guide: Option<&Guide>,
+    has_snippets: bool,
+    at: usize,
+) -> Result<(), AllocError> {
+    if let Some(known) = guide {
+        if let Some(found) = suggestions(alloc, known, table.text, document, at)? {
+            return write_suggestions(alloc, out, table, found.as_slice(), has_snippets);
+        }
+    }
+    write_proposals(alloc, out, table, document, at)
+}
+
+/// Writes the proposals for an offset in a document without a schema. Fails if an allocation fails.
+fn write_proposals(
     alloc: Global,
     out: &mut Writer,
     table: &PositionTable<'_>,

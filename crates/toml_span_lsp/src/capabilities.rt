@@ -1,12 +1,14 @@
-//! The answer to `initialize`: what the server can do.
-use crate::incoming::member;
+//! The answer to `initialize`, which lists the capabilities of the server.
+use crate::configuration::use_settings;
+use crate::incoming::{member, text_in};
 use crate::outgoing::{flag, number, text};
-use crate::state::State;
+use crate::state::{Client, State};
+use crate::uris::path_of_uri;
 use json::{Value, Writer};
-use std::alloc::AllocError;
+use std::alloc::{AllocError, Global};
 use toml_span_editor::positions::Encoding;
 
-/// What the server can do without further options.
+/// The capabilities of the server that have no options.
 const PROVIDERS: [&str; 9] = [
     "hoverProvider",
     "definitionProvider",
@@ -22,7 +24,7 @@ const PROVIDERS: [&str; 9] = [
 /// The types of semantic tokens, in the order of their numbers.
 const TOKEN_TYPES: [&str; 6] = ["comment", "type", "property", "string", "number", "keyword"];
 
-/// Returns whether a client offers to count characters in UTF-8.
+/// Returns whether a client can count characters in UTF-8 code units.
 fn offers_utf8(params: &Value<'_>) -> bool {
     match member(params, &["capabilities", "general", "positionEncodings"]) {
         Some(Value::Array(names)) => names.iter().any(|name| name.as_str() == Some("utf-8")),
@@ -30,23 +32,86 @@ fn offers_utf8(params: &Value<'_>) -> bool {
     }
 }
 
-/// Stores what the client can do, and its options.
-pub(crate) fn learn(state: &mut State, params: &Value<'_>) {
+/// Returns whether the member of `capabilities` at the path `names` is `true` in the parameters of `initialize`.
+fn can(params: &Value<'_>, names: &[&str]) -> bool {
+    let said = params
+        .get("capabilities")
+        .and_then(|said| member(said, names));
+    said.and_then(|said| said.as_bool()) == Some(true)
+}
+
+/// Returns the capabilities of the client, from the parameters of `initialize`.
+fn client_of(params: &Value<'_>) -> Client {
+    let asks = &["capabilities", "textDocument", "diagnostic"];
+    Client {
+        asks_diagnostics: member(params, asks).is_some(),
+        refreshes_diagnostics: can(params, &["workspace", "diagnostics", "refreshSupport"]),
+        has_settings: can(params, &["workspace", "configuration"]),
+        registers_settings: can(
+            params,
+            &["workspace", "didChangeConfiguration", "dynamicRegistration"],
+        ),
+        has_snippets: can(
+            params,
+            &[
+                "textDocument",
+                "completion",
+                "completionItem",
+                "snippetSupport",
+            ],
+        ),
+    }
+}
+
+/// Returns the URI of the folder that is open in the editor, or of the first one if several are open. Returns `None` if
+/// no folder is open.
+fn root_uri<'v>(params: &'v Value<'_>) -> Option<&'v str> {
+    let first = params
+        .get("workspaceFolders")
+        .and_then(|folders| folders.at(0));
+    match first.and_then(|folder| text_in(folder, &["uri"])) {
+        Some(uri) => Some(uri),
+        None => text_in(params, &["rootUri"]),
+    }
+}
+
+/// Returns the path of the folder that is open in the editor, with a slash at the end, or an empty text if no folder is
+/// open or its URI is not that of a file. Fails if an allocation fails.
+fn root_of(alloc: Global, params: &Value<'_>) -> Result<String, AllocError> {
+    let found = match root_uri(params) {
+        Some(uri) => path_of_uri(alloc, uri)?,
+        None => None,
+    };
+    let Some(mut root) = found else {
+        return Ok(String::new(alloc));
+    };
+    if !root.ends_with('/') {
+        root.push('/')?;
+    }
+    Ok(root)
+}
+
+/// Stores the capabilities, the folder and the settings of the client, from the parameters of `initialize`, in `state`.
+/// Fails if an allocation fails.
+pub(crate) fn learn(
+    alloc: Global,
+    state: &mut State,
+    params: &Value<'_>,
+) -> Result<(), AllocError> {
     state.encoding = if offers_utf8(params) {
         Encoding::Utf8
     } else {
         Encoding::Utf16
     };
-    let asks = &["capabilities", "textDocument", "diagnostic"];
-    state.is_asked = member(params, asks).is_some();
-    let width = member(params, &["initializationOptions", "width"]);
-    state.width = match width.and_then(|width| width.as_u64()) {
-        Some(width) if width <= 65_535 => usize::try_from(width).ok(),
-        _ => None,
-    };
+    state.client = client_of(params);
+    state.root = root_of(alloc, params)?;
+    match params.get("initializationOptions") {
+        Some(options) => use_settings(alloc, state, options),
+        None => Ok(()),
+    }
 }
 
-/// Writes a member whose value is a list of texts. Fails if an allocation fails.
+/// Writes a member whose value is a list of strings. Fails if an allocation fails.
 fn list(out: &mut Writer, name: &str, items: &[&str]) -> Result<(), AllocError> {
     out.key(name)?;
     out.begin_array()?;
@@ -56,7 +121,8 @@ fn list(out: &mut Writer, name: &str, items: &[&str]) -> Result<(), AllocError> 
     out.end_array()
 }
 
-/// Writes how documents are kept in step. Fails if an allocation fails.
+/// Writes which notifications about documents the client must send: changes by ranges, and that a document was opened,
+/// saved or closed. Fails if an allocation fails.
 fn write_sync(out: &mut Writer) -> Result<(), AllocError> {
     out.key("textDocumentSync")?;
     out.begin_object()?;
@@ -66,11 +132,14 @@ fn write_sync(out: &mut Writer) -> Result<(), AllocError> {
     out.end_object()
 }
 
-/// Writes what the server can do with options of its own. Fails if an allocation fails.
+/// Writes the capabilities of the server that have options. Fails if an allocation fails.
 fn write_options(out: &mut Writer) -> Result<(), AllocError> {
     out.key("completionProvider")?;
     out.begin_object()?;
-    list(out, "triggerCharacters", &["="])?;
+    list(out, "triggerCharacters", &["=", ".", "[", "\"", "{", ","])?;
+    out.end_object()?;
+    out.key("documentLinkProvider")?;
+    out.begin_object()?;
     out.end_object()?;
     out.key("renameProvider")?;
     out.begin_object()?;
@@ -78,7 +147,11 @@ fn write_options(out: &mut Writer) -> Result<(), AllocError> {
     out.end_object()?;
     out.key("codeActionProvider")?;
     out.begin_object()?;
-    list(out, "codeActionKinds", &["quickfix", "source.fixAll"])?;
+    list(
+        out,
+        "codeActionKinds",
+        &["quickfix", "refactor.rewrite", "source.fixAll"],
+    )?;
     out.end_object()?;
     out.key("diagnosticProvider")?;
     out.begin_object()?;
@@ -87,7 +160,7 @@ fn write_options(out: &mut Writer) -> Result<(), AllocError> {
     out.end_object()
 }
 
-/// Writes which semantic tokens there are. Fails if an allocation fails.
+/// Writes the types of semantic tokens. Fails if an allocation fails.
 fn write_tokens(out: &mut Writer) -> Result<(), AllocError> {
     out.key("semanticTokensProvider")?;
     out.begin_object()?;

@@ -1,4 +1,4 @@
-//! Answers that are edits: renames and formatting.
+//! Writes answers that are edits: renames and formatting.
 use crate::incoming::{range_of, text_in};
 use crate::outgoing::{range, text, write_edits, write_workspace_edit};
 use crate::refusal::{INVALID_PARAMS, REQUEST_FAILED, Refusal, refused};
@@ -13,8 +13,8 @@ use toml_span_format::Options;
 use toml_span_lex::span::Span;
 use toml_span_lex::stop::Stop;
 
-/// Writes the edits that rename the key at an offset. Fails with the reason if the rename is refused, or if an
-/// allocation fails.
+/// Writes the edits that rename the key at an offset. Fails with the reason if the rename is refused, and with
+/// `Stop::Memory` if an allocation fails.
 pub(crate) fn write_rename(
     alloc: Global,
     out: &mut Writer,
@@ -39,7 +39,8 @@ pub(crate) fn write_rename(
     }
 }
 
-/// Writes the key at an offset that can be renamed, or null. Fails if an allocation fails.
+/// Writes the range and the name of the key at an offset, or null if the offset is not at a key or the document has
+/// errors. Fails if an allocation fails.
 pub(crate) fn write_renamable(
     alloc: Global,
     out: &mut Writer,
@@ -58,7 +59,8 @@ pub(crate) fn write_renamable(
     out.end_object()
 }
 
-/// Returns the options of the formatter: the width from the start of the server, and the indentation from the request.
+/// Returns the options of the formatter: `width`, which the client set by `initialize`, and the indentation in the
+/// request, if it is at most 64. Options that are missing have their defaults.
 fn options_of(width: Option<usize>, params: &Value<'_>) -> Options {
     let mut options = Options::new();
     if let Some(width) = width {
@@ -71,7 +73,8 @@ fn options_of(width: Option<usize>, params: &Value<'_>) -> Options {
     }
 }
 
-/// Writes the edits that format a document, or the lines of a range of it, or null. Fails if an allocation fails.
+/// Writes the edits that format a document or, if the request has a range, the lines of the range. Writes null if that
+/// is not possible. Fails if an allocation fails.
 pub(crate) fn write_formatting(
     alloc: Global,
     out: &mut Writer,

@@ -14,7 +14,7 @@ const HEADERS: usize = 8192;
 /// What is wrong with a frame.
 #[derive(Clone, Copy, Debug, PartialEq, Eq)]
 pub enum FrameFault {
-    /// The headers are not headers, or are longer than 8 KiB.
+    /// The headers are longer than 8 KiB, or are not valid UTF-8.
     Headers,
     /// There is no header `Content-Length`, or its value is not a number.
     Length,
@@ -22,18 +22,18 @@ pub enum FrameFault {
     TooLong,
 }
 
-/// What the bytes that have been read so far begin with.
+/// The result of reading a frame at the start of the bytes received so far.
 #[derive(Clone, Copy, Debug, PartialEq, Eq)]
 pub enum Framed {
-    /// A frame, whose content is from `start` to before `end`.
+    /// The whole frame is there. Its content is from `start` to `end`, the end exclusive.
     Whole { start: usize, end: usize },
-    /// A part of a frame.
+    /// Only a part of the frame is there: more bytes are needed.
     Part,
-    /// No frame.
+    /// The bytes don't begin with a frame.
     Fault(FrameFault),
 }
 
-/// Returns the offset of the empty line after the headers, if it is there.
+/// Returns the offset after the empty line that ends the headers, or `None` if the first 8 KiB have no such line.
 fn headers_end(bytes: &[u8]) -> Option<usize> {
     let most = bytes.len().min(HEADERS);
     for at in 3..most {
@@ -48,7 +48,7 @@ fn headers_end(bytes: &[u8]) -> Option<usize> {
     None
 }
 
-/// Returns the length that the headers state.
+/// Returns the value of the last header `Content-Length`, or `None` if it is missing or not a number.
 fn length_in(headers: &str) -> Option<usize> {
     let mut found = None;
     for line in headers.split("\r\n") {
@@ -61,7 +61,8 @@ fn length_in(headers: &str) -> Option<usize> {
     found
 }
 
-/// Returns the frame whose headers end at `start`.
+/// Returns the frame whose content begins at `start` and has this length, `Part` if the bytes end before the content
+/// does, or a fault if the content is longer than `LIMIT`.
 fn content(bytes: &[u8], start: usize, length: usize) -> Framed {
     if length > LIMIT {
         return Framed::Fault(FrameFault::TooLong);
@@ -74,7 +75,7 @@ fn content(bytes: &[u8], start: usize, length: usize) -> Framed {
     }
 }
 
-/// Returns what the bytes begin with: a frame, a part of one, or no frame.
+/// Reads the frame at the start of the bytes.
 pub fn frame(bytes: &[u8]) -> Framed {
     let Some(start) = headers_end(bytes) else {
         return if bytes.len() < HEADERS {

@@ -1,4 +1,4 @@
-//! Messages from the client (JSON-RPC 2.0).
+//! Reads messages from the client (JSON-RPC 2.0).
 use json::Value;
 use toml_span_editor::positions::{Position, Range};
 
@@ -23,13 +23,13 @@ pub(crate) struct Call<'v, 'j> {
 #[derive(Clone, Copy)]
 pub(crate) enum Message<'v, 'j> {
     Call(Call<'v, 'j>),
-    /// A response to a request of the server, which sends none.
-    Response,
-    /// Not a message of JSON-RPC 2.0. This is its id, if it has one.
+    /// A response to a request of the server: its id, and its result, or `None` if the response has no result.
+    Response(Id<'v>, Option<&'v Value<'j>>),
+    /// A value that is not a message of JSON-RPC 2.0, with its id, or `Null` if the id is missing or wrong.
     Invalid(Id<'v>),
 }
 
-/// Returns the id of a message: `None` if it has none, or an error if it is neither a number nor a text.
+/// Returns the id of a message, or `None` if the message has none. Fails if the id is not an integer, a string or null.
 fn id_of<'v, 'j>(message: &'v Value<'j>) -> Result<Option<Id<'v>>, ()> {
     match message.get("id") {
         None => Ok(None),
@@ -42,7 +42,7 @@ fn id_of<'v, 'j>(message: &'v Value<'j>) -> Result<Option<Id<'v>>, ()> {
     }
 }
 
-/// Returns a value as a message.
+/// Reads a JSON value as a message. In a call without `params`, the whole message takes their place.
 pub(crate) fn message_of<'v, 'j>(value: &'v Value<'j>) -> Message<'v, 'j> {
     let Ok(id) = id_of(value) else {
         return Message::Invalid(Id::Null);
@@ -58,12 +58,14 @@ pub(crate) fn message_of<'v, 'j>(value: &'v Value<'j>) -> Message<'v, 'j> {
             params: value.get("params").unwrap_or(value),
         }),
         Some(_) => Message::Invalid(known),
-        None if value.get("result").is_some() || value.get("error").is_some() => Message::Response,
+        None if value.get("result").is_some() || value.get("error").is_some() => {
+            Message::Response(known, value.get("result"))
+        }
         None => Message::Invalid(known),
     }
 }
 
-/// Returns the member of a value that a path of names leads to.
+/// Returns the member that `names` select in nested objects, from the outermost object inwards, if it exists.
 pub(crate) fn member<'v, 'j>(value: &'v Value<'j>, names: &[&str]) -> Option<&'v Value<'j>> {
     let [name, rest @ ..] = names else {
         return Some(value);
@@ -71,18 +73,19 @@ pub(crate) fn member<'v, 'j>(value: &'v Value<'j>, names: &[&str]) -> Option<&'v
     member(value.get(*name)?, rest)
 }
 
-/// Returns the text at these names.
+/// Returns the string that `names` select in nested objects, from the outermost object inwards, or `None` if the member
+/// is missing or not a string.
 pub(crate) fn text_in<'v>(value: &'v Value<'_>, names: &[&str]) -> Option<&'v str> {
     member(value, names)?.as_str()
 }
 
-/// Returns the number at a name, if it is an integer that is not negative.
+/// Returns the number in the member `name`, or `None` if the member is missing or not an integer of at least 0.
 fn count_in(value: &Value<'_>, name: &str) -> Option<usize> {
     let count = value.get(name)?.as_u64()?;
     usize::try_from(count).ok()
 }
 
-/// Returns a value as a position.
+/// Reads a JSON value as a position. Returns `None` if it lacks a valid `line` or `character`.
 pub(crate) fn position_of(value: &Value<'_>) -> Option<Position> {
     Some(Position {
         line: count_in(value, "line")?,
@@ -90,7 +93,7 @@ pub(crate) fn position_of(value: &Value<'_>) -> Option<Position> {
     })
 }
 
-/// Returns a value as a range.
+/// Reads a JSON value as a range. Returns `None` if it lacks a valid `start` or `end`.
 pub(crate) fn range_of(value: &Value<'_>) -> Option<Range> {
     Some(Range {
         start: position_of(value.get("start")?)?,

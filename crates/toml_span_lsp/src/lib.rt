@@ -1,13 +1,15 @@
-//! The language server: messages of the Language Server Protocol 3.17 over standard input and output. What it says
-//! about a text comes from `toml_span_editor`.
+//! The language server: messages of the Language Server Protocol 3.17 over standard input and output. The answers about
+//! a text come from `toml_span_editor`.
 #![tactic(auto)]
 
 mod actions;
 mod answers;
 mod capabilities;
+mod configuration;
 mod edits;
 mod frames;
 mod incoming;
+mod links;
 mod lists;
 mod methods;
 mod outgoing;
@@ -15,9 +17,12 @@ mod publish;
 mod refusal;
 mod requests;
 mod server;
+mod settings;
 mod state;
 mod steps;
+mod suggested;
 mod sync;
+mod uris;
 
 pub use frames::{FrameFault, Framed, LIMIT, frame, push_frame};
 pub use server::{Ended, serve};

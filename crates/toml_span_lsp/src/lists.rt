@@ -1,4 +1,5 @@
-//! Answers that are lists of places in a document: symbols, folds, selections, highlights, references and tokens.
+//! Writes answers that are lists of ranges in a document: symbols, folds, selections, highlights, references and
+//! tokens.
 use crate::outgoing::{number, range, text, write_location};
 use json::Writer;
 use std::alloc::{AllocError, Global};
@@ -11,7 +12,7 @@ use toml_span_editor::selection::selections;
 use toml_span_editor::table::PositionTable;
 use toml_span_editor::tokens::{Meaning, tokens};
 
-/// Returns the number of a kind of symbols (LSP 3.17, SymbolKind).
+/// Returns the number for the kind of a value (LSP 3.17, SymbolKind).
 fn symbol_kind(kind: &str) -> usize {
     match kind {
         "table" => 19,
@@ -23,7 +24,7 @@ fn symbol_kind(kind: &str) -> usize {
     }
 }
 
-/// Writes a symbol with those inside it. Fails if an allocation fails.
+/// Writes a symbol with the symbols inside it. Fails if an allocation fails.
 fn write_symbol(
     out: &mut Writer,
     table: &PositionTable<'_>,
@@ -62,7 +63,8 @@ pub(crate) fn write_symbols(
     out.end_array()
 }
 
-/// Writes the lines that can be folded. Fails if an allocation fails.
+/// Writes the first and last lines of the parts that can be folded. Leaves out parts that are on one line. Fails if an
+/// allocation fails.
 pub(crate) fn write_folds(
     alloc: Global,
     out: &mut Writer,
@@ -111,7 +113,7 @@ pub(crate) fn write_selection(
     Ok(())
 }
 
-/// Writes the places where the key at an offset is written, to be highlighted. Fails if an allocation fails.
+/// Writes the ranges to highlight: all places where the key at an offset is written. Fails if an allocation fails.
 pub(crate) fn write_highlights(
     alloc: Global,
     out: &mut Writer,
@@ -128,8 +130,8 @@ pub(crate) fn write_highlights(
     out.end_array()
 }
 
-/// Writes the places where the key at an offset is written: with or without those where it is defined. Fails if an
-/// allocation fails.
+/// Writes the places where the key at an offset is written. Without `with_definitions`, leaves out the places where the
+/// key is defined. Fails if an allocation fails.
 pub(crate) fn write_references(
     alloc: Global,
     out: &mut Writer,
@@ -148,7 +150,7 @@ pub(crate) fn write_references(
     out.end_array()
 }
 
-/// Returns the number of the type of a token, as `initialize` lists them.
+/// Returns the number of a token's type: its position in the list of types in the answer to `initialize`.
 fn token_type(meaning: Meaning) -> usize {
     match meaning {
         Meaning::Comment => 0,
@@ -160,8 +162,9 @@ fn token_type(meaning: Meaning) -> usize {
     }
 }
 
-/// Writes the tokens of a document, each as five numbers: lines and characters since the one before it, its length, its
-/// type, and no modifiers. Fails if an allocation fails.
+/// Writes the tokens of a document, each as five numbers (LSP 3.17, SemanticTokens): its line relative to the previous
+/// token's, its start relative to the previous token's on the same line, its length, its type, and 0 for no modifiers.
+/// Fails if an allocation fails.
 pub(crate) fn write_tokens(
     alloc: Global,
     out: &mut Writer,

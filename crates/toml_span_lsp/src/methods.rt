@@ -17,10 +17,11 @@ pub(crate) enum Method {
     Actions,
     Complete,
     Tokens,
+    Links,
     Diagnose,
 }
 
-/// Returns the request with this name.
+/// Returns the request with this name, or `None` if the name is not known.
 pub(crate) fn method_named(name: &str) -> Option<Method> {
     match name {
         "textDocument/documentSymbol" => Some(Method::Symbols),
@@ -37,6 +38,7 @@ pub(crate) fn method_named(name: &str) -> Option<Method> {
         "textDocument/codeAction" => Some(Method::Actions),
         "textDocument/completion" => Some(Method::Complete),
         "textDocument/semanticTokens/full" => Some(Method::Tokens),
+        "textDocument/documentLink" => Some(Method::Links),
         "textDocument/diagnostic" => Some(Method::Diagnose),
         _ => None,
     }

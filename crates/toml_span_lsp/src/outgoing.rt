@@ -1,4 +1,4 @@
-//! Messages to the client, and the parts that several of them have.
+//! Writes messages to the client, and the parts that several of them have.
 use crate::incoming::Id;
 use crate::refusal::Refusal;
 use json::Writer;
@@ -7,7 +7,7 @@ use toml_span_editor::edits::Edit;
 use toml_span_editor::positions::{Position, Range};
 use toml_span_editor::table::PositionTable;
 
-/// Writes a member whose value is a text. Fails if an allocation fails.
+/// Writes a member whose value is a string. Fails if an allocation fails.
 pub(crate) fn text(out: &mut Writer, name: &str, value: &str) -> Result<(), AllocError> {
     out.key(name)?;
     out.string(value)
@@ -48,7 +48,7 @@ pub(crate) fn finished(mut out: Writer) -> Result<Vec<u8>, AllocError> {
     Ok(out.into_inner())
 }
 
-/// Begins the response to a request. The result is to be written next. Fails if an allocation fails.
+/// Begins the response to a request. The caller must write the result next. Fails if an allocation fails.
 pub(crate) fn response(alloc: Global, id: Id<'_>) -> Result<Writer, AllocError> {
     let mut out = message(alloc)?;
     out.key("id")?;
@@ -57,7 +57,7 @@ pub(crate) fn response(alloc: Global, id: Id<'_>) -> Result<Writer, AllocError> 
     Ok(out)
 }
 
-/// Returns the response to a request that is refused. Fails if an allocation fails.
+/// Returns the response which refuses a request. Fails if an allocation fails.
 pub(crate) fn error_response(
     alloc: Global,
     id: Id<'_>,
@@ -75,7 +75,7 @@ pub(crate) fn error_response(
     finished(out)
 }
 
-/// Begins a notification. Its parameters are to be written next. Fails if an allocation fails.
+/// Begins a notification. The caller must write its parameters next. Fails if an allocation fails.
 pub(crate) fn notification(alloc: Global, method: &str) -> Result<Writer, AllocError> {
     let mut out = message(alloc)?;
     text(&mut out, "method", method)?;
@@ -83,7 +83,27 @@ pub(crate) fn notification(alloc: Global, method: &str) -> Result<Writer, AllocE
     Ok(out)
 }
 
-/// Returns the notification that something went wrong. Fails if an allocation fails.
+/// Begins a request of the server with this id and method. The parameters must be written next. Fails if an allocation
+/// fails.
+pub(crate) fn request(alloc: Global, id: &str, method: &str) -> Result<Writer, AllocError> {
+    let mut out = message(alloc)?;
+    text(&mut out, "id", id)?;
+    text(&mut out, "method", method)?;
+    out.key("params")?;
+    Ok(out)
+}
+
+/// Returns the notification that shows the warning `words` to the user. Fails if an allocation fails.
+pub(crate) fn show_message(alloc: Global, words: &str) -> Result<Vec<u8>, AllocError> {
+    let mut out = notification(alloc, "window/showMessage")?;
+    out.begin_object()?;
+    number(&mut out, "type", 2)?;
+    text(&mut out, "message", words)?;
+    out.end_object()?;
+    finished(out)
+}
+
+/// Returns the notification with a warning for the log of the client. Fails if an allocation fails.
 pub(crate) fn log_message(alloc: Global, words: &str) -> Result<Vec<u8>, AllocError> {
     let mut out = notification(alloc, "window/logMessage")?;
     out.begin_object()?;
@@ -117,7 +137,7 @@ pub(crate) fn range(out: &mut Writer, name: &str, range: Range) -> Result<(), Al
     write_range(out, range)
 }
 
-/// Writes a place in a document. Fails if an allocation fails.
+/// Writes a location: a document and a range in it. Fails if an allocation fails.
 pub(crate) fn write_location(out: &mut Writer, uri: &str, place: Range) -> Result<(), AllocError> {
     out.begin_object()?;
     text(out, "uri", uri)?;

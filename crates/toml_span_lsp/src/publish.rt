@@ -1,12 +1,22 @@
-//! Diagnostics, sent or asked for.
+//! Writes diagnostics: as notifications by the server, and as answers to requests of the client.
+ghost use Rattle.std.specs.Prelude.{IfOk, string_bytes};
+ghost use Rattle.toml_span_lsp.specs.Diagnosed.{AreChecked};
+
 use crate::outgoing::{finished, notification, number, range, text, write_location};
+use crate::settings::Settings;
+use crate::state::{Open, State};
 use json::Writer;
 use std::alloc::{AllocError, Global};
-use toml_span_editor::diagnostics::{Diagnostic, Related, diagnostics};
+use toml_span_editor::diagnostics::{Diagnosed, Diagnostic, Related, diagnostics};
+use toml_span_editor::positions::{Encoding, Position, Range};
 use toml_span_editor::table::PositionTable;
+use toml_span_lookup::lookup::Lookup;
 use toml_span_report::Severity;
 
-/// Returns the number of a severity (LSP 3.17, DiagnosticSeverity).
+/// The code of a warning that a value is deprecated.
+const DEPRECATED: &str = "schema-deprecated";
+
+/// Returns the number for a severity (LSP 3.17, DiagnosticSeverity).
 fn severity_of(severity: Severity) -> usize {
     match severity {
         Severity::Error => 1,
@@ -15,7 +25,7 @@ fn severity_of(severity: Severity) -> usize {
     }
 }
 
-/// Writes the places that are related to a diagnostic. Fails if an allocation fails.
+/// Writes the locations and messages that are related to a diagnostic. Fails if an allocation fails.
 fn write_related(out: &mut Writer, uri: &str, related: &[Related]) -> Result<(), AllocError> {
     out.key("relatedInformation")?;
     out.begin_array()?;
@@ -29,6 +39,28 @@ fn write_related(out: &mut Writer, uri: &str, related: &[Related]) -> Result<(),
     out.end_array()
 }
 
+/// Writes the tag for deprecated code (LSP 3.17, DiagnosticTag). Fails if an allocation fails.
+fn write_deprecated(out: &mut Writer) -> Result<(), AllocError> {
+    out.key("tags")?;
+    out.begin_array()?;
+    out.u64(2)?;
+    out.end_array()
+}
+
+/// Returns the range to mark for a diagnostic. If a schema reports several lines, such as a table that lacks a key,
+/// this is only the first line.
+fn shown_range(diagnostic: &Diagnostic) -> Range {
+    let Range { start, end } = diagnostic.range;
+    if start.line < end.line && diagnostic.code.as_str().starts_with("schema") {
+        let end = Position {
+            line: start.line.saturating_add(1),
+            character: 0,
+        };
+        return Range { start, end };
+    }
+    Range { start, end }
+}
+
 /// Writes a diagnostic. Fails if an allocation fails.
 fn write_diagnostic(
     out: &mut Writer,
@@ -36,52 +68,78 @@ fn write_diagnostic(
     diagnostic: &Diagnostic,
 ) -> Result<(), AllocError> {
     out.begin_object()?;
-    range(out, "range", diagnostic.range)?;
+    range(out, "range", shown_range(diagnostic))?;
     number(out, "severity", severity_of(diagnostic.severity))?;
     text(out, "code", diagnostic.code.as_str())?;
     text(out, "source", "toml-span")?;
     text(out, "message", diagnostic.message.as_str())?;
+    if diagnostic.code.as_str() == DEPRECATED {
+        write_deprecated(out)?;
+    }
     if !diagnostic.related.is_empty() {
         write_related(out, uri, diagnostic.related.as_slice())?;
     }
     out.end_object()
 }
 
-/// Writes the errors of a document as a list. Fails if an allocation fails.
-fn write_list(
-    alloc: Global,
-    out: &mut Writer,
-    uri: &str,
-    table: &PositionTable<'_>,
-) -> Result<(), AllocError> {
+/// Writes diagnostics as a list. Fails if an allocation fails.
+fn write_list(out: &mut Writer, uri: &str, diagnostics: &[Diagnostic]) -> Result<(), AllocError> {
     out.begin_array()?;
-    for diagnostic in &diagnostics(alloc, table)? {
+    for diagnostic in diagnostics {
         write_diagnostic(out, uri, diagnostic)?;
     }
     out.end_array()
 }
 
-/// Writes the answer to a request for the errors of a document. Fails if an allocation fails.
+/// Returns the diagnostics of an open document, and the error lines that say why its schema can't be used. Reads no
+/// files. Fails if an allocation fails.
+fn diagnosed(
+    alloc: Global,
+    encoding: Encoding,
+    settings: Settings,
+    document: &Open,
+    lookup: &mut Lookup,
+) -> Result<Diagnosed, AllocError>
+    ensures { IfOk result (AreChecked settings.version (string_bytes document.now.name) encoding
+        (string_bytes document.now.text)) }
+{
+    let table = PositionTable::new(alloc, encoding, document.text.as_str())?;
+    let chooser = lookup.chooser();
+    let made = diagnostics(
+        alloc,
+        &table,
+        settings.version,
+        chooser,
+        document.name.as_str(),
+        lookup,
+    )?;
+    Ok(made)
+}
+
+/// Writes the answer to a request for the errors of an open document. Reads no files. Fails if an allocation fails.
 pub(crate) fn write_report(
     alloc: Global,
     out: &mut Writer,
     uri: &str,
-    table: &PositionTable<'_>,
+    encoding: Encoding,
+    settings: Settings,
+    open: &Open,
+    lookup: &mut Lookup,
 ) -> Result<(), AllocError> {
+    let found = diagnosed(alloc, encoding, settings, open, lookup)?;
     out.begin_object()?;
     text(out, "kind", "full")?;
     out.key("items")?;
-    write_list(alloc, out, uri, table)?;
+    write_list(out, uri, found.diagnostics.as_slice())?;
     out.end_object()
 }
 
-/// Returns the notification with the errors of a document, or that there are none if it is closed. Fails if an
-/// allocation fails.
+/// Returns the notification with the errors of a document. Fails if an allocation fails.
 pub(crate) fn published(
     alloc: Global,
     uri: &str,
     version: Option<i64>,
-    table: Option<&PositionTable<'_>>,
+    diagnostics: &[Diagnostic],
 ) -> Result<Vec<u8>, AllocError> {
     let mut out = notification(alloc, "textDocument/publishDiagnostics")?;
     out.begin_object()?;
@@ -91,13 +149,28 @@ pub(crate) fn published(
         out.i64(version)?;
     }
     out.key("diagnostics")?;
-    match table {
-        Some(table) => write_list(alloc, &mut out, uri, table)?,
-        None => {
-            out.begin_array()?;
-            out.end_array()?;
-        }
-    }
+    write_list(&mut out, uri, diagnostics)?;
     out.end_object()?;
     finished(out)
+}
+
+/// Appends the notification with the errors of the open document `uri`, unless the client requests diagnostics itself.
+/// Returns the error lines that say why its schema can't be used. Does nothing if the document is not open. Reads no
+/// files. Fails if an allocation fails.
+pub(crate) fn publish(
+    alloc: Global,
+    state: &mut State,
+    uri: &str,
+    out: &mut Vec<Vec<u8>>,
+) -> Result<String, AllocError> {
+    let Some(open) = state.documents.get(uri) else {
+        return Ok(String::new(alloc));
+    };
+    if state.client.asks_diagnostics {
+        return Ok(String::new(alloc));
+    }
+    let (encoding, settings) = (state.encoding, state.settings);
+    let found = diagnosed(alloc, encoding, settings, open, &mut state.lookup)?;
+    out.push(published(alloc, uri, open.version, found.diagnostics.as_slice())?)?;
+    Ok(found.complaint)
 }

@@ -1,4 +1,4 @@
-//! Errors that a request is answered with.
+//! The errors with which the server refuses requests.
 use std::alloc::{AllocError, Global};
 use toml_span_lex::stop::Stop;
 
@@ -11,7 +11,7 @@ pub(crate) const INVALID_REQUEST: i64 = -32600;
 /// The method of a request is not known.
 pub(crate) const METHOD_NOT_FOUND: i64 = -32601;
 
-/// The parameters of a request lack something, or a part of them has the wrong type.
+/// A parameter of a request is missing, or has the wrong type.
 pub(crate) const INVALID_PARAMS: i64 = -32602;
 
 /// A request came before `initialize`.
@@ -35,7 +35,7 @@ pub(crate) fn refusal_with(alloc: Global, code: i64, message: &str) -> Result<Re
     })
 }
 
-/// Returns a refusal as an error.
+/// Returns a refusal with a copy of the message as an error, or the error of a failed allocation.
 pub(crate) fn refused(alloc: Global, code: i64, message: &str) -> Stop<Refusal> {
     match refusal_with(alloc, code, message) {
         Ok(refusal) => Stop::Fault(refusal),

@@ -1,8 +1,9 @@
 //! Answers requests about documents.
 use crate::actions::{span_of, write_actions};
-use crate::answers::{write_definition, write_hover, write_proposals};
+use crate::answers::{write_completion, write_definition, write_hover};
 use crate::edits::{write_formatting, write_renamable, write_rename};
 use crate::incoming::{member, position_of, text_in};
+use crate::links::write_links;
 use crate::lists::{
     write_folds, write_highlights, write_references, write_selection, write_symbols, write_tokens,
 };
@@ -16,8 +17,19 @@ use toml_span_editor::document::{Document, read, readable};
 use toml_span_editor::positions::offset_at;
 use toml_span_editor::table::PositionTable;
 use toml_span_lex::stop::Stop;
+use toml_span_schema::Guide;
 
-/// Returns the offset of the position of a request. Fails if it has none.
+/// What the client supports and has set for its answers.
+#[derive(Clone, Copy)]
+struct Wishes {
+    /// Whether the client supports snippets.
+    has_snippets: bool,
+    /// The maximum number of columns of an array on one line, or `None` if the client has not set one.
+    width: Option<usize>,
+}
+
+/// Returns the offset of the position in a request. Fails with `INVALID_PARAMS` if the request has no position, and
+/// with `Stop::Memory` if an allocation fails.
 fn offset_of(
     alloc: Global,
     table: &PositionTable<'_>,
@@ -36,7 +48,8 @@ fn offset_of(
     }
 }
 
-/// Writes the ranges around each of the positions of a request. Fails if it has none, or if an allocation fails.
+/// Writes the ranges around each of the positions in a request. Fails with `INVALID_PARAMS` if the request has no list
+/// of positions or one of them is not valid, and with `Stop::Memory` if an allocation fails.
 fn write_selections(
     alloc: Global,
     out: &mut Writer,
@@ -58,14 +71,15 @@ fn write_selections(
     Ok(out.end_array()?)
 }
 
-/// Returns whether the places where a key is defined are among its references.
+/// Returns whether the answer to a request for references must include the places where the key is defined. By default,
+/// it must.
 fn with_definitions(params: &Value<'_>) -> bool {
     let asked = member(params, &["context", "includeDeclaration"]);
     asked.and_then(|asked| asked.as_bool()).unwrap_or(true)
 }
 
-/// Writes the answer to a request about a position in a document that can be read. Fails if the request is refused, or
-/// if an allocation fails.
+/// Writes the answer to a request about a position in a document that can be read. Fails with a `Refusal` if the
+/// request is refused, and with `Stop::Memory` if an allocation fails.
 fn write_at(
     alloc: Global,
     method: Method,
@@ -73,6 +87,8 @@ fn write_at(
     uri: &str,
     table: &PositionTable<'_>,
     document: &Document<'_>,
+    guide: Option<&Guide>,
+    wishes: Wishes,
     params: &Value<'_>,
 ) -> Result<(), Stop<Refusal>> {
     let at = offset_of(alloc, table, params)?;
@@ -83,14 +99,17 @@ fn write_at(
             write_references(alloc, out, uri, table, document, at, all)?;
         }
         Method::Definition => write_definition(alloc, out, uri, table, document, at)?,
-        Method::Hover => write_hover(alloc, out, table, document, at)?,
-        _ => write_proposals(alloc, out, table, document, at)?,
+        Method::Hover => write_hover(alloc, out, table, document, guide, at)?,
+        _ => {
+            let has_snippets = wishes.has_snippets;
+            write_completion(alloc, out, table, document, guide, has_snippets, at)?;
+        }
     }
     Ok(())
 }
 
-/// Writes the answer to a request about a document that can be read. Fails if the request is refused, or if an
-/// allocation fails.
+/// Writes the answer to a request about a document that can be read. Fails with a `Refusal` if the request is refused,
+/// and with `Stop::Memory` if an allocation fails.
 fn write_of(
     alloc: Global,
     method: Method,
@@ -98,6 +117,8 @@ fn write_of(
     uri: &str,
     table: &PositionTable<'_>,
     document: &Document<'_>,
+    guide: Option<&Guide>,
+    wishes: Wishes,
     params: &Value<'_>,
 ) -> Result<(), Stop<Refusal>> {
     match method {
@@ -105,34 +126,44 @@ fn write_of(
         Method::Folds => write_folds(alloc, out, table, document)?,
         Method::Tokens => write_tokens(alloc, out, table, document)?,
         Method::Selections => return write_selections(alloc, out, table, document, params),
-        _ => return write_at(alloc, method, out, uri, table, document, params),
+        _ => return write_at(
+            alloc, method, out, uri, table, document, guide, wishes, params,
+        ),
     }
     Ok(())
 }
 
-/// Writes the answer to a request about a document of which as much is read as can be read. Fails if the request is
-/// refused, or if an allocation fails.
+/// Writes the answer to a request about a document or, if it has errors, about as much of it as can be read (see
+/// `readable`). Writes null if too little can be read. Fails with a `Refusal` if the request is refused, and with
+/// `Stop::Memory` if an allocation fails.
 fn write_readable(
     alloc: Global,
     method: Method,
     out: &mut Writer,
     uri: &str,
     table: &PositionTable<'_>,
+    guide: Option<&Guide>,
+    wishes: Wishes,
     params: &Value<'_>,
 ) -> Result<(), Stop<Refusal>> {
     if let Some(document) = read(alloc, table.text)? {
-        return write_of(alloc, method, out, uri, table, &document, params);
+        return write_of(
+            alloc, method, out, uri, table, &document, guide, wishes, params,
+        );
     }
     let Some(kept) = readable(alloc, table.text)? else {
         return Ok(out.null()?);
     };
     match read(alloc, kept.as_ref())? {
-        Some(document) => write_of(alloc, method, out, uri, table, &document, params),
+        Some(document) => write_of(
+            alloc, method, out, uri, table, &document, guide, wishes, params,
+        ),
         None => Ok(out.null()?),
     }
 }
 
-/// Writes the actions for the range of a request. Fails if it has none, or if an allocation fails.
+/// Writes the actions for the range in a request. Fails with `INVALID_PARAMS` if the request has no range, and with
+/// `Stop::Memory` if an allocation fails.
 fn write_actions_of(
     alloc: Global,
     out: &mut Writer,
@@ -150,20 +181,21 @@ fn write_actions_of(
     }
 }
 
-/// Writes the answer to a request about a document. Fails if the request is refused, or if an allocation fails.
+/// Writes the answer to a request about a document. Fails with a `Refusal` if the request is refused, and with
+/// `Stop::Memory` if an allocation fails.
 fn write_answer(
     alloc: Global,
     method: Method,
     out: &mut Writer,
     uri: &str,
     table: &PositionTable<'_>,
-    width: Option<usize>,
+    guide: Option<&Guide>,
+    wishes: Wishes,
     params: &Value<'_>,
 ) -> Result<(), Stop<Refusal>> {
     match method {
-        Method::Diagnose => Ok(write_report(alloc, out, uri, table)?),
         Method::Format | Method::FormatRange => {
-            Ok(write_formatting(alloc, out, table, width, params)?)
+            Ok(write_formatting(alloc, out, table, wishes.width, params)?)
         }
         Method::Actions => write_actions_of(alloc, out, uri, table, params),
         Method::Rename => {
@@ -174,14 +206,15 @@ fn write_answer(
             let at = offset_of(alloc, table, params)?;
             Ok(write_renamable(alloc, out, table, at)?)
         }
-        _ => write_readable(alloc, method, out, uri, table, params),
+        _ => write_readable(alloc, method, out, uri, table, guide, wishes, params),
     }
 }
 
-/// Writes the answer to a request about an open document. Fails if the request is refused, or if an allocation fails.
+/// Writes the answer to a request about an open document. Fails with a `Refusal` if the request is refused, and with
+/// `Stop::Memory` if an allocation fails.
 pub(crate) fn write_result(
     alloc: Global,
-    state: &State,
+    state: &mut State,
     method: Method,
     out: &mut Writer,
     params: &Value<'_>,
@@ -192,6 +225,20 @@ pub(crate) fn write_result(
     let Some(open) = state.documents.get(uri) else {
         return Err(refused(alloc, REQUEST_FAILED, "the document is not open"));
     };
-    let table = PositionTable::new(alloc, state.encoding, open.text.as_str())?;
-    write_answer(alloc, method, out, uri, &table, state.width, params)
+    let (encoding, settings) = (state.encoding, state.settings);
+    if method == Method::Diagnose {
+        let lookup = &mut state.lookup;
+        return Ok(write_report(alloc, out, uri, encoding, settings, open, lookup)?);
+    }
+    let table = PositionTable::new(alloc, encoding, open.text.as_str())?;
+    let name = open.name.as_str();
+    if method == Method::Links {
+        return Ok(write_links(alloc, out, &table, &state.lookup, name)?);
+    }
+    let guide = state.lookup.guide_of(alloc, name, open.text.as_str())?;
+    let wishes = Wishes {
+        has_snippets: state.client.has_snippets,
+        width: settings.width,
+    };
+    write_answer(alloc, method, out, uri, &table, guide, wishes, params)
 }

@@ -11,12 +11,13 @@ use std::alloc::{AllocError, Global};
 use toml_span_lines::run::write_bytes;
 use toml_span_lines::sink::Sink;
 use toml_span_lines::source::Source;
+use toml_span_lookup::disk::Disk;
 
 /// How the server ended.
 #[derive(Clone, Copy, Debug, PartialEq, Eq)]
 pub struct Ended {
-    /// The exit status: 0 after `shutdown` and `exit`, 1 if the client has left without them, 2 if the input has no
-    /// frames, 3 if a read or a write failed, and 4 if an allocation failed.
+    /// The exit status: 0 after `shutdown` and `exit`, 1 if the client has left without them, 2 if the input is not
+    /// made of frames, 3 if a read or a write failed, and 4 if an allocation failed.
     pub status: u8,
     /// What was wrong, or an empty text.
     pub reason: &'static str,
@@ -31,7 +32,7 @@ fn reason_of(fault: FrameFault) -> &'static str {
     }
 }
 
-/// Returns the end with this status and reason.
+/// Returns an `Ended` with this status and reason.
 fn end_with(status: u8, reason: &'static str) -> Ended
     ensures { result.status ≡ status }
 {
@@ -49,16 +50,22 @@ fn frames_of(alloc: Global, contents: &[Vec<u8>]) -> Result<Vec<u8>, AllocError>
     Ok(out)
 }
 
-/// Answers a message: returns the bytes to write. Fails if an allocation fails.
-fn answer(alloc: Global, state: &mut State, content: &[u8]) -> Result<Vec<u8>, AllocError>
+/// Answers the message with this content. Returns the bytes to write. Fails if an allocation fails.
+fn answer<D: Disk>(
+    alloc: Global,
+    state: &mut State,
+    disk: &mut D,
+    content: &[u8],
+) -> Result<Vec<u8>, AllocError>
     ensures { IfOk result (λ out. AreFrames out.items) }
 {
-    let contents = step(alloc, state, content)?;
+    let contents = step(alloc, state, disk, content)?;
     let out = frames_of(alloc, contents.as_slice())?;
     Ok(out)
 }
 
-/// Reads more bytes. Returns how the server ends if there are none.
+/// Reads more bytes, and appends them to `bytes`. Returns how the server ends if the input has ended or a read or an
+/// allocation fails, otherwise `None`.
 fn read_more<R: Source>(reader: &mut R, bytes: &mut Vec<u8>) -> Option<Ended>
     ensures { IfSome result (λ end. end.status ≤ 4) }
 {
@@ -74,10 +81,12 @@ fn read_more<R: Source>(reader: &mut R, bytes: &mut Vec<u8>) -> Option<Ended>
     }
 }
 
-/// Answers the frame that the bytes begin with, and removes it from them. Returns how the server ends, if it does.
-fn take_frame<W: Sink>(
+/// Answers the first frame in `bytes`, whose content is from `start` to `end`, and removes the frame from `bytes`.
+/// Returns how the server ends, or `None` if it continues.
+fn take_frame<D: Disk, W: Sink>(
     alloc: Global,
     state: &mut State,
+    disk: &mut D,
     bytes: &mut Vec<u8>,
     start: usize,
     end: usize,
@@ -88,7 +97,7 @@ fn take_frame<W: Sink>(
     ensures writer { IfNone result (W.failed writer.new ≡ false) }
     ensures frames { Writes result (W.contents writer.old) (W.contents writer.new) }
 {
-    let Ok(out) = answer(alloc, state, bytes.get(start..end).unwrap_or(&[])) else {
+    let Ok(out) = answer(alloc, state, disk, bytes.get(start..end).unwrap_or(&[])) else {
         return Some(end_with(4, ""));
     };
     if !write_bytes(writer, out.as_slice()) {
@@ -104,10 +113,12 @@ fn take_frame<W: Sink>(
     }
 }
 
-/// Answers the next frame, or reads more of it. Returns how the server ends, if it does.
-fn next<R: Source, W: Sink>(
+/// Answers the frame at the start of `bytes` or, if the frame is not complete, reads more of it. Returns how the server
+/// ends, or `None` if it continues.
+fn next<D: Disk, R: Source, W: Sink>(
     alloc: Global,
     state: &mut State,
+    disk: &mut D,
     bytes: &mut Vec<u8>,
     reader: &mut R,
     writer: &mut W,
@@ -120,13 +131,20 @@ fn next<R: Source, W: Sink>(
     match frame(bytes.as_slice()) {
         Framed::Part => read_more(reader, bytes),
         Framed::Fault(fault) => Some(end_with(2, reason_of(fault))),
-        Framed::Whole { start, end } => take_frame(alloc, state, bytes, start, end, writer),
+        Framed::Whole { start, end } => {
+            take_frame(alloc, state, disk, bytes, start, end, writer)
+        }
     }
 }
 
-/// Runs the server until the client ends it, or something is wrong. Returns the exit status and the reason. What is
-/// written is frames, one after the other; the last may be cut off if a write fails.
-pub fn serve<R: Source, W: Sink>(alloc: Global, reader: &mut R, writer: &mut W) -> Ended
+/// Runs the server until the client ends it, or something is wrong. Reads schemas from `disk`. Returns the exit status
+/// and the reason. Writes only frames, one after the other; the last may be cut off if a write fails.
+pub fn serve<D: Disk, R: Source, W: Sink>(
+    alloc: Global,
+    disk: &mut D,
+    reader: &mut R,
+    writer: &mut W,
+) -> Ended
     requires { W.failed writer.old ≡ false }
     ensures status { result.status ≤ 4 }
     ensures frames { WritesFront (W.contents writer.old) (W.contents writer.new) }
@@ -134,7 +152,7 @@ pub fn serve<R: Source, W: Sink>(alloc: Global, reader: &mut R, writer: &mut W) 
     let mut state = State::new(alloc);
     let mut bytes = Vec::new(alloc);
     'messages: for _ in 0..u64::MAX {
-        match next(alloc, &mut state, &mut bytes, reader, writer) {
+        match next(alloc, &mut state, disk, &mut bytes, reader, writer) {
             Some(end) => return end,
             None => {}
         }

@@ -1,8 +1,9 @@
-//! One step of the server: a message, and what is sent in return.
+//! One step of the server: it takes one message, and returns the messages to send.
 use crate::capabilities::{learn, write_capabilities};
+use crate::configuration::{initialized, settings_came, settings_changed};
 use crate::incoming::{Call, Id, Message, message_of};
 use crate::methods::method_named;
-use crate::outgoing::{error_response, finished, response};
+use crate::outgoing::{error_response, finished, response, show_message};
 use crate::refusal::{
     INVALID_REQUEST, METHOD_NOT_FOUND, NOT_INITIALIZED, PARSE_ERROR, Refusal, refusal_with, refused,
 };
@@ -11,9 +12,12 @@ use crate::state::{Phase, State};
 use crate::sync::{change, close, open, save};
 use json::{Error, Scratch, Value, Writer};
 use std::alloc::{AllocError, Global};
+use std::mem;
 use toml_span_lex::stop::Stop;
+use toml_span_lookup::disk::Disk;
 
-/// Writes the result of a request that comes in the right phase. Fails if it is refused, or if an allocation fails.
+/// Writes the result of a request between `initialize` and `shutdown`. Fails with a `Refusal` if the request is
+/// refused, and with `Stop::Memory` if an allocation fails.
 fn write_request(
     alloc: Global,
     state: &mut State,
@@ -30,7 +34,8 @@ fn write_request(
     }
 }
 
-/// Writes the result of a request. Fails if it is refused, or if an allocation fails.
+/// Writes the result of a request. Fails with a `Refusal` if the request is refused, for instance in the wrong phase of
+/// the server, and with `Stop::Memory` if an allocation fails.
 fn write_phased(
     alloc: Global,
     state: &mut State,
@@ -39,7 +44,7 @@ fn write_phased(
 ) -> Result<(), Stop<Refusal>> {
     match (state.phase, call.method) {
         (Phase::New, "initialize") => {
-            learn(state, call.params);
+            learn(alloc, state, call.params)?;
             write_capabilities(out, state.encoding)?;
             state.phase = Phase::Running;
             Ok(())
@@ -72,11 +77,12 @@ fn answered(
     }
 }
 
-/// Takes note of a notification. Those that are not known, and those that come in the wrong phase, are skipped. Fails
-/// if an allocation fails.
-fn note(
+/// Carries out a notification, and appends the messages to send. Ignores a notification that is not known, or that
+/// comes in the wrong phase. Fails if an allocation fails.
+fn note<D: Disk>(
     alloc: Global,
     state: &mut State,
+    disk: &mut D,
     call: Call<'_, '_>,
     out: &mut Vec<Vec<u8>>,
 ) -> Result<(), AllocError> {
@@ -89,23 +95,33 @@ fn note(
             state.phase = Phase::Ended { is_right: false };
             Ok(())
         }
-        (Phase::Running, "textDocument/didOpen") => open(alloc, state, call.params, out),
+        (Phase::Running, "initialized") => initialized(alloc, state, out),
+        (Phase::Running, "workspace/didChangeConfiguration") => {
+            settings_changed(alloc, state, disk, call.params, out)
+        }
+        (Phase::Running, "textDocument/didOpen") => open(alloc, state, disk, call.params, out),
         (Phase::Running, "textDocument/didChange") => change(alloc, state, call.params, out),
-        (Phase::Running, "textDocument/didSave") => save(alloc, state, call.params, out),
+        (Phase::Running, "textDocument/didSave") => save(alloc, state, disk, call.params, out),
         (Phase::Running, "textDocument/didClose") => close(alloc, state, call.params, out),
         _ => Ok(()),
     }
 }
 
-/// Answers a message. Fails if an allocation fails.
-fn take(
+/// Carries out a message, and appends the messages to send. Fails if an allocation fails.
+fn take<D: Disk>(
     alloc: Global,
     state: &mut State,
+    disk: &mut D,
     message: Message<'_, '_>,
     out: &mut Vec<Vec<u8>>,
 ) -> Result<(), AllocError> {
     match message {
-        Message::Response => Ok(()),
+        Message::Response(id, result) => {
+            if state.phase == Phase::Running {
+                settings_came(alloc, state, disk, id, result, out)?;
+            }
+            Ok(())
+        }
         Message::Invalid(id) => {
             let refusal = refusal_with(alloc, INVALID_REQUEST, "not a message of JSON-RPC 2.0")?;
             out.push(error_response(alloc, id, &refusal)?)?;
@@ -116,23 +132,50 @@ fn take(
                 out.push(answered(alloc, state, id, call)?)?;
                 Ok(())
             }
-            None => note(alloc, state, call, out),
+            None => note(alloc, state, disk, call, out),
         },
     }
 }
 
-/// Answers the content of a frame: returns the contents of the frames to send, in order. Fails if an allocation fails;
-/// the state is then as before, or as after the message.
-pub fn step(alloc: Global, state: &mut State, content: &[u8]) -> Result<Vec<Vec<u8>>, AllocError> {
+/// Appends a notification for each line in `state.notices`, which shows the line to the user, and empties
+/// `state.notices`. Fails if an allocation fails.
+fn push_notices(
+    alloc: Global,
+    state: &mut State,
+    out: &mut Vec<Vec<u8>>,
+) -> Result<(), AllocError> {
+    if state.notices.is_empty() {
+        return Ok(());
+    }
+    let notices = mem::replace(&mut state.notices, String::new(alloc));
+    for line in notices.as_str().split('\n') {
+        if !line.is_empty() {
+            let words = line.strip_prefix("error: ").unwrap_or(line);
+            out.push(show_message(alloc, words)?)?;
+        }
+    }
+    Ok(())
+}
+
+/// Answers the message in a frame with this content. Returns the contents of the frames to send, in order. Reads
+/// schemas from `disk` when a document is opened or saved, or when settings change. Fails if an allocation fails; the
+/// message may then be carried out in part.
+pub fn step<D: Disk>(
+    alloc: Global,
+    state: &mut State,
+    disk: &mut D,
+    content: &[u8],
+) -> Result<Vec<Vec<u8>>, AllocError> {
     let mut out = Vec::new(alloc);
     let mut scratch = Scratch::new(alloc);
     match Value::from_slice(alloc, content, &mut scratch) {
-        Ok(value) => take(alloc, state, message_of(&value), &mut out)?,
+        Ok(value) => take(alloc, state, disk, message_of(&value), &mut out)?,
         Err(Error::OutOfMemory) => return Err(AllocError),
         Err(_) => {
             let refusal = refusal_with(alloc, PARSE_ERROR, "the content is not JSON")?;
             out.push(error_response(alloc, Id::Null, &refusal)?)?;
         }
     }
+    push_notices(alloc, state, &mut out)?;
     Ok(out)
 }

@@ -1,20 +1,21 @@
-//! Keeps documents as they are in the editor.
+//! Keeps the open documents as they are in the editor.
 use crate::incoming::{member, range_of, text_in};
 use crate::outgoing::log_message;
-use crate::publish::published;
+use crate::publish::{publish, published};
 use crate::state::{Open, State};
+use crate::uris::name_of;
 use json::Value;
 use std::alloc::{AllocError, Global};
 use toml_span_editor::changes::changed;
 use toml_span_editor::positions::{Encoding, Range};
-use toml_span_editor::table::PositionTable;
+use toml_span_lookup::disk::Disk;
 
-/// Returns the version of the document of a notification.
+/// Returns the version of the document in a notification, or `None` if the document has none.
 fn version_of(params: &Value<'_>) -> Option<i64> {
     member(params, &["textDocument", "version"])?.as_i64()
 }
 
-/// Stores a document. Fails if an allocation fails.
+/// Stores the text and the version of an open document under its URI. Fails if an allocation fails.
 fn store(
     alloc: Global,
     state: &mut State,
@@ -22,32 +23,54 @@ fn store(
     text: String,
     version: Option<i64>,
 ) -> Result<(), AllocError> {
+    let name = name_of(alloc, state.root.as_str(), uri)?;
     let uri = String::from_str(alloc, uri)?;
-    state.documents.insert(uri, Open { text, version })?;
+    let open = Open {
+        text,
+        version,
+        name,
+    };
+    state.documents.insert(uri, open)?;
     Ok(())
 }
 
-/// Returns the notification with the errors of an open document, if they are to be sent. Fails if an allocation fails.
-fn errors_of(
+/// Reads and compiles the schema of the open document `uri`, unless it has been read and has not changed since. Stores
+/// errors in `state.notices`. Fails if an allocation fails.
+fn read_schema<D: Disk>(
     alloc: Global,
-    state: &State,
+    state: &mut State,
+    disk: &mut D,
+    uri: &str,
+) -> Result<(), AllocError> {
+    if let Some(open) = state.documents.get(uri) {
+        state
+            .lookup
+            .refresh(alloc, disk, open.name.as_str(), open.text.as_str())?;
+    }
+    let complaint = state.lookup.take_complaint(alloc);
+    state.notices.push_str(complaint.as_str())
+}
+
+/// Reads the schema of an open document as `read_schema` does, and appends the notification with the errors of the
+/// document, unless the client requests diagnostics itself. Fails if an allocation fails.
+fn judge<D: Disk>(
+    alloc: Global,
+    state: &mut State,
+    disk: &mut D,
     uri: &str,
     out: &mut Vec<Vec<u8>>,
 ) -> Result<(), AllocError> {
-    if state.is_asked {
-        return Ok(());
-    }
-    if let Some(open) = state.documents.get(uri) {
-        let table = PositionTable::new(alloc, state.encoding, open.text.as_str())?;
-        out.push(published(alloc, uri, open.version, Some(&table))?)?;
-    }
-    Ok(())
+    read_schema(alloc, state, disk, uri)?;
+    let complaint = publish(alloc, state, uri, out)?;
+    state.notices.push_str(complaint.as_str())
 }
 
-/// Opens a document. Fails if an allocation fails.
-pub(crate) fn open(
+/// Opens a document, and appends the notification with its errors, unless the client requests diagnostics itself. If
+/// the parameters are wrong, only appends a warning. Fails if an allocation fails.
+pub(crate) fn open<D: Disk>(
     alloc: Global,
     state: &mut State,
+    disk: &mut D,
     params: &Value<'_>,
     out: &mut Vec<Vec<u8>>,
 ) -> Result<(), AllocError> {
@@ -67,10 +90,10 @@ pub(crate) fn open(
         String::from_str(alloc, text)?,
         version_of(params),
     )?;
-    errors_of(alloc, state, uri, out)
+    judge(alloc, state, disk, uri, out)
 }
 
-/// Returns the range of a change: `None` for the whole text, or an error if it is not a range.
+/// Returns the range of a change: `None` if the change replaces the whole text, or an error if the range is not valid.
 fn range_in(change: &Value<'_>) -> Result<Option<Range>, ()> {
     match change.get("range") {
         None | Some(Value::Null) => Ok(None),
@@ -81,7 +104,7 @@ fn range_in(change: &Value<'_>) -> Result<Option<Range>, ()> {
     }
 }
 
-/// Returns a text after changes, or `None` if one of them is not a change. Fails if an allocation fails.
+/// Returns a text after changes, or `None` if a change is not valid. Fails if an allocation fails.
 fn text_after(
     alloc: Global,
     encoding: Encoding,
@@ -98,8 +121,8 @@ fn text_after(
     Ok(Some(made))
 }
 
-/// Returns the text of the document of a notification after its changes, or `None` if it is not open, or if the
-/// notification has something else than changes. Fails if an allocation fails.
+/// Returns the text of the document in a notification after its changes. Returns `None` if the document is not open, or
+/// if the changes are missing or not valid. Fails if an allocation fails.
 fn new_text(
     alloc: Global,
     state: &State,
@@ -119,7 +142,8 @@ fn new_text(
     }
 }
 
-/// Changes a document. If a change is not valid, the document stays as it is. Fails if an allocation fails.
+/// Changes a document, and appends the notification with its errors, unless the client requests diagnostics itself. If
+/// a change is not valid, the document stays as it is, and a warning is appended. Fails if an allocation fails.
 pub(crate) fn change(
     alloc: Global,
     state: &mut State,
@@ -133,7 +157,8 @@ pub(crate) fn change(
     match new_text(alloc, state, uri, params)? {
         Some(text) => {
             store(alloc, state, uri, text, version_of(params))?;
-            errors_of(alloc, state, uri, out)
+            let _complaint = publish(alloc, state, uri, out)?;
+            Ok(())
         }
         None => {
             let words = "didChange: the document is not open, or a change is not valid";
@@ -143,20 +168,23 @@ pub(crate) fn change(
     }
 }
 
-/// Sends the errors of a document that was saved. Fails if an allocation fails.
-pub(crate) fn save(
+/// Appends the notification with the errors of a document that was saved, unless the document is not open or the client
+/// requests diagnostics itself. Fails if an allocation fails.
+pub(crate) fn save<D: Disk>(
     alloc: Global,
-    state: &State,
+    state: &mut State,
+    disk: &mut D,
     params: &Value<'_>,
     out: &mut Vec<Vec<u8>>,
 ) -> Result<(), AllocError> {
     match text_in(params, &["textDocument", "uri"]) {
-        Some(uri) => errors_of(alloc, state, uri, out),
+        Some(uri) => judge(alloc, state, disk, uri, out),
         None => Ok(()),
     }
 }
 
-/// Closes a document, and clears its errors. Fails if an allocation fails.
+/// Closes a document, and appends the notification that it has no errors, unless it was not open or the client requests
+/// diagnostics itself. Fails if an allocation fails.
 pub(crate) fn close(
     alloc: Global,
     state: &mut State,
@@ -166,8 +194,8 @@ pub(crate) fn close(
     let Some(uri) = text_in(params, &["textDocument", "uri"]) else {
         return Ok(());
     };
-    if state.documents.remove(uri).is_some() && !state.is_asked {
-        out.push(published(alloc, uri, None, None)?)?;
+    if state.documents.remove(uri).is_some() && !state.client.asks_diagnostics {
+        out.push(published(alloc, uri, None, &[])?)?;
     }
     Ok(())
 }

@@ -11,7 +11,7 @@ use Rattle.toml_span_schema.specs.declared.keyword.Keyword.{Keyword}
 use Rattle.toml_span_schema.specs.declared.keyword.Keyword.TheVariants as keyword
 use Rattle.toml_span_schema.specs.declared.schema.Schema.{Schema}
 
--- whether a regular expression of the schema's table has a match in a text
+-- whether there is a regular expression, and it matches somewhere in a text
 abbrev pub matches_by : Option Regex → List ℕ → Bool
 matches_by None text = false
 matches_by (Some regex) text = is_some (find_str (regex_pattern regex) text 0)
@@ -27,11 +27,11 @@ abbrev pub otherwise : List ℕ → Option ℕ → List ℕ
 otherwise [] rest = option_to_list rest
 otherwise (k ∷ ks) rest = k ∷ ks
 
--- `prefixItems` applies to the element at the same position, `items` to those after the last
+-- the subschema for an element: the one of `prefixItems` at the element's position or, after the last of these, `items`
 abbrev pub at_or_rest : Option ℕ → Option ℕ → List ℕ
 at_or_rest own rest = otherwise (option_to_list own) rest
 
--- the subschemas that `items` or `properties` and their kin apply to a part of a value
+-- the subschemas that `Items` or `Properties` applies to an entry or element
 unfoldable pub schemas_for : Schema → Keyword → Part → List ℕ
 schemas_for schema (keyword.Items prefix rest) (element i n) = at_or_rest (slice_get prefix.items i) rest
 schemas_for schema (keyword.Properties named matching rest) (entry name span n) =

@@ -32,7 +32,7 @@ has_all n names = list_all (λ name. has_key n (string_bytes name)) names
 abbrev pub has_dependents : Node → List (String Global × Vec (String Global) Global) → Bool
 has_dependents n entries = list_all (λ e. not (has_key n (string_bytes e.0)) || has_all n e.1.items) entries
 
--- a float without a fraction
+-- whether a float is an integer, such as `1.0`
 abbrev pub is_whole_float : FloatValue → Bool
 is_whole_float (finite t) = is_whole (decimal_of t)
 is_whole_float _ = false
@@ -66,7 +66,7 @@ abbrev pub is_less : Option Ordering → Bool
 is_less (Some Less) = true
 is_less _ = false
 
--- the keywords of numbers; others allow any number
+-- whether a keyword for numbers, such as `minimum`, allows a number; other keywords allow any
 unfoldable pub allows_number : Keyword → Quantity → Bool
 allows_number (keyword.Minimum limit) x = is_at_least (compare_quantity x (plain limit))
 allows_number (keyword.ExclusiveMinimum limit) x = is_greater (compare_quantity x (plain limit))
@@ -75,7 +75,7 @@ allows_number (keyword.ExclusiveMaximum limit) x = is_less (compare_quantity x (
 allows_number (keyword.MultipleOf size power) x = is_multiple_quantity x size power
 allows_number _ x = true
 
--- the keywords of strings; others allow any string
+-- whether a keyword for strings, such as `pattern`, allows a string; other keywords allow any
 unfoldable pub allows_text : Schema → Keyword → List ℕ → Bool
 allows_text s (keyword.MinLength least) t = nat_le least (characters t)
 allows_text s (keyword.MaxLength most) t = nat_le (characters t) most
@@ -85,14 +85,15 @@ allows_text s (keyword.Format pattern most leap) t =
 allows_text s keyword.RegexFormat t = not s.formats || is_pattern t
 allows_text s _ t = true
 
--- the keywords of arrays; others allow any array
+-- whether a keyword for arrays, such as `minItems`, allows an array; other keywords allow any
 unfoldable pub allows_items : Keyword → Items → Bool
 allows_items (keyword.MinItems least) ns = nat_le least (items_count ns)
 allows_items (keyword.MaxItems most) ns = nat_le (items_count ns) most
 allows_items keyword.UniqueItems ns = all_new [] (forms ns)
 allows_items _ ns = true
 
--- the keywords of objects, with the number of entries; others allow any object
+-- whether a keyword for objects, such as `required`, allows a table with this number of entries; other keywords allow
+-- any
 unfoldable pub allows_table_of : Keyword → ℕ → Node → Bool
 allows_table_of (keyword.MinProperties least) count n = nat_le least count
 allows_table_of (keyword.MaxProperties most) count n = nat_le count most
@@ -104,7 +105,7 @@ abbrev pub allows_quantity : Keyword → Option Quantity → Bool
 allows_quantity k None = true
 allows_quantity k (Some x) = allows_number k x
 
--- the keywords of one type, which allow all values of other types
+-- whether a keyword for one type of values allows a value; it allows all values of other types
 unfoldable pub allows_kind : Schema → Keyword → Node → Inner → Bool
 allows_kind s k n (scalar (text t)) = allows_text s k t
 allows_kind s k n (scalar (datetime t)) = allows_text s k t
@@ -112,7 +113,8 @@ allows_kind s k n (array ns) = allows_items k ns
 allows_kind s k n (table ms) = allows_table_of k (members_count ms) n
 allows_kind s k n i = allows_quantity k (quantity_in i)
 
--- `enum` and `const`: the value is equal to one of the elements in the keyword's array
+-- Whether a keyword without subschemas allows a value. For `enum` and `const`, the value is equal to one of the
+-- elements in the keyword's array.
 unfoldable pub asserted : Schema → Keyword → Node → Bool
 asserted s keyword.Never n = false
 asserted s (keyword.Type types) n = has_type types (inner_of n)

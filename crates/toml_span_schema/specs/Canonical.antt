@@ -1,6 +1,6 @@
--- Canonical texts. Two values are equal in the sense of the standard exactly if their canonical texts are the same:
--- texts byte by byte, numbers as numbers, arrays element by element in order, and tables entry by entry. Each text
--- comes after its length, so that where it ends is known.
+-- Canonical texts. Two values are equal in the sense of JSON Schema if and only if their canonical texts are the same:
+-- strings are compared byte by byte, numbers by value, arrays element by element in order, and tables entry by entry.
+-- The length of a string precedes it, so that its end is known.
 use Rattle.std.specs.Prelude.{ℕ, List, [], ◌∷◌, ◌++◌, length, Bool, true, false, ◌&&◌, not, if◌then◌else◌, bytes_eq}
 use Rattle.std.specs.Char.{encode_utf8}
 use Rattle.std.specs.Fmt.{decimal}
@@ -25,7 +25,7 @@ quantity_form (endless true) = 60 ∷ []
 quantity_form (endless false) = 62 ∷ []
 quantity_form no_number = 63 ∷ []
 
--- Dates and times are strings.
+-- the canonical text of a scalar; dates and times are strings
 abbrev pub scalar_form : Scalar → List ℕ
 scalar_form (text t) = text_form t
 scalar_form (integer z) = plain_form (decimal_of (signed_decimal z))
@@ -55,7 +55,7 @@ abbrev pub forms : Items → List (List ℕ)
 forms no_items = []
 forms (item n ns) = canonical n ∷ forms ns
 
--- whether each of some texts differs from all before it and from those of another list
+-- whether each text of the second list differs from those before it, and from those of the first list
 abbrev pub all_new : List (List ℕ) → List (List ℕ) → Bool
 all_new earlier [] = true
 all_new earlier (t ∷ ts) = not (list_any (bytes_eq t) earlier) && all_new (earlier ++ t ∷ []) ts

@@ -1,4 +1,4 @@
--- Numbers as decimal texts write them, without rounding.
+-- Exact decimal numbers, and the numbers that decimal texts spell.
 use Rattle.std.specs.Prelude.{ℕ, ◌+◌, ◌-◌, ◌*◌, ◌^◌, ◌%◌, min, nat_lt, nat_le, ◌==◌, List, [], ◌∷◌, ◌++◌, length}
 use Rattle.std.specs.Prelude.{slice_range, Bool, true, false, ◌&&◌, ◌||◌, if◌then◌else◌, Option, Some, None}
 use Rattle.std.specs.Cmp.Lexicographic.{slice_cmp}
@@ -20,7 +20,7 @@ pub record Plain : Type 0 where
   pub point : ℕ
   pub digits : List ℕ
 
--- a number of TOML
+-- a number of TOML; the `Bool` says whether an infinite number is negative
 pub data Quantity : Type 0 where
   exact : Plain → Quantity
   endless : Bool → Quantity
@@ -34,18 +34,18 @@ quantity (Finite d) = exact (plain d)
 quantity (Infinite negative) = endless negative
 quantity NotANumber = no_number
 
--- 2^65 and the value of an exponent, which is cut off at 10^15
+-- 2^65 plus an exponent or, if the `Bool` says that it is negative, minus it; an exponent above 10^15 counts as 10^15
 abbrev pub raised : List ℕ → Bool → ℕ
 raised digits negative =
     if negative then 36893488147419103232 - min (digits_value 10 digits) 1000000000000000
     else 36893488147419103232 + min (digits_value 10 digits) 1000000000000000
 
--- how many zeros digits begin with
+-- the number of zeros at the beginning of some digits
 abbrev pub leading_zeros : List ℕ → ℕ
 leading_zeros [] = 0
 leading_zeros (d ∷ ds) = if d == 48 then leading_zeros ds + 1 else 0
 
--- the length of digits without the zeros at their end
+-- the number of digits without the zeros at the end
 abbrev pub significant : List ℕ → ℕ
 significant [] = 0
 significant (d ∷ ds) = if nat_lt 0 (significant ds) then significant ds + 1 else (if d == 48 then 0 else 1)
@@ -53,19 +53,19 @@ significant (d ∷ ds) = if nat_lt 0 (significant ds) then significant ds + 1 el
 abbrev pub nothing : Plain
 nothing = record { negative = false; point = 0; digits = [] }
 
--- 0.d1d2d3.. times the power of ten `point - 2^65`, in its one form
+-- the number 0.d1d2d3.. times the power of ten `point - 2^65`, in the form of `Plain`
 abbrev pub normal : Bool → ℕ → List ℕ → Plain
 normal negative point digits =
     if nat_le (significant digits) (leading_zeros digits) then nothing
     else record { negative = negative; point = point - leading_zeros digits; digits = slice_range digits (leading_zeros digits) (significant digits) }
 
--- what digits with a point and an exponent write
+-- the number that a decimal text without a sign spells; the `Bool` says whether to negate it
 abbrev pub unsigned_of : Bool → List ℕ → Plain
 unsigned_of negative text =
     normal negative (raised (scan text).exponent (scan text).exponent_negative + length (scan text).whole)
     ((scan text).whole ++ (scan text).fraction)
 
--- what a decimal text writes
+-- the number that a decimal text spells
 abbrev pub decimal_of : List ℕ → Plain
 decimal_of [] = unsigned_of false []
 decimal_of (c ∷ cs) = if c == 45 then unsigned_of true cs else unsigned_of false (c ∷ cs)
@@ -73,16 +73,15 @@ decimal_of (c ∷ cs) = if c == 45 then unsigned_of true cs else unsigned_of fal
 abbrev pub is_zero : Plain → Bool
 is_zero p = length p.digits == 0
 
--- whether there is no fraction
+-- whether a number is an integer
 abbrev pub is_whole : Plain → Bool
 is_whole p = is_zero p || nat_le (length p.digits + 36893488147419103232) p.point
 
--- 0 for a number below zero, 1 for zero, 2 for a number above
+-- 0 for a number below zero, 1 for zero, 2 for a number above zero
 abbrev pub sign : Plain → ℕ
 sign p = if is_zero p then 1 else (if p.negative then 0 else 2)
 
--- the order of two numbers above zero: the larger power of ten, or at the same power the digits that come later in the
--- order of a dictionary
+-- the order of two positive numbers: first by their points, then by their digits in lexicographic order
 abbrev pub compare_sizes : Plain → Plain → Ordering
 compare_sizes a b = ordering_then (nat_cmp a.point b.point) (slice_cmp nat_cmp a.digits b.digits)
 
@@ -100,17 +99,17 @@ compare_quantity (endless true) limit = Some Less
 compare_quantity (endless false) limit = Some Greater
 compare_quantity no_number limit = None
 
--- the value of digits that follow those of a number
+-- the value of a number followed by these digits
 abbrev pub value_after : ℕ → List ℕ → ℕ
 value_after n [] = n
 value_after n (d ∷ ds) = value_after (n * 10 + (d - 48)) ds
 
--- the power of ten of the last digit, and 2^66
+-- the power of ten that the last digit counts, as an exponent plus 2^66
 abbrev pub exponent : Plain → ℕ
 exponent p = p.point + 36893488147419103232 - length p.digits
 
--- Whether a number is a multiple of `size` times a power of ten. Its last digit is not 0, so it is none if it has more
--- decimals.
+-- Whether a number is a multiple of `size` times a power of ten, whose exponent plus 2^66 is `power`. Since the last
+-- digit of the number is not 0, it is not a multiple if its last digit has a lower power of ten.
 abbrev pub is_multiple : Plain → ℕ → ℕ → Bool
 is_multiple p size power =
     is_zero p || (nat_le power (exponent p) && (value_after 0 p.digits * 10 ^ (exponent p - power)) % size == 0)
@@ -124,7 +123,7 @@ float_quantity (finite text) = exact (decimal_of text)
 float_quantity (infinite negative) = endless negative
 float_quantity (not_a_number negative) = no_number
 
--- the number that a value is
+-- the number in a value, or `None` if the value is not a number
 abbrev pub quantity_in : Inner → Option Quantity
 quantity_in (scalar (integer z)) = Some (exact (decimal_of (signed_decimal z)))
 quantity_in (scalar (float x)) = Some (float_quantity x)

@@ -21,7 +21,7 @@ abbrev pub value_of : Part → Node
 value_of (entry name span n) = n
 value_of (element i n) = n
 
--- the elements of an array, the first at a position
+-- elements of an array, where the first one has this position
 abbrev pub elements_from : ℕ → Items → List Part
 elements_from i no_items = []
 elements_from i (item n ns) = element i n ∷ elements_from (i + 1) ns

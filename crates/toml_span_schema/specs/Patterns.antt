@@ -1,11 +1,11 @@
--- Regular expressions of ECMA-262, in the syntax of the crate `regex`.
+-- The translation of regular expressions of ECMA-262 to the syntax of the crate `regex`.
 use Rattle.std.specs.Prelude.{ℕ, ◌==◌, List, [], ◌∷◌, ◌++◌, Bool, true, false, ◌&&◌, ◌||◌, not, if◌then◌else◌, codes, chars}
 use Rattle.std.specs.Char.{encode_utf8}
 use Rattle.std.specs.Option.{is_some}
 use Rattle.regex.specs.Patterns.{default_config}
 use Rattle.regex_syntax.specs.Grammar.{read}
 
--- what a backslash and a character mean: `\d` and `\w` are ASCII
+-- the translation of a backslash and a character: `\d` and `\w` match only ASCII
 abbrev pub escape : ℕ → List ℕ
 escape c =
     if c == 100 then codes "[0-9]"
@@ -17,7 +17,7 @@ escape c =
     else (if c == 65 || c == 122 || c == 90 || c == 97 then codes "(?!)"
     else 92 ∷ [] ++ encode_utf8 c))))))
 
--- what a character without a backslash before it means: in a class `[`, `&` and `~` mean themselves
+-- the translation of a character without a backslash before it; in brackets, `[`, `&` and `~` mean themselves
 abbrev pub plain_character : Bool → ℕ → List ℕ
 plain_character in_class c =
     if c == 92 then []

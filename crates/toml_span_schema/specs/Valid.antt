@@ -1,7 +1,7 @@
--- When a value is valid against a compiled schema, keyword by keyword in the words of the standard.
+-- When a value is valid against a compiled schema: one rule for each keyword of JSON Schema.
 --
--- A verdict is `Some true`, `Some false`, or None where the subschemas nest deeper than a limit: such a value is
--- neither valid nor invalid.
+-- A verdict is `Some true`, `Some false`, or `None` if subschemas nest deeper than a limit, so that it is not known
+-- whether a value is valid.
 use Rattle.std.specs.Prelude.{ℕ, zero, suc, ◌+◌, ◌==◌, nat_le, List, [], ◌∷◌, Bool, true, false, ◌&&◌, not}
 use Rattle.std.specs.Prelude.{Option, Some, None, option_map, option_and_then, if◌then◌else◌, string_bytes, String, slice_get}
 use Rattle.std.specs.declared.alloc.Global.{Global}
@@ -19,46 +19,46 @@ use Rattle.toml_span_schema.specs.declared.schema.Schema.{Schema}
 abbrev pub Verdict : Type 0
 Verdict = Option Bool
 
--- both verdicts; the second counts only if the first is true
+-- whether both verdicts are true; the second is used only if the first is true
 abbrev pub both : Verdict → Verdict → Verdict
 both None v = None
 both (Some false) v = Some false
 both (Some true) v = v
 
--- either verdict; the second counts only if the first is false
+-- whether one of two verdicts is true; the second is used only if the first is false
 abbrev pub either : Verdict → Verdict → Verdict
 either None v = None
 either (Some true) v = Some true
 either (Some false) v = v
 
--- one more, if a verdict is true
+-- the first count if the verdict is true, the second count if it is false
 abbrev pub counted : Verdict → Option ℕ → Option ℕ → Option ℕ
 counted None more same = None
 counted (Some true) more same = more
 counted (Some false) more same = same
 
--- whether all elements pass
+-- whether the verdict on each element is true
 abbrev pub every : {A : Type 0} → (A → Verdict) → List A → Verdict
 every f [] = Some true
 every f (x ∷ xs) = both (f x) (every f xs)
 
--- whether an element passes
+-- whether the verdict on at least one element is true
 abbrev pub any : {A : Type 0} → (A → Verdict) → List A → Verdict
 any f [] = Some false
 any f (x ∷ xs) = either (f x) (any f xs)
 
--- n and the number of elements that pass
+-- n plus the number of elements on which the verdict is true
 abbrev pub count : {A : Type 0} → (A → Verdict) → ℕ → List A → Option ℕ
 count f n [] = Some n
 count f n (x ∷ xs) = counted (f x) (count f (n + 1) xs) (count f n xs)
 
--- if there is an element, whether it passes
+-- the verdict on an element, or the given verdict without an element
 abbrev pub optional : {A : Type 0} → (A → Verdict) → Verdict → Option A → Verdict
 optional f otherwise None = otherwise
 optional f otherwise (Some x) = f x
 
--- What is known of subschemas, by their positions: whether a value is valid against one, and whether one evaluates a
--- part of a value.
+-- For each subschema, by its position: whether a value is valid against it, and whether it evaluates an entry or
+-- element of a value, so that the entry or element does not count as unevaluated.
 pub record Judge : Type 0 where
   pub valid : ℕ → Node → Verdict
   pub evaluates : ℕ → Node → Part → Verdict
@@ -68,34 +68,36 @@ abbrev pub elements : Items → List Node
 elements no_items = []
 elements (item n ns) = n ∷ elements ns
 
--- `contains` with `minContains` and `maxContains`: how many elements are valid. Values that are no arrays are valid.
+-- `contains` with `minContains` and `maxContains`: whether an array has a number of valid elements in this range. All
+-- other values are allowed.
 abbrev pub contains_enough : Judge → ℕ → ℕ → ℕ → Inner → Verdict
 contains_enough j k least most (array ns) =
     option_map (λ c. nat_le least c && nat_le c most) (count (λ n. j.valid k n) 0 (elements ns))
 contains_enough j k least most _ = Some true
 
--- `unevaluatedItems` and `unevaluatedProperties`: whether a part of the kind is valid, or evaluated by other keywords
+-- `unevaluatedItems` and `unevaluatedProperties`: whether an element or entry is evaluated by the first node, or valid
+-- against the second; the `Bool` is true for `unevaluatedProperties`; each keyword allows all parts of the other kind
 abbrev pub allows_part : Judge → Bool → ℕ × ℕ → Node → Part → Verdict
 allows_part j entries nodes n part =
     if same_bool (is_entry part) entries
     then either (j.evaluates nodes.0 n part) (j.valid nodes.1 (value_of part))
     else Some true
 
--- valid against the subschema of each key that the value has
+-- whether a value is valid against the subschema of each listed key that it has
 abbrev pub dependents_allow : Judge → List (String Global × ℕ) → Node → Verdict
 dependents_allow j es n = every (λ e. if has_key n (string_bytes e.0) then j.valid e.1 n else Some true) es
 
--- each part is valid against the subschemas for its position or its name
+-- whether each element or entry is valid against the subschemas for its position or name
 abbrev pub parts_allow : Schema → Judge → Keyword → List Part → Verdict
 parts_allow s j k ps = every (λ p. every (λ m. j.valid m (value_of p)) (schemas_for s k p)) ps
 
--- each part of the kind is evaluated by the other keywords, or valid
+-- whether `unevaluatedItems` or `unevaluatedProperties` (see `allows_part`) allows all elements and entries of a value
 abbrev pub unevaluated_allow : Judge → Bool → ℕ × ℕ → Node → Verdict
 unevaluated_allow j entries nodes n = every (λ p. allows_part j entries nodes n p) (parts_of n)
 
--- Whether a keyword allows a value that applies no subschema to the value itself.
+-- Whether a keyword allows a value. The keyword applies no subschema to the value itself, only to values inside it.
 unfoldable pub allows_inside : Schema → Judge → Keyword → Node → Verdict
--- each key, as a string, is valid
+-- each key of the table, as a string, is valid
 allows_inside s j (keyword.PropertyNames k) n = every (λ name. j.valid k name) (names_of n)
 allows_inside s j (keyword.Contains k least most evaluates) n = contains_enough j k least most (inner_of n)
 allows_inside s j (keyword.Items prefix rest) n = parts_allow s j (keyword.Items prefix rest) (parts_of n)
@@ -118,7 +120,7 @@ allows s j (keyword.If c consequent alternative) n =
 allows s j (keyword.DependentSchemas es) n = dependents_allow j es.items n
 allows s j k n = allows_inside s j k n
 
--- a value is valid against a subschema, and that evaluates a part of it
+-- whether a value is valid against a subschema, and the subschema evaluates an entry or element of it
 abbrev pub covers : Judge → ℕ → Node → Part → Verdict
 covers j k n part = both (j.valid k n) (j.evaluates k n part)
 
@@ -126,7 +128,7 @@ abbrev pub is_evaluated_element : Judge → ℕ → Part → Verdict
 is_evaluated_element j k (element i n) = j.valid k n
 is_evaluated_element j k (entry name span n) = Some false
 
--- a value is valid against the subschema of a key that it has, and that evaluates a part of it
+-- whether the value has a listed key whose subschema allows the value and evaluates the entry or element
 abbrev pub dependents_cover : Judge → List (String Global × ℕ) → Node → Part → Verdict
 dependents_cover j es n part = any (λ e. if has_key n (string_bytes e.0) then covers j e.1 n part else Some false) es
 
@@ -134,7 +136,7 @@ abbrev pub is_nonempty : List ℕ → Bool
 is_nonempty [] = false
 is_nonempty (k ∷ ks) = true
 
--- Whether a keyword that allows a value evaluates a part of it.
+-- Whether a keyword evaluates an entry or element of a value. The value must be one that the keyword allows.
 unfoldable pub reaches : Schema → Judge → Keyword → Node → Part → Verdict
 reaches s j (keyword.AllOf ks) n part = any (λ k. covers j k n part) ks.items
 reaches s j (keyword.AnyOf ks) n part = any (λ k. covers j k n part) ks.items
@@ -156,11 +158,11 @@ abbrev pub keywords_in : Option Compiled → List Placed
 keywords_in None = []
 keywords_in (Some k) = k.keywords.items
 
--- the keywords of a subschema
+-- the keywords of the node at a position, or an empty list if the node does not exist
 abbrev pub keywords : Schema → ℕ → List Placed
 keywords s k = keywords_in (slice_get s.nodes.items k)
 
--- What holds of the subschemas, if at most this many nest.
+-- The verdicts of all subschemas, where at most this many nest.
 unfoldable pub judged : Schema → ℕ → Judge
 judged s zero = record { valid = λ k n. None; evaluates = λ k n part. None }
 judged s (suc depth) = record {
@@ -168,6 +170,6 @@ judged s (suc depth) = record {
   evaluates = λ k n part. any (λ p. reaches s (judged s depth) p.keyword n part) (keywords s k);
 }
 
--- A value is valid against a schema if it is against its first node.
+-- Whether a value is valid against a schema, that is, against its first node, where at most this many subschemas nest.
 abbrev pub valid : Schema → ℕ → Node → Verdict
 valid s depth n = (judged s depth).valid 0 n

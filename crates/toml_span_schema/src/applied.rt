@@ -15,7 +15,8 @@ use std::borrow::CowStr;
 use std::collections::BTreeMap;
 use toml_span_tree::{Table, Value, ValueInner};
 
-/// Returns whether a text has a match of a regular expression.
+/// Returns whether the regular expression at position `pattern` in `schema.patterns` matches somewhere in a text, or
+/// false if `pattern` is out of range. Fails if an allocation fails.
 pub(crate) fn matches(
     alloc: Global,
     schema: &Schema,
@@ -33,7 +34,8 @@ pub(crate) fn matches(
     }
 }
 
-/// Appends the subschemas of `patternProperties` whose regular expressions match this name.
+/// Appends the subschemas of `patternProperties` whose regular expressions match `name`. `matching` pairs the position
+/// of each regular expression with the index of its subschema. Fails if an allocation fails.
 fn push_matching(
     alloc: Global,
     schema: &Schema,
@@ -51,8 +53,9 @@ fn push_matching(
     Ok(())
 }
 
-/// Returns the subschema of `properties` for this name, if there is one, and those of `patternProperties`. If there is
-/// none, returns that of `additionalProperties`, if there is one.
+/// Returns the subschemas for an entry with this name: the one in `named` (`properties`), and those in `matching`
+/// (`patternProperties`) whose regular expressions match. If this yields no subschema, returns `rest`
+/// (`additionalProperties`) or, without `rest`, an empty list. Fails if an allocation fails.
 fn for_entry(
     alloc: Global,
     schema: &Schema,
@@ -77,7 +80,8 @@ fn for_entry(
     Ok(list)
 }
 
-/// Returns the subschema of `prefixItems` for an element, or that of `items`, if there is one.
+/// Returns a list with the subschema for the element at position `at`: `prefix[at]` or, if `prefix` is shorter, `rest`.
+/// The list is empty if neither exists. Fails if an allocation fails.
 fn for_element(
     alloc: Global,
     prefix: &[usize],
@@ -98,7 +102,9 @@ fn for_element(
     Ok(list)
 }
 
-/// Returns the subschemas that `properties` or `items` and their kin apply to a part of a value.
+/// Returns the subschemas that `Keyword::Properties` applies to an entry, or `Keyword::Items` to an element. The list
+/// is empty for other keywords, for an element with `Properties` and for an entry with `Items`. Fails if an allocation
+/// fails.
 #[tactic(auto, unfolding(crate::specs::Applied::schemas_for))]
 pub(crate) fn schemas_for(
     alloc: Global,
@@ -120,7 +126,8 @@ pub(crate) fn schemas_for(
     }
 }
 
-/// Returns the keys of a table as strings, with their spans; nothing of another value.
+/// Returns the keys of a table as strings, with their spans. The list is empty if the value is not a table. Fails if an
+/// allocation fails.
 pub(crate) fn names<'v>(alloc: Global, value: &'v Value<'_>) -> Result<Vec<Value<'v>>, AllocError>
     ensures { IfOk result (λ list. map view list.items ≡ names_of (view value.now)) }
 {
@@ -131,7 +138,7 @@ pub(crate) fn names<'v>(alloc: Global, value: &'v Value<'_>) -> Result<Vec<Value
     Ok(list)
 }
 
-/// Appends the keys of a table as strings, with their spans.
+/// Appends the keys of a table as strings, with their spans. Fails if an allocation fails.
 fn push_names<'v>(list: &mut Vec<Value<'v>>, table: &'v Table<'_>) -> Result<(), AllocError>
     ensures { OnOk result (map view list.new.items
         ≡ map view list.old.items ++ name_values (members_view table.now.entries)) }

@@ -1,4 +1,4 @@
-//! The keywords without subschemas.
+//! Checks values against the keywords that have no subschemas.
 ghost use Rattle.std.specs.Prelude.{◌≡◌, IfOk, length};
 ghost use Rattle.toml_span_tree.specs.Value.{float_value, inner_of, items_view, view};
 ghost use Rattle.toml_span_schema.specs.Asserted.{allows_items, allows_kind, allows_number};
@@ -21,7 +21,8 @@ use std::alloc::{AllocError, Global};
 use std::cmp::Ordering;
 use toml_span_tree::{FloatText, Value, ValueInner};
 
-/// Returns whether a float has no fraction.
+/// Returns whether a float has an integer value, such as `1.0`. Returns false for infinity and NaN. Fails if an
+/// allocation fails.
 fn is_whole(alloc: Global, float: &FloatText) -> Result<bool, AllocError>
     ensures { IfOk result (λ r. r ≡ is_whole_float (float_value float.now)) }
 {
@@ -31,7 +32,8 @@ fn is_whole(alloc: Global, float: &FloatText) -> Result<bool, AllocError>
     }
 }
 
-/// Returns whether a value is of one of some types. Dates and times are strings.
+/// Returns whether the type of a value is one of `types`. Dates and times are strings. Returns false for a taken value.
+/// Fails if an allocation fails.
 fn has_type(alloc: Global, types: Types, value: &Value<'_>) -> Result<bool, AllocError>
     ensures { IfOk result (λ r. r ≡ has_type types (inner_of (view value.now))) }
 {
@@ -48,7 +50,8 @@ fn has_type(alloc: Global, types: Types, value: &Value<'_>) -> Result<bool, Allo
     }
 }
 
-/// Returns whether a keyword of numbers allows a number; other keywords allow any.
+/// Returns whether a keyword for numbers, such as `minimum`, allows a number. Other keywords allow any number. Fails
+/// with `TooLong` if dividing for `multipleOf` takes too many steps.
 #[tactic(auto, unfolding(crate::specs::Asserted::allows_number))]
 fn allows_number(keyword: &Keyword, number: &Number) -> Result<bool, CheckError>
     ensures { IfOk result (λ r. r ≡ allows_number keyword.now (quantity number.now)) }
@@ -66,7 +69,8 @@ fn allows_number(keyword: &Keyword, number: &Number) -> Result<bool, CheckError>
     }
 }
 
-/// Returns whether a number is greater than a limit or equal.
+/// Returns whether a number is at least a limit. `order` is the order of the two, or `None` if the number is NaN.
+/// Returns false for NaN.
 fn is_at_least(order: Option<Ordering>) -> bool
     ensures { result ≡ is_at_least order }
 {
@@ -76,7 +80,8 @@ fn is_at_least(order: Option<Ordering>) -> bool
     }
 }
 
-/// Returns whether a number is less than a limit or equal.
+/// Returns whether a number is at most a limit. `order` is the order of the two, or `None` if the number is NaN.
+/// Returns false for NaN.
 fn is_at_most(order: Option<Ordering>) -> bool
     ensures { result ≡ is_at_most order }
 {
@@ -86,14 +91,16 @@ fn is_at_most(order: Option<Ordering>) -> bool
     }
 }
 
-/// Returns the number of characters.
+/// Returns the number of characters of a string.
 fn characters(text: &str) -> u64
     ensures { result ≡ characters text.now }
 {
     text.chars().count() as u64
 }
 
-/// Returns whether a keyword of strings allows a text; other keywords allow any.
+/// Returns whether a keyword for strings, such as `pattern`, allows a string. Other keywords allow any string. Fails
+/// with `TooLong` if the keyword is the format `regex` and the string is a regular expression that is too large or
+/// nests too deep, and with `OutOfMemory` if an allocation fails.
 #[tactic(auto, unfolding(crate::specs::Asserted::allows_text))]
 fn allows_text(
     alloc: Global,
@@ -119,7 +126,9 @@ fn allows_text(
     }
 }
 
-/// Returns whether a keyword of arrays allows these elements; other keywords allow any.
+/// Returns whether a keyword for arrays, such as `minItems`, allows these elements. Other keywords allow any elements.
+/// Fails with `TooDeep` if an element that must be compared nests too deep or contains a taken value, and with
+/// `OutOfMemory` if an allocation fails.
 #[tactic(auto, using(crate::proofs::Views::arrays), unfolding(crate::specs::Asserted::allows_items))]
 fn allows_items(alloc: Global, keyword: &Keyword, values: &[Value<'_>]) -> Result<bool, CheckError>
     ensures { IfOk result (λ r. r ≡ allows_items keyword.now (items_view values.now)) }
@@ -132,7 +141,7 @@ fn allows_items(alloc: Global, keyword: &Keyword, values: &[Value<'_>]) -> Resul
     }
 }
 
-/// Returns whether a table has all of some keys.
+/// Returns whether a table has all keys in `names`.
 fn has_all(value: &Value<'_>, names: &[String]) -> bool
     ensures { result ≡ has_all (view value.now) names.now }
 {
@@ -144,7 +153,8 @@ fn has_all(value: &Value<'_>, names: &[String]) -> bool
     true
 }
 
-/// Returns whether a table has the keys that its other keys require.
+/// Returns whether a table has the keys that its other keys require. If the table has the key of a pair in `required`,
+/// it must have all keys in the list of that pair.
 fn has_dependents(value: &Value<'_>, required: &[(String, Vec<String>)]) -> bool
     ensures { result ≡ has_dependents (view value.now) required.now }
 {
@@ -156,7 +166,8 @@ fn has_dependents(value: &Value<'_>, required: &[(String, Vec<String>)]) -> bool
     true
 }
 
-/// Returns whether a keyword of objects allows a table with this many entries; other keywords allow any.
+/// Returns whether a keyword for objects, such as `required`, allows the table `value`, which has `count` entries.
+/// Other keywords allow any table.
 #[tactic(auto, unfolding(crate::specs::Asserted::allows_table_of))]
 fn allows_table(keyword: &Keyword, value: &Value<'_>, count: usize) -> bool
     ensures { result ≡ allows_table_of keyword.now count (view value.now) }
@@ -170,7 +181,10 @@ fn allows_table(keyword: &Keyword, value: &Value<'_>, count: usize) -> bool
     }
 }
 
-/// Returns whether a keyword without subschemas allows a value. Keywords of one type allow all values of others.
+/// Returns whether a keyword without subschemas allows a value. A keyword for one type, such as `minimum`, allows all
+/// values of other types. Fails with `TooDeep` if a value that must be compared nests too deep or contains a taken
+/// value, with `TooLong` if `multipleOf` or the format `regex` takes too many steps, and with `OutOfMemory` if an
+/// allocation fails.
 #[tactic(auto, unfolding(crate::specs::Asserted::asserted))]
 pub(crate) fn asserted(
     alloc: Global,
@@ -191,7 +205,8 @@ pub(crate) fn asserted(
     }
 }
 
-/// Returns whether a keyword for values of one type allows a value.
+/// Returns whether a keyword for one type of values, such as `minimum`, allows a value, which may be of another type.
+/// Fails like `asserted`.
 #[tactic(auto, unfolding(crate::specs::Asserted::allows_kind))]
 fn allows_kind(
     alloc: Global,

@@ -1,4 +1,4 @@
-//! Canonical texts: two values are equal exactly if their canonical texts are the same.
+//! Canonical texts: two values are equal if and only if their canonical texts are the same.
 
 ghost use Rattle.std.specs.Prelude.{◌≡◌, ◌++◌, [], ◌∷◌, IfOk, OnOk, map, string_bytes};
 ghost use Rattle.toml_span_tree.specs.Value.{inner_of, items_view, members_view, view};
@@ -13,10 +13,11 @@ use std::alloc::{AllocError, Global};
 use std::collections::BTreeSet;
 use toml_span_tree::{Table, Value, ValueInner};
 
-/// More than the levels of any document: at most 128 parts of a header, each an array and a table, and 128 brackets.
+/// The limit on the levels of a value, which no document reaches: a header has at most 128 parts, each of which can be
+/// an array and a table, and brackets and braces nest at most 128 levels deep.
 pub(crate) const LEVELS: usize = 1_000;
 
-/// Appends a text after its length and a colon.
+/// Appends a text's length in bytes, a colon and the text. Fails if an allocation fails.
 fn push_text(out: &mut String, text: &str) -> Result<(), AllocError>
     ensures { OnOk result (string_bytes out.new ≡ string_bytes out.old ++ text_form text.now) }
 {
@@ -27,7 +28,8 @@ fn push_text(out: &mut String, text: &str) -> Result<(), AllocError>
     out.push_str(text)
 }
 
-/// Appends a finite number: its sign, its digits and its point.
+/// Appends the canonical text of a finite number: its sign, its digits, `e`, its `point` and `;`. Fails if an
+/// allocation fails.
 fn push_decimal(out: &mut String, number: &Decimal) -> Result<(), AllocError>
     ensures { OnOk result (string_bytes out.new ≡ string_bytes out.old ++ plain_form (plain number.now)) }
 {
@@ -41,7 +43,8 @@ fn push_decimal(out: &mut String, number: &Decimal) -> Result<(), AllocError>
     out.push_str(end.as_str())
 }
 
-/// Appends a number.
+/// Appends the canonical text of a number: as in `push_decimal` for a finite number, `<` for negative infinity, `>` for
+/// infinity, `?` for NaN. Fails if an allocation fails.
 fn push_number(out: &mut String, number: &Number) -> Result<(), AllocError>
     ensures { OnOk result (string_bytes out.new ≡ string_bytes out.old ++ quantity_form (quantity number.now)) }
 {
@@ -53,7 +56,8 @@ fn push_number(out: &mut String, number: &Number) -> Result<(), AllocError>
     }
 }
 
-/// Appends the canonical text of a value. Fails with `TooDeep` if it nests more than `depth` levels deep.
+/// Appends the canonical text of a value. Fails with `TooDeep` if the value nests `depth` or more levels deep or
+/// contains a taken value, and with `OutOfMemory` if an allocation fails.
 #[cycle(canonical)]
 fn push_canonical(out: &mut String, depth: usize, value: &Value<'_>) -> Result<(), CheckError>
     ensures { OnOk result (string_bytes out.new ≡ string_bytes out.old ++ canonical (view value.now)) }
@@ -84,7 +88,8 @@ fn push_canonical(out: &mut String, depth: usize, value: &Value<'_>) -> Result<(
     Ok(())
 }
 
-/// Appends the canonical texts of some values.
+/// Appends the canonical texts of the elements of an array. Fails with `TooDeep` if an element nests `depth` or more
+/// levels deep or contains a taken value, and with `OutOfMemory` if an allocation fails.
 #[cycle(canonical)]
 fn push_items(out: &mut String, depth: usize, values: &[Value<'_>]) -> Result<(), CheckError>
     ensures { OnOk result (string_bytes out.new ≡ string_bytes out.old ++ items_form (items_view values.now)) }
@@ -95,7 +100,8 @@ fn push_items(out: &mut String, depth: usize, values: &[Value<'_>]) -> Result<()
     Ok(())
 }
 
-/// Appends the names and the canonical texts of some entries.
+/// Appends the name and the canonical text of each entry of a table. Fails with `TooDeep` if a value nests `depth` or
+/// more levels deep or contains a taken value, and with `OutOfMemory` if an allocation fails.
 #[cycle(canonical)]
 fn push_entries(out: &mut String, depth: usize, table: &Table<'_>) -> Result<(), CheckError>
     ensures { OnOk result (string_bytes out.new
@@ -108,7 +114,8 @@ fn push_entries(out: &mut String, depth: usize, table: &Table<'_>) -> Result<(),
     Ok(())
 }
 
-/// Returns the canonical text of a value. Fails with `TooDeep` if it nests more than `LEVELS` levels deep.
+/// Returns the canonical text of a value. Fails with `TooDeep` if the value nests `LEVELS` or more levels deep or
+/// contains a taken value, and with `OutOfMemory` if an allocation fails.
 pub(crate) fn canonical(alloc: Global, value: &Value<'_>) -> Result<String, CheckError>
     ensures { IfOk result (λ text. string_bytes text ≡ canonical (view value.now)) }
 {
@@ -117,7 +124,7 @@ pub(crate) fn canonical(alloc: Global, value: &Value<'_>) -> Result<String, Chec
     Ok(out)
 }
 
-/// Returns whether each of some values differs from all before it.
+/// Returns whether no two of the values are equal. Fails like `canonical`.
 pub(crate) fn all_differ(alloc: Global, values: &[Value<'_>]) -> Result<bool, CheckError>
     ensures { IfOk result (λ r. r ≡ all_new [] (map (λ v. canonical (view v)) values.now)) }
 {

@@ -1,10 +1,14 @@
-//! Compiles a schema: each schema object that can be reached becomes a node.
+//! Compiles a schema, and each schema that references and keywords reach from it. In this module, a *place* is a
+//! document (`source`, its position) and a JSON pointer in it, and a *scope* is the position of a set of dynamic
+//! anchors.
 
 use crate::canonical::LEVELS;
 use crate::cycles::longest_chain;
 use crate::documents::Document;
 use crate::error::SchemaError;
+use crate::guide::Guide;
 use crate::keyword::Node;
+use crate::notes::{Notes, read_notes};
 use crate::pointers::{with_position, with_step};
 use crate::read::read_node;
 use crate::schema::Schema;
@@ -16,13 +20,13 @@ use regex::Regex;
 use std::alloc::{AllocError, Global};
 use std::collections::BTreeMap;
 
-/// The most references and combinations that may follow one another without a step into the value.
+/// The maximum length of a chain of references and combinations, such as `allOf`, that apply to the same value.
 const LONGEST: usize = 64;
 
-/// The most steps that finding resources and anchors takes.
+/// The maximum number of steps for finding resources and anchors.
 const MOST_WORK: usize = 20_000_000;
 
-/// A place whose node is to be made.
+/// A schema to compile, with its place. The fields are as in `Site`.
 #[derive(Drop)]
 struct Task<'v, 'a> {
     value: &'v Json<'a>,
@@ -38,14 +42,15 @@ pub(crate) struct Site<'v, 'a> {
     pub(crate) value: &'v Json<'a>,
     pub(crate) source: usize,
     pub(crate) pointer: String,
-    /// The dynamic anchors that are bound here.
+    /// The position of the set of dynamic anchors that are bound here.
     pub(crate) scope: usize,
     pub(crate) dialect: Dialect,
-    /// Whether `unevaluatedItems` and `unevaluatedProperties` are left out.
+    /// Whether to leave out `unevaluatedItems` and `unevaluatedProperties`.
     pub(crate) beside: bool,
 }
 
-/// A place that a reference names, and the dynamic anchor there, if the reference names one.
+/// The place that a reference names. `anchor` is the position of the anchor whose name is the reference's fragment, if
+/// it exists.
 #[derive(Drop)]
 pub(crate) struct Target {
     source: usize,
@@ -53,25 +58,26 @@ pub(crate) struct Target {
     anchor: Option<usize>,
 }
 
-/// Makes nodes. A place has a node for each set of dynamic anchors that are bound when it is reached, so that
-/// `$dynamicRef` names one node.
+/// Compiles schemas. A place that is reached with different sets of bound dynamic anchors is compiled once for each
+/// set, so that each `$dynamicRef` in a compiled schema refers to one compiled schema.
 #[derive(Drop)]
 pub(crate) struct Compiler<'v, 'a> {
     pub(crate) alloc: Global,
     sources: Sources<'v, 'a>,
-    /// By the positions of their nodes.
+    /// The task at each index is for the compiled schema at that index.
     tasks: Vec<Task<'v, 'a>>,
     known: BTreeMap<String, usize>,
-    /// Sets of dynamic anchors, by their positions: of each name the one bound first.
+    /// Sets of dynamic anchors, each with the positions of the anchors. If a name is bound several times, the set has
+    /// the anchor that was bound first.
     scopes: Vec<Vec<usize>>,
     pub(crate) patterns: Vec<Regex>,
-    /// The positions of the regular expressions of formats.
+    /// The positions in `patterns` of the regular expressions of formats.
     formats: BTreeMap<&'static str, usize>,
-    /// The steps that finding resources and anchors took.
+    /// The number of steps taken so far for finding resources and anchors.
     work: usize,
 }
 
-/// Returns the position of a scope among others.
+/// Returns the position of a set of dynamic anchors in a list of sets, or `None` if the list does not have it.
 fn scope_among(scopes: &[Vec<usize>], scope: &[usize]) -> Option<usize> {
     for (i, other) in scopes.iter().enumerate() {
         if other.as_slice() == scope {
@@ -81,7 +87,7 @@ fn scope_among(scopes: &[Vec<usize>], scope: &[usize]) -> Option<usize> {
     None
 }
 
-/// Returns the error that a reference names what is not there.
+/// Returns the error that the reference at `place` names `address`, which does not exist. Fails if an allocation fails.
 fn missing(alloc: Global, place: &str, address: &str) -> Result<SchemaError, AllocError> {
     Ok(SchemaError::Missing {
         place: String::from_str(alloc, place)?,
@@ -89,14 +95,15 @@ fn missing(alloc: Global, place: &str, address: &str) -> Result<SchemaError, All
     })
 }
 
-/// Returns the error that a document is not JSON.
+/// Returns the error that the document with this address is not JSON. Fails if an allocation fails.
 fn not_json(alloc: Global, address: &str) -> Result<SchemaError, AllocError> {
     Ok(SchemaError::Json {
         address: String::from_str(alloc, address)?,
     })
 }
 
-/// Appends a document to the text of an array of documents.
+/// Appends the text of a document. Fails with `Json` if the text is not JSON or nests more than 128 levels deep, and
+/// with `OutOfMemory` if an allocation fails.
 fn push_document(
     alloc: Global,
     out: &mut String,
@@ -110,7 +117,7 @@ fn push_document(
     Ok(())
 }
 
-/// Returns the text of an array of documents. Each must be JSON by itself.
+/// Returns the text of a JSON array of the documents, `root` first. Fails like `push_document`.
 fn joined_texts(
     alloc: Global,
     root: Document<'_>,
@@ -126,7 +133,7 @@ fn joined_texts(
     Ok(out)
 }
 
-/// Returns the addresses of some documents.
+/// Returns the addresses of the documents, that of `root` first. Fails if an allocation fails.
 fn addresses(
     alloc: Global,
     root: Document<'_>,
@@ -140,7 +147,7 @@ fn addresses(
     Ok(list)
 }
 
-/// Returns the parsed documents with their addresses.
+/// Returns each document in the JSON array `values` with its address. Fails if an allocation fails.
 fn with_addresses<'v, 'a>(
     alloc: Global,
     values: &'v Json<'a>,
@@ -158,19 +165,21 @@ fn with_addresses<'v, 'a>(
     Ok(sources)
 }
 
-/// Compiles a schema.
+/// Compiles the schema in the document `root`, whose references may name `others`, with its notes for people. Fails as
+/// `Schema::from_json` does.
 pub(crate) fn compile(
     alloc: Global,
     root: Document<'_>,
     others: &[Document<'_>],
-) -> Result<Schema, SchemaError> {
+) -> Result<Guide, SchemaError> {
     let text = joined_texts(alloc, root, others)?;
     let addresses = addresses(alloc, root, others)?;
     compile_text(alloc, text.as_str(), addresses.as_slice())
 }
 
-/// Compiles a schema from the text of an array of documents with these addresses.
-fn compile_text(alloc: Global, text: &str, addresses: &[String]) -> Result<Schema, SchemaError> {
+/// Compiles a schema from the text of a JSON array of documents, which have these addresses. The first document is the
+/// schema. Fails as `Schema::from_json` does.
+fn compile_text(alloc: Global, text: &str, addresses: &[String]) -> Result<Guide, SchemaError> {
     let mut scratch = Scratch::new(alloc);
     let values = parsed(alloc, text, &mut scratch)?;
     let made = compile_all(alloc, &values, addresses);
@@ -178,7 +187,8 @@ fn compile_text(alloc: Global, text: &str, addresses: &[String]) -> Result<Schem
     made
 }
 
-/// Parses the text of an array of documents.
+/// Parses the text of a JSON array of documents. Fails with `TooLarge` if the array nests too deep, and with
+/// `OutOfMemory` if an allocation fails.
 fn parsed<'a>(
     alloc: Global,
     text: &'a str,
@@ -191,17 +201,28 @@ fn parsed<'a>(
     }
 }
 
-/// Compiles a schema from the parsed documents.
+/// Compiles a schema from a parsed array of documents, which have these addresses. The first document is the schema.
+/// Fails as `Schema::from_json` does.
 fn compile_all<'v, 'a>(
     alloc: Global,
     values: &'v Json<'a>,
     addresses: &[String],
-) -> Result<Schema, SchemaError> {
+) -> Result<Guide, SchemaError> {
     let documents = with_addresses(alloc, values, addresses)?;
     compile_sources(alloc, Sources::new(alloc, documents)?)
 }
 
-fn compile_sources(alloc: Global, sources: Sources<'_, '_>) -> Result<Schema, SchemaError> {
+/// Returns the notes for people in the schemas of `tasks`, in the same order. Fails if an allocation fails.
+fn notes_of(alloc: Global, tasks: &[Task<'_, '_>]) -> Result<Vec<Notes>, AllocError> {
+    let mut notes = Vec::new(alloc);
+    for task in tasks {
+        notes.push(read_notes(alloc, task.value)?)?;
+    }
+    Ok(notes)
+}
+
+/// Compiles the schema in the first of the documents. Fails as `Schema::from_json` does.
+fn compile_sources(alloc: Global, sources: Sources<'_, '_>) -> Result<Guide, SchemaError> {
     let mut compiler = Compiler {
         alloc,
         sources,
@@ -219,17 +240,25 @@ fn compile_sources(alloc: Global, sources: Sources<'_, '_>) -> Result<Schema, Sc
     if longest > LONGEST {
         return Err(SchemaError::TooLarge);
     }
-    let Compiler { patterns, .. } = compiler;
-    Ok(Schema {
+    let Compiler {
+        patterns,
+        tasks,
+        ..
+    } = compiler;
+    let notes = notes_of(alloc, tasks.as_slice())?;
+    let schema = Schema {
         nodes,
         patterns,
         depth: longest.saturating_add(2).saturating_mul(LEVELS),
         formats: true,
-    })
+    };
+    Ok(Guide { schema, notes })
 }
 
 impl<'v, 'a> Compiler<'v, 'a> {
-    /// Reads the schemas at all places that are reached.
+    /// Compiles the schema of each task, also of the tasks that are added meanwhile. Fails with `TooLarge` if there are
+    /// too many tasks, with an error of `read_node` if a schema is wrong, and with `OutOfMemory` if an allocation
+    /// fails.
     fn nodes(&mut self) -> Result<Vec<Node>, SchemaError> {
         let mut nodes = Vec::new(self.alloc);
         for at in 0..MOST {
@@ -241,7 +270,8 @@ impl<'v, 'a> Compiler<'v, 'a> {
         Err(SchemaError::TooLarge)
     }
 
-    /// Returns the schema of a task.
+    /// Returns the schema of the task at the position `at`, or `None` if there are fewer tasks. Fails if an allocation
+    /// fails.
     fn site(&self, at: usize) -> Result<Option<Site<'v, 'a>>, SchemaError> {
         let Some(task) = self.tasks.get(at) else {
             return Ok(None);
@@ -264,12 +294,16 @@ impl<'v, 'a> Compiler<'v, 'a> {
         }))
     }
 
+    /// Returns the innermost resource that contains a place, or `None` if the list of resources is empty.
     fn resource(&self, source: usize, pointer: &str) -> Option<&Resource> {
         let at = self.sources.resource_at(source, pointer);
         self.sources.resources.get(at)
     }
 
-    /// Returns the node of the value at a place, which is listed if it is new.
+    /// Returns the index of the compiled form of the schema `value` at a place, and adds a task for it if it is new.
+    /// `outer` is the scope in which the place is reached. If `beside` is set, the compiled schema leaves out
+    /// `unevaluatedItems` and `unevaluatedProperties`. Fails with `TooLarge` if `work` exceeds `MOST_WORK`, and with
+    /// `OutOfMemory` if an allocation fails.
     fn node(
         &mut self,
         value: &'v Json<'a>,
@@ -297,7 +331,8 @@ impl<'v, 'a> Compiler<'v, 'a> {
         Ok(at)
     }
 
-    /// Counts the steps that finding resources and anchors takes. Fails with `TooLarge` if there are too many.
+    /// Adds the steps for finding the resource and the scope of one place to `work`. Fails with `TooLarge` if `work`
+    /// exceeds `MOST_WORK`.
     fn spend(&mut self) -> Result<(), SchemaError> {
         let more = self
             .sources
@@ -314,7 +349,8 @@ impl<'v, 'a> Compiler<'v, 'a> {
         Ok(())
     }
 
-    /// Returns the node of a place. Fails with `Missing` if there is nothing.
+    /// Returns the index of the compiled form of the schema at a place that is reached in the scope `outer`. Fails with
+    /// `Missing` if the place does not exist, otherwise like `node`.
     fn node_at(
         &mut self,
         source: usize,
@@ -328,7 +364,8 @@ impl<'v, 'a> Compiler<'v, 'a> {
         }
     }
 
-    /// Returns the dynamic anchors that are bound at a place that is reached with others bound.
+    /// Returns the scope at a place that is reached in the scope `outer`. Adds a new scope to `scopes` if necessary.
+    /// Fails if an allocation fails.
     fn scope_in(
         &mut self,
         source: usize,
@@ -344,7 +381,8 @@ impl<'v, 'a> Compiler<'v, 'a> {
         Ok(made)
     }
 
-    /// Returns the dynamic anchors of a scope, and those of the resource of a place whose names are not bound.
+    /// Returns the positions of the dynamic anchors that are bound at a place: those of the scope `outer`, then those
+    /// of the place's resource with names that `outer` does not bind. Fails if an allocation fails.
     fn bound_in(
         &self,
         source: usize,
@@ -366,7 +404,7 @@ impl<'v, 'a> Compiler<'v, 'a> {
         Ok(all)
     }
 
-    /// Returns the dynamic anchor with a name among some.
+    /// Returns the first of the positions `anchors` whose anchor has this name, or `None` if no anchor has it.
     fn bound(&self, anchors: &[usize], name: &str) -> Option<usize> {
         for at in anchors {
             if let Some(anchor) = self.sources.anchors.get(*at) {
@@ -378,7 +416,8 @@ impl<'v, 'a> Compiler<'v, 'a> {
         None
     }
 
-    /// Returns the position of the regular expression of a format, which is added if it is new.
+    /// Returns the position in `patterns` of a format's regular expression. Compiles and adds the expression if it is
+    /// new. Fails if an allocation fails.
     pub(crate) fn format(&mut self, pattern: &'static str) -> Result<usize, SchemaError> {
         if let Some(at) = self.formats.get(pattern) {
             return Ok(*at);
@@ -389,7 +428,8 @@ impl<'v, 'a> Compiler<'v, 'a> {
         Ok(at)
     }
 
-    /// Returns the node of a subschema in a member of a schema.
+    /// Returns the index of the compiled form of `value`, the subschema that is the value of a keyword in the schema
+    /// `site`. Fails like `node`.
     pub(crate) fn under(
         &mut self,
         site: &Site<'v, 'a>,
@@ -400,7 +440,8 @@ impl<'v, 'a> Compiler<'v, 'a> {
         self.node(value, site.source, pointer.as_str(), site.scope, false)
     }
 
-    /// Returns the node of a member of a keyword's value.
+    /// Returns the index of the compiled form of `value`, the subschema with this name in the object that is the value
+    /// of a keyword in the schema `site`. Fails like `node`.
     pub(crate) fn member(
         &mut self,
         site: &Site<'v, 'a>,
@@ -413,7 +454,8 @@ impl<'v, 'a> Compiler<'v, 'a> {
         self.node(value, site.source, pointer.as_str(), site.scope, false)
     }
 
-    /// Returns the node of an element of a keyword's value.
+    /// Returns the index of the compiled form of `value`, the subschema at the position `at` in the array that is the
+    /// value of a keyword in the schema `site`. Fails like `node`.
     pub(crate) fn element(
         &mut self,
         site: &Site<'v, 'a>,
@@ -426,7 +468,8 @@ impl<'v, 'a> Compiler<'v, 'a> {
         self.node(value, site.source, pointer.as_str(), site.scope, false)
     }
 
-    /// Returns the node of the same schema without `unevaluatedItems` and `unevaluatedProperties`.
+    /// Returns the index of the compiled form of the schema `site` without `unevaluatedItems` and
+    /// `unevaluatedProperties`. Fails like `node`.
     pub(crate) fn beside(&mut self, site: &Site<'v, 'a>) -> Result<usize, SchemaError> {
         self.node(
             site.value,
@@ -437,7 +480,9 @@ impl<'v, 'a> Compiler<'v, 'a> {
         )
     }
 
-    /// Returns the place that a reference names.
+    /// Returns the place that a reference in the schema `site` names. Fails with `Reference` if the reference can't be
+    /// resolved to a URL, with `Missing` if the document or anchor that it names does not exist, and with `OutOfMemory`
+    /// if an allocation fails.
     fn target(&self, site: &Site<'v, 'a>, reference: &str) -> Result<Target, SchemaError> {
         let alloc = self.alloc;
         let place = site.pointer.as_str();
@@ -453,7 +498,8 @@ impl<'v, 'a> Compiler<'v, 'a> {
         }
     }
 
-    /// Returns the place that a fragment names in the resource with an address.
+    /// Returns the place that a fragment (a JSON pointer or the name of an anchor) names in the resource with this
+    /// address, or `None` if the resource or the anchor does not exist. Fails if an allocation fails.
     fn target_in(&self, address: &str, fragment: &str) -> Result<Option<Target>, SchemaError> {
         let alloc = self.alloc;
         let Some(resource) = self.sources.find(address) else {
@@ -472,7 +518,8 @@ impl<'v, 'a> Compiler<'v, 'a> {
         }))
     }
 
-    /// Returns the place of an anchor.
+    /// Returns the place of the anchor at the position `at`, or `None` if `at` is `None` or too large. Fails if an
+    /// allocation fails.
     fn anchored(&self, at: Option<usize>) -> Result<Option<Target>, SchemaError> {
         let Some(anchor) = at.and_then(|at| self.sources.anchors.get(at)) else {
             return Ok(None);
@@ -484,7 +531,8 @@ impl<'v, 'a> Compiler<'v, 'a> {
         }))
     }
 
-    /// Returns the node that `$ref` names.
+    /// Returns the index of the compiled form of the schema that `text`, the `$ref` in the schema `site`, names. Fails
+    /// like `target` and `node_of`.
     pub(crate) fn reference(
         &mut self,
         site: &Site<'v, 'a>,
@@ -494,7 +542,8 @@ impl<'v, 'a> Compiler<'v, 'a> {
         self.node_of(site, &target)
     }
 
-    /// Returns the node that a reference names.
+    /// Returns the index of the compiled form of the schema at `target`, the place that a reference in the schema
+    /// `site` names. Fails with `Missing`, with the place of `site`, if `target` does not exist, otherwise like `node`.
     fn node_of(&mut self, site: &Site<'v, 'a>, target: &Target) -> Result<usize, SchemaError> {
         match self.node_at(target.source, target.pointer.as_str(), site.scope) {
             Err(SchemaError::Missing { address, .. }) => Err(SchemaError::Missing {
@@ -505,8 +554,9 @@ impl<'v, 'a> Compiler<'v, 'a> {
         }
     }
 
-    /// Returns the node that `$dynamicRef` or `$recursiveRef` names: if the reference names a dynamic anchor, the one
-    /// with its name that was bound first.
+    /// Returns the index of the compiled form of the schema that `text`, a `$dynamicRef` or `$recursiveRef` in the
+    /// schema `site`, names. If the reference names a dynamic anchor, this is the schema of the anchor with the same
+    /// name that was bound first. Fails like `reference`.
     pub(crate) fn dynamic_reference(
         &mut self,
         site: &Site<'v, 'a>,
@@ -520,6 +570,9 @@ impl<'v, 'a> Compiler<'v, 'a> {
         }
     }
 
+    /// Returns the position of the anchor to use instead of the dynamic anchor that a reference names: the anchor with
+    /// the same name in the scope of `site`. Returns `None` if the reference names no dynamic anchor, or if the scope
+    /// has no anchor with this name.
     fn first_bound(&self, site: &Site<'v, 'a>, target: &Target) -> Option<usize> {
         let anchor = self.sources.anchors.get(target.anchor?)?;
         if !anchor.dynamic {

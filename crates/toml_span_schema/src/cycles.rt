@@ -1,10 +1,11 @@
-//! References that lead back without a step into the value.
+//! Finds cycles of references and combinations that apply to the same value.
 
 use crate::error::SchemaError;
 use crate::keyword::{Keyword, Node};
 use std::alloc::{AllocError, Global};
 
-/// Appends the subschemas that a keyword applies to the same value.
+/// Appends the subschemas that a keyword applies to the value itself, not to values inside it. Fails if an allocation
+/// fails.
 fn push_in_place(list: &mut Vec<usize>, keyword: &Keyword) -> Result<(), AllocError> {
     match keyword {
         Keyword::AllOf(nodes) | Keyword::AnyOf(nodes) | Keyword::OneOf(nodes) => {
@@ -29,7 +30,7 @@ fn push_in_place(list: &mut Vec<usize>, keyword: &Keyword) -> Result<(), AllocEr
     Ok(())
 }
 
-/// Appends a subschema, if there is one.
+/// Appends a subschema, if there is one. Fails if an allocation fails.
 fn push_optional(list: &mut Vec<usize>, node: Option<usize>) -> Result<(), AllocError> {
     if let Some(node) = node {
         list.push(node)?;
@@ -37,7 +38,8 @@ fn push_optional(list: &mut Vec<usize>, node: Option<usize>) -> Result<(), Alloc
     Ok(())
 }
 
-/// Returns the subschemas that a schema applies to the same value.
+/// Returns the subschemas that the schema `node` applies to the value itself, not to values inside it. Fails if an
+/// allocation fails.
 fn in_place(alloc: Global, node: &Node) -> Result<Vec<usize>, AllocError> {
     let mut list = Vec::new(alloc);
     for placed in node.keywords.as_slice() {
@@ -46,18 +48,19 @@ fn in_place(alloc: Global, node: &Node) -> Result<Vec<usize>, AllocError> {
     Ok(list)
 }
 
-/// What is known of a node while chains are counted.
+/// What `longest_chain` knows about a compiled schema. A chain is a list of compiled schemas, each of which applies the
+/// next one to the same value.
 #[derive(Drop)]
 struct Chain {
-    /// The number of its subschemas whose chains are not known yet.
+    /// The number of subschemas that this schema applies to the same value and whose longest chains are not known yet.
     open: usize,
-    /// The longest chain of those that are known.
+    /// The length of the longest chain that begins at this schema, as far as it is known.
     length: usize,
-    /// The nodes that apply it to the same value.
+    /// The indices of the schemas that apply this schema to the same value.
     users: Vec<usize>,
 }
 
-/// Notes a user of each of some nodes.
+/// Adds `user` to the users of each schema whose index is in `used`. Fails if an allocation fails.
 fn push_users(chains: &mut Vec<Chain>, used: &[usize], user: usize) -> Result<(), AllocError> {
     for at in used {
         if let Some(chain) = chains.get_mut(*at) {
@@ -67,7 +70,7 @@ fn push_users(chains: &mut Vec<Chain>, used: &[usize], user: usize) -> Result<()
     Ok(())
 }
 
-/// Returns the chains of some nodes, of which none is known yet.
+/// Returns a `Chain` for each of the compiled schemas `nodes`, before any chain is known. Fails if an allocation fails.
 fn chains_of(alloc: Global, nodes: &[Node]) -> Result<Vec<Chain>, AllocError> {
     let mut chains = Vec::new(alloc);
     for _node in nodes {
@@ -87,7 +90,9 @@ fn chains_of(alloc: Global, nodes: &[Node]) -> Result<Vec<Chain>, AllocError> {
     Ok(chains)
 }
 
-/// Tells the users of a node its chain, and lists those whose chains are known by that.
+/// Extends the longest chain of the schema at index `at`, which must be known, to the schema's users. Appends to
+/// `known` those users whose longest chains are known now. Returns the length of the schema's chain, or 0 if `at` is
+/// out of range. Fails if an allocation fails.
 fn settle(
     alloc: Global,
     chains: &mut Vec<Chain>,
@@ -110,7 +115,8 @@ fn settle(
     Ok(length)
 }
 
-/// Returns the maximum number of steps from schema to subschema at one value. Fails with `Cycle` if there is none.
+/// Returns the length of the longest chain, which is the number of its schemas minus 1. Fails with `Cycle` if a chain
+/// has the same schema twice, and with `OutOfMemory` if an allocation fails.
 pub(crate) fn longest_chain(alloc: Global, nodes: &[Node]) -> Result<usize, SchemaError> {
     let mut chains = chains_of(alloc, nodes)?;
     let mut known = Vec::new(alloc);
@@ -129,7 +135,8 @@ pub(crate) fn longest_chain(alloc: Global, nodes: &[Node]) -> Result<usize, Sche
     Ok(longest)
 }
 
-/// Returns the error that names a node whose chain is not known.
+/// Returns the error that a chain has the same schema twice. The error names the last schema whose longest chain is not
+/// known. Fails if an allocation fails.
 fn cycle(alloc: Global, nodes: &[Node], chains: &[Chain]) -> Result<SchemaError, AllocError> {
     let mut place = String::new(alloc);
     for (node, chain) in nodes.iter().zip(chains.iter()) {

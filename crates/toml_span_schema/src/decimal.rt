@@ -15,16 +15,17 @@ use std::alloc::{AllocError, Global};
 use std::cmp::Ordering;
 use toml_span_tree::{FloatText, Value};
 
-/// The largest exponent that is told apart from larger ones.
+/// The largest exponent. Larger exponents count as this value.
 const LARGEST: u64 = 1_000_000_000_000_000;
 
 /// 2^65, which is added to exponents, so that none is negative.
 const RAISED: u128 = 36_893_488_147_419_103_232;
 
-/// The most zeros that are appended to a number before it is divided.
+/// The maximum number of zeros that `is_multiple_of` appends to a number before it divides the number.
 const MOST_ZEROS: u128 = 100_000;
 
-/// Returns 2^65 and the value of an exponent, which is cut off at `LARGEST`.
+/// Returns 2^65 plus an exponent or, if `negative` is set, 2^65 minus the exponent. `digits` are the ASCII digits of
+/// the exponent; without digits, it is 0. An exponent above `LARGEST` counts as `LARGEST`.
 fn raised(digits: &[u8], negative: bool) -> u128
     requires { AllDigits 10 digits.now }
     ensures { result ≡ raised digits.now negative }
@@ -44,7 +45,7 @@ fn raised(digits: &[u8], negative: bool) -> u128
     }
 }
 
-/// Returns the number of zeros at the beginning.
+/// Returns the number of zeros at the beginning of some ASCII digits.
 fn leading_zeros(digits: &[u8]) -> usize
     ensures value { result ≡ leading_zeros digits.now }
     ensures within { result ≤ length digits.now }
@@ -57,7 +58,7 @@ fn leading_zeros(digits: &[u8]) -> usize
     digits.len()
 }
 
-/// Returns the length without the zeros at the end.
+/// Returns the number of ASCII digits, without counting the zeros at the end.
 fn without_zeros(digits: &[u8]) -> usize
     ensures value { result ≡ significant digits.now }
     ensures within { result ≤ length digits.now }
@@ -72,7 +73,8 @@ fn without_zeros(digits: &[u8]) -> usize
 }
 
 impl Decimal {
-    /// Reads a number without an underscore or a plus sign, such as `-12.5e3`. Fails if an allocation fails.
+    /// Reads a number such as `-12.5e3`, which has no underscores and does not begin with `+`. Fails if an allocation
+    /// fails.
     pub(crate) fn parse(alloc: Global, text: &str) -> Result<Decimal, AllocError>
         ensures { IfOk result (λ d. plain d ≡ decimal_of text.now) }
     {
@@ -82,7 +84,7 @@ impl Decimal {
         }
     }
 
-    /// Reads a number without a sign.
+    /// Reads a number without a sign, and returns it or, if `negative`, its negative. Fails if an allocation fails.
     fn of_unsigned(alloc: Global, negative: bool, bytes: &[u8]) -> Result<Decimal, AllocError>
         ensures { IfOk result (λ d. plain d ≡ unsigned_of negative bytes.now) }
     {
@@ -94,7 +96,8 @@ impl Decimal {
         Decimal::normal(alloc, negative, point, all.as_slice())
     }
 
-    /// Returns the number `0.d1d2d3.. * 10^(point - 2^65)`; `digits` may begin and end with zeros.
+    /// Returns the number `0.d1d2d3.. * 10^(point - 2^65)` or, if `negative`, its negative. `digits` are d1, d2 and so
+    /// on in ASCII, and may begin and end with zeros. Fails if an allocation fails.
     fn normal(
         alloc: Global,
         negative: bool,
@@ -172,20 +175,24 @@ impl Decimal {
         }
     }
 
-    /// Returns the power of ten of the last digit, and 2^65 + 2^65.
+    /// Returns the exponent of the last digit's power of ten, plus 2^66: for `1.25`, 2^66 - 2. Returns 2^65 for the
+    /// number 0.
     pub(crate) fn exponent(&self) -> u128
         ensures { result ≡ exponent (plain self.now) }
     {
         self.point + RAISED - self.digits.len() as u128
     }
 
-    /// Returns the digits as a number, or `None` if they are not below 2^64.
+    /// Returns the digits as an integer. Returns `None` if the integer is 2^64 or more, and for the number 0, which has
+    /// no digits.
     pub(crate) fn size(&self) -> Option<u64> {
         parse_u64(self.digits.as_slice()).ok()
     }
 
-    /// Returns whether this is a multiple of `size` times a power of ten. Fails with `TooLong` if their exponents are
-    /// too far apart.
+    /// Returns whether this is a multiple of `size` times a power of ten. `power` is the exponent of that power, plus
+    /// 2^66. The number 0 is a multiple, and a number whose `exponent` is below `power` is not. For other numbers,
+    /// fails with `TooLong` if `exponent` exceeds `power` by more than `MOST_ZEROS`, or if `size` is 0 or has more than
+    /// 18 digits.
     pub(crate) fn is_multiple_of(&self, size: u64, power: u128) -> Result<bool, CheckError>
         ensures { IfOk result (λ r. r ≡ is_multiple (plain self.now) size power) }
     {
@@ -205,7 +212,7 @@ impl Decimal {
     }
 }
 
-/// Returns the remainder on division of a remainder followed by a digit.
+/// Returns `left * 10 + digit` modulo `divisor`.
 fn shifted(left: u64, digit: u8, divisor: u64) -> u64
     requires { (0 < divisor) × (divisor < 1000000000000000000) × (left < divisor) }
     ensures value { result ≡ (left * 10 + digit) % divisor }
@@ -214,7 +221,7 @@ fn shifted(left: u64, digit: u8, divisor: u64) -> u64
     (left * 10 + u64::from(digit)) % divisor
 }
 
-/// Returns the remainder of a number in ASCII on division.
+/// Returns a number in ASCII digits modulo `divisor`.
 fn remainder(digits: &[u8], divisor: u64) -> u64
     requires { (0 < divisor) × (divisor < 1000000000000000000) }
     ensures value { result ≡ value_after 0 digits.now % divisor }
@@ -227,7 +234,7 @@ fn remainder(digits: &[u8], divisor: u64) -> u64
     left
 }
 
-/// Returns the remainder of a number in ASCII, followed by some zeros, on division.
+/// Returns a number in ASCII digits, followed by this many zeros, modulo `divisor`.
 fn remainder_with_zeros(digits: &[u8], zeros: u64, divisor: u64) -> u64
     requires { (0 < divisor) × (divisor < 1000000000000000000) }
     ensures { result ≡ (value_after 0 digits.now * 10 ^ zeros) % divisor }
@@ -235,7 +242,7 @@ fn remainder_with_zeros(digits: &[u8], zeros: u64, divisor: u64) -> u64
     remainder_of_zeros(remainder(digits, divisor), zeros, divisor)
 }
 
-/// Returns the remainder of a number followed by some zeros, whose own remainder is `left`.
+/// Returns `left * 10^zeros` modulo `divisor`.
 fn remainder_of_zeros(left: u64, zeros: u64, divisor: u64) -> u64
     requires { (0 < divisor) × (divisor < 1000000000000000000) × (left < divisor) }
     ensures { result ≡ (left * 10 ^ zeros) % divisor }
@@ -247,7 +254,7 @@ fn remainder_of_zeros(left: u64, zeros: u64, divisor: u64) -> u64
     left
 }
 
-/// Returns the number in a value, or `None` if it is not a number. Fails if an allocation fails.
+/// Returns the number in a value, or `None` if the value is not a number. Fails if an allocation fails.
 pub(crate) fn number_in(alloc: Global, value: &Value<'_>) -> Result<Option<Number>, AllocError>
     ensures { IfOk result (λ n. option_map quantity n ≡ quantity_in (inner_of (view value.now))) }
 {
@@ -261,7 +268,7 @@ pub(crate) fn number_in(alloc: Global, value: &Value<'_>) -> Result<Option<Numbe
     }
 }
 
-/// Returns the number that a float is.
+/// Converts a float to a `Number`. Fails if an allocation fails.
 fn number_of(alloc: Global, float: &FloatText) -> Result<Number, AllocError>
     ensures { IfOk result (λ n. quantity n ≡ float_quantity (float_value float.now)) }
 {
@@ -273,7 +280,7 @@ fn number_of(alloc: Global, float: &FloatText) -> Result<Number, AllocError>
 }
 
 impl Number {
-    /// Compares a number with a limit, or returns `None` if it is NaN.
+    /// Compares this number with a limit. Returns `None` if the number is NaN.
     pub(crate) fn compare(&self, limit: &Decimal) -> Option<Ordering>
         ensures { result ≡ compare_quantity (quantity self.now) (plain limit.now) }
     {

@@ -6,7 +6,7 @@ use crate::keyword::Keyword;
 use crate::listed::{Part, parts};
 use crate::report::start_of;
 use crate::schema::Schema;
-use crate::valid::MOST_STEPS;
+use crate::valid::{MOST_STEPS, spend};
 use std::alloc::Global;
 use toml_span_lex::span::Span;
 use toml_span_report::Report;
@@ -14,8 +14,8 @@ use toml_span_tree::Value;
 
 impl Schema {
     /// Returns a warning for each value that a schema with `deprecated: true` applies to, in the order of the text.
-    /// It marks the key, or the value if it has none. Of alternatives those count that the value is valid against.
-    /// Fails like `check`.
+    /// Each warning marks the value's key, or the value if it has no key. An alternative of `anyOf` or `oneOf` applies
+    /// only if the value is valid against it. Fails like `check`.
     pub fn warnings(&self, alloc: Global, value: &Value<'_>) -> Result<Vec<Report>, CheckError> {
         let mut reports = Vec::new(alloc);
         let mut left = MOST_STEPS;
@@ -32,7 +32,9 @@ impl Schema {
         Ok(reports)
     }
 
-    /// Appends the warnings of a value at a node. `span` is marked.
+    /// Appends the warnings for a value to which the schema at index `node` applies, and for the values inside it. A
+    /// warning for the value itself marks `span`. `depth` is the number of subschemas that may still be nested, and
+    /// `left` the number that may still be applied. Fails like `is_valid`.
     #[cycle(warn)]
     fn warn(
         &self,
@@ -44,6 +46,7 @@ impl Schema {
         span: Span,
         reports: &mut Vec<Report>,
     ) -> Result<(), CheckError> {
+        spend(left)?;
         if depth == 0 {
             return Err(CheckError::TooDeep);
         }
@@ -65,7 +68,8 @@ impl Schema {
         Ok(())
     }
 
-    /// Appends the warnings of the subschemas of a keyword.
+    /// Appends the warnings for a value, and for the values inside it, that the subschemas of a keyword cause. The
+    /// other arguments and the errors are those of `warn`.
     #[cycle(warn)]
     fn warn_keyword(
         &self,
@@ -78,7 +82,13 @@ impl Schema {
         reports: &mut Vec<Report>,
     ) -> Result<(), CheckError> {
         match keyword {
-            Keyword::AllOf(nodes) | Keyword::AnyOf(nodes) | Keyword::OneOf(nodes) => {
+            Keyword::AllOf(nodes) => {
+                for node in nodes.as_slice() {
+                    self.warn(alloc, left, depth, *node, value, span, reports)?;
+                }
+                Ok(())
+            }
+            Keyword::AnyOf(nodes) | Keyword::OneOf(nodes) => {
                 for node in nodes.as_slice() {
                     self.warn_if_valid(alloc, left, depth, *node, value, span, reports)?;
                 }
@@ -107,7 +117,8 @@ impl Schema {
         }
     }
 
-    /// Appends the warnings of a subschema that a value is valid against.
+    /// If a value is valid against the schema at index `node`, appends the warnings for the value and the values inside
+    /// it, as `warn` does. Fails like `is_valid`.
     #[cycle(warn)]
     fn warn_if_valid(
         &self,
@@ -125,7 +136,8 @@ impl Schema {
         Ok(())
     }
 
-    /// Appends the warnings of the parts of a value.
+    /// Appends the warnings for the entries or elements in `parts` that the subschemas of a keyword cause. A warning
+    /// for an entry marks its key. The other arguments and the errors are those of `warn`.
     #[cycle(warn)]
     fn warn_parts(
         &self,
@@ -148,7 +160,7 @@ impl Schema {
         Ok(())
     }
 
-    /// Returns whether a schema says that its values are deprecated.
+    /// Returns whether the schema at index `node` has `deprecated: true`. Returns false if `node` is out of range.
     fn is_deprecated(&self, node: usize) -> bool {
         match self.nodes.get(node) {
             Some(node) => node.deprecated,

@@ -1,6 +1,6 @@
-//! Documents that references may name.
+//! JSON documents that the references in a schema may name.
 
-/// A JSON document with its address, which references name.
+/// A JSON document with the address by which references name it.
 #[derive(Clone, Copy)]
 pub struct Document<'a> {
     /// An absolute URL without a fragment.

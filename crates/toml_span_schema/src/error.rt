@@ -8,43 +8,46 @@ use url::ParseError;
 pub enum SchemaError {
     /// An allocation failed.
     OutOfMemory,
-    /// A text is not JSON, or nests more than 128 levels deep. The address is that of the document.
+    /// The document with this address is not JSON, or nests more than 128 levels deep.
     Json {
         address: String,
     },
-    /// A keyword has a value that it can't have. The place is a JSON pointer, and `expected` says what it can have.
+    /// A keyword has a wrong value. `place` is a JSON pointer to the keyword, and `expected` says which values it can
+    /// have.
     Keyword {
         place: String,
         expected: &'static str,
     },
-    /// A regular expression is malformed, or uses what this crate does not support, such as lookahead.
+    /// The regular expression at this place is malformed or too large, or uses syntax that is not supported, such as
+    /// lookahead.
     Pattern {
         place: String,
     },
-    /// A reference is not a URL.
+    /// The reference or `$id` in the schema at this place is not a URL.
     Reference {
         place: String,
     },
-    /// A reference names an address, or a place in a document, that none of the documents has.
+    /// The reference or `$schema` at this place names a document that was not given, or a place or an anchor that its
+    /// document does not have.
     Missing {
         place: String,
         address: String,
     },
-    /// References lead back to the schema at this place without a step into the value.
+    /// References and combinations that apply to the same value lead from the schema at this place into a cycle.
     Cycle {
         place: String,
     },
-    /// References and combinations nest too deep, or there are too many schemas.
+    /// The schema nests too deep, contains too many schemas, or takes too many steps to compile.
     TooLarge,
 }
 
-/// Returns the place as messages name it.
+/// Returns a JSON pointer as messages show it: unchanged, except that the empty pointer becomes `the root`.
 fn shown(place: &str) -> &str {
     if place.is_empty() { "the root" } else { place }
 }
 
 impl SchemaError {
-    /// Returns the message.
+    /// Returns the message. Fails if an allocation fails.
     pub fn message(&self, alloc: Global) -> Result<String, AllocError> {
         match self {
             SchemaError::OutOfMemory => String::from_str(alloc, "out of memory"),
@@ -112,7 +115,8 @@ impl From<ParseError> for SchemaError {
 pub enum CheckError {
     /// An allocation failed.
     OutOfMemory,
-    /// The value nests too deep, or references and combinations do.
+    /// The value, or references and combinations that apply to it, nest too deep, or a value that must be compared
+    /// contains a taken value.
     TooDeep,
     /// The check takes too many steps.
     TooLong,

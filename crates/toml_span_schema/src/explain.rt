@@ -1,4 +1,5 @@
-//! What is reported of a value that is not valid.
+//! Makes the reports for a value that is not valid. In all functions, `depth` is the number of subschemas that may
+//! still be nested, and `left` the number that may still be applied.
 
 use crate::applied::{has_key, names, schemas_for};
 use crate::error::CheckError;
@@ -12,11 +13,12 @@ use toml_span_lex::span::Span;
 use toml_span_report::{Report, nearest};
 use toml_span_tree::Value;
 
-/// The most reports of one alternative that are shown.
+/// The maximum number of reports of one alternative that are shown.
 const MOST_SHOWN: usize = 100;
 
 impl Schema {
-    /// Appends what is wrong with a value.
+    /// Appends the reports on a value that is not valid against the schema at index `node`. Appends nothing for a valid
+    /// value. Fails like `is_valid`.
     #[cycle(explain)]
     pub(crate) fn explain(
         &self,
@@ -38,7 +40,8 @@ impl Schema {
         Ok(())
     }
 
-    /// Appends why a keyword refuses a value.
+    /// Appends the reports on a value that `placed`, a keyword of the schema at index `node`, does not allow: the
+    /// reports of the keyword's subschemas or, if they have none, one report on the value. Fails like `is_valid`.
     #[cycle(explain)]
     fn explain_keyword(
         &self,
@@ -82,7 +85,8 @@ impl Schema {
         Ok(())
     }
 
-    /// Appends why a keyword refuses what is inside a value.
+    /// Appends the reports on the entries, elements, keys or missing keys because of which the keyword `placed` does
+    /// not allow a value. Appends nothing for a keyword that is not about these. Fails like `is_valid`.
     #[cycle(explain)]
     fn explain_inside(
         &self,
@@ -116,7 +120,8 @@ impl Schema {
         }
     }
 
-    /// Appends why the parts of a value that `nodes.0` does not evaluate are not valid against `nodes.1`.
+    /// Appends the reports on the entries or elements of a value that the schema at index `nodes.0` does not evaluate
+    /// and that are not valid against the schema at index `nodes.1`. Fails like `is_valid`.
     #[cycle(explain)]
     fn explain_rest(
         &self,
@@ -138,7 +143,8 @@ impl Schema {
         Ok(())
     }
 
-    /// Appends why a part of a value is not valid against a subschema of a keyword.
+    /// Appends the reports on an entry or element that is not valid against the subschema at index `schema`, which the
+    /// keyword `placed` applies to it. Fails like `is_valid`.
     #[cycle(explain)]
     fn explain_part(
         &self,
@@ -165,7 +171,8 @@ impl Schema {
         }
     }
 
-    /// Appends why the members of a table don't match `properties` and its kin.
+    /// Appends the reports on the entries or elements of a value that are not valid against the subschemas of the
+    /// keyword `placed`. Fails like `is_valid`.
     #[cycle(explain)]
     fn explain_members(
         &self,
@@ -185,7 +192,9 @@ impl Schema {
         Ok(())
     }
 
-    /// Appends what is wrong with a value by the alternative that fits it best.
+    /// Explains the value against each schema at the indices `nodes`, and appends the reports of the one with the least
+    /// `distance`. If none of them has reports, or that one has more than `MOST_SHOWN`, appends a single report on the
+    /// value. Fails like `is_valid`.
     #[cycle(explain)]
     fn explain_best(
         &self,
@@ -220,7 +229,7 @@ impl Schema {
         Ok(())
     }
 
-    /// Appends a report for each key that a table lacks.
+    /// Appends a report for each key in `wanted` that a table lacks. Fails if an allocation fails.
     fn explain_missing(
         &self,
         alloc: Global,
@@ -241,7 +250,8 @@ impl Schema {
         Ok(())
     }
 
-    /// Returns the report of a key that is not allowed.
+    /// Returns the report that the key `name`, which is at `span`, is not allowed. The report suggests the most similar
+    /// key of `properties`, if one is similar enough. Fails if an allocation fails.
     fn unknown_key(
         &self,
         alloc: Global,
@@ -269,7 +279,8 @@ impl Schema {
         self.with_notes(alloc, report, node, placed)
     }
 
-    /// Returns the report that a keyword refuses a value.
+    /// Returns the report that `placed`, a keyword of the schema at index `node`, does not allow a value. The report
+    /// marks `span`. Fails if an allocation fails.
     fn report(
         &self,
         alloc: Global,
@@ -290,7 +301,8 @@ impl Schema {
         self.with_notes(alloc, report, node, placed)
     }
 
-    /// Adds notes with the keyword's place in the schema and the schema's title.
+    /// Adds a note with the keyword's place in the schema, and one with the title of the schema at index `node`, if it
+    /// has a title. Fails if an allocation fails.
     fn with_notes(
         &self,
         alloc: Global,
@@ -302,7 +314,7 @@ impl Schema {
         self.with_title(report.note(note.as_str())?, node)
     }
 
-    /// Adds a note with the title of a schema, if it has one.
+    /// Adds a note with the title of the schema at index `node`, if it has a title. Fails if an allocation fails.
     pub(crate) fn with_title(&self, report: Report, node: usize) -> Result<Report, AllocError> {
         match self.nodes.get(node).and_then(|node| node.title.as_ref()) {
             Some(title) => report.note(title.as_str()),
@@ -310,7 +322,8 @@ impl Schema {
         }
     }
 
-    /// Returns the note that names a keyword's place in the schema.
+    /// Returns the note that names the place of `placed`, a keyword of the schema at index `node`. Fails if an
+    /// allocation fails.
     fn note_of(&self, alloc: Global, node: usize, placed: &Placed) -> Result<String, AllocError> {
         let place = match self.nodes.get(node) {
             Some(node) => node.place.as_str(),
@@ -320,7 +333,7 @@ impl Schema {
         format!(in alloc; "required by `{place}/{name}` in the schema")
     }
 
-    /// Returns whether a schema allows nothing.
+    /// Returns whether the schema at index `node` is `false`, which allows nothing.
     fn is_never(&self, node: usize) -> bool {
         match self.keywords(node) {
             [placed] => matches!(&placed.keyword, Keyword::Never),
@@ -329,7 +342,8 @@ impl Schema {
     }
 }
 
-/// Returns how badly an alternative fits: a wrong type or a wrong constant directly in the value counts most.
+/// Returns how badly an alternative fits the value at `span`. `reports` are the reports that it causes. A wrong type of
+/// the value itself counts most, then wrong constants, then missing and unknown keys.
 fn distance(reports: &[Report], span: Span) -> usize {
     let mut sum = 0usize;
     for report in reports {
@@ -345,7 +359,9 @@ fn distance(reports: &[Report], span: Span) -> usize {
     sum
 }
 
-/// Adds the word that a misspelt one probably means, and the replacement at `span`.
+/// If a word in `words` is similar enough to `text`, adds a help message with the most similar word, and a suggestion
+/// to replace `span` with this word if it can be a bare key. Otherwise returns the report unchanged. Fails if an
+/// allocation fails.
 fn meant_word(
     alloc: Global,
     report: Report,
@@ -368,7 +384,8 @@ fn meant_word(
     }
 }
 
-/// Suggests a replacement for a misspelt word, if the word that is meant needs no escapes.
+/// Adds a suggestion to replace `span` with `text`, which spells the word `meant`, if `meant` can be a bare key.
+/// Otherwise returns the report unchanged. Fails if an allocation fails.
 fn suggest_word(report: Report, span: Span, meant: &str, text: &str) -> Result<Report, AllocError> {
     if is_plain(meant) {
         report.suggest(span, text)
@@ -377,7 +394,7 @@ fn suggest_word(report: Report, span: Span, meant: &str, text: &str) -> Result<R
     }
 }
 
-/// Returns whether a word may be a bare key.
+/// Returns whether a word can be written as a bare key.
 fn is_plain(word: &str) -> bool {
     for c in word.chars() {
         if !c.is_ascii_alphanumeric() && c != '-' && c != '_' {

@@ -2,8 +2,8 @@
 ghost use Rattle.std.specs.Prelude.{◌≡◌, ◌<◌};
 ghost use Rattle.toml_span_schema.specs.Formats.{ahead, fits_leap, fits_leap_second, two_digits};
 
-/// A format. A text has it if the regular expression matches, it has at most `most` characters, and, with `leap`, a
-/// second 60 is at 23:59:60 UTC.
+/// A format. A string has the format if `pattern`, a regular expression, matches, and the string has at most `most`
+/// characters. If `leap` is set, a second 60 in the string must also be at 23:59:60 UTC.
 #[derive(Clone, Copy, Drop)]
 pub(crate) struct Format {
     pub(crate) pattern: &'static str,
@@ -55,12 +55,12 @@ const HOSTNAME: &str =
     "^(?:[0-9A-Za-z](?:[0-9A-Za-z-]{0,61}[0-9A-Za-z])?(?:\\.[0-9A-Za-z](?:[0-9A-Za-z-]{0,61}[0-9A-Za-z])?\
     )*)$";
 
-/// An address of IPv4 as RFC 2673 writes it.
+/// An IPv4 address as RFC 2673 writes it.
 const IPV4: &str =
     "^(?:(?:(?:25[0-5]|2[0-4][0-9]|1[0-9]{2}|[1-9]?[0-9])\\.){3}(?:25[0-5]|2[0-4][0-9]|1[0-9]{2}|[1-9]?[0\
     -9]))$";
 
-/// An address of RFC 4291.
+/// An IPv6 address of RFC 4291.
 const IPV6: &str =
     "^(?:(?:(?:[0-9A-Fa-f]{1,4}:){6}(?:[0-9A-Fa-f]{1,4}:[0-9A-Fa-f]{1,4}|(?:(?:25[0-5]|2[0-4][0-9]|1[0-9]\
     {2}|[1-9]?[0-9])\\.){3}(?:25[0-5]|2[0-4][0-9]|1[0-9]{2}|[1-9]?[0-9]))|::(?:[0-9A-Fa-f]{1,4}:){5}(?:[\
@@ -134,7 +134,7 @@ const UUID: &str =
 /// A pointer of RFC 6901.
 const JSON_POINTER: &str = "^(?:(?:/(?:[^~/]|~[01])*)*)$";
 
-/// Returns a format without leap seconds.
+/// Returns the format of the strings that a regular expression matches, without further conditions.
 fn plain(pattern: &'static str) -> Format {
     Format {
         pattern,
@@ -143,7 +143,7 @@ fn plain(pattern: &'static str) -> Format {
     }
 }
 
-/// Returns the format with a name, or `None` if every text has it.
+/// Returns the format with this name, or `None` for an unknown name, which allows every string.
 pub(crate) fn format_of(name: &str) -> Option<Format> {
     let format = match name {
         "date" => plain(DATE),
@@ -174,7 +174,7 @@ pub(crate) fn format_of(name: &str) -> Option<Format> {
     Some(format)
 }
 
-/// Returns the number that two digits at a place are.
+/// Returns the number that the two ASCII digits at the byte offset `at` spell, or 0 if the text ends before the second.
 fn two_digits(text: &[u8], at: usize) -> u64
     requires { at < 100 }
     ensures value { result ≡ two_digits text.now at }
@@ -188,7 +188,8 @@ fn two_digits(text: &[u8], at: usize) -> u64
     }
 }
 
-/// Returns how many minutes a time zone, such as `+01:30`, is ahead of UTC, and a day's minutes; `Z` is not.
+/// Returns 1440, the minutes of a day, plus the minutes that a time zone, such as `+01:30`, is ahead of UTC. For `Z`,
+/// returns 1440.
 fn ahead(zone: &[u8]) -> u64
     ensures value { result ≡ ahead zone.now }
     ensures small { result < 200000 }
@@ -201,8 +202,7 @@ fn ahead(zone: &[u8]) -> u64
     }
 }
 
-/// Returns whether a time, from its hours on, has no second 60, or it is 23:59:60 UTC. The time zone is its last six
-/// characters, or a `Z`.
+/// Returns whether a time has no second 60, or is 23:59:60 UTC. Its time zone is its last six characters, or a `Z`.
 fn fits_leap(time: &[u8]) -> bool
     ensures { result ≡ fits_leap time.now }
 {
@@ -214,7 +214,7 @@ fn fits_leap(time: &[u8]) -> bool
     (minute + 2_880).saturating_sub(ahead(zone)) % 1_440 == 1_439
 }
 
-/// Returns whether a time, or a date and a time, has no second 60, or it is 23:59:60 UTC.
+/// Returns whether a time, or a date and a time, has no second 60, or the time is 23:59:60 UTC.
 pub(crate) fn fits_leap_second(text: &str) -> bool
     ensures { result ≡ fits_leap_second text.now }
 {

@@ -1,4 +1,5 @@
-//! Compiled keywords. A schema is a list of nodes, which refer to one another by their positions in it.
+//! Compiled keywords. A `Schema` has a list of compiled schemas (`Node`), which refer to one another by their indices
+//! in the list.
 
 use crate::numbers::Decimal;
 use std::collections::{BTreeMap, BTreeSet};
@@ -18,27 +19,28 @@ pub(crate) struct Types {
     pub(crate) whole: bool,
 }
 
-/// A compiled keyword. A subschema is the position of its node.
+/// A compiled keyword. A subschema is given by its index in `Schema::nodes`, and a regular expression by its index in
+/// `Schema::patterns`.
 #[derive(Drop)]
 pub(crate) enum Keyword {
     /// The schema `false`.
     Never,
     Type(Types),
-    /// `enum`, or `const` with one value, as canonical texts (`canonical`). Values with `null` inside are left out,
-    /// since nothing in TOML equals them. The second list has the strings among them, for suggestions.
+    /// `enum`, or `const` with one value, as canonical texts (see `canonical`). Values that are or contain `null` are
+    /// left out, since nothing in TOML equals them. The list has the values that are strings, for suggestions.
     Enum(BTreeSet<String>, Vec<String>),
     Minimum(Decimal),
     ExclusiveMinimum(Decimal),
     Maximum(Decimal),
     ExclusiveMaximum(Decimal),
-    /// A number and a power of ten (see `Decimal::exponent`), whose product is the divisor.
+    /// Two factors of the divisor: an integer, and a power of ten, as an exponent plus 2^66.
     MultipleOf(u64, u128),
     MinLength(u64),
     MaxLength(u64),
-    /// The position of a regular expression in the schema's table.
+    /// The position of a regular expression.
     Pattern(usize),
-    /// `format`: the position of its regular expression, the most characters, and whether a second 60 must be 23:59:60
-    /// UTC.
+    /// `format`: the position of its regular expression, the maximum number of characters, and whether a second 60 must
+    /// be at 23:59:60 UTC.
     Format(usize, u64, bool),
     /// The format `regex`.
     RegexFormat,
@@ -48,9 +50,9 @@ pub(crate) enum Keyword {
     MinProperties(u64),
     MaxProperties(u64),
     Required(Vec<String>),
-    /// If the first is a key of the table, the others must be, too.
+    /// Pairs of a key and a list of keys. If a table has the key, it must have all keys in the list.
     DependentRequired(Vec<(String, Vec<String>)>),
-    /// `allOf`, and a reference, which is one subschema.
+    /// `allOf`, or a reference, which is a list of one subschema.
     AllOf(Vec<usize>),
     AnyOf(Vec<usize>),
     OneOf(Vec<usize>),
@@ -60,13 +62,15 @@ pub(crate) enum Keyword {
     DependentSchemas(Vec<(String, usize)>),
     /// `prefixItems` and `items` of draft 2020-12, or `items` and `additionalItems` of earlier drafts.
     Items(Vec<usize>, Option<usize>),
-    /// `contains` with `minContains` and `maxContains`, and whether an element that matches is evaluated, as it is from
-    /// draft 2020-12 on.
+    /// `contains` with `minContains` and `maxContains`, and whether an element that matches counts as evaluated, as in
+    /// draft 2020-12.
     Contains(usize, u64, u64, bool),
-    /// `properties`, `patternProperties` by positions of regular expressions, and `additionalProperties`.
+    /// `properties` by name, `patternProperties` as pairs of a regular expression and a subschema, and
+    /// `additionalProperties`.
     Properties(BTreeMap<String, usize>, Vec<(usize, usize)>, Option<usize>),
     PropertyNames(usize),
-    /// The node of the other keywords of the same schema, and the subschema.
+    /// The index of a compiled schema with the other keywords of the same schema, and that of the subschema.
+    /// `UnevaluatedProperties` has the same two fields.
     UnevaluatedItems(usize, usize),
     UnevaluatedProperties(usize, usize),
 }
@@ -76,17 +80,17 @@ pub(crate) enum Keyword {
 pub(crate) struct Placed {
     pub(crate) keyword: Keyword,
     pub(crate) name: &'static str,
-    /// The keyword's value in the schema, for messages; empty for a value with schemas inside.
+    /// The keyword's value in the schema, as messages show it.
     pub(crate) shown: String,
 }
 
-/// A compiled schema object.
+/// A compiled schema, from an object or a boolean.
 #[derive(Drop)]
 pub(crate) struct Node {
     pub(crate) keywords: Vec<Placed>,
-    /// Where it is in its document, as a JSON pointer.
+    /// Where the schema is in its document, as a JSON pointer.
     pub(crate) place: String,
-    /// The schema's `title`, or its `description` without one.
+    /// The schema's `title` or, if it has none, its `description`.
     pub(crate) title: Option<String>,
     /// Whether the schema says `deprecated: true`.
     pub(crate) deprecated: bool,

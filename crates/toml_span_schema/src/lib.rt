@@ -1,14 +1,17 @@
-//! Checks TOML documents against a JSON Schema, and reports each violation at its bytes.
+//! Checks TOML documents against a JSON Schema, and reports each violation with its span.
 //!
 //! - `Schema::from_json(alloc, text, others)` compiles a schema of draft 4, 6, 7, 2019-09 or 2020-12. `others` is a
-//!   slice of `Document`s (`address`, `text`), which references may name. Fails with a `SchemaError`, whose
+//!   slice of `Document`s (`address`, `text`) that references in the schema may name. Fails with a `SchemaError`, whose
 //!   `message(alloc)` says why, for instance with the address of a document that is missing.
 //! - `schema.set_formats(false)` turns the keyword `format` off.
 //! - `schema.check(alloc, &value)` returns a `Vec<Report>`: each violation in the order of the text, none if the
 //!   value is valid. Fails with a `CheckError` (`message()`).
 //! - `schema.warnings(alloc, &value)` returns a warning for each value that the schema calls deprecated.
+//! - `Guide::from_json` also keeps the schema's notes for people. For editors, `guide.subschemas(alloc, value)` and
+//!   `guide.subschemas_inside(alloc, outer, step, value)` return the `Subschemas` that apply to a value. `keys_of`,
+//!   `is_required`, `kinds_of` and `notes_of` return what these say about the value.
 //!
-//! A report's code is `schema-` with the keyword, such as `schema-min-length`.
+//! A report's code is `schema-` and the keyword in lower case, such as `schema-min-length`.
 #![tactic(auto)]
 
 mod applied;
@@ -22,8 +25,10 @@ mod documents;
 mod error;
 mod explain;
 mod formats;
+mod guide;
 mod keyword;
 mod listed;
+mod notes;
 mod numbers;
 mod patterns;
 mod pointers;
@@ -31,9 +36,13 @@ mod read;
 mod report;
 mod schema;
 mod sources;
+mod subschemas;
 mod valid;
 mod words;
 
 pub use documents::Document;
 pub use error::{CheckError, SchemaError};
+pub use guide::Guide;
+pub use notes::Notes;
 pub use schema::Schema;
+pub use subschemas::{Kinds, Subschemas};

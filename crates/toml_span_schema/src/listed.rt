@@ -16,6 +16,7 @@ pub(crate) enum Part<'v, 'de> {
 }
 
 impl<'v, 'de> Part<'v, 'de> {
+    /// Returns the value of the entry, or the element.
     pub(crate) fn value(&self) -> &'v Value<'de>
         ensures { view result.now ≡ value_of (part_of self.now) }
     {
@@ -35,7 +36,7 @@ impl<'v, 'de> Part<'v, 'de> {
         }
     }
 
-    /// Returns whether this is an entry of a table, with `entries`, or an element of an array, without it.
+    /// Returns whether this is an entry of a table or, if `entries` is false, whether it is an element of an array.
     pub(crate) fn is_of(&self, entries: bool) -> bool
         ensures { result ≡ same_bool (is_entry (part_of self.now)) entries }
     {
@@ -44,7 +45,7 @@ impl<'v, 'de> Part<'v, 'de> {
 }
 
 /// Lists the values directly inside a value: the elements of an array in order, the entries of a table in the order of
-/// their names. Fails if an allocation fails.
+/// their names. The list is empty for other values. Fails if an allocation fails.
 pub(crate) fn parts<'v, 'de>(
     alloc: Global,
     value: &'v Value<'de>,
@@ -63,7 +64,7 @@ pub(crate) fn parts<'v, 'de>(
     Ok(list)
 }
 
-/// Appends the elements of an array.
+/// Appends the elements of an array to `list`, with their positions. Fails if an allocation fails.
 fn push_elements<'v, 'de>(
     list: &mut Vec<Part<'v, 'de>>,
     array: &'v [Value<'de>],
@@ -77,7 +78,7 @@ fn push_elements<'v, 'de>(
     Ok(())
 }
 
-/// Appends the entries of a table.
+/// Appends the entries of a table to `list`, with their keys. Fails if an allocation fails.
 fn push_members<'v, 'de>(
     list: &mut Vec<Part<'v, 'de>>,
     table: &'v Table<'de>,

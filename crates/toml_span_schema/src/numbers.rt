@@ -7,12 +7,12 @@ ghost use Rattle.std.specs.Prelude.{◌<◌, ◌^◌};
 pub(crate) struct Decimal {
     pub(crate) negative: bool,
     pub(crate) point: u128,
-    /// In ASCII.
+    /// The digits in ASCII.
     pub(crate) digits: Vec<u8>,
     ghost small: { point < 2 ^ 67 },
 }
 
-/// A number of TOML.
+/// A number of TOML. `Infinite(true)` is negative infinity.
 #[derive(Drop)]
 pub(crate) enum Number {
     Finite(Decimal),

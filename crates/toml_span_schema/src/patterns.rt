@@ -1,4 +1,4 @@
-//! Regular expressions as JSON Schema writes them.
+//! Translates regular expressions of ECMA-262, which JSON Schema uses, to the syntax of the crate `regex`.
 ghost use Rattle.std.specs.Prelude.{◌≡◌, ◌++◌, ◌==◌, ◌&&◌, ◌||◌, ◌∷◌, [], not, if◌then◌else◌, IfOk, OnOk};
 ghost use Rattle.std.specs.Prelude.{string_bytes};
 ghost use Rattle.std.specs.Char.{encode_utf8};
@@ -14,7 +14,8 @@ use regex::{Error, Regex};
 use regex_syntax::ErrorKind;
 use std::alloc::{AllocError, Global};
 
-/// Appends what an escape of ECMA-262 means in the syntax of `regex`: `\d` and `\w` are ASCII there.
+/// Appends the translation of an escape, which is a backslash followed by the character `c`. In ECMA-262, `\d` and `\w`
+/// match only ASCII. Fails if an allocation fails.
 fn push_escape(out: &mut String, c: char) -> Result<(), AllocError>
     ensures { OnOk result (string_bytes out.new ≡ string_bytes out.old ++ escape c) }
 {
@@ -25,13 +26,13 @@ fn push_escape(out: &mut String, c: char) -> Result<(), AllocError>
         'W' => out.push_str("[^0-9A-Za-z_]"),
         's' => out.push_str("[\\s\\x{FEFF}]"),
         'S' => out.push_str("[^\\s\\x{FEFF}]"),
-        // Not escapes of ECMA-262: what follows keeps the text from being read as one.
+        // Escapes of `regex`, but not of ECMA-262. `regex` rejects the `(?!)`, and so the regular expression.
         'A' | 'z' | 'Z' | 'a' => out.push_str("(?!)"),
         _ => push_escaped(out, c),
     }
 }
 
-/// Appends a backslash and a character.
+/// Appends a backslash and a character. Fails if an allocation fails.
 fn push_escaped(out: &mut String, c: char) -> Result<(), AllocError>
     ensures { OnOk result (string_bytes out.new ≡ string_bytes out.old ++ (92 ∷ [] ++ encode_utf8 c)) }
 {
@@ -46,7 +47,8 @@ fn is_special(c: char) -> bool
     c == '[' || c == '&' || c == '~'
 }
 
-/// Appends what a character without a backslash before it means. `in_class` says whether it is inside brackets.
+/// Appends the translation of a character without a backslash before it: nothing for a backslash, which belongs to the
+/// next character. `in_class` says whether the character is inside brackets. Fails if an allocation fails.
 fn push_plain(out: &mut String, in_class: bool, c: char) -> Result<(), AllocError>
     ensures { OnOk result (string_bytes out.new ≡ string_bytes out.old ++ plain_character in_class c) }
 {
@@ -59,8 +61,8 @@ fn push_plain(out: &mut String, in_class: bool, c: char) -> Result<(), AllocErro
     }
 }
 
-/// Appends what a character of ECMA-262 means in the syntax of `regex`. `escaped` says whether a backslash is before
-/// it, `in_class` whether it is inside brackets.
+/// Appends the translation of a character. `escaped` says whether a backslash escapes it, `in_class` whether it is
+/// inside brackets. Fails if an allocation fails.
 fn push_character(
     out: &mut String,
     escaped: bool,
@@ -76,7 +78,8 @@ fn push_character(
     }
 }
 
-/// Returns whether what follows a character is inside brackets.
+/// Returns whether the text after the character `c` is inside brackets. `escaped` says whether a backslash escapes `c`,
+/// `in_class` whether `c` is inside brackets.
 fn in_class_after(escaped: bool, in_class: bool, c: char) -> bool
     ensures { result ≡ in_class_after escaped in_class c }
 {
@@ -91,21 +94,23 @@ fn in_class_after(escaped: bool, in_class: bool, c: char) -> bool
     }
 }
 
-/// Returns whether a character is a backslash that escapes the next one.
+/// Returns whether a character is a backslash that escapes the next character. `escaped` says whether the character is
+/// escaped itself.
 fn escapes_next(escaped: bool, c: char) -> bool
     ensures { result ≡ (not escaped && c == 92) }
 {
     !escaped && c == '\\'
 }
 
-/// Appends the backslash at the end of a regular expression, if there is one.
+/// If `escaped` is set, appends the backslash that ends a regular expression; otherwise, appends nothing. Fails if an
+/// allocation fails.
 fn push_end(out: &mut String, escaped: bool) -> Result<(), AllocError>
     ensures { OnOk result (string_bytes out.new ≡ string_bytes out.old ++ (if escaped then 92 ∷ [] else [])) }
 {
     if escaped { out.push('\\') } else { Ok(()) }
 }
 
-/// Returns a regular expression of ECMA-262 in the syntax of `regex`.
+/// Returns the translation of a regular expression. Fails if an allocation fails.
 fn translated(alloc: Global, pattern: &str) -> Result<String, AllocError>
     ensures { IfOk result (λ t. string_bytes t ≡ translated pattern.now) }
 {
@@ -121,7 +126,8 @@ fn translated(alloc: Global, pattern: &str) -> Result<String, AllocError>
     Ok(out)
 }
 
-/// Compiles a regular expression. `place` is where it is in the schema.
+/// Compiles a regular expression of ECMA-262. `place` is a JSON pointer to its keyword in the schema. Fails with
+/// `Pattern` if the expression is malformed, too large or not supported, and with `OutOfMemory` if an allocation fails.
 pub(crate) fn compile_pattern(
     alloc: Global,
     pattern: &str,
@@ -137,8 +143,8 @@ pub(crate) fn compile_pattern(
     }
 }
 
-/// Returns whether the crate `regex` reads a text as a regular expression. Fails with `TooLong` if it is one that is
-/// too large or nests too deep.
+/// Returns whether the crate `regex` accepts a text as a regular expression. Fails with `TooLong` if the expression is
+/// too large or nests too deep, and with `OutOfMemory` if an allocation fails.
 fn is_read(alloc: Global, text: &str) -> Result<bool, CheckError>
     ensures { IfOk result (λ r. r ≡ is_some (read default_config (chars text.now))) }
 {
@@ -156,7 +162,8 @@ fn is_read(alloc: Global, text: &str) -> Result<bool, CheckError>
     }
 }
 
-/// Returns whether a text is a regular expression of ECMA-262. Fails like `is_read`.
+/// Returns whether a text is a regular expression of ECMA-262 that `compile_pattern` supports. Fails with `TooLong` if
+/// the expression is too large or nests too deep, and with `OutOfMemory` if an allocation fails.
 pub(crate) fn is_pattern(alloc: Global, text: &str) -> Result<bool, CheckError>
     ensures { IfOk result (λ r. r ≡ is_pattern text.now) }
 {

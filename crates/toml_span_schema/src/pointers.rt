@@ -3,7 +3,7 @@
 use json::Value as Json;
 use std::alloc::{AllocError, Global};
 
-/// Appends a step to a pointer, with `~` and `/` escaped.
+/// Appends a slash and a name to a pointer, with `~` and `/` in the name escaped. Fails if an allocation fails.
 pub(crate) fn push_step(pointer: &mut String, name: &str) -> Result<(), AllocError> {
     pointer.push('/')?;
     for c in name.chars() {
@@ -16,19 +16,21 @@ pub(crate) fn push_step(pointer: &mut String, name: &str) -> Result<(), AllocErr
     Ok(())
 }
 
-/// Returns a pointer followed by a step.
+/// Returns a pointer followed by a slash and a name, with `~` and `/` in the name escaped. Fails if an allocation
+/// fails.
 pub(crate) fn with_step(alloc: Global, pointer: &str, name: &str) -> Result<String, AllocError> {
     let mut made = String::from_str(alloc, pointer)?;
     push_step(&mut made, name)?;
     Ok(made)
 }
 
-/// Returns a pointer followed by a position.
+/// Returns a pointer followed by a slash and a position. Fails if an allocation fails.
 pub(crate) fn with_position(alloc: Global, pointer: &str, at: usize) -> Result<String, AllocError> {
     format!(in alloc; "{pointer}/{at}")
 }
 
-/// Returns a name without the escapes of a pointer.
+/// Returns the name that a step of a pointer spells, with the escapes `~0` and `~1` decoded. Fails if an allocation
+/// fails.
 fn unescaped(alloc: Global, step: &str) -> Result<String, AllocError> {
     let mut name = String::new(alloc);
     let mut after_tilde = false;
@@ -44,7 +46,7 @@ fn unescaped(alloc: Global, step: &str) -> Result<String, AllocError> {
     Ok(name)
 }
 
-/// Returns the number that a step writes, if it is one.
+/// Returns the position that a step of a pointer spells, or `None` if the step is not an unsigned integer of 64 bits.
 fn position_in(step: &str) -> Option<usize> {
     match fast_float::parse_u64(step.as_bytes()) {
         Ok(at) => Some(at as usize),
@@ -52,7 +54,7 @@ fn position_in(step: &str) -> Option<usize> {
     }
 }
 
-/// Returns the value one step inside a value.
+/// Returns the element or member that a step of a pointer names in a value, if it exists. Fails if an allocation fails.
 fn inside<'v, 'a>(
     alloc: Global,
     value: &'v Json<'a>,
@@ -68,7 +70,7 @@ fn inside<'v, 'a>(
     Ok(value.get(name.as_str()))
 }
 
-/// Returns the value that is some steps inside a value.
+/// Returns the value that the steps of a pointer name inside `value`, if it exists. Fails if an allocation fails.
 fn walked<'v, 'a>(
     alloc: Global,
     value: &'v Json<'a>,
@@ -83,7 +85,7 @@ fn walked<'v, 'a>(
     }
 }
 
-/// Returns the value that a pointer names.
+/// Returns the value that a pointer names inside `root`, if it exists. Fails if an allocation fails.
 pub(crate) fn pointed<'v, 'a>(
     alloc: Global,
     root: &'v Json<'a>,

@@ -1,4 +1,5 @@
-//! Reads the keywords of a schema object.
+//! Reads the keywords of a schema object. The functions called `read_..` append the keywords that they find to
+//! `keywords`.
 
 use crate::canonical::canonical;
 use crate::compile::{Compiler, Site};
@@ -18,10 +19,11 @@ use toml_span_lex::key::Key;
 use toml_span_lex::span::Span;
 use toml_span_tree::{FloatText, Value, ValueInner};
 
-/// How deep constants may nest.
-const DEPTH: usize = 130;
+/// More levels than a constant of `enum` or `const` can have, since schemas nest at most 128 levels deep.
+pub(crate) const DEPTH: usize = 130;
 
-/// Reads a schema.
+/// Compiles the schema `site`. Fails with `Keyword` if the schema is neither an object nor a boolean, otherwise like
+/// `read_object`.
 pub(crate) fn read_node<'v, 'a>(
     compiler: &mut Compiler<'v, 'a>,
     site: &Site<'v, 'a>,
@@ -50,7 +52,7 @@ pub(crate) fn read_node<'v, 'a>(
     })
 }
 
-/// Appends a keyword.
+/// Appends a keyword with its name and, for messages, its value in the schema `site`. Fails if an allocation fails.
 fn put(
     site: &Site<'_, '_>,
     keywords: &mut Vec<Placed>,
@@ -70,7 +72,7 @@ fn put(
     Ok(())
 }
 
-/// Appends a value for a message. Of an array or object only the type is named.
+/// Appends a value as messages show it. For an array or object, appends only its type. Fails if an allocation fails.
 fn push_shown(out: &mut String, value: &Json<'_>) -> Result<(), AllocError> {
     match value {
         Json::Number(text) => out.push_str(*text),
@@ -87,7 +89,8 @@ fn push_shown(out: &mut String, value: &Json<'_>) -> Result<(), AllocError> {
     }
 }
 
-/// Returns the value of a keyword for a message: of an array each element.
+/// Returns the value of a keyword as messages show it: for an array, its elements after one another, separated by
+/// commas. Fails if an allocation fails.
 fn shown(alloc: Global, value: &Json<'_>) -> Result<String, AllocError> {
     let mut out = String::new(alloc);
     match value {
@@ -104,7 +107,8 @@ fn shown(alloc: Global, value: &Json<'_>) -> Result<String, AllocError> {
     Ok(out)
 }
 
-/// Returns the error that a keyword has a wrong value.
+/// Returns the error that the keyword `name`, or the schema `site` itself if `name` is empty, has a wrong value.
+/// `expected` says which values are right. Fails if an allocation fails.
 fn refused(
     alloc: Global,
     site: &Site<'_, '_>,
@@ -119,7 +123,10 @@ fn refused(
     Ok(SchemaError::Keyword { place, expected })
 }
 
-/// Reads a schema object.
+/// Reads the keywords of the schema object `site`, and appends them to `keywords`. Fails with `Keyword` if a keyword
+/// has a wrong value, with `Pattern` if a regular expression can't be compiled, with `Reference` or `Missing` if a
+/// reference can't be resolved, with `TooLarge` if compiling takes too many steps, and with `OutOfMemory` if an
+/// allocation fails.
 fn read_object<'v, 'a>(
     compiler: &mut Compiler<'v, 'a>,
     site: &Site<'v, 'a>,
@@ -156,14 +163,16 @@ fn read_object<'v, 'a>(
     read_dependencies(compiler, site, keywords)
 }
 
-/// Returns the keyword that a value must be valid against one subschema.
+/// Returns the keyword which requires that a value is valid against the subschema at index `schema`. Fails if an
+/// allocation fails.
 fn all_of(alloc: Global, schema: usize) -> Result<Keyword, AllocError> {
     let mut list = Vec::new(alloc);
     list.push(schema)?;
     Ok(Keyword::AllOf(list))
 }
 
-/// Reads `unevaluatedItems` and `unevaluatedProperties`, beside the node of the other keywords.
+/// Reads `unevaluatedItems` and `unevaluatedProperties`. The other keywords of the schema become a compiled schema of
+/// their own, to which these two refer. Fails like `Compiler::node`.
 fn read_unevaluated<'v, 'a>(
     compiler: &mut Compiler<'v, 'a>,
     site: &Site<'v, 'a>,
@@ -182,7 +191,7 @@ fn read_unevaluated<'v, 'a>(
     Ok(())
 }
 
-/// Reads `$dynamicRef` or `$recursiveRef`.
+/// Reads `$dynamicRef` or `$recursiveRef`. Fails like `Compiler::dynamic_reference`.
 fn read_dynamic<'v, 'a>(
     compiler: &mut Compiler<'v, 'a>,
     site: &Site<'v, 'a>,
@@ -200,7 +209,7 @@ fn read_dynamic<'v, 'a>(
     Ok(())
 }
 
-/// Adds the type with this name. Returns whether there is one.
+/// Adds the type with this name to `types`; `null` adds nothing. Returns false for an unknown name.
 fn add_type(types: &mut Types, name: &str, draft: Draft) -> bool {
     match name {
         "null" => {}
@@ -218,7 +227,8 @@ fn add_type(types: &mut Types, name: &str, draft: Draft) -> bool {
     true
 }
 
-/// Returns the types that the value of `type` names, or `None` if it is wrong.
+/// Returns the types that the value of `type` names, or `None` if it is neither the name of a type nor an array of such
+/// names.
 fn types_in(value: &Json<'_>, draft: Draft) -> Option<Types> {
     let mut types = Types {
         boolean: false,
@@ -247,7 +257,8 @@ fn types_in(value: &Json<'_>, draft: Draft) -> Option<Types> {
     Some(types)
 }
 
-/// Reads `type`, `enum` and `const`.
+/// Reads `type`, `enum` and `const`. Fails with `Keyword` if `type` or `enum` has a wrong value, and with `OutOfMemory`
+/// if an allocation fails.
 fn read_any<'v, 'a>(
     compiler: &mut Compiler<'v, 'a>,
     site: &Site<'v, 'a>,
@@ -276,7 +287,7 @@ fn read_any<'v, 'a>(
     Ok(())
 }
 
-/// Returns the keyword for the value of `const`.
+/// Returns the keyword for the value of `const`. Fails if an allocation fails.
 fn only_constant(alloc: Global, value: &Json<'_>) -> Result<Keyword, SchemaError> {
     let mut values = BTreeSet::new(alloc);
     let mut words = Vec::new(alloc);
@@ -284,7 +295,7 @@ fn only_constant(alloc: Global, value: &Json<'_>) -> Result<Keyword, SchemaError
     Ok(Keyword::Enum(values, words))
 }
 
-/// Returns the keyword for the values of `enum`.
+/// Returns the keyword for the values of `enum`. Fails if an allocation fails.
 fn constants(alloc: Global, list: &[Json<'_>]) -> Result<Keyword, SchemaError> {
     let mut values = BTreeSet::new(alloc);
     let mut words = Vec::new(alloc);
@@ -294,7 +305,8 @@ fn constants(alloc: Global, list: &[Json<'_>]) -> Result<Keyword, SchemaError> {
     Ok(Keyword::Enum(values, words))
 }
 
-/// Adds the canonical text of a constant, unless it has `null` inside, and its text if it is a string.
+/// Adds the canonical text of a constant to `values`, unless the constant is or contains `null`. Adds a constant that
+/// is a string also to `words`. Fails if an allocation fails.
 fn add_constant(
     alloc: Global,
     values: &mut BTreeSet<String>,
@@ -310,9 +322,10 @@ fn add_constant(
     Ok(())
 }
 
-/// Returns a value of JSON as one of TOML, or `None` if it has `null` inside.
+/// Converts a JSON value to a TOML value. Returns `None` if the value is or contains `null`, or nests `depth` or more
+/// levels deep. Fails if an allocation fails.
 #[cycle(constant)]
-fn constant(
+pub(crate) fn constant(
     alloc: Global,
     value: &Json<'_>,
     depth: usize,
@@ -337,7 +350,8 @@ fn constant(
     Ok(Some(Value::new(inner)))
 }
 
-/// Returns a number of JSON as one of TOML.
+/// Converts a JSON number to a TOML integer if it is written as a signed integer of 64 bits, otherwise to a float.
+/// Fails if an allocation fails.
 fn number(alloc: Global, text: &str) -> Result<ValueInner<'static>, AllocError> {
     match fast_float::parse_i64(text.as_bytes()) {
         Ok(integer) => Ok(ValueInner::Integer(integer)),
@@ -345,6 +359,8 @@ fn number(alloc: Global, text: &str) -> Result<ValueInner<'static>, AllocError> 
     }
 }
 
+/// Converts the elements of a JSON array to TOML values. Returns `None` if one of them is or contains `null`, or nests
+/// `depth` or more levels deep. Fails if an allocation fails.
 #[cycle(constant)]
 fn elements(
     alloc: Global,
@@ -361,6 +377,8 @@ fn elements(
     Ok(Some(list))
 }
 
+/// Converts the members of a JSON object to entries of a TOML table. Returns `None` if the value of one of them is or
+/// contains `null`, or nests `depth` or more levels deep. Fails if an allocation fails.
 #[cycle(constant)]
 fn entries(
     alloc: Global,
@@ -381,7 +399,8 @@ fn entries(
     Ok(Some(table))
 }
 
-/// Returns the number that a member is, if there is one.
+/// Returns the number in the member `name`, or `None` if the member is missing. Fails with `Keyword` if the member is
+/// not a number, and with `OutOfMemory` if an allocation fails.
 fn limit<'v, 'a>(
     compiler: &Compiler<'v, 'a>,
     site: &Site<'v, 'a>,
@@ -394,7 +413,9 @@ fn limit<'v, 'a>(
     }
 }
 
-/// Reads a limit of numbers, which excludes itself if draft 4 says so by the member `excluding`.
+/// Returns the limit for numbers in the member `name`, and whether the limit itself is excluded, or `None` if the
+/// member is missing. In draft 4, the boolean member `excluding` says whether the limit is excluded. In later drafts,
+/// it is never excluded. Fails like `limit`.
 fn read_limit<'v, 'a>(
     compiler: &Compiler<'v, 'a>,
     site: &Site<'v, 'a>,
@@ -408,7 +429,7 @@ fn read_limit<'v, 'a>(
     Ok(Some((number, excludes)))
 }
 
-/// Reads the limits of numbers.
+/// Reads the keywords for numbers: the four limits and `multipleOf`. Fails like `limit` and `read_divisor`.
 fn read_numbers<'v, 'a>(
     compiler: &Compiler<'v, 'a>,
     site: &Site<'v, 'a>,
@@ -435,7 +456,7 @@ fn read_numbers<'v, 'a>(
     read_divisor(compiler, site, keywords)
 }
 
-/// Appends the keyword that a number must be greater than a limit.
+/// Appends the keyword which requires that a number is greater than `least`. Fails if an allocation fails.
 fn put_above(
     site: &Site<'_, '_>,
     keywords: &mut Vec<Placed>,
@@ -445,7 +466,7 @@ fn put_above(
     put(site, keywords, "exclusiveMinimum", keyword)
 }
 
-/// Appends the keyword that a number must be less than a limit.
+/// Appends the keyword which requires that a number is less than `most`. Fails if an allocation fails.
 fn put_below(
     site: &Site<'_, '_>,
     keywords: &mut Vec<Placed>,
@@ -455,7 +476,8 @@ fn put_below(
     put(site, keywords, "exclusiveMaximum", keyword)
 }
 
-/// Reads `multipleOf`.
+/// Reads `multipleOf`. Fails with `Keyword` if it is not a number above 0 with at most 18 digits, and with
+/// `OutOfMemory` if an allocation fails.
 fn read_divisor<'v, 'a>(
     compiler: &Compiler<'v, 'a>,
     site: &Site<'v, 'a>,
@@ -477,7 +499,9 @@ fn read_divisor<'v, 'a>(
     }
 }
 
-/// Returns the count that a member is, if there is one. Counts above 2^64 are cut off there.
+/// Returns the count in the member `name`, or `None` if the member is missing. A count that does not fit into 64 bits
+/// becomes 2^64 - 1. Fails with `Keyword` if the member is not an integer of at least 0, and with `OutOfMemory` if an
+/// allocation fails.
 fn count<'v, 'a>(
     compiler: &Compiler<'v, 'a>,
     site: &Site<'v, 'a>,
@@ -496,7 +520,7 @@ fn count<'v, 'a>(
     Err(refused(compiler.alloc, site, name, "an integer of at least 0")?)
 }
 
-/// Reads the keywords that limit a length or a number of values.
+/// Reads the keywords that limit a length or a number of values. Fails like `count`.
 fn read_counts<'v, 'a>(
     compiler: &Compiler<'v, 'a>,
     site: &Site<'v, 'a>,
@@ -525,7 +549,7 @@ fn read_counts<'v, 'a>(
     Ok(())
 }
 
-/// Reads `uniqueItems` and `pattern`.
+/// Reads `uniqueItems` and `pattern`. Fails like `compile_pattern`.
 fn read_others<'v, 'a>(
     compiler: &mut Compiler<'v, 'a>,
     site: &Site<'v, 'a>,
@@ -542,7 +566,7 @@ fn read_others<'v, 'a>(
     Ok(())
 }
 
-/// Reads `format`.
+/// Reads `format`. Fails if an allocation fails.
 fn read_format<'v, 'a>(
     compiler: &mut Compiler<'v, 'a>,
     site: &Site<'v, 'a>,
@@ -568,7 +592,8 @@ fn read_format<'v, 'a>(
     Ok(())
 }
 
-/// Adds a regular expression to the table. Returns its position.
+/// Compiles a regular expression and adds it to the compiler's list. Returns its position in the list. `place` is a
+/// JSON pointer to its keyword in the schema, for errors. Fails like `compile_pattern`.
 fn add_pattern<'v, 'a>(
     compiler: &mut Compiler<'v, 'a>,
     pattern: &str,
@@ -580,7 +605,7 @@ fn add_pattern<'v, 'a>(
     Ok(at)
 }
 
-/// Returns the texts in an array, or `None` if it is not an array of texts.
+/// Returns the strings in an array, or `None` if the value is not an array of strings. Fails if an allocation fails.
 fn texts(alloc: Global, value: &Json<'_>) -> Result<Option<Vec<String>>, AllocError> {
     let Json::Array(items) = value else {
         return Ok(None);
@@ -595,7 +620,8 @@ fn texts(alloc: Global, value: &Json<'_>) -> Result<Option<Vec<String>>, AllocEr
     Ok(Some(list))
 }
 
-/// Reads `required` and `dependentRequired`.
+/// Reads `required` and `dependentRequired`. Fails with `Keyword` if one has a wrong value, and with `OutOfMemory` if
+/// an allocation fails.
 fn read_names<'v, 'a>(
     compiler: &mut Compiler<'v, 'a>,
     site: &Site<'v, 'a>,
@@ -630,7 +656,9 @@ fn read_names<'v, 'a>(
     Ok(())
 }
 
-/// Returns the nodes of the schemas in an array, or `None` if there is no such member.
+/// Returns the indices of the compiled forms of the schemas in the array that is the value of the keyword `name`, or
+/// `None` if the schema `site` does not have that keyword. Fails with `Keyword` if the value is not an array, otherwise
+/// like `Compiler::node`.
 fn list<'v, 'a>(
     compiler: &mut Compiler<'v, 'a>,
     site: &Site<'v, 'a>,
@@ -649,7 +677,8 @@ fn list<'v, 'a>(
     Ok(Some(nodes))
 }
 
-/// Returns the node of the schema in a member, or `None` if there is no such member.
+/// Returns the index of the compiled form of the schema that is the value of the keyword `name`, or `None` if the
+/// schema `site` does not have that keyword. Fails like `Compiler::node`.
 fn one<'v, 'a>(
     compiler: &mut Compiler<'v, 'a>,
     site: &Site<'v, 'a>,
@@ -661,7 +690,7 @@ fn one<'v, 'a>(
     }
 }
 
-/// Reads `allOf`, `anyOf`, `oneOf`, `not` and `if`.
+/// Reads `allOf`, `anyOf`, `oneOf`, `not` and `if`. Fails like `list`.
 fn read_combined<'v, 'a>(
     compiler: &mut Compiler<'v, 'a>,
     site: &Site<'v, 'a>,
@@ -695,7 +724,7 @@ fn read_combined<'v, 'a>(
     Ok(())
 }
 
-/// Reads `prefixItems`, `items` and `additionalItems`.
+/// Reads `prefixItems`, `items` and `additionalItems`. Fails like `list`.
 fn read_items<'v, 'a>(
     compiler: &mut Compiler<'v, 'a>,
     site: &Site<'v, 'a>,
@@ -723,7 +752,7 @@ fn read_items<'v, 'a>(
     Ok(())
 }
 
-/// Reads `contains`, `minContains` and `maxContains`.
+/// Reads `contains`, `minContains` and `maxContains`. Fails like `Compiler::node` and `count`.
 fn read_contains<'v, 'a>(
     compiler: &mut Compiler<'v, 'a>,
     site: &Site<'v, 'a>,
@@ -761,7 +790,9 @@ fn read_contains<'v, 'a>(
     Ok(())
 }
 
-/// Returns the members of a keyword's value with their nodes.
+/// Returns the names in the object that is the value of the keyword `name`, each with the index of the compiled form of
+/// its schema. The list is empty if the schema `site` does not have that keyword. Fails with `Keyword` if the value is
+/// not an object, otherwise like `Compiler::node`.
 fn members<'v, 'a>(
     compiler: &mut Compiler<'v, 'a>,
     site: &Site<'v, 'a>,
@@ -782,7 +813,8 @@ fn members<'v, 'a>(
     Ok(list)
 }
 
-/// Returns a map of some subschemas by their names. Of two with one name the last counts.
+/// Returns a map from names to the indices of their schemas. If a name occurs twice, its last schema counts. Fails if
+/// an allocation fails.
 fn by_name(
     alloc: Global,
     members: Vec<(String, usize)>,
@@ -795,7 +827,8 @@ fn by_name(
     Ok(map)
 }
 
-/// Reads `properties`, `patternProperties`, `additionalProperties` and `propertyNames`.
+/// Reads `properties`, `patternProperties`, `additionalProperties` and `propertyNames`. Fails like `members` and
+/// `compile_pattern`.
 fn read_properties<'v, 'a>(
     compiler: &mut Compiler<'v, 'a>,
     site: &Site<'v, 'a>,
@@ -835,7 +868,7 @@ fn read_properties<'v, 'a>(
     Ok(())
 }
 
-/// Reads `dependentSchemas`, or `dependencies` of earlier drafts.
+/// Reads `dependentSchemas`, or `dependencies` of earlier drafts. Fails like `members`.
 fn read_dependencies<'v, 'a>(
     compiler: &mut Compiler<'v, 'a>,
     site: &Site<'v, 'a>,
@@ -852,7 +885,8 @@ fn read_dependencies<'v, 'a>(
     Ok(())
 }
 
-/// Reads `dependencies`.
+/// Reads `dependencies`. A member whose value is an array of strings names required keys; any other value is a
+/// subschema. Ignores a `dependencies` that is not an object. Fails like `Compiler::node`.
 fn read_old_dependencies<'v, 'a>(
     compiler: &mut Compiler<'v, 'a>,
     site: &Site<'v, 'a>,

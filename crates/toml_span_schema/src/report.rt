@@ -1,4 +1,4 @@
-//! Checks a value.
+//! Checks a value against a schema, and reports each violation.
 ghost use Rattle.std.specs.Prelude.{◌≡◌, ◌<◌, ◌+◌, ◌==◌, ℕ, IfOk, Some, length};
 ghost use Rattle.toml_span_tree.specs.Value.{view};
 ghost use Rattle.toml_span_schema.specs.Valid.{valid};
@@ -11,12 +11,13 @@ use toml_span_report::Report;
 use toml_span_tree::Value;
 
 impl Schema {
-    /// Checks a value. Returns what is wrong with it, in the order of the text: nothing exactly if it is valid.
+    /// Checks a value. Returns a report for each violation of the schema, in the order of the text. The list is empty
+    /// if and only if the value is valid.
     ///
-    /// Each report marks the value that a keyword refuses, or a key that is not allowed. Its notes name the keyword's
-    /// place in the schema and the schema's title. Fails with `TooDeep` if the value nests too deep, with `TooLong`
-    /// if the check takes too many steps, and with `OutOfMemory` if an allocation fails. The limit on nesting changes
-    /// no answer: at a larger one the value is valid exactly if it is here.
+    /// Each report marks a value that a keyword does not allow, or a key that is not allowed. Its notes name the
+    /// keyword's place in the schema and the schema's title. Fails with `TooDeep` if the value nests too deep, with
+    /// `TooLong` if the check takes too many steps, and with `OutOfMemory` if an allocation fails. The limit on nesting
+    /// changes no answer: with a larger limit, the same values are valid.
     #[tactic(auto, using(crate::proofs::Monotone::valid_more))]
     pub fn check(&self, alloc: Global, value: &Value<'_>) -> Result<Vec<Report>, CheckError>
         ensures verdict { IfOk result (λ reports.
@@ -31,7 +32,7 @@ impl Schema {
         self.reports(alloc, value)
     }
 
-    /// Returns what is wrong with a value that is not valid. Fails like `check`.
+    /// Returns the reports on a value that is not valid, at least one. Fails like `check`.
     fn reports(&self, alloc: Global, value: &Value<'_>) -> Result<Vec<Report>, CheckError>
         ensures { IfOk result (λ reports. 0 < length reports.items) }
     {
@@ -44,7 +45,8 @@ impl Schema {
         Ok(reports)
     }
 
-    /// Returns what the keywords refuse, in the order of the text. Fails like `check`.
+    /// Returns the reports of all keywords that don't allow the value or a value inside it, in the order of the text.
+    /// Fails like `check`.
     fn explanations(&self, alloc: Global, value: &Value<'_>) -> Result<Vec<Report>, CheckError> {
         let mut reports = Vec::new(alloc);
         let mut left = MOST_STEPS;
@@ -54,7 +56,7 @@ impl Schema {
     }
 }
 
-/// Returns where the first label of a report begins.
+/// Returns the byte offset at which the first label of a report begins, or 0 if it has none.
 pub(crate) fn start_of(report: &Report) -> usize {
     match report.labels.first() {
         Some(label) => label.span.start,

@@ -3,6 +3,7 @@
 use crate::compile::compile;
 use crate::documents::Document;
 use crate::error::SchemaError;
+use crate::guide::Guide;
 use crate::keyword::{Node, Placed};
 use regex::Regex;
 use std::alloc::Global;
@@ -10,11 +11,11 @@ use std::alloc::Global;
 /// A compiled JSON Schema, with which any number of values can be checked.
 #[derive(Drop)]
 pub struct Schema {
-    /// The first is the whole schema.
+    /// The whole schema, compiled, followed by the subschemas that it reaches.
     pub(crate) nodes: Vec<Node>,
     pub(crate) patterns: Vec<Regex>,
-    /// The most subschemas that may nest in a check: for a document of 1,000 levels, as many as references and
-    /// combinations allow at each.
+    /// The maximum number of subschemas that nest in a check. For each of 1,000 levels of a value, this is one more
+    /// than the number of schemas in the longest chain of references and combinations.
     pub(crate) depth: usize,
     /// Whether `format` is checked.
     pub(crate) formats: bool,
@@ -24,8 +25,9 @@ impl Schema {
     ghost use Rattle.std.specs.Prelude.{◌≡◌};
     ghost use Rattle.toml_span_schema.specs.Valid.{keywords};
 
-    /// Compiles a schema from its JSON text. `others` are the documents that its references may name; nothing is
-    /// fetched. Fails if the text is not a schema, or if a reference names an address that is not there.
+    /// Compiles a schema from its JSON text. `others` are the documents that references in the schema may name; nothing
+    /// is fetched. Fails if a text is not JSON, if the schema is wrong or too large, if a reference names a document
+    /// that is not in `others`, or if an allocation fails: see `SchemaError`.
     pub fn from_json(
         alloc: Global,
         text: &str,
@@ -35,15 +37,17 @@ impl Schema {
             address: "file:///schema.json",
             text,
         };
-        compile(alloc, root, others)
+        let Guide { schema, .. } = compile(alloc, root, others)?;
+        Ok(schema)
     }
 
-    /// Sets whether `check` refuses strings that don't have the format of the keyword `format`. At first it does.
+    /// Sets whether `check` reports strings that don't have the format that the keyword `format` names. By default it
+    /// does.
     pub fn set_formats(&mut self, on: bool) {
         self.formats = on;
     }
 
-    /// Returns the keywords of a node, or none if there is no such node.
+    /// Returns the keywords of the schema at index `node`, or an empty slice if `node` is out of range.
     pub(crate) fn keywords(&self, node: usize) -> &[Placed]
         ensures { result.now ≡ keywords self.now node }
     {

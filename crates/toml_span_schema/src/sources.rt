@@ -7,7 +7,7 @@ use percent_encoding::percent_decode;
 use std::alloc::{AllocError, Global};
 use url::{ParseError, Url};
 
-/// The most schemas that are compiled.
+/// The maximum number of schemas to visit in a document, and the maximum number to compile.
 pub(crate) const MOST: usize = 1_000_000;
 
 /// A version of JSON Schema.
@@ -20,7 +20,7 @@ pub(crate) enum Draft {
     Of2020,
 }
 
-/// How the keywords of a schema are read.
+/// The rules by which the keywords of a schema are read.
 #[derive(Clone, Copy)]
 pub(crate) struct Dialect {
     pub(crate) draft: Draft,
@@ -28,14 +28,15 @@ pub(crate) struct Dialect {
     pub(crate) validates: bool,
 }
 
-/// A parsed document.
+/// A parsed JSON document with its address.
 #[derive(Drop)]
 pub(crate) struct Source<'v, 'a> {
     pub(crate) address: String,
     pub(crate) value: &'v Json<'a>,
 }
 
-/// A schema with an address of its own.
+/// A schema with an address of its own. The schema is at the JSON pointer `pointer` in the document at the position
+/// `source`.
 #[derive(Drop)]
 pub(crate) struct Resource {
     pub(crate) source: usize,
@@ -44,11 +45,11 @@ pub(crate) struct Resource {
     pub(crate) dialect: Dialect,
 }
 
-/// A name for a place in a resource.
+/// A name for a schema in a resource of the document at the position `source`.
 #[derive(Drop)]
 pub(crate) struct Anchor {
     pub(crate) source: usize,
-    /// Where the resource is.
+    /// The JSON pointer to the resource. The anchor's schema is at `pointer`.
     pub(crate) base: String,
     pub(crate) name: String,
     pub(crate) pointer: String,
@@ -56,7 +57,7 @@ pub(crate) struct Anchor {
 }
 
 impl Anchor {
-    /// Returns whether the anchor is of a resource.
+    /// Returns whether the anchor belongs to a resource.
     pub(crate) fn is_in(&self, resource: &Resource) -> bool {
         self.source == resource.source && self.base.as_str() == resource.pointer.as_str()
     }
@@ -70,7 +71,7 @@ pub(crate) struct Sources<'v, 'a> {
     pub(crate) anchors: Vec<Anchor>,
 }
 
-/// A place that may hold a schema.
+/// A value that may be a schema, its place, and the position of the resource around it.
 #[derive(Drop)]
 struct Visit<'v, 'a> {
     value: &'v Json<'a>,
@@ -81,12 +82,13 @@ struct Visit<'v, 'a> {
 /// Where the subschemas of a keyword are.
 #[derive(Clone, Copy)]
 enum Shape {
-    /// The value is one, or an array of them.
+    /// The keyword's value is a subschema, or an array of subschemas.
     Whole,
-    /// The members of the value are.
+    /// The members of the keyword's value are subschemas.
     Members,
 }
 
+/// Returns where the subschemas of this keyword are, or `None` if it has none.
 fn shape_of(keyword: &str) -> Option<Shape> {
     match keyword {
         "additionalItems"
@@ -115,7 +117,7 @@ fn shape_of(keyword: &str) -> Option<Shape> {
     }
 }
 
-/// Returns the draft that `$schema` names.
+/// Returns the draft that the value of `$schema` names, or `None` if it names no known draft.
 fn draft_of(address: &str) -> Option<Draft> {
     match address.strip_suffix("#").unwrap_or(address) {
         "http://json-schema.org/draft-04/schema" => Some(Draft::Four),
@@ -127,7 +129,8 @@ fn draft_of(address: &str) -> Option<Draft> {
     }
 }
 
-/// Joins a reference to an address. Fails with `Reference` if it is not a URL.
+/// Resolves a reference against the address `base`. Fails with `Reference` if the result is not a URL (`place` is the
+/// JSON pointer for this error), and with `OutOfMemory` if an allocation fails.
 pub(crate) fn joined(
     alloc: Global,
     base: &str,
@@ -155,7 +158,8 @@ pub(crate) fn without_fragment(address: &str) -> &str {
     }
 }
 
-/// Returns a fragment without its escapes.
+/// Returns a fragment with its percent escapes decoded, or unchanged if the result is not UTF-8. Fails if an allocation
+/// fails.
 pub(crate) fn decoded(alloc: Global, fragment: &str) -> Result<String, AllocError> {
     match percent_decode(fragment.as_bytes()).decode_utf8(alloc) {
         Ok(text) => String::from_str(alloc, text.as_ref()),
@@ -163,13 +167,15 @@ pub(crate) fn decoded(alloc: Global, fragment: &str) -> Result<String, AllocErro
     }
 }
 
-/// Returns the text of a member.
+/// Returns the string in the member `name`, or `None` if the member is missing or not a string.
 pub(crate) fn text_of<'v, 'a>(value: &'v Json<'a>, name: &str) -> Option<&'a str> {
     value.get(name).and_then(|member| member.as_str())
 }
 
 impl<'v, 'a> Sources<'v, 'a> {
-    /// Finds the resources and anchors of some documents.
+    /// Finds the resources and anchors of the documents. Fails with `Reference` if an address is not a URL, with
+    /// `Missing` if a dialect is unknown, with `TooLarge` if there are too many schemas, and with `OutOfMemory` if an
+    /// allocation fails.
     pub(crate) fn new(
         alloc: Global,
         documents: Vec<Source<'v, 'a>>,
@@ -185,7 +191,9 @@ impl<'v, 'a> Sources<'v, 'a> {
         Ok(made)
     }
 
-    /// Returns the dialect that a schema names, or another one if it names none.
+    /// Returns the dialect that a schema names by `$schema`, or `other` if the schema names none. Fails with `Missing`
+    /// if the schema names neither a known draft nor one of the documents, and with `OutOfMemory` if an allocation
+    /// fails.
     fn dialect(
         &self,
         alloc: Global,
@@ -212,6 +220,7 @@ impl<'v, 'a> Sources<'v, 'a> {
         })
     }
 
+    /// Adds the resources and anchors of the document at the position `source`. Fails like `new`.
     fn read_document(&mut self, alloc: Global, source: usize) -> Result<(), SchemaError> {
         let Some(document) = self.documents.get(source) else {
             return Ok(());
@@ -245,7 +254,7 @@ impl<'v, 'a> Sources<'v, 'a> {
         Err(SchemaError::TooLarge)
     }
 
-    /// Reads the address and the anchors of a schema, and lists its subschemas.
+    /// Reads the address and the anchors of a schema, and appends its subschemas to `visits`. Fails like `new`.
     fn visit(
         &mut self,
         alloc: Global,
@@ -265,7 +274,8 @@ impl<'v, 'a> Sources<'v, 'a> {
         Ok(())
     }
 
-    /// Adds a resource if a schema has an address of its own. Returns the resource of the schema.
+    /// Adds a resource if a schema has an address of its own. Returns the position of the resource to which the schema
+    /// belongs. Fails like `new`.
     fn read_address(&mut self, alloc: Global, visit: &Visit<'v, 'a>) -> Result<usize, SchemaError> {
         let Some(outer) = self.resources.get(visit.resource) else {
             return Ok(visit.resource);
@@ -291,7 +301,8 @@ impl<'v, 'a> Sources<'v, 'a> {
         Ok(made)
     }
 
-    /// Adds the anchors of a schema.
+    /// Adds the anchors that a schema defines. `resource` is the position of the resource to which the schema belongs.
+    /// Fails if an allocation fails.
     fn read_anchors(
         &mut self,
         alloc: Global,
@@ -329,7 +340,8 @@ impl<'v, 'a> Sources<'v, 'a> {
         Ok(())
     }
 
-    /// Returns the innermost resource that a place of a document belongs to.
+    /// Returns the position of the innermost resource that contains the place `pointer` of the document `source`, or 0
+    /// if none does.
     pub(crate) fn resource_at(&self, source: usize, pointer: &str) -> usize {
         let mut best = 0;
         let mut length = 0;
@@ -346,7 +358,7 @@ impl<'v, 'a> Sources<'v, 'a> {
         best
     }
 
-    /// Returns the value at a place.
+    /// Returns the value at the place `pointer` of the document `source`, if it exists. Fails if an allocation fails.
     pub(crate) fn value_at(
         &self,
         alloc: Global,
@@ -359,7 +371,7 @@ impl<'v, 'a> Sources<'v, 'a> {
         }
     }
 
-    /// Returns the resource with an address.
+    /// Returns the resource with this address, if there is one.
     pub(crate) fn find(&self, address: &str) -> Option<&Resource> {
         for resource in self.resources.as_slice() {
             if resource.address.as_str() == address {
@@ -369,7 +381,7 @@ impl<'v, 'a> Sources<'v, 'a> {
         None
     }
 
-    /// Returns the anchor with a name in a resource.
+    /// Returns the position of the anchor with this name in a resource, if there is one.
     pub(crate) fn anchor(&self, resource: &Resource, name: &str) -> Option<usize> {
         for (i, anchor) in self.anchors.as_slice().iter().enumerate() {
             if anchor.is_in(resource) && anchor.name.as_str() == name {
@@ -380,12 +392,13 @@ impl<'v, 'a> Sources<'v, 'a> {
     }
 }
 
-/// Returns whether a member is `true`.
+/// Returns whether the member `name` of a value is `true`. Returns false if the member is missing.
 pub(crate) fn is_true(value: &Json<'_>, name: &str) -> bool {
     value.get(name).and_then(|member| member.as_bool()) == Some(true)
 }
 
-/// Returns the name that a keyword gives to its schema.
+/// Returns the name of the anchor that `keyword` defines if its value is `text`, or `None` if it defines no anchor in
+/// this draft.
 fn anchor_in<'t>(draft: Draft, keyword: &str, text: &'t str) -> Option<&'t str> {
     match keyword {
         "id" if draft == Draft::Four => text.strip_prefix("#"),
@@ -396,7 +409,7 @@ fn anchor_in<'t>(draft: Draft, keyword: &str, text: &'t str) -> Option<&'t str> 
     }
 }
 
-/// Returns whether a place is in another, or is the same.
+/// Returns whether the place `pointer` is inside `outer`, or equal to it.
 fn is_within(pointer: &str, outer: &str) -> bool {
     match pointer.strip_prefix(outer) {
         Some(rest) => rest.is_empty() || rest.starts_with("/"),
@@ -404,7 +417,8 @@ fn is_within(pointer: &str, outer: &str) -> bool {
     }
 }
 
-/// Returns the dialect that a metaschema describes.
+/// Returns the dialect that a metaschema describes. If the metaschema names no known draft, the draft is that of
+/// `other`.
 fn own_dialect(metaschema: &Json<'_>, other: Dialect) -> Dialect {
     let draft = text_of_any(metaschema, "$schema")
         .and_then(|address| draft_of(address))
@@ -423,6 +437,8 @@ fn own_dialect(metaschema: &Json<'_>, other: Dialect) -> Dialect {
     Dialect { draft, validates }
 }
 
+/// Returns the string in the member `name`, or `None` if the member is missing or not a string. Unlike the result of
+/// `text_of`, the string borrows from `value`.
 fn text_of_any<'t>(value: &'t Json<'_>, name: &str) -> Option<&'t str> {
     match value.get(name) {
         Some(member) => member.as_str(),
@@ -430,7 +446,8 @@ fn text_of_any<'t>(value: &'t Json<'_>, name: &str) -> Option<&'t str> {
     }
 }
 
-/// Lists the subschemas in the value of a keyword.
+/// Appends the subschemas in `value`, the value of a keyword at the place `pointer`, to `visits`. `resource` is the
+/// position of the resource around them. Fails if an allocation fails.
 fn push_visits<'v, 'a>(
     alloc: Global,
     value: &'v Json<'a>,

@@ -1,4 +1,5 @@
-//! Whether a value is valid.
+//! Decides whether a value is valid. In all functions, `depth` is the number of subschemas that may still be nested,
+//! and `left` the number that may still be applied.
 ghost use Rattle.std.specs.Prelude.{◌≡◌, ◌&&◌, nat_le, IfOk, Some, None, false, true, map, option_map, ℕ};
 ghost use Rattle.toml_span_tree.specs.Value.{inner_of, items_view, view};
 ghost use Rattle.toml_span_schema.specs.Parts.{Part as Piece, is_entry, part_of, value_of};
@@ -15,11 +16,11 @@ use crate::schema::Schema;
 use std::alloc::Global;
 use toml_span_tree::{Value, ValueInner};
 
-/// The most subschemas that are applied in one check.
+/// The maximum number of subschemas that are applied in one check.
 pub(crate) const MOST_STEPS: u64 = 50_000_000;
 
-/// Counts a step. Fails with `TooLong` if there is none left.
-fn spend(left: &mut u64) -> Result<(), CheckError> {
+/// Subtracts 1 from `left`, the number of steps left. Fails with `TooLong` if no step is left.
+pub(crate) fn spend(left: &mut u64) -> Result<(), CheckError> {
     if *left == 0 {
         return Err(CheckError::TooLong);
     }
@@ -35,9 +36,10 @@ fn is_between(least: u64, count: u64, most: u64) -> bool
 }
 
 impl Schema {
-    /// Returns whether a value is valid against the schema of a node. At most `depth` subschemas may be nested; fails
-    /// with `TooDeep` if that is too few. `left` is the number of subschemas that may still be applied; fails with
-    /// `TooLong` if that is too few. Fails with `OutOfMemory` if an allocation fails.
+    /// Returns whether a value is valid against the schema at index `node`. Fails with `TooDeep` if more than `depth`
+    /// subschemas are nested or a value nests too deep to be compared, with `TooLong` if more than `left` subschemas
+    /// are applied or a keyword takes too many steps, and with `OutOfMemory` if an allocation fails. Each subschema
+    /// that is applied takes 1 from `left`.
     #[cycle(valid)]
     pub(crate) fn is_valid(
         &self,
@@ -96,7 +98,8 @@ impl Schema {
         }
     }
 
-    /// Returns whether a keyword that applies no subschema to the value itself allows it. Fails like `is_valid`.
+    /// Returns whether a keyword allows a value. The keyword must apply no subschema to the value itself, only to
+    /// values inside it. Fails like `is_valid`.
     #[cycle(valid)]
     #[tactic(auto, unfolding(crate::specs::Valid::allows_inside))]
     fn allows_inside(
@@ -132,8 +135,9 @@ impl Schema {
         }
     }
 
-    /// Returns whether the elements of a value (or, with `entries`, its entries) are evaluated by the node `nodes.0` or
-    /// valid against the node `nodes.1`. Fails like `is_valid`.
+    /// Returns whether `unevaluatedProperties` (or, if `entries` is false, `unevaluatedItems`) allows all entries and
+    /// elements of a value. `nodes.0` is the index of a schema with the other keywords, and `nodes.1` that of the
+    /// keyword's subschema. Fails like `is_valid`.
     #[cycle(valid)]
     fn allows_unevaluated(
         &self,
@@ -151,7 +155,7 @@ impl Schema {
         self.allows_rest(alloc, left, depth, entries, nodes, value, parts.as_slice())
     }
 
-    /// Returns whether a value is valid against each of some subschemas. Fails like `is_valid`.
+    /// Returns whether a value is valid against all subschemas at the indices `nodes`. Fails like `is_valid`.
     #[cycle(valid)]
     fn all_allow(
         &self,
@@ -171,7 +175,8 @@ impl Schema {
         Ok(true)
     }
 
-    /// Returns whether a value is valid against any of some subschemas. Fails like `is_valid`.
+    /// Returns whether a value is valid against at least one of the subschemas at the indices `nodes`. Fails like
+    /// `is_valid`.
     #[cycle(valid)]
     fn any_allows(
         &self,
@@ -191,7 +196,7 @@ impl Schema {
         Ok(false)
     }
 
-    /// Returns how many of some subschemas a value is valid against. Fails like `is_valid`.
+    /// Returns against how many of the subschemas at the indices `nodes` a value is valid. Fails like `is_valid`.
     #[cycle(valid)]
     fn count_allowing(
         &self,
@@ -213,7 +218,8 @@ impl Schema {
         Ok(count)
     }
 
-    /// Returns whether a value is valid against a subschema, if there is one. Fails like `is_valid`.
+    /// Returns whether a value is valid against the subschema at index `node`, or true if `node` is `None`. Fails like
+    /// `is_valid`.
     #[cycle(valid)]
     fn maybe_allows(
         &self,
@@ -232,7 +238,8 @@ impl Schema {
         }
     }
 
-    /// Returns whether a value is valid against each subschema whose key it has. Fails like `is_valid`.
+    /// Returns whether a value is valid against the subschema of each pair in `entries` whose key the value has. Fails
+    /// like `is_valid`.
     #[cycle(valid)]
     fn dependents_allow(
         &self,
@@ -254,7 +261,7 @@ impl Schema {
         Ok(true)
     }
 
-    /// Returns whether each of some values is valid against a subschema. Fails like `is_valid`.
+    /// Returns whether all of `values` are valid against the subschema at index `node`. Fails like `is_valid`.
     #[cycle(valid)]
     fn allows_each(
         &self,
@@ -274,7 +281,7 @@ impl Schema {
         Ok(true)
     }
 
-    /// Returns how many of some values are valid against a subschema. Fails like `is_valid`.
+    /// Returns how many of `values` are valid against the subschema at index `node`. Fails like `is_valid`.
     #[cycle(valid)]
     fn count_allowed(
         &self,
@@ -296,8 +303,8 @@ impl Schema {
         Ok(count)
     }
 
-    /// Returns whether a value is no array, or from `least` to `most` of its elements are valid against a subschema.
-    /// Fails like `is_valid`.
+    /// Returns whether an array has from `least` to `most` elements that are valid against the subschema at index
+    /// `node`. A value that is not an array counts as such an array. Fails like `is_valid`.
     #[cycle(valid)]
     fn contains_enough(
         &self,
@@ -324,7 +331,8 @@ impl Schema {
         }
     }
 
-    /// Returns whether `items` or `properties` and their kin allow some parts of a value. Fails like `is_valid`.
+    /// Returns whether each entry or element in `parts` is valid against the subschemas that `Keyword::Items` or
+    /// `Keyword::Properties` applies to it. Fails like `is_valid`.
     #[cycle(valid)]
     fn allows_parts(
         &self,
@@ -346,8 +354,8 @@ impl Schema {
         Ok(true)
     }
 
-    /// Returns whether the elements (or, with `entries`, the entries) among some parts of a value are evaluated by
-    /// the node `nodes.0` or valid against the node `nodes.1`. Fails like `is_valid`.
+    /// Returns whether `unevaluatedProperties` (or, if `entries` is false, `unevaluatedItems`) allows all of `parts`,
+    /// which are entries or elements of a value. `nodes` as for `allows_unevaluated`. Fails like `is_valid`.
     #[cycle(valid)]
     fn allows_rest(
         &self,
@@ -371,8 +379,10 @@ impl Schema {
         Ok(true)
     }
 
-    /// Returns whether a part of a value is not of the kind that `entries` says, evaluated by the node `nodes.0`, or
-    /// valid against the node `nodes.1`. Fails like `is_valid`.
+    /// Returns whether `unevaluatedProperties` (or, if `entries` is false, `unevaluatedItems`) allows `part`, an entry
+    /// or element of a value: the schema at index `nodes.0`, which has the other keywords, evaluates `part`, or `part`
+    /// is valid against the schema at index `nodes.1`. `unevaluatedProperties` allows all elements, and
+    /// `unevaluatedItems` all entries. Fails like `is_valid`.
     #[cycle(valid)]
     pub(crate) fn allows_part(
         &self,
@@ -396,7 +406,8 @@ impl Schema {
         self.is_valid(alloc, left, depth, nodes.1, part.value())
     }
 
-    /// Returns whether a schema that a value is valid against evaluates a part of it. Fails like `is_valid`.
+    /// Returns whether the schema at index `node` evaluates `part`, an entry or element of a value, so that `part` does
+    /// not count as unevaluated. The value must be valid against the schema. Fails like `is_valid`.
     #[cycle(valid)]
     fn evaluates(
         &self,
@@ -422,7 +433,8 @@ impl Schema {
         Ok(false)
     }
 
-    /// Returns whether a keyword that allows a value evaluates a part of it. Fails like `is_valid`.
+    /// Returns whether a keyword evaluates `part`, an entry or element of a value, so that `part` does not count as
+    /// unevaluated. The keyword must allow the value. Fails like `is_valid`.
     #[cycle(valid)]
     #[tactic(auto, unfolding(crate::specs::Valid::reaches))]
     fn reaches(
@@ -468,7 +480,8 @@ impl Schema {
         }
     }
 
-    /// Returns whether a part of a value is an element that is valid against a subschema. Fails like `is_valid`.
+    /// Returns whether `part` is an element, not an entry, and is valid against the subschema at index `node`. Fails
+    /// like `is_valid`.
     #[cycle(valid)]
     fn element_is_valid(
         &self,
@@ -486,7 +499,8 @@ impl Schema {
         }
     }
 
-    /// Returns whether a value is valid against a subschema that evaluates a part of it. Fails like `is_valid`.
+    /// Returns whether a value is valid against the subschema at index `node`, and the subschema evaluates `part`, an
+    /// entry or element of the value. Fails like `is_valid`.
     #[cycle(valid)]
     fn covers(
         &self,
@@ -506,8 +520,8 @@ impl Schema {
         self.evaluates(alloc, left, depth, node, value, part)
     }
 
-    /// Returns whether there is a subschema that a value is valid against and that evaluates a part of it. Fails like
-    /// `is_valid`.
+    /// Returns whether a value is valid against the subschema at index `node`, and the subschema evaluates `part`, an
+    /// entry or element of the value. Returns false if `node` is `None`. Fails like `is_valid`.
     #[cycle(valid)]
     fn maybe_covers(
         &self,
@@ -528,8 +542,8 @@ impl Schema {
         }
     }
 
-    /// Returns whether a value is valid against one of some subschemas that evaluates a part of it. Fails like
-    /// `is_valid`.
+    /// Returns whether one of the subschemas at the indices `nodes`, against which the value is valid, evaluates
+    /// `part`, an entry or element of the value. Fails like `is_valid`.
     #[cycle(valid)]
     fn any_covers(
         &self,
@@ -551,8 +565,8 @@ impl Schema {
         Ok(false)
     }
 
-    /// Returns whether a value is valid against a subschema whose key it has, and that evaluates a part of it. Fails
-    /// like `is_valid`.
+    /// Returns whether `entries` has a pair whose key the value has, and whose subschema allows the value and evaluates
+    /// `part`, an entry or element of the value. Fails like `is_valid`.
     #[cycle(valid)]
     fn dependents_cover(
         &self,

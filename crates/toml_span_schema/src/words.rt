@@ -4,7 +4,7 @@ use crate::keyword::{Keyword, Placed};
 use std::alloc::{AllocError, Global};
 use toml_span_tree::Value;
 
-/// Returns the code of a keyword's reports: `schema-min-length` for `minLength`.
+/// Returns the code of a keyword's reports: `schema-min-length` for `minLength`. Fails if an allocation fails.
 pub(crate) fn code_of(alloc: Global, name: &str) -> Result<String, AllocError> {
     let mut code = String::from_str(alloc, "schema-")?;
     for c in name.chars() {
@@ -20,7 +20,7 @@ pub(crate) fn code_of(alloc: Global, name: &str) -> Result<String, AllocError> {
     Ok(code)
 }
 
-/// Returns how a message about a keyword begins.
+/// Returns the beginning of the message about a keyword. If `shows_value` returns `false`, this is the whole message.
 fn start_of(keyword: &Keyword) -> &'static str {
     match keyword {
         Keyword::Type(_) => "expected",
@@ -51,7 +51,7 @@ fn start_of(keyword: &Keyword) -> &'static str {
     }
 }
 
-/// Returns whether a message about a keyword ends with the keyword's value.
+/// Returns whether messages about a keyword show the keyword's value.
 fn shows_value(keyword: &Keyword) -> bool {
     match keyword {
         Keyword::Type(_)
@@ -67,7 +67,7 @@ fn shows_value(keyword: &Keyword) -> bool {
     }
 }
 
-/// Returns the message that a keyword refuses a value.
+/// Returns the message which says that a keyword does not allow a value. Fails if an allocation fails.
 pub(crate) fn message_of(
     alloc: Global,
     placed: &Placed,

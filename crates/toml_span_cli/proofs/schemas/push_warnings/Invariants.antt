@@ -1,7 +1,0 @@
-use Rattle.toml_span_lex.proofs.Common.{map}
-use Rattle.toml_span_report.specs.Report.{report_content}
-use Rattle.toml_span_cli.specs.Schemas.{AddsWarnings}
-use Rattle.toml_span_cli.proofs.schemas.push_warnings.Given as goal
-
-abbrev pub invariant-loop-report : goal.invariant-loop-report
-invariant-loop-report l = AddsWarnings (map report_content l.fn.reports.items) (map report_content l.reports.items)

@@ -1,0 +1,12 @@
+-- Documents in which a table or an array has another form.
+use Rattle.std.specs.Prelude.{◌⊎◌, ℕ, List}
+use Rattle.toml_span_edit.specs.Edited.{IsSameDocument}
+use Rattle.toml_span_format.specs.Document.{PermutedComments}
+use Rattle.toml_span_convert.specs.Forms.{IsArrayConverted, IsTableConverted}
+use Rattle.toml_span_convert.specs.declared.conversions.Conversion.{Conversion}
+
+-- In the second text, a table or an array has another form. The trees of the texts are the same except for spans, and
+-- so are their comments, in any order.
+abbrev pub IsConverted : Conversion → List ℕ → List ℕ → Type 0
+IsConverted conversion text new = (IsTableConverted conversion text new ⊎ IsArrayConverted conversion text new)
+    × IsSameDocument text new × PermutedComments text new

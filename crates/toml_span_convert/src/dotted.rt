@@ -1,0 +1,108 @@
+//! Converts dotted keys to sections.
+use crate::conversions::{Named, Proposal};
+use crate::lines::{comments_start, indent, part, without_end};
+use crate::places::{Line, body_start, line_at, part_at, parts_text, touches};
+use crate::tables::header_of;
+use crate::writer::Writer;
+use std::alloc::{AllocError, Global};
+use toml_span_lex::span::Span;
+use toml_span_places::{TableForm, assignment_lines, section_lines, with_quotes};
+use toml_span_read::{Assignment, DottedKey, Section};
+
+/// Returns whether two dotted keys have more than `count` parts, of which the first `count` are the same.
+fn has_front(key: &DottedKey<'_>, other: &DottedKey<'_>, count: usize) -> bool {
+    for index in 0..count {
+        match (key.inner.get(index), other.inner.get(index)) {
+            (Some(part), Some(other)) if part.name.as_str() == other.name.as_str() => {}
+            _ => return false,
+        }
+    }
+    true
+}
+
+/// Returns how many parts of a dotted key name the table that becomes a section: the parts up to the one at the offset
+/// `at`, without the last part of the key. If the offset is not in the key, this is 1, or 0 if the key has only one
+/// part.
+fn table_parts(text: &str, key: &DottedKey<'_>, at: usize) -> usize {
+    for (index, part) in key.inner.iter().enumerate() {
+        if touches(with_quotes(text, part.span), at) {
+            return index.saturating_add(1);
+        }
+    }
+    if touches(with_quotes(text, key.last.span), at) {
+        return key.inner.len();
+    }
+    key.inner.len().min(1)
+}
+
+/// Appends the line of an assignment without the first `count` parts of its key, and the line end `end`. Fails if an
+/// allocation fails.
+fn push_rest(
+    out: &mut String,
+    text: &str,
+    assignment: &Assignment<'_>,
+    count: usize,
+    end: &str,
+) -> Result<(), AllocError> {
+    let key = with_quotes(text, part_at(&assignment.parts, count).span);
+    let line = part(text, key.start, assignment_lines(text, assignment).end);
+    out.push_str(indent(text, assignment))?;
+    out.push_str(without_end(line))?;
+    out.push_str(end)
+}
+
+/// Copies the old text up to the end of the section of `line`, except for the assignments whose keys begin with the
+/// first `count` parts of the key of `line`. Appends these assignments to `out`, with their comments but without the
+/// `count` parts. Fails if an allocation fails.
+fn move_rest(
+    writer: &mut Writer<'_>,
+    text: &str,
+    line: Line<'_, '_>,
+    count: usize,
+    out: &mut String,
+) -> Result<(), AllocError> {
+    let body_end = section_lines(text, line.section).end;
+    let mut above = body_start(text, line.section);
+    for assignment in &line.section.assignments {
+        let lines = assignment_lines(text, assignment);
+        if has_front(&assignment.parts, &line.assignment.parts, count) {
+            let start = comments_start(text, above, lines.start);
+            let end = lines.end;
+            out.push_str(part(text, start, lines.start))?;
+            push_rest(out, text, assignment, count, writer.end)?;
+            writer.skip_lines(Span { start, end }, body_end)?;
+        }
+        above = lines.end;
+    }
+    writer.copy_to(body_end)
+}
+
+/// Proposes a section for the table that contains the dotted key at an offset, after the section of that key. Returns
+/// `None` if there is no dotted key at the offset. Fails if an allocation fails.
+pub(crate) fn dotted_to_section(
+    alloc: Global,
+    text: &str,
+    sections: &[Section<'_>],
+    at: usize,
+) -> Result<Option<Proposal>, AllocError> {
+    let Some(line) = line_at(text, sections, at) else {
+        return Ok(None);
+    };
+    let count = table_parts(text, &line.assignment.parts, at);
+    if count == 0 {
+        return Ok(None);
+    }
+    let mut writer = Writer::new(alloc, text);
+    let table = parts_text(text, &line.assignment.parts, 0, count.saturating_sub(1));
+    let mut new = String::from_str(alloc, indent(text, line.assignment))?;
+    new.push_str(header_of(alloc, text, line.section, table)?.as_str())?;
+    new.push_str(writer.end)?;
+    move_rest(&mut writer, text, line, count, &mut new)?;
+    writer.push_apart(new.as_str())?;
+    let named = Named {
+        form: TableForm::Dotted,
+        span: line.assignment.extent,
+        index: count.saturating_sub(1),
+    };
+    Ok(Some(Proposal::Table(named, writer.finish()?)))
+}

@@ -1,0 +1,115 @@
+//! Writes values on one line.
+use crate::lines::{part, spanned};
+use crate::places::parts_text;
+use std::alloc::{AllocError, Global};
+use std::borrow::CowStr;
+use toml_span_lex::span::Span;
+use toml_span_places::literal_span;
+use toml_span_read::{Assignment, Val, ValKind};
+use toml_span_tree::{Value, ValueInner};
+
+/// Returns the span of the literal that spells a value. For a string, this includes the quotes.
+pub(crate) fn literal_of(text: &str, value: &Val<'_>) -> Span {
+    let ValKind::String(string) = &value.kind else {
+        return value.span;
+    };
+    let shown = if string.is_empty() { "" } else { "x" };
+    let inner = ValueInner::String(CowStr::Borrowed(shown));
+    let shown = Value::with_span(inner, value.span);
+    let span = literal_span(text, &shown);
+    drop(shown);
+    span
+}
+
+/// Returns whether there is a comment from `start` to `end`. This part of the text must not contain strings.
+pub(crate) fn has_comment(text: &str, start: usize, end: usize) -> bool {
+    part(text, start, end).contains('#')
+}
+
+/// Appends the array of `items` at `span` on one line. Returns false if that is not possible, as `push_flat` does.
+/// Fails if an allocation fails.
+#[cycle(push_flat)]
+fn push_items(
+    text: &str,
+    span: Span,
+    items: &[Val<'_>],
+    out: &mut String,
+) -> Result<bool, AllocError> {
+    let mut from = span.start.saturating_add(1);
+    out.push('[')?;
+    for (index, item) in items.iter().enumerate() {
+        let literal = literal_of(text, item);
+        out.push_str(if index > 0 { ", " } else { "" })?;
+        if has_comment(text, from, literal.start) || !push_flat(text, item, out)? {
+            return Ok(false);
+        }
+        from = literal.end;
+    }
+    out.push(']')?;
+    Ok(!has_comment(text, from, span.end))
+}
+
+/// Appends the inline table of `pairs` at `span` on one line. Returns false if that is not possible, as `push_flat`
+/// does. Fails if an allocation fails.
+#[cycle(push_flat)]
+fn push_pairs(
+    text: &str,
+    span: Span,
+    pairs: &[Assignment<'_>],
+    out: &mut String,
+) -> Result<bool, AllocError> {
+    let mut from = span.start.saturating_add(1);
+    out.push('{')?;
+    for (index, pair) in pairs.iter().enumerate() {
+        out.push_str(if index > 0 { ", " } else { " " })?;
+        if has_comment(text, from, pair.extent.start) || !push_pair(text, pair, out)? {
+            return Ok(false);
+        }
+        from = pair.extent.end;
+    }
+    out.push_str(if pairs.is_empty() { "}" } else { " }" })?;
+    Ok(!has_comment(text, from, span.end))
+}
+
+/// Appends a pair on one line, such as `a = 1`. Returns false if that is not possible, as `push_flat` does. Fails if an
+/// allocation fails.
+#[cycle(push_flat)]
+pub(crate) fn push_pair(
+    text: &str,
+    pair: &Assignment<'_>,
+    out: &mut String,
+) -> Result<bool, AllocError> {
+    out.push_str(parts_text(text, &pair.parts, 0, pair.parts.inner.len()))?;
+    out.push_str(" = ")?;
+    push_flat(text, &pair.value, out)
+}
+
+/// Appends a value on one line. Returns false if that is not possible, because the value contains a comment or a string
+/// on several lines; then only a part of the value may be appended. Fails if an allocation fails.
+#[cycle(push_flat)]
+pub(crate) fn push_flat(text: &str, value: &Val<'_>, out: &mut String) -> Result<bool, AllocError> {
+    match &value.kind {
+        ValKind::Array(items) => push_items(text, value.span, items.as_slice(), out),
+        ValKind::Inline(pairs) => push_pairs(text, value.span, pairs.as_slice(), out),
+        _ => {
+            let literal = spanned(text, literal_of(text, value));
+            out.push_str(literal)?;
+            Ok(!literal.contains('\n'))
+        }
+    }
+}
+
+/// Returns a value on one line, or `None` if the value contains a comment or a string on several lines. Fails if an
+/// allocation fails.
+pub(crate) fn flat(
+    alloc: Global,
+    text: &str,
+    value: &Val<'_>,
+) -> Result<Option<String>, AllocError> {
+    let mut out = String::new(alloc);
+    if push_flat(text, value, &mut out)? {
+        Ok(Some(out))
+    } else {
+        Ok(None)
+    }
+}

@@ -1,0 +1,127 @@
+//! Finds the assignment or array at an offset, and the text of keys.
+use crate::lines::part;
+use toml_span_lex::key::Key;
+use toml_span_lex::span::Span;
+use toml_span_lex::tokenizer::first_place;
+use toml_span_places::{assignment_lines, with_quotes};
+use toml_span_read::{Assignment, DottedKey, Section, Val, ValKind};
+
+/// An assignment on a line, and its section.
+#[derive(Clone, Copy)]
+pub(crate) struct Line<'s, 'de> {
+    pub(crate) section: &'s Section<'de>,
+    pub(crate) assignment: &'s Assignment<'de>,
+    /// The end of the preceding assignment's lines or, if there is none, of the header or the byte order mark.
+    pub(crate) above: usize,
+}
+
+/// Returns whether an offset is in a span or at the end of the span.
+pub(crate) fn touches(span: Span, at: usize) -> bool {
+    span.start <= at && at <= span.end
+}
+
+/// Returns the end of a section's header or, if it has no header, the end of the byte order mark, 0 without one.
+pub(crate) fn body_start(text: &str, section: &Section<'_>) -> usize {
+    if section.header.as_slice().is_empty() {
+        first_place(text)
+    } else {
+        section.header_span.end
+    }
+}
+
+/// Returns the assignment at an offset, which may also be at the end of the assignment, or `None` if there is none.
+/// Assignments in inline tables don't count.
+pub(crate) fn line_at<'s, 'de>(
+    text: &str,
+    sections: &'s [Section<'de>],
+    at: usize,
+) -> Option<Line<'s, 'de>> {
+    for section in sections {
+        let mut above = body_start(text, section);
+        for assignment in &section.assignments {
+            if touches(assignment.extent, at) {
+                return Some(Line {
+                    section,
+                    assignment,
+                    above,
+                });
+            }
+            above = assignment_lines(text, assignment).end;
+        }
+    }
+    None
+}
+
+/// Returns the innermost array in a value that contains or touches an offset, or `None` if there is none. The value
+/// itself may be the array.
+#[cycle(array_in)]
+fn array_in<'s, 'de>(text: &str, value: &'s Val<'de>, at: usize) -> Option<&'s Val<'de>> {
+    if !touches(value.span, at) {
+        return None;
+    }
+    match &value.kind {
+        ValKind::Array(items) => {
+            for item in items {
+                if let Some(found) = array_in(text, item, at) {
+                    return Some(found);
+                }
+            }
+            Some(value)
+        }
+        ValKind::Inline(pairs) => {
+            for pair in pairs {
+                if let Some(found) = array_in(text, &pair.value, at) {
+                    return Some(found);
+                }
+            }
+            None
+        }
+        _ => None,
+    }
+}
+
+/// Returns the innermost array at an offset, or `None` if there is none. If the offset is in the key of an array or
+/// before the array, this is that array.
+pub(crate) fn array_at<'s, 'de>(
+    text: &str,
+    sections: &'s [Section<'de>],
+    at: usize,
+) -> Option<&'s Val<'de>> {
+    let line = line_at(text, sections, at)?;
+    let value = &line.assignment.value;
+    array_in(text, value, at.max(value.span.start))
+}
+
+/// Returns the part of a dotted key at `index`, or its last part if the key is shorter.
+pub(crate) fn part_at<'s, 'de>(parts: &'s DottedKey<'de>, index: usize) -> &'s Key<'de> {
+    if let Some(key) = parts.inner.get(index) {
+        return key;
+    }
+    &parts.last
+}
+
+/// Returns the parts of a dotted key from the position `first` to the position `last`, inclusive, as they are written
+/// in the text.
+pub(crate) fn parts_text<'t>(
+    text: &'t str,
+    parts: &DottedKey<'_>,
+    first: usize,
+    last: usize,
+) -> &'t str {
+    let start = with_quotes(text, part_at(parts, first).span).start;
+    let end = with_quotes(text, part_at(parts, last).span).end;
+    part(text, start, end)
+}
+
+/// Returns the parts of a section's header up to the position `last`, inclusive, as they are written in the text.
+/// Returns an empty text if the header has no part at `last`.
+pub(crate) fn header_text<'t>(text: &'t str, section: &Section<'_>, last: usize) -> &'t str {
+    let keys = section.header.as_slice();
+    match (keys.first(), keys.get(last)) {
+        (Some(first), Some(last)) => {
+            let start = with_quotes(text, first.span).start;
+            part(text, start, with_quotes(text, last.span).end)
+        }
+        _ => "",
+    }
+}

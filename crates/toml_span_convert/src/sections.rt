@@ -1,0 +1,294 @@
+//! Converts sections to inline tables.
+use crate::conversions::{Named, Proposal};
+use crate::flat::{has_comment, push_pair};
+use crate::lines::{comments_start, indent, line_end, part};
+use crate::places::{body_start, header_text};
+use crate::writer::Writer;
+use std::alloc::{AllocError, Global};
+use toml_span_lex::key::Key;
+use toml_span_lex::span::Span;
+use toml_span_lex::tokenizer::first_place;
+use toml_span_places::{TableForm, section_lines, with_quotes};
+use toml_span_read::Section;
+
+/// A section that becomes an inline table.
+#[derive(Clone, Copy)]
+struct Found<'s, 'de> {
+    section: &'s Section<'de>,
+    /// The position of the section among all sections.
+    index: usize,
+    /// The last part of the header.
+    key: &'s Key<'de>,
+    /// The start of the comment lines above the header, or of the header's line if there are none.
+    comments: usize,
+    /// The start of the header's line.
+    header: usize,
+}
+
+/// Returns the section whose header, in single brackets, is at an offset, or `None` if there is none.
+fn section_at<'s, 'de>(
+    text: &str,
+    sections: &'s [Section<'de>],
+    at: usize,
+) -> Option<Found<'s, 'de>> {
+    let mut above = first_place(text);
+    for (index, section) in sections.iter().enumerate() {
+        let lines = section_lines(text, section);
+        let header = part(text, section.header_span.start, section.header_span.end);
+        let end = section
+            .header_span
+            .start
+            .saturating_add(header.trim_end().len());
+        if let Some(key) = section.header.as_slice().last() {
+            if section.header_span.start <= at && at <= end && !section.array {
+                return Some(Found {
+                    section,
+                    index,
+                    key,
+                    comments: comments_start(text, above, lines.start),
+                    header: lines.start,
+                });
+            }
+            above = lines.end;
+        } else if !section.assignments.is_empty() {
+            above = lines.end;
+        }
+    }
+    None
+}
+
+/// How the header of a section is related to a table.
+#[derive(Clone, Copy, PartialEq, Eq)]
+enum Relation {
+    /// The header names the table.
+    Same,
+    /// The header begins a new element of an array around the table.
+    Element,
+    Other,
+}
+
+/// Returns how the header of a section is related to the table that a header with these keys names.
+fn relation_of(section: &Section<'_>, keys: &[Key<'_>]) -> Relation {
+    let header = section.header.as_slice();
+    let mut rest = keys.iter();
+    for key in header {
+        match rest.next() {
+            Some(other) if other.name.as_str() == key.name.as_str() => {}
+            _ => return Relation::Other,
+        }
+    }
+    match rest.next() {
+        None => Relation::Same,
+        Some(_) if section.array => Relation::Element,
+        Some(_) => Relation::Other,
+    }
+}
+
+/// Returns the section of the table around the section at the position `index`, or `None` if that table has no section.
+/// `keys` are the keys of the table's header, none for the root.
+fn parent_of<'s, 'de>(
+    sections: &'s [Section<'de>],
+    index: usize,
+    keys: &[Key<'_>],
+) -> Option<&'s Section<'de>> {
+    let (before, after) = sections.split_at(index.min(sections.len()));
+    for section in before.iter().rev() {
+        match relation_of(section, keys) {
+            Relation::Same => return Some(section),
+            Relation::Element => break,
+            Relation::Other => {}
+        }
+    }
+    for section in after {
+        match relation_of(section, keys) {
+            Relation::Same if !section.array => return Some(section),
+            Relation::Same | Relation::Element => break,
+            Relation::Other => {}
+        }
+    }
+    None
+}
+
+/// Returns the assignments of a section as an inline table on one line. Returns `None` if the section contains comments
+/// after the header's line, or an assignment can't be on one line. Fails if an allocation fails.
+fn braces_of(
+    alloc: Global,
+    text: &str,
+    section: &Section<'_>,
+) -> Result<Option<String>, AllocError> {
+    let mut out = String::from_str(alloc, "{")?;
+    let mut from = section.header_span.end;
+    for (index, assignment) in section.assignments.iter().enumerate() {
+        out.push_str(if index > 0 { ", " } else { " " })?;
+        let is_kept = !has_comment(text, from, assignment.extent.start);
+        if !is_kept || !push_pair(text, assignment, &mut out)? {
+            return Ok(None);
+        }
+        from = assignment.extent.end;
+    }
+    if has_comment(text, from, section_lines(text, section).end) {
+        return Ok(None);
+    }
+    out.push_str(if from > section.header_span.end {
+        " }"
+    } else {
+        "}"
+    })?;
+    Ok(Some(out))
+}
+
+/// Returns the line with the inline table `braces` for a section, and with the comment after the header. Fails if an
+/// allocation fails.
+fn line_of(
+    alloc: Global,
+    text: &str,
+    found: Found<'_, '_>,
+    braces: &str,
+) -> Result<String, AllocError> {
+    let end = line_end(text);
+    let whole = with_quotes(text, found.key.span);
+    let key = part(text, whole.start, whole.end);
+    let rest = part(text, whole.end, found.section.header_span.end);
+    let note = rest.trim_start_matches([' ', '\t']);
+    let note = note.strip_prefix(']').unwrap_or("").trim_end();
+    format!(in alloc; "{key} = {braces}{note}{end}")
+}
+
+/// Returns the offset at which a new line of a section is inserted, and the indentation of this line.
+fn next_line_of<'t>(text: &'t str, section: &Section<'_>) -> (usize, &'t str) {
+    let lines = section_lines(text, section);
+    let front = match section.assignments.last() {
+        Some(assignment) => indent(text, assignment),
+        None => part(text, lines.start, section.header_span.start),
+    };
+    let end = if section.assignments.is_empty() {
+        body_start(text, section)
+    } else {
+        lines.end
+    };
+    (end, front)
+}
+
+/// Returns the text in which `line` replaces the section `found`. The line is at the end of the section `parent`. Fails
+/// if an allocation fails.
+fn move_line(
+    alloc: Global,
+    text: &str,
+    found: Found<'_, '_>,
+    parent: &Section<'_>,
+    line: &str,
+) -> Result<String, AllocError> {
+    let (to, front) = next_line_of(text, parent);
+    let above = part(text, found.comments, found.header);
+    let mut writer = Writer::new(alloc, text);
+    let end = section_lines(text, found.section).end;
+    let lines = Span {
+        start: found.comments,
+        end,
+    };
+    if to > found.comments {
+        writer.skip_lines(lines, text.len())?;
+    }
+    writer.copy_to(to)?;
+    writer.begin_line()?;
+    writer.push(above)?;
+    writer.push(front)?;
+    writer.push(line)?;
+    if to <= found.comments {
+        writer.skip_lines(lines, text.len())?;
+    }
+    writer.finish_after(alloc, end)
+}
+
+/// Returns the text in which `line` replaces the section `found`, if the table around it has no section. The line is
+/// below a new header for that table or, if the table is the root, before all other headers. `first` is the start of
+/// the first header's line or of the comment lines above that header. Fails if an allocation fails.
+fn write_line(
+    alloc: Global,
+    text: &str,
+    found: Found<'_, '_>,
+    first: usize,
+    line: &str,
+) -> Result<String, AllocError> {
+    let mut writer = Writer::new(alloc, text);
+    let line_end = line_end(text);
+    let end = section_lines(text, found.section).end;
+    let count = found.section.header.len();
+    if count > 1 {
+        let table = header_text(text, found.section, count.saturating_sub(2));
+        let header = format!(in alloc; "[{table}]")?;
+        writer.copy_to(found.section.header_span.start)?;
+        writer.push(header.as_str())?;
+        writer.push(line_end)?;
+        writer.push(part(text, found.header, found.section.header_span.start))?;
+        writer.push(line)?;
+    } else if first < found.comments {
+        writer.copy_to(first)?;
+        writer.push(part(text, found.comments, found.header))?;
+        writer.push(line)?;
+        writer.push(line_end)?;
+        let start = found.comments;
+        writer.skip_lines(Span { start, end }, text.len())?;
+        return writer.finish_after(alloc, end);
+    } else {
+        writer.copy_to(found.header)?;
+        writer.push(line)?;
+    }
+    let start = found.header;
+    writer.skip(Span { start, end })?;
+    writer.finish()
+}
+
+/// Returns whether a section has neither a header nor assignments.
+fn is_empty_root(section: &Section<'_>) -> bool {
+    section.header.as_slice().is_empty() && section.assignments.is_empty()
+}
+
+/// Returns the start of the first header's line or of the comment lines above that header. Returns the start of the
+/// document, after a byte order mark, if there is no header.
+fn first_header(text: &str, sections: &[Section<'_>]) -> usize {
+    let from = first_place(text);
+    for section in sections {
+        if !section.header.as_slice().is_empty() {
+            return comments_start(text, from, section_lines(text, section).start);
+        }
+    }
+    from
+}
+
+/// Proposes an inline table for the section whose header is at an offset. Returns `None` if there is no header in
+/// single brackets at the offset, or if the section can't be on one line. Fails if an allocation fails.
+pub(crate) fn section_to_inline(
+    alloc: Global,
+    text: &str,
+    sections: &[Section<'_>],
+    at: usize,
+) -> Result<Option<Proposal>, AllocError> {
+    let Some(found) = section_at(text, sections, at) else {
+        return Ok(None);
+    };
+    let Some(braces) = braces_of(alloc, text, found.section)? else {
+        return Ok(None);
+    };
+    let line = line_of(alloc, text, found, braces.as_str())?;
+    let keys = found.section.header.as_slice();
+    let keys = keys.get(..keys.len().saturating_sub(1)).unwrap_or(&[]);
+    let new = match parent_of(sections, found.index, keys) {
+        Some(parent) if !is_empty_root(parent) => {
+            move_line(alloc, text, found, parent, line.as_str())?
+        }
+        _ => write_line(
+            alloc,
+            text,
+            found,
+            first_header(text, sections),
+            line.as_str(),
+        )?,
+    };
+    let named = Named {
+        form: TableForm::Header,
+        span: found.section.header_span,
+        index: 0,
+    };
+    Ok(Some(Proposal::Table(named, new)))
+}

@@ -1,0 +1,140 @@
+//! Converts inline tables to sections.
+use crate::conversions::{Named, Proposal};
+use crate::lines::{comment_in, comments_start, indent, note, part};
+use crate::places::{Line, header_text, line_at, parts_text};
+use crate::writer::Writer;
+use std::alloc::{AllocError, Global};
+use toml_span_lex::span::Span;
+use toml_span_places::{TableForm, assignment_lines, section_lines};
+use toml_span_read::{Assignment, Section, ValKind};
+
+/// Returns the header of the table `key` in a section: `[a.b.c]` if the header of the section is `[a]` and `key` is
+/// `b.c`. Fails if an allocation fails.
+pub(crate) fn header_of(
+    alloc: Global,
+    text: &str,
+    section: &Section<'_>,
+    key: &str,
+) -> Result<String, AllocError> {
+    let table = header_text(text, section, section.header.len().saturating_sub(1));
+    let dot = if table.is_empty() { "" } else { "." };
+    format!(in alloc; "[{table}{dot}{key}]")
+}
+
+/// Ends the current line with the comment in the first line of `gap`, if there is one, and appends the comments in the
+/// other lines of `gap`, each on a line of its own. A gap is the text between two pairs: blanks, line ends, a comma and
+/// comments. Fails if an allocation fails.
+fn push_gap(out: &mut String, gap: &str, indent: &str, end: &str) -> Result<(), AllocError> {
+    for (index, line) in gap.split('\n').enumerate() {
+        let comment = comment_in(line);
+        if index == 0 {
+            out.push_str(if comment.is_empty() { "" } else { " " })?;
+            out.push_str(comment)?;
+            out.push_str(end)?;
+        } else if !comment.is_empty() {
+            out.push_str(indent)?;
+            out.push_str(comment)?;
+            out.push_str(end)?;
+        }
+    }
+    Ok(())
+}
+
+/// Ends the current line, and appends the pairs of an inline table, each on a line of its own, with the comments in the
+/// table. `braces` is the span of the table. Fails if an allocation fails.
+fn push_pairs(
+    out: &mut String,
+    text: &str,
+    braces: Span,
+    pairs: &[Assignment<'_>],
+    indent: &str,
+    end: &str,
+) -> Result<(), AllocError> {
+    let mut from = braces.start.saturating_add(1);
+    for pair in pairs {
+        push_gap(out, part(text, from, pair.extent.start), indent, end)?;
+        out.push_str(indent)?;
+        out.push_str(part(text, pair.extent.start, pair.extent.end))?;
+        from = pair.extent.end;
+    }
+    push_gap(
+        out,
+        part(text, from, braces.end.saturating_sub(1)),
+        indent,
+        end,
+    )
+}
+
+/// Returns whether there is a comment after the opening brace of an inline table, on the same line and before the first
+/// pair. `braces` is the span of the table.
+fn has_open_comment(text: &str, braces: Span, pairs: &[Assignment<'_>]) -> bool {
+    let end = match pairs.first() {
+        Some(pair) => pair.extent.start,
+        None => braces.end,
+    };
+    match part(text, braces.start, end).split('\n').next() {
+        Some(line) => line.contains('#'),
+        None => false,
+    }
+}
+
+/// Returns the section for the inline table in `line`. `above` are the comment lines above the line. The comment after
+/// the table is written after the header or, if a comment after the opening brace is written there, above the header.
+/// Fails if an allocation fails.
+fn section_of(
+    alloc: Global,
+    text: &str,
+    line: Line<'_, '_>,
+    pairs: &[Assignment<'_>],
+    above: &str,
+    end: &str,
+) -> Result<String, AllocError> {
+    let assignment = line.assignment;
+    let braces = assignment.value.span;
+    let is_taken = has_open_comment(text, braces, pairs);
+    let (front, after) = (indent(text, assignment), note(text, assignment));
+    let mut out = String::from_str(alloc, above)?;
+    if is_taken && !after.is_empty() {
+        out.push_str(front)?;
+        out.push_str(after.trim_start())?;
+        out.push_str(end)?;
+    }
+    let key = parts_text(text, &assignment.parts, 0, assignment.parts.inner.len());
+    out.push_str(front)?;
+    out.push_str(header_of(alloc, text, line.section, key)?.as_str())?;
+    out.push_str(if is_taken { "" } else { after })?;
+    push_pairs(&mut out, text, braces, pairs, front, end)?;
+    Ok(out)
+}
+
+/// Proposes a section for the inline table at an offset, after the section that contains the table. Returns `None` if
+/// there is no assignment with an inline table at the offset. Fails if an allocation fails.
+pub(crate) fn inline_to_section(
+    alloc: Global,
+    text: &str,
+    sections: &[Section<'_>],
+    at: usize,
+) -> Result<Option<Proposal>, AllocError> {
+    let Some(line) = line_at(text, sections, at) else {
+        return Ok(None);
+    };
+    let ValKind::Inline(pairs) = &line.assignment.value.kind else {
+        return Ok(None);
+    };
+    let lines = assignment_lines(text, line.assignment);
+    let start = comments_start(text, line.above, lines.start);
+    let above = part(text, start, lines.start);
+    let body_end = section_lines(text, line.section).end;
+    let mut writer = Writer::new(alloc, text);
+    let new = section_of(alloc, text, line, pairs.as_slice(), above, writer.end)?;
+    let end = lines.end;
+    writer.skip_lines(Span { start, end }, body_end)?;
+    writer.copy_to(body_end)?;
+    writer.push_apart(new.as_str())?;
+    let named = Named {
+        form: TableForm::Inline,
+        span: line.assignment.value.span,
+        index: 0,
+    };
+    Ok(Some(Proposal::Table(named, writer.finish()?)))
+}

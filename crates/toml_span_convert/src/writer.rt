@@ -1,0 +1,113 @@
+//! Writes a new text from parts of an old text and from new lines.
+use crate::lines::{begins_blank, ends_blank, line_end, part};
+use std::alloc::{AllocError, Global};
+use toml_span_lex::span::Span;
+
+/// A new text under construction.
+#[derive(Drop)]
+pub(crate) struct Writer<'t> {
+    /// The old text.
+    text: &'t str,
+    /// The line end for new lines.
+    pub(crate) end: &'static str,
+    /// The new text, as far as it has been written.
+    out: String,
+    /// The offset up to which the old text has been copied or left out.
+    at: usize,
+}
+
+impl<'t> Writer<'t> {
+    /// Returns a writer that has written nothing yet.
+    pub(crate) fn new(alloc: Global, text: &'t str) -> Self {
+        Writer {
+            text,
+            end: line_end(text),
+            out: String::new(alloc),
+            at: 0,
+        }
+    }
+
+    /// Copies the old text up to the offset `to`, or nothing if the writer is already past it. Fails if an allocation
+    /// fails.
+    pub(crate) fn copy_to(&mut self, to: usize) -> Result<(), AllocError> {
+        if self.at < to {
+            self.out.push_str(part(self.text, self.at, to))?;
+            self.at = to;
+        }
+        Ok(())
+    }
+
+    /// Writes a text. Fails if an allocation fails.
+    pub(crate) fn push(&mut self, text: &str) -> Result<(), AllocError> {
+        self.out.push_str(text)
+    }
+
+    /// Copies the old text up to a span, and leaves out the span. Fails if an allocation fails.
+    pub(crate) fn skip(&mut self, span: Span) -> Result<(), AllocError> {
+        self.copy_to(span.start)?;
+        self.at = self.at.max(span.end);
+        Ok(())
+    }
+
+    /// Copies the old text up to `lines`, the span of whole lines, and leaves these out. If the new text then ends with
+    /// a blank line or is empty, also leaves out the blank lines that follow, up to the offset `limit`. Fails if an
+    /// allocation fails.
+    pub(crate) fn skip_lines(&mut self, lines: Span, limit: usize) -> Result<(), AllocError> {
+        self.skip(lines)?;
+        if !ends_blank(self.out.as_str()) {
+            return Ok(());
+        }
+        for line in part(self.text, self.at, limit).split_inclusive('\n') {
+            if !line.trim().is_empty() {
+                break;
+            }
+            self.at = self.at.saturating_add(line.len());
+        }
+        Ok(())
+    }
+
+    /// Ends the last line of the new text, unless the line has an end or the text is empty. Fails if an allocation
+    /// fails.
+    pub(crate) fn begin_line(&mut self) -> Result<(), AllocError> {
+        let out = self.out.as_str();
+        if out.ends_with('\n') || out.strip_prefix('\u{feff}').unwrap_or(out).is_empty() {
+            return Ok(());
+        }
+        self.out.push_str(self.end)
+    }
+
+    /// Writes lines, with a blank line before and after them, unless there is one already. Writes no blank line at the
+    /// start or the end of the text. Fails if an allocation fails.
+    pub(crate) fn push_apart(&mut self, lines: &str) -> Result<(), AllocError> {
+        self.begin_line()?;
+        if !ends_blank(self.out.as_str()) {
+            self.out.push_str(self.end)?;
+        }
+        self.out.push_str(lines)?;
+        if !begins_blank(part(self.text, self.at, self.text.len())) {
+            self.out.push_str(self.end)?;
+        }
+        Ok(())
+    }
+
+    /// Copies the rest of the old text, and returns the new text. Fails if an allocation fails.
+    pub(crate) fn finish(mut self) -> Result<String, AllocError> {
+        let end = self.text.len();
+        self.copy_to(end)?;
+        Ok(self.out)
+    }
+
+    /// Copies the rest of the old text, and returns the new text. If only blank lines follow the offset `end` in the
+    /// old text, leaves out the blank lines at the end of the new text. Fails if an allocation fails.
+    pub(crate) fn finish_after(self, alloc: Global, end: usize) -> Result<String, AllocError> {
+        let is_last = part(self.text, end, self.text.len()).trim().is_empty();
+        let line_end = self.end;
+        let out = self.finish()?;
+        if !is_last || !ends_blank(out.as_str()) {
+            return Ok(out);
+        }
+        let mut kept = String::from_str(alloc, out.as_str().trim_end())?;
+        kept.push_str(line_end)?;
+        Ok(kept)
+    }
+}

@@ -1,0 +1,11 @@
+-- Conversions of tables and arrays.
+use Rattle.std.specs.Prelude.{ℕ, List, map, string_bytes}
+use Rattle.toml_span_convert.specs.Converted.{IsConverted}
+use Rattle.toml_span_convert.specs.declared.conversions.Conversion.{Conversion}
+use Rattle.toml_span_editor.specs.Edits.{Turns, edit_content}
+use Rattle.toml_span_editor.specs.declared.edits.Rewritten.{Rewritten}
+
+-- The edits give a table or an array another form, and keep the tree, except for spans, and the comments.
+abbrev pub ConvertsBy : Conversion → List ℕ → Rewritten → Type 0
+ConvertsBy conversion text made = IsConverted conversion text (string_bytes made.text)
+    × Turns text (map edit_content made.edits.items) (string_bytes made.text)

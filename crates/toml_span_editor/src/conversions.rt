@@ -1,0 +1,57 @@
+//! Converts tables and arrays to other forms.
+ghost use Rattle.std.specs.Prelude.{IfOk, IfSome};
+ghost use Rattle.toml_span_editor.specs.Conversions.{ConvertsBy};
+
+use crate::edits::{Rewritten, differences};
+use std::alloc::{AllocError, Global};
+use toml_span_convert::{Conversion, converted};
+
+/// A conversion that an editor offers.
+#[derive(Clone, Copy)]
+pub struct Offer {
+    pub conversion: Conversion,
+    /// The title that the editor shows.
+    pub title: &'static str,
+}
+
+/// The conversions that an editor offers.
+pub const OFFERS: [Offer; 5] = [
+    Offer {
+        conversion: Conversion::InlineToSection,
+        title: "Convert inline table to section",
+    },
+    Offer {
+        conversion: Conversion::SectionToInline,
+        title: "Convert section to inline table",
+    },
+    Offer {
+        conversion: Conversion::DottedToSection,
+        title: "Convert dotted keys to section",
+    },
+    Offer {
+        conversion: Conversion::ArrayToLines,
+        title: "Write array with one element per line",
+    },
+    Offer {
+        conversion: Conversion::ArrayToLine,
+        title: "Write array on one line",
+    },
+];
+
+/// Returns the edits that convert the table or array at a byte offset. After these edits, the document has the same
+/// keys, values and comments. Returns `None` if there is nothing to convert at the offset, or if it can't be converted
+/// (see `converted`). Fails if an allocation fails.
+pub fn converting(
+    alloc: Global,
+    text: &str,
+    conversion: Conversion,
+    at: usize,
+) -> Result<Option<Rewritten>, AllocError>
+    ensures { IfOk result (λ made. IfSome made (ConvertsBy conversion text.now)) }
+{
+    let Some(new) = converted(alloc, text, conversion, at)? else {
+        return Ok(None);
+    };
+    let edits = differences(alloc, text, new.as_str())?;
+    Ok(Some(Rewritten { edits, text: new }))
+}

@@ -1,0 +1,83 @@
+//! Writes snippets: texts with places to fill in (LSP 3.17, Snippet Syntax).
+use std::alloc::AllocError;
+use toml_span_schema::Kinds;
+
+/// Appends a text of a snippet, outside choices: `$`, `}` and `\` are escaped with `\`. Fails if an allocation fails.
+pub(crate) fn push_text(out: &mut String, text: &str) -> Result<(), AllocError> {
+    for c in text.chars() {
+        if matches!(c, '$' | '}' | '\\') {
+            out.push('\\')?;
+        }
+        out.push(c)?;
+    }
+    Ok(())
+}
+
+/// Appends a word of a choice: `,`, `|` and `\` are escaped with `\`. Fails if an allocation fails.
+fn push_word(out: &mut String, word: &str) -> Result<(), AllocError> {
+    for c in word.chars() {
+        if matches!(c, ',' | '|' | '\\') {
+            out.push('\\')?;
+        }
+        out.push(c)?;
+    }
+    Ok(())
+}
+
+/// Appends a place that takes one of `words`, as the user chooses. Fails if an allocation fails.
+fn push_choice(out: &mut String, words: &[&str]) -> Result<(), AllocError> {
+    out.push_str("${1|")?;
+    for (at, word) in words.iter().enumerate() {
+        if at > 0 {
+            out.push(',')?;
+        }
+        push_word(out, *word)?;
+    }
+    out.push_str("|}")
+}
+
+/// Appends a place for a value, inside the quotes, braces or brackets of the first of these that is allowed: a string,
+/// a table or an array. Fails if an allocation fails.
+fn push_kind(out: &mut String, kinds: Kinds) -> Result<(), AllocError> {
+    out.push_str(if kinds.string {
+        "\"$1\""
+    } else if kinds.table {
+        "{ $1 }"
+    } else if kinds.array {
+        "[$1]"
+    } else {
+        "$1"
+    })
+}
+
+/// Appends a place for a value: the first of these that applies is a choice among `words`, a choice of a boolean with
+/// the default first, the default, or a place as `push_kind` appends it. Fails if an allocation fails.
+pub(crate) fn push_place(
+    out: &mut String,
+    kinds: Kinds,
+    words: &[&str],
+    default: Option<&str>,
+) -> Result<(), AllocError> {
+    if !words.is_empty() {
+        return push_choice(out, words);
+    }
+    if kinds.boolean && !kinds.string {
+        let is_on = default != Some("false");
+        return push_choice(
+            out,
+            if is_on {
+                &["true", "false"]
+            } else {
+                &["false", "true"]
+            },
+        );
+    }
+    match default {
+        Some(default) => {
+            out.push_str("${1:")?;
+            push_text(out, default)?;
+            out.push('}')
+        }
+        None => push_kind(out, kinds),
+    }
+}

@@ -1,0 +1,33 @@
+-- Reports of violations, followed by warnings.
+use Rattle.toml_span_lex.proofs.Common.{◌≡◌, ◌<◌, ◌==◌, ◌∙◌, ◌++◌, ap, sym, inr, ℕ, zero, suc, List, [], ◌∷◌, map, length, Some, append_assoc, map-append, length-map, arith}
+use Rattle.std.specs.List.{All}
+use Rattle.std.proofs.lemmas.List.{append-nil}
+use Rattle.std.proofs.lemmas.List.Elements.{All-append}
+use Rattle.toml_span_tree.specs.Node.{Node}
+use Rattle.toml_span_report.specs.Report.{ReportContent, report_content}
+use Rattle.toml_span_report.specs.declared.report.Report.{Report}
+use Rattle.toml_span_report.specs.declared.report.Severity.TheVariants.{Warning}
+use Rattle.toml_span_schema.specs.Valid.{valid}
+use Rattle.toml_span_schema.specs.declared.schema.Schema.{Schema}
+use Rattle.toml_span_lookup.specs.Findings.{AddsWarnings, IsChecked, IsWarning}
+
+pub adds-none : (reports : List ReportContent) → AddsWarnings reports reports
+adds-none reports = ([], sym (append-nil reports), λ k d within. absurd (omega arith))
+
+all-one : (report : ReportContent) → IsWarning report → All IsWarning (report ∷ [])
+all-one report warns zero d within = warns
+all-one report warns (suc k) d within = absurd (omega arith)
+
+pub adds-more : (old : List ReportContent) (mid new : List Report) (report : Report) → AddsWarnings old (map report_content mid) → new ≡ mid ++ report ∷ [] → report.severity ≡ Warning →
+    AddsWarnings old (map report_content new)
+adds-more old mid new report (warnings, is, all) more warns = (
+  warnings ++ report_content report ∷ [],
+  ap (map report_content) more ∙ map-append report_content mid (report ∷ []) ∙ ap (λ l. l ++ report_content report ∷ []) is
+      ∙ append_assoc old warnings (report_content report ∷ []),
+  All-append IsWarning warnings (report_content report ∷ []) all (all-one (report_content report) warns),
+)
+
+pub is-checked : (schema : Schema) (root : Node) (errors reports : List Report) → valid schema schema.depth root ≡ Some (length errors == 0) →
+    AddsWarnings (map report_content errors) (map report_content reports) → IsChecked root (map report_content reports)
+is-checked schema root errors reports is adds =
+    inr (inr (schema, map report_content errors, is ∙ ap (λ n. Some (n == 0)) (sym (length-map errors report_content)), adds))

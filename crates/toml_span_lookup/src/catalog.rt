@@ -1,0 +1,115 @@
+//! Catalogs of schemas in SchemaStore's format.
+use json::{Reader, Scratch, Value as Json};
+use std::alloc::{AllocError, Global};
+use toml_span_check::patterns::{Pattern, last_match, pattern_of};
+use toml_span_report::line_column;
+
+/// A schema of a catalog.
+#[derive(Drop)]
+struct Listed {
+    /// The patterns of the files to which the schema applies. The last pattern that matches a path decides.
+    patterns: Vec<Pattern>,
+    /// The path or the URL of the schema.
+    address: String,
+}
+
+/// A catalog of schemas.
+#[derive(Drop)]
+pub(crate) struct Catalog {
+    schemas: Vec<Listed>,
+}
+
+/// Returns the string in the member `name`, or `None` if the member is missing or not a string.
+fn text_of<'a>(value: &Json<'a>, name: &str) -> Option<&'a str> {
+    value.get(name).and_then(|member| member.as_str())
+}
+
+/// Returns the elements of the array in the member `name`, or `None` if the member is missing or not an array.
+fn elements_of<'v, 'a>(value: &'v Json<'a>, name: &str) -> Option<&'v [Json<'a>]> {
+    match value.get(name) {
+        Some(Json::Array(items)) => Some(items.as_slice()),
+        _ => None,
+    }
+}
+
+/// Parses a pattern of `fileMatch`, which matches at any depth. Returns `None` if the pattern is not supported (see
+/// `pattern_of`). Fails if an allocation fails.
+fn glob_of(alloc: Global, text: &str) -> Result<Option<Pattern>, AllocError> {
+    let (mark, rest) = match text.strip_prefix('!') {
+        Some(rest) => ("!", rest),
+        None => ("", text),
+    };
+    let rest = rest.strip_prefix('/').unwrap_or(rest);
+    let pattern = format!(in alloc; "{mark}**/{rest}")?;
+    pattern_of(alloc, pattern.as_str())
+}
+
+/// Parses an entry of a catalog. Returns `None` if the entry lacks `url` or `fileMatch`. Fails if an allocation fails.
+fn entry_of(alloc: Global, entry: &Json<'_>) -> Result<Option<Listed>, AllocError> {
+    let (Some(address), Some(globs)) = (text_of(entry, "url"), elements_of(entry, "fileMatch"))
+    else {
+        return Ok(None);
+    };
+    let mut patterns = Vec::new(alloc);
+    for glob in globs {
+        if let Some(pattern) = glob_of(alloc, glob.as_str().unwrap_or(""))? {
+            patterns.push(pattern)?;
+        }
+    }
+    Ok(Some(Listed {
+        patterns,
+        address: String::from_str(alloc, address)?,
+    }))
+}
+
+/// Parses a catalog. Returns `None` if the text is not JSON, nests too deep, or has no array `schemas`. Fails if an
+/// allocation fails.
+pub(crate) fn catalog_of(alloc: Global, text: &str) -> Result<Option<Catalog>, AllocError> {
+    let mut scratch = Scratch::new(alloc);
+    let value = match Json::parse(alloc, text, &mut scratch) {
+        Ok(value) => value,
+        Err(json::Error::OutOfMemory) => return Err(AllocError),
+        Err(_) => return Ok(None),
+    };
+    let Some(entries) = elements_of(&value, "schemas") else {
+        return Ok(None);
+    };
+    let mut schemas = Vec::new(alloc);
+    for entry in entries {
+        if let Some(schema) = entry_of(alloc, entry)? {
+            schemas.push(schema)?;
+        }
+    }
+    Ok(Some(Catalog { schemas }))
+}
+
+impl Catalog {
+    /// Returns the path or the URL of the first schema that applies to the file with this path, or `None` if no schema
+    /// applies. Fails if an allocation fails.
+    pub(crate) fn address_for(
+        &self,
+        alloc: Global,
+        path: &str,
+    ) -> Result<Option<String>, AllocError> {
+        let path = path.strip_prefix("./").unwrap_or(path);
+        for schema in self.schemas.as_slice() {
+            if last_match(alloc, schema.patterns.as_slice(), path, false)? == Some(true) {
+                return Ok(Some(String::from_str(alloc, schema.address.as_str())?));
+            }
+        }
+        Ok(None)
+    }
+}
+
+/// Returns the line and the column, both counted from 1, at which a text stops being JSON or nests more than 128 levels
+/// deep, or `None` if neither happens. Fails if an allocation fails.
+pub(crate) fn json_fault(alloc: Global, text: &str) -> Result<Option<(usize, usize)>, AllocError> {
+    let mut scratch = Scratch::new(alloc);
+    let mut reader = Reader::new(text, &mut scratch)?;
+    let is_value = reader.skip_value(128).is_ok();
+    if is_value && reader.next().is_none() {
+        return Ok(None);
+    }
+    let (line, column) = line_column(text, reader.offset());
+    Ok(Some((line, column)))
+}

@@ -1,0 +1,267 @@
+//! Reads and compiles a schema with the documents to which it refers.
+use crate::addresses::{address_of, folder_of, path_of_address, without_fragment};
+use crate::disk::{Disk, Stamp};
+use crate::options::Options;
+use crate::reasons::{complain, json_reason, missing_reason};
+use std::alloc::{AllocError, Global};
+use toml_span_schema::{Document, Guide, SchemaError};
+
+/// The maximum number of documents that a schema may refer to.
+const MOST_DOCUMENTS: usize = 100;
+
+/// A file that was read, with its stamp before it was read.
+#[derive(Drop)]
+pub(crate) struct ReadFile {
+    pub(crate) path: String,
+    pub(crate) stamp: Option<Stamp>,
+}
+
+/// A schema that was compiled or refused.
+#[derive(Drop)]
+pub(crate) struct Used {
+    pub(crate) path: String,
+    /// The compiled schema, or `None` if the schema can't be used.
+    pub(crate) guide: Option<Guide>,
+    /// The files of the schema and of the documents to which it refers.
+    pub(crate) files: Vec<ReadFile>,
+}
+
+/// A schema that is being compiled, or a document that it refers to.
+#[derive(Drop)]
+struct Other {
+    path: String,
+    address: String,
+    text: String,
+}
+
+/// Compiles the schema in the first of the documents, which may refer to the others. Fails as `Guide::from_json` does.
+fn compile(alloc: Global, documents: &[Other]) -> Result<Guide, SchemaError> {
+    let mut others = Vec::new(alloc);
+    for document in documents {
+        others.push(Document {
+            address: document.address.as_str(),
+            text: document.text.as_str(),
+        })?;
+    }
+    let address = match documents.first() {
+        Some(document) => document.address.as_str(),
+        None => "",
+    };
+    let root = format!(in alloc; "{{\"$ref\": \"{address}\"}}")?;
+    Guide::from_json(alloc, root.as_str(), others.as_slice())
+}
+
+/// Returns the text of a file. If it can't be read or is not valid UTF-8, returns `None` and adds an error to
+/// `complaint`. `what` is what can't be done without the text, such as `read the catalog`. Fails if an allocation
+/// fails.
+pub(crate) fn text_of<D: Disk>(
+    alloc: Global,
+    disk: &mut D,
+    complaint: &mut String,
+    what: &str,
+    path: &str,
+) -> Result<Option<String>, AllocError> {
+    match disk.read_file(alloc, path)? {
+        Ok(bytes) => match str::from_utf8(bytes.as_slice()) {
+            Ok(text) => Ok(Some(String::from_str(alloc, text)?)),
+            Err(_) => {
+                complain(complaint, what, path, "it is not valid UTF-8")?;
+                Ok(None)
+            }
+        },
+        Err(reason) => {
+            complain(complaint, what, path, reason.as_str())?;
+            Ok(None)
+        }
+    }
+}
+
+/// Returns the path of the document at `address`, to which a schema in `folder` refers, or `None` if the document is
+/// not a local file. Fails if an allocation fails.
+fn path_for(
+    alloc: Global,
+    options: &Options,
+    folder: &str,
+    address: &str,
+) -> Result<Option<String>, AllocError> {
+    match options.copy_of(address) {
+        Some(file) => Ok(Some(String::from_str(alloc, file)?)),
+        None => path_of_address(alloc, folder, address),
+    }
+}
+
+/// Returns the address of the document that `error` reports as missing, without its fragment. Returns `None` if the
+/// error is another one, or if the document is among `documents`.
+fn missing_address<'e>(documents: &[Other], error: &'e SchemaError) -> Option<&'e str> {
+    let SchemaError::Missing { address, .. } = error else {
+        return None;
+    };
+    let address = without_fragment(address.as_str());
+    for document in documents {
+        if document.address.as_str() == address {
+            return None;
+        }
+    }
+    Some(address)
+}
+
+/// Adds an error to `complaint` which says that the document with this address is not JSON. Fails if an allocation
+/// fails.
+fn refuse_text(
+    alloc: Global,
+    complaint: &mut String,
+    documents: &[Other],
+    address: &str,
+) -> Result<(), AllocError> {
+    for document in documents {
+        if document.address.as_str() == address {
+            let reason = json_reason(alloc, document.text.as_str())?;
+            complain(
+                complaint,
+                "use the schema",
+                document.path.as_str(),
+                reason.as_str(),
+            )?;
+        }
+    }
+    Ok(())
+}
+
+/// Adds an error to `complaint` which says that the schema at `path` can't be compiled, and why (`error`). Fails if an
+/// allocation fails.
+fn refuse(
+    alloc: Global,
+    options: &Options,
+    complaint: &mut String,
+    path: &str,
+    documents: &[Other],
+    error: &SchemaError,
+) -> Result<(), AllocError> {
+    let reason = match error {
+        SchemaError::Json { address } => {
+            return refuse_text(alloc, complaint, documents, address.as_str());
+        }
+        SchemaError::Missing { place, address } => {
+            missing_reason(alloc, options.place, place.as_str(), address.as_str())?
+        }
+        _ => error.message(alloc)?,
+    };
+    complain(complaint, "use the schema", path, reason.as_str())
+}
+
+/// Reads the document that `error` reports as missing, and appends it to `documents`. Returns false if the error is
+/// another one, if the document is among `documents` or not a local file, or if it can't be read. If it can't be read,
+/// adds an error to `complaint`. Fails if an allocation fails.
+fn push_missing<D: Disk>(
+    alloc: Global,
+    disk: &mut D,
+    options: &Options,
+    complaint: &mut String,
+    used: &mut Used,
+    documents: &mut Vec<Other>,
+    error: &SchemaError,
+) -> Result<bool, AllocError> {
+    let Some(address) = missing_address(documents.as_slice(), error) else {
+        return Ok(false);
+    };
+    let folder = folder_of(used.path.as_str());
+    let Some(path) = path_for(alloc, options, folder, address)? else {
+        return Ok(false);
+    };
+    let Some(text) = read_part(alloc, disk, complaint, used, path.as_str())? else {
+        return Ok(false);
+    };
+    let address = String::from_str(alloc, address)?;
+    documents.push(Other {
+        path,
+        address,
+        text,
+    })?;
+    Ok(true)
+}
+
+/// Returns the text of a file for the schema `used`, and adds the file to the files of the schema. If the file can't be
+/// read, returns `None` and adds an error to `complaint`. Fails if an allocation fails.
+fn read_part<D: Disk>(
+    alloc: Global,
+    disk: &mut D,
+    complaint: &mut String,
+    used: &mut Used,
+    path: &str,
+) -> Result<Option<String>, AllocError> {
+    let stamp = disk.stamp(path);
+    used.files.push(ReadFile {
+        path: String::from_str(alloc, path)?,
+        stamp,
+    })?;
+    text_of(alloc, disk, complaint, "read the schema", path)
+}
+
+/// Compiles the schema `used`, whose document is the first of `documents`, with the documents to which it refers. If
+/// that is not possible, adds an error to `complaint`. Fails if an allocation fails.
+fn compile_used<D: Disk>(
+    alloc: Global,
+    disk: &mut D,
+    options: &Options,
+    complaint: &mut String,
+    used: &mut Used,
+    mut documents: Vec<Other>,
+) -> Result<(), AllocError> {
+    for _ in 0..MOST_DOCUMENTS {
+        let error = match compile(alloc, documents.as_slice()) {
+            Ok(mut guide) => {
+                guide.schema.set_formats(options.has_formats);
+                used.guide = Some(guide);
+                return Ok(());
+            }
+            Err(SchemaError::OutOfMemory) => return Err(AllocError),
+            Err(error) => error,
+        };
+        let all = &mut documents;
+        if !push_missing(alloc, disk, options, complaint, used, all, &error)? {
+            let path = used.path.as_str();
+            let documents = documents.as_slice();
+            return refuse(alloc, options, complaint, path, documents, &error);
+        }
+    }
+    let reason = "it refers to more than 100 documents";
+    complain(complaint, "use the schema", used.path.as_str(), reason)
+}
+
+/// Reads and compiles the schema at a path. If that is not possible, adds an error to `complaint`, and returns an entry
+/// without a compiled schema. Fails if an allocation fails.
+pub(crate) fn used_from<D: Disk>(
+    alloc: Global,
+    disk: &mut D,
+    options: &Options,
+    complaint: &mut String,
+    path: &str,
+) -> Result<Used, AllocError> {
+    let mut used = Used {
+        path: String::from_str(alloc, path)?,
+        guide: None,
+        files: Vec::new(alloc),
+    };
+    if let Some(text) = read_part(alloc, disk, complaint, &mut used, path)? {
+        let mut documents = Vec::new(alloc);
+        documents.push(Other {
+            path: String::from_str(alloc, path)?,
+            address: address_of(alloc, path)?,
+            text,
+        })?;
+        compile_used(alloc, disk, options, complaint, &mut used, documents)?;
+    }
+    Ok(used)
+}
+
+impl Used {
+    /// Returns whether a file of the schema, or of a document to which it refers, has changed since it was read.
+    pub(crate) fn is_stale<D: Disk>(&self, disk: &mut D) -> bool {
+        for file in self.files.as_slice() {
+            if disk.stamp(file.path.as_str()) != file.stamp {
+                return true;
+            }
+        }
+        false
+    }
+}

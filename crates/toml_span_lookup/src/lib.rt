@@ -1,0 +1,13 @@
+//! Finds, reads and compiles the schemas of TOML files, which a directive `#:schema`, a catalog or an option names.
+//! Nothing is fetched from servers.
+#![tactic(auto)]
+
+mod addresses;
+mod catalog;
+mod compiling;
+pub mod directive;
+pub mod disk;
+mod findings;
+pub mod lookup;
+pub mod options;
+mod reasons;

@@ -1,0 +1,394 @@
+//! Finds the schemas of files, and checks documents against them.
+ghost use Rattle.std.specs.Prelude.{IfOk, map, string_bytes};
+ghost use Rattle.toml_span_lookup.specs.Findings.{IsChecked, file_says};
+ghost use Rattle.toml_span_report.specs.Report.{report_content};
+ghost use Rattle.toml_span_tree.specs.Value.{view};
+
+use crate::addresses::{folder_of, is_remote, joined};
+use crate::catalog::{Catalog, catalog_of};
+use crate::compiling::{Used, text_of, used_from};
+use crate::directive::{Directive, SCHEMA, directive_of};
+use crate::disk::{Disk, Stamp};
+use crate::findings::{findings, not_fetched};
+use crate::options::Options;
+use crate::reasons::{catalog_reason, complain, copy_help, remote_reason};
+use std::alloc::{AllocError, Global};
+use std::mem;
+use toml_span::{Span, Value};
+use toml_span_check::schemas::{Chooser, SchemaReports, Schemas};
+use toml_span_report::Report;
+use toml_span_schema::{CheckError, Guide};
+
+/// The schema of a file.
+#[derive(Drop)]
+enum Choice {
+    /// The file has no schema.
+    None,
+    /// The schema at this path.
+    File(String),
+    /// The schema with this URL, which has no local copy. The file names the URL at this span or, without a span, the
+    /// catalog names it.
+    Unmapped(String, Option<Span>),
+    /// The schema with this URL, which the option `schema` names, and which has no local copy.
+    Remote(String),
+}
+
+/// The schemas that files, options and a catalog name. Each is compiled once, and again after its files have changed if
+/// `refresh` is called.
+#[derive(Drop)]
+pub struct Lookup {
+    options: Options,
+    catalog: Option<Catalog>,
+    /// The stamp of the catalog before it was read.
+    stamp: Option<Stamp>,
+    /// Whether the catalog has been read, or there is none to read.
+    is_ready: bool,
+    used: Vec<Used>,
+    /// Error lines that say why schemas can't be used, and that have not been returned yet.
+    complaint: String,
+}
+
+impl Lookup {
+    /// Returns the schemas that files and options name. Nothing is read yet.
+    pub fn new(alloc: Global, options: Options) -> Lookup {
+        Lookup {
+            options,
+            catalog: None,
+            stamp: None,
+            is_ready: false,
+            used: Vec::new(alloc),
+            complaint: String::new(alloc),
+        }
+    }
+
+    /// Returns `Arguments` if the options name a schema or a catalog, otherwise `Files`.
+    pub fn chooser(&self) -> Chooser {
+        if self.options.schema.is_empty() && self.options.catalog.is_empty() {
+            Chooser::Files
+        } else {
+            Chooser::Arguments
+        }
+    }
+
+    /// Returns the path of the schema with an address that the file `name` names. Returns `None` if the schema is on a
+    /// server and has no local copy. Fails if an allocation fails.
+    pub fn path_for(
+        &self,
+        alloc: Global,
+        name: &str,
+        address: &str,
+    ) -> Result<Option<String>, AllocError> {
+        self.path_of(alloc, address, folder_of(name))
+    }
+
+    /// Returns the path of the schema with an address, which may be relative to `folder`. Returns `None` if the schema
+    /// is on a server and has no local copy. Fails if an allocation fails.
+    fn path_of(
+        &self,
+        alloc: Global,
+        address: &str,
+        folder: &str,
+    ) -> Result<Option<String>, AllocError> {
+        if let Some(file) = self.options.copy_of(address) {
+            return Ok(Some(String::from_str(alloc, file)?));
+        }
+        if is_remote(address) {
+            return Ok(None);
+        }
+        let path = address.strip_prefix("file://").unwrap_or(address);
+        Ok(Some(joined(alloc, folder, path)?))
+    }
+
+    /// Returns the schema that the catalog has for the file `name`. Fails if an allocation fails.
+    fn choice_of_catalog(&self, alloc: Global, name: &str) -> Result<Choice, AllocError> {
+        let Some(catalog) = &self.catalog else {
+            return Ok(Choice::None);
+        };
+        let Some(address) = catalog.address_for(alloc, name)? else {
+            return Ok(Choice::None);
+        };
+        let folder = folder_of(self.options.catalog.as_str());
+        match self.path_of(alloc, address.as_str(), folder)? {
+            Some(path) => Ok(Choice::File(path)),
+            None => Ok(Choice::Unmapped(address, None)),
+        }
+    }
+
+    /// Returns the schema that a directive in the file `name` names. If that schema is on a server and has no local
+    /// copy, but the catalog has a local schema for the file, returns the schema of the catalog. Fails if an allocation
+    /// fails.
+    fn choice_of_directive(
+        &self,
+        alloc: Global,
+        name: &str,
+        directive: Directive<'_>,
+    ) -> Result<Choice, AllocError> {
+        let Directive { address, span } = directive;
+        if let Some(path) = self.path_of(alloc, address, folder_of(name))? {
+            return Ok(Choice::File(path));
+        }
+        match self.choice_of_catalog(alloc, name)? {
+            Choice::File(path) => Ok(Choice::File(path)),
+            _ => Ok(Choice::Unmapped(String::from_str(alloc, address)?, Some(span))),
+        }
+    }
+
+    /// Returns the schema of the file `name`, whose content is `text`: the one that the option `schema`, a directive in
+    /// the file or the catalog names, in this order. Fails if an allocation fails.
+    fn choice(&self, alloc: Global, name: &str, text: &str) -> Result<Choice, AllocError> {
+        let given = self.options.schema.as_str();
+        if !given.is_empty() {
+            return match self.path_of(alloc, given, "")? {
+                Some(path) => Ok(Choice::File(path)),
+                None => Ok(Choice::Remote(String::from_str(alloc, given)?)),
+            };
+        }
+        match directive_of(text) {
+            Some(directive) => self.choice_of_directive(alloc, name, directive),
+            None => self.choice_of_catalog(alloc, name),
+        }
+    }
+
+    /// Reads the catalog, if there is one and it has not been read. If it can't be used, adds an error to `complaint`.
+    /// Fails if an allocation fails.
+    fn prepare<D: Disk>(&mut self, alloc: Global, disk: &mut D) -> Result<(), AllocError> {
+        if self.is_ready {
+            return Ok(());
+        }
+        self.is_ready = true;
+        let path = self.options.catalog.as_str();
+        if path.is_empty() {
+            return Ok(());
+        }
+        self.stamp = disk.stamp(path);
+        let complaint = &mut self.complaint;
+        let Some(text) = text_of(alloc, disk, complaint, "read the catalog", path)? else {
+            return Ok(());
+        };
+        self.catalog = catalog_of(alloc, text.as_str())?;
+        if self.catalog.is_none() {
+            let reason = catalog_reason(alloc, text.as_str())?;
+            complain(complaint, "use the catalog", path, reason.as_str())?;
+        }
+        Ok(())
+    }
+
+    /// Returns the position in `used` of the schema at a path, or `None` if the schema is not there.
+    fn position_of(&self, path: &str) -> Option<usize> {
+        for (at, used) in self.used.as_slice().iter().enumerate() {
+            if used.path.as_str() == path {
+                return Some(at);
+            }
+        }
+        None
+    }
+
+    /// On the first call, adds an error to `complaint`: `address`, which the option `schema` names, is a URL, and
+    /// nothing is fetched. Fails if an allocation fails.
+    fn refuse_remote(&mut self, alloc: Global, address: &str) -> Result<(), AllocError> {
+        if self.position_of(address).is_some() {
+            return Ok(());
+        }
+        self.used.push(Used {
+            path: String::from_str(alloc, address)?,
+            guide: None,
+            files: Vec::new(alloc),
+        })?;
+        let reason = remote_reason(alloc, self.options.place, address)?;
+        complain(
+            &mut self.complaint,
+            "read the schema",
+            address,
+            reason.as_str(),
+        )
+    }
+
+    /// Reads and compiles the schema of a choice, unless it has been read. If that is not possible, adds an error to
+    /// `complaint`. Does nothing for a choice without a local file, except to call `refuse_remote` for `Remote`. Fails
+    /// if an allocation fails.
+    fn load_choice<D: Disk>(
+        &mut self,
+        alloc: Global,
+        disk: &mut D,
+        choice: &Choice,
+    ) -> Result<(), AllocError> {
+        match choice {
+            Choice::None | Choice::Unmapped(_, _) => Ok(()),
+            Choice::Remote(address) => self.refuse_remote(alloc, address.as_str()),
+            Choice::File(path) => {
+                if self.position_of(path.as_str()).is_none() {
+                    let complaint = &mut self.complaint;
+                    let path = path.as_str();
+                    self.used
+                        .push(used_from(alloc, disk, &self.options, complaint, path)?)?;
+                }
+                Ok(())
+            }
+        }
+    }
+
+    /// Drops the catalog if its file has changed since it was read, so that `prepare` reads it again.
+    fn forget_catalog<D: Disk>(&mut self, disk: &mut D) {
+        if self.is_ready && !self.options.catalog.is_empty() {
+            if disk.stamp(self.options.catalog.as_str()) != self.stamp {
+                self.is_ready = false;
+                self.catalog = None;
+            }
+        }
+    }
+
+    /// Drops the schema at a path if its file, or a file of a document to which it refers, has changed since it was
+    /// read, so that `load_choice` reads it again.
+    fn forget_schema<D: Disk>(&mut self, disk: &mut D, path: &str) {
+        let Some(at) = self.position_of(path) else {
+            return;
+        };
+        let is_stale = self.used.get(at).map_or(false, |used| used.is_stale(disk));
+        if is_stale && at < self.used.len() {
+            drop(self.used.remove(at));
+        }
+    }
+
+    /// Reads the catalog, and the schema of the file `name`, whose content is `text`, unless they have been read and
+    /// have not changed since. Adds an error to the complaint if they can't be used. Fails if an allocation fails.
+    pub fn refresh<D: Disk>(
+        &mut self,
+        alloc: Global,
+        disk: &mut D,
+        name: &str,
+        text: &str,
+    ) -> Result<(), AllocError> {
+        self.forget_catalog(disk);
+        self.prepare(alloc, disk)?;
+        let choice = self.choice(alloc, name, text)?;
+        if let Choice::File(path) = &choice {
+            self.forget_schema(disk, path.as_str());
+        }
+        self.load_choice(alloc, disk, &choice)
+    }
+
+    /// Returns the schema at a path, or `None` if it has not been read or can't be used.
+    fn guide_at(&self, path: &str) -> Option<&Guide> {
+        self.used.get(self.position_of(path)?)?.guide.as_ref()
+    }
+
+    /// Returns the schema of the file `name`, whose content is `text`. Reads no files: returns `None` if the file has
+    /// no schema, or if its schema has not been read or can't be used. Fails if an allocation fails.
+    pub fn guide_of(
+        &self,
+        alloc: Global,
+        name: &str,
+        text: &str,
+    ) -> Result<Option<&Guide>, AllocError> {
+        match self.choice(alloc, name, text)? {
+            Choice::File(path) => Ok(self.guide_at(path.as_str())),
+            _ => Ok(None),
+        }
+    }
+
+    /// Checks the document `root` of the file `name` against the schema at a path. Returns no reports if the schema has
+    /// not been read or can't be used. If the check can't be completed, adds an error to `complaint` and returns no
+    /// reports. Fails if an allocation fails.
+    fn reports_of(
+        &mut self,
+        alloc: Global,
+        path: &str,
+        name: &str,
+        root: &Value<'_>,
+    ) -> Result<Vec<Report>, AllocError>
+        ensures { IfOk result (λ reports. IsChecked (view root.now) (map report_content reports.items)) }
+    {
+        let Some(guide) = self.guide_at(path) else {
+            return Ok(Vec::new(alloc));
+        };
+        match findings(alloc, &guide.schema, root) {
+            Ok(reports) => Ok(reports),
+            Err(CheckError::OutOfMemory) => Err(AllocError),
+            Err(error) => {
+                complain(&mut self.complaint, "check", name, error.message())?;
+                Ok(Vec::new(alloc))
+            }
+        }
+    }
+
+    /// Checks the document `root` of the file `name` against the schema of a choice, as `reports_of` does. For a schema
+    /// that is not fetched, returns a warning if the file or the catalog names it, and no reports if an option names
+    /// it. Fails if an allocation fails.
+    fn reports_for(
+        &mut self,
+        alloc: Global,
+        choice: &Choice,
+        name: &str,
+        root: &Value<'_>,
+    ) -> Result<Vec<Report>, AllocError>
+        ensures { IfOk result (λ reports. IsChecked (view root.now) (map report_content reports.items)) }
+    {
+        match choice {
+            Choice::None | Choice::Remote(_) => Ok(Vec::new(alloc)),
+            Choice::File(path) => self.reports_of(alloc, path.as_str(), name, root),
+            Choice::Unmapped(address, span) => {
+                let help = copy_help(alloc, self.options.place, address.as_str())?;
+                let report = not_fetched(alloc, address.as_str(), *span, help.as_str())?;
+                Ok(vec![in alloc; report]?)
+            }
+        }
+    }
+
+    /// Returns the error lines that say why schemas can't be used, except those that have been returned before.
+    pub fn take_complaint(&mut self, alloc: Global) -> String {
+        mem::replace(&mut self.complaint, String::new(alloc))
+    }
+
+    /// Checks a document against its schema, as `Schemas::check` says. Reads the catalog and the schema if they have
+    /// not been read. Fails if an allocation fails.
+    pub fn check_reading<D: Disk>(
+        &mut self,
+        alloc: Global,
+        disk: &mut D,
+        chooser: Chooser,
+        name: &str,
+        text: &str,
+        root: &Value<'_>,
+    ) -> Result<SchemaReports, AllocError>
+        ensures { IfOk result (λ made. file_says chooser name.now text.now (view root.now)
+            (map report_content made.reports.items) (string_bytes made.complaint)) }
+    {
+        if chooser == Chooser::Files && !text.contains(SCHEMA) {
+            return Ok(SchemaReports {
+                reports: Vec::new(alloc),
+                complaint: String::new(alloc),
+            });
+        }
+        self.prepare(alloc, disk)?;
+        let choice = self.choice(alloc, name, text)?;
+        self.load_choice(alloc, disk, &choice)?;
+        let reports = self.reports_for(alloc, &choice, name, root)?;
+        let complaint = self.take_complaint(alloc);
+        Ok(SchemaReports { reports, complaint })
+    }
+}
+
+/// Checks against the schemas that have been read. Reads no files.
+impl Schemas for Lookup {
+    ghost says = { file_says };
+
+    fn check(
+        &mut self,
+        alloc: Global,
+        chooser: Chooser,
+        name: &str,
+        text: &str,
+        root: &Value<'_>,
+    ) -> Result<SchemaReports, AllocError> {
+        if chooser == Chooser::Files && !text.contains(SCHEMA) {
+            return Ok(SchemaReports {
+                reports: Vec::new(alloc),
+                complaint: String::new(alloc),
+            });
+        }
+        let choice = self.choice(alloc, name, text)?;
+        let reports = self.reports_for(alloc, &choice, name, root)?;
+        let complaint = self.take_complaint(alloc);
+        Ok(SchemaReports { reports, complaint })
+    }
+}

@@ -1,0 +1,60 @@
+//! The options about schemas, from the command line or an editor.
+use crate::addresses::without_fragment;
+use std::alloc::Global;
+
+/// Where people can name a local copy of a schema.
+#[derive(Clone, Copy, PartialEq, Eq)]
+pub enum Place {
+    /// In arguments, with `--schema-map`.
+    Arguments,
+    /// In the settings of an editor, with `schemaMap`.
+    Settings,
+}
+
+/// A local copy of a schema.
+#[derive(Drop)]
+pub struct LocalCopy {
+    /// The URL of the schema.
+    pub address: String,
+    /// The path of the local copy.
+    pub path: String,
+}
+
+/// The options about schemas, from the command line or an editor.
+#[derive(Drop)]
+pub struct Options {
+    /// The path or the URL of the schema of all files, or an empty text.
+    pub schema: String,
+    /// The path of a catalog, or an empty text.
+    pub catalog: String,
+    /// The local copies of schemas.
+    pub copies: Vec<LocalCopy>,
+    /// Whether the keyword `format` is checked.
+    pub has_formats: bool,
+    /// Where messages tell people to name a local copy.
+    pub place: Place,
+}
+
+impl Options {
+    /// Returns options that name no schema, and check the keyword `format`.
+    pub fn new(alloc: Global, place: Place) -> Options {
+        Options {
+            schema: String::new(alloc),
+            catalog: String::new(alloc),
+            copies: Vec::new(alloc),
+            has_formats: true,
+            place,
+        }
+    }
+
+    /// Returns the path of the local copy of the schema with an address, whose fragment does not matter. Returns `None`
+    /// if there is no local copy.
+    pub(crate) fn copy_of(&self, address: &str) -> Option<&str> {
+        for copy in self.copies.as_slice() {
+            if without_fragment(copy.address.as_str()) == without_fragment(address) {
+                return Some(copy.path.as_str());
+            }
+        }
+        None
+    }
+}

@@ -1,0 +1,96 @@
+//! Says why schemas and catalogs can't be used.
+use crate::addresses::{is_remote, path_of_address, without_fragment};
+use crate::catalog::json_fault;
+use crate::options::Place;
+use std::alloc::{AllocError, Global};
+use toml_span_report::visible::push_visible;
+
+/// Adds an error line about the file at `path` to `complaint`. `what` is what can't be done with the file, such as
+/// `read the catalog`, and `reason` says why. Fails if an allocation fails.
+pub(crate) fn complain(
+    complaint: &mut String,
+    what: &str,
+    path: &str,
+    reason: &str,
+) -> Result<(), AllocError> {
+    complaint.push_str("error: cannot ")?;
+    complaint.push_str(what)?;
+    complaint.push_str(" `")?;
+    push_visible(complaint, path)?;
+    complaint.push_str("`: ")?;
+    push_visible(complaint, reason)?;
+    complaint.push_str("\n")
+}
+
+/// Returns the help that says how to name a local copy of the schema at `url`. Fails if an allocation fails.
+pub(crate) fn copy_help(alloc: Global, place: Place, url: &str) -> Result<String, AllocError> {
+    match place {
+        Place::Arguments => format!(in alloc; "name a local copy: `--schema-map {url}=FILE`"),
+        Place::Settings => {
+            format!(in alloc;
+                "name a local copy in the settings: `\"schemaMap\": {{\"{url}\": \"FILE\"}}`"
+            )
+        }
+    }
+}
+
+/// Returns the message that the schema at `url` is not fetched, and how to name a local copy. Fails if an allocation
+/// fails.
+pub(crate) fn remote_reason(alloc: Global, place: Place, url: &str) -> Result<String, AllocError> {
+    match place {
+        Place::Arguments => format!(in alloc;
+            "nothing is fetched; name a local copy with `--schema-map {url}=FILE`"
+        ),
+        Place::Settings => format!(in alloc;
+            "nothing is fetched; name a local copy with `\"schemaMap\": {{\"{url}\": \"FILE\"}}`"
+        ),
+    }
+}
+
+/// Returns the message that a text is not JSON, with the line and column of the error, if it has one. Fails if an
+/// allocation fails.
+pub(crate) fn json_reason(alloc: Global, text: &str) -> Result<String, AllocError> {
+    match json_fault(alloc, text)? {
+        Some((line, column)) => {
+            format!(in alloc; "it is not valid JSON (line {line}, column {column})")
+        }
+        None => String::from_str(
+            alloc,
+            "it is not valid JSON, or nested more than 128 levels deep",
+        ),
+    }
+}
+
+/// Returns the message that says why a catalog can't be used: `text` is not JSON, or has no array `schemas`. Fails if
+/// an allocation fails.
+pub(crate) fn catalog_reason(alloc: Global, text: &str) -> Result<String, AllocError> {
+    match json_fault(alloc, text)? {
+        Some(_) => json_reason(alloc, text),
+        None => String::from_str(alloc, "it has no array `schemas`"),
+    }
+}
+
+/// Returns the message that a schema can't be used because its reference at `pointer` names `address`, where there is
+/// nothing. Fails if an allocation fails.
+pub(crate) fn missing_reason(
+    alloc: Global,
+    place: Place,
+    pointer: &str,
+    address: &str,
+) -> Result<String, AllocError> {
+    let front = without_fragment(address);
+    let fragment = address.strip_prefix(front).unwrap_or("");
+    let pointer = if pointer.is_empty() {
+        "the root"
+    } else {
+        pointer
+    };
+    if is_remote(address) {
+        let reason = remote_reason(alloc, place, front)?;
+        return format!(in alloc; "{pointer}: {reason}");
+    }
+    match path_of_address(alloc, "", front)? {
+        Some(file) => format!(in alloc; "{pointer}: there is no `{file}{fragment}`"),
+        None => format!(in alloc; "{pointer}: there is no `{address}`"),
+    }
+}

@@ -1,0 +1,15 @@
+-- The diagnostics of open documents.
+use Rattle.std.specs.Prelude.{ℕ, List, map, string_bytes}
+use Rattle.toml_span_check.specs.declared.newer.Version.{Version}
+use Rattle.toml_span_check.specs.declared.schemas.Chooser.{Chooser}
+use Rattle.toml_span_editor.specs.Diagnostics.{Diagnoses, diagnostic_content}
+use Rattle.toml_span_editor.specs.declared.diagnostics.Diagnosed.{Diagnosed}
+use Rattle.toml_span_editor.specs.declared.positions.Encoding.{Encoding}
+use Rattle.toml_span_lookup.specs.Findings.{file_says}
+
+-- The diagnostics of a text with this name are those of `check`, with a schema that the file or the settings name, if
+-- there is one. This leaves open who names the schema, and which schema it is.
+abbrev pub AreChecked : Version → List ℕ → Encoding → List ℕ → Diagnosed → Type 0
+AreChecked version name encoding text made =
+    (chooser : Chooser) × Diagnoses file_says version chooser name encoding text
+    (map diagnostic_content made.diagnostics.items) (string_bytes made.complaint)

@@ -1,0 +1,196 @@
+//! Reads the settings of a client.
+use crate::uris::rooted;
+use json::Value;
+use std::alloc::{AllocError, Global};
+use toml_span_check::newer::Version;
+use toml_span_lookup::options::{LocalCopy, Options, Place};
+
+/// The settings of a client, except for those about schemas.
+#[derive(Clone, Copy)]
+pub(crate) struct Settings {
+    /// The maximum number of columns of an array on one line, or `None` if the client has not set one.
+    pub width: Option<usize>,
+    /// The version of TOML against which documents are checked.
+    pub version: Version,
+}
+
+impl Settings {
+    /// The settings of a client that has set none.
+    pub(crate) const USUAL: Settings = Settings {
+        width: None,
+        version: Version::Auto,
+    };
+}
+
+/// The settings of a client, and what is wrong with them.
+#[derive(Drop)]
+pub(crate) struct Read {
+    pub settings: Settings,
+    /// The settings about schemas.
+    pub options: Options,
+    /// A sentence about the settings that have a wrong value, or an empty text. These settings are not used.
+    pub faults: String,
+}
+
+/// Appends `words`, which say what value a setting must have, to the sentence about wrong settings. Fails if an
+/// allocation fails.
+fn push_fault(faults: &mut String, words: &str) -> Result<(), AllocError> {
+    let front = if faults.is_empty() {
+        "wrong settings are not used: "
+    } else {
+        "; "
+    };
+    faults.push_str(front)?;
+    faults.push_str(words)
+}
+
+/// Returns the value of the setting `name`, or `None` if it is missing or null.
+fn set_in<'v, 'j>(value: &'v Value<'j>, name: &str) -> Option<&'v Value<'j>> {
+    match value.get(name) {
+        None | Some(Value::Null) => None,
+        Some(found) => Some(found),
+    }
+}
+
+/// Reads the setting `width`, an integer from 0 to 65535, or adds a fault. Fails if an allocation fails.
+fn read_width(value: &Value<'_>, read: &mut Read) -> Result<(), AllocError> {
+    let Some(width) = set_in(value, "width") else {
+        return Ok(());
+    };
+    match width.as_u64() {
+        Some(width) if width <= 65_535 => {
+            read.settings.width = Some(width as usize);
+            Ok(())
+        }
+        _ => push_fault(
+            &mut read.faults,
+            "`width` must be an integer from 0 to 65535",
+        ),
+    }
+}
+
+/// Returns the version of TOML for a value of the setting `toml`, or `None` if the value is wrong.
+fn version_named(name: &str) -> Option<Version> {
+    match name {
+        "auto" => Some(Version::Auto),
+        "1.0" => Some(Version::Toml10),
+        "1.1" => Some(Version::Toml11),
+        _ => None,
+    }
+}
+
+/// Reads the setting `toml`, a version of TOML, or adds a fault. Fails if an allocation fails.
+fn read_version(value: &Value<'_>, read: &mut Read) -> Result<(), AllocError> {
+    let Some(version) = set_in(value, "toml") else {
+        return Ok(());
+    };
+    match version.as_str().and_then(|name| version_named(name)) {
+        Some(version) => {
+            read.settings.version = version;
+            Ok(())
+        }
+        None => push_fault(
+            &mut read.faults,
+            "`toml` must be \"1.0\", \"1.1\" or \"auto\"",
+        ),
+    }
+}
+
+/// Reads the setting `formats`, whether the keyword `format` is checked, or adds a fault. Fails if an allocation fails.
+fn read_formats(value: &Value<'_>, read: &mut Read) -> Result<(), AllocError> {
+    match set_in(value, "formats") {
+        None => Ok(()),
+        Some(Value::Bool(has_formats)) => {
+            read.options.has_formats = *has_formats;
+            Ok(())
+        }
+        Some(_) => push_fault(&mut read.faults, "`formats` must be true or false"),
+    }
+}
+
+/// Returns an address unchanged if it is empty or a URL. Otherwise, returns the path as `rooted` does. Fails if an
+/// allocation fails.
+fn address_in(alloc: Global, root: &str, address: &str) -> Result<String, AllocError> {
+    if address.is_empty() || address.contains("://") {
+        String::from_str(alloc, address)
+    } else {
+        rooted(alloc, root, address)
+    }
+}
+
+/// Reads the settings `schema`, the path or the URL of the schema of all files, and `catalog`, the path of a catalog,
+/// or adds a fault. Paths are relative to `root`. Fails if an allocation fails.
+fn read_paths(
+    alloc: Global,
+    root: &str,
+    value: &Value<'_>,
+    read: &mut Read,
+) -> Result<(), AllocError> {
+    match set_in(value, "schema") {
+        None => {}
+        Some(Value::String(schema)) => read.options.schema = address_in(alloc, root, *schema)?,
+        Some(_) => push_fault(&mut read.faults, "`schema` must be a path or a URL")?,
+    }
+    match set_in(value, "catalog") {
+        None => Ok(()),
+        Some(Value::String("")) => Ok(()),
+        Some(Value::String(catalog)) => {
+            read.options.catalog = rooted(alloc, root, *catalog)?;
+            Ok(())
+        }
+        Some(_) => push_fault(&mut read.faults, "`catalog` must be a path"),
+    }
+}
+
+/// Reads the setting `schemaMap`, the local copies of schemas, whose paths are relative to `root`. Adds a fault if it
+/// is not an object, or at the first path that is not a string; the copies before that path are used. Fails if an
+/// allocation fails.
+fn read_copies(
+    alloc: Global,
+    root: &str,
+    value: &Value<'_>,
+    read: &mut Read,
+) -> Result<(), AllocError> {
+    let fault = "`schemaMap` must be an object of paths by URLs";
+    let members = match set_in(value, "schemaMap") {
+        None => return Ok(()),
+        Some(Value::Object(members)) => members,
+        Some(_) => return push_fault(&mut read.faults, fault),
+    };
+    for member in members.as_slice() {
+        let Some(path) = member.1.as_str() else {
+            return push_fault(&mut read.faults, fault);
+        };
+        read.options.copies.push(LocalCopy {
+            address: String::from_str(alloc, member.0)?,
+            path: rooted(alloc, root, path)?,
+        })?;
+    }
+    Ok(())
+}
+
+/// Reads the settings in a value. A setting that is missing, null or wrong has its default value. Ignores settings with
+/// other names. Paths are relative to `root`. Fails if an allocation fails.
+pub(crate) fn read_settings(
+    alloc: Global,
+    root: &str,
+    value: &Value<'_>,
+) -> Result<Read, AllocError> {
+    let mut read = Read {
+        settings: Settings::USUAL,
+        options: Options::new(alloc, Place::Settings),
+        faults: String::new(alloc),
+    };
+    match value {
+        Value::Null => {}
+        Value::Object(_) => {
+            read_width(value, &mut read)?;
+            read_version(value, &mut read)?;
+            read_formats(value, &mut read)?;
+            read_paths(alloc, root, value, &mut read)?;
+            read_copies(alloc, root, value, &mut read)?;
+        }
+        _ => push_fault(&mut read.faults, "the settings must be an object")?,
+    }
+    Ok(read)
+}

@@ -1,0 +1,107 @@
+//! Writes the suggestions of a schema for completion.
+use crate::outgoing::{flag, number, range, text};
+use json::Writer;
+use std::alloc::{AllocError, Global};
+use toml_span_editor::suggestions::{Nature, Suggestion};
+use toml_span_editor::table::PositionTable;
+
+/// Returns the number for the kind of a suggestion (LSP 3.17, CompletionItemKind).
+fn kind_of(nature: Nature) -> usize {
+    match nature {
+        Nature::Key => 10,
+        Nature::Table => 22,
+        Nature::Value => 20,
+    }
+}
+
+/// Returns the first character of the text by which a suggestion is sorted: required keys come first, deprecated ones
+/// last.
+fn rank_of(suggestion: &Suggestion) -> &'static str {
+    if suggestion.is_required {
+        "0"
+    } else if suggestion.is_deprecated {
+        "2"
+    } else {
+        "1"
+    }
+}
+
+/// Writes the description of a suggestion, which is Markdown. Fails if an allocation fails.
+fn write_documentation(out: &mut Writer, documentation: &str) -> Result<(), AllocError> {
+    out.key("documentation")?;
+    out.begin_object()?;
+    text(out, "kind", "markdown")?;
+    text(out, "value", documentation)?;
+    out.end_object()
+}
+
+/// Writes the range that a suggestion replaces, and the new text: the snippet if there is one and `has_snippets` is
+/// true, otherwise the text without places to fill in. Fails if an allocation fails.
+fn write_edit(
+    out: &mut Writer,
+    table: &PositionTable<'_>,
+    suggestion: &Suggestion,
+    has_snippets: bool,
+) -> Result<(), AllocError> {
+    let new = match &suggestion.snippet {
+        Some(snippet) if has_snippets => {
+            number(out, "insertTextFormat", 2)?;
+            snippet.as_str()
+        }
+        _ => suggestion.text.as_str(),
+    };
+    out.key("textEdit")?;
+    out.begin_object()?;
+    range(out, "range", table.range(suggestion.span))?;
+    text(out, "newText", new)?;
+    out.end_object()
+}
+
+/// Writes a suggestion. `position` is its position in the list, and `has_snippets` is as for `write_edit`. Fails if an
+/// allocation fails.
+fn write_suggestion(
+    alloc: Global,
+    out: &mut Writer,
+    table: &PositionTable<'_>,
+    suggestion: &Suggestion,
+    position: usize,
+    has_snippets: bool,
+) -> Result<(), AllocError> {
+    out.begin_object()?;
+    text(out, "label", suggestion.label.as_str())?;
+    number(out, "kind", kind_of(suggestion.nature))?;
+    if !suggestion.detail.is_empty() {
+        text(out, "detail", suggestion.detail.as_str())?;
+    }
+    if !suggestion.documentation.is_empty() {
+        write_documentation(out, suggestion.documentation.as_str())?;
+    }
+    if suggestion.is_deprecated {
+        flag(out, "deprecated", true)?;
+    }
+    let rank = rank_of(suggestion);
+    let sort = format!(in alloc; "{rank}{position:04}")?;
+    text(out, "sortText", sort.as_str())?;
+    write_edit(out, table, suggestion, has_snippets)?;
+    out.end_object()
+}
+
+/// Writes suggestions as a complete list, which the client need not request again while the user types. `has_snippets`
+/// says whether the client supports snippets. Fails if an allocation fails.
+pub(crate) fn write_suggestions(
+    alloc: Global,
+    out: &mut Writer,
+    table: &PositionTable<'_>,
+    suggestions: &[Suggestion],
+    has_snippets: bool,
+) -> Result<(), AllocError> {
+    out.begin_object()?;
+    flag(out, "isIncomplete", false)?;
+    out.key("items")?;
+    out.begin_array()?;
+    for (position, suggestion) in suggestions.iter().enumerate() {
+        write_suggestion(alloc, out, table, suggestion, position, has_snippets)?;
+    }
+    out.end_array()?;
+    out.end_object()
+}

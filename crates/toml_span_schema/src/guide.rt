@@ -1,0 +1,33 @@
+//! A compiled schema with its notes for people.
+
+use crate::compile::compile;
+use crate::documents::Document;
+use crate::error::SchemaError;
+use crate::notes::Notes;
+use crate::schema::Schema;
+use std::alloc::Global;
+
+/// A compiled schema with its notes for people.
+#[derive(Drop)]
+pub struct Guide {
+    /// The compiled schema.
+    pub schema: Schema,
+    /// The notes of each compiled schema, in the order of `Schema::nodes`.
+    pub(crate) notes: Vec<Notes>,
+}
+
+impl Guide {
+    /// Compiles a schema from its JSON text, with its notes. The arguments and the errors are those of
+    /// `Schema::from_json`.
+    pub fn from_json(
+        alloc: Global,
+        text: &str,
+        others: &[Document<'_>],
+    ) -> Result<Guide, SchemaError> {
+        let root = Document {
+            address: "file:///schema.json",
+            text,
+        };
+        compile(alloc, root, others)
+    }
+}

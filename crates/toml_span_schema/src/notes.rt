@@ -1,0 +1,67 @@
+//! Reads the notes for people in schemas.
+
+use crate::read::{DEPTH, constant};
+use crate::sources::is_true;
+use json::Value as Json;
+use std::alloc::{AllocError, Global};
+use toml_span_tree::Value;
+
+/// The notes for people in a schema object: the keywords that describe values, and those that list them.
+#[derive(Drop)]
+pub struct Notes {
+    /// The string in `title`.
+    pub title: Option<String>,
+    /// The string in `description`.
+    pub description: Option<String>,
+    /// The value of `default`. `None` if there is none, or if the value is or contains `null`.
+    pub default: Option<Value<'static>>,
+    /// The values of `enum`, and then that of `const`, without those that are or contain `null`.
+    pub values: Vec<Value<'static>>,
+    /// Whether the schema says `deprecated: true`.
+    pub is_deprecated: bool,
+}
+
+/// Returns a copy of the string in the member `name`, or `None` if the member is missing or not a string. Fails if an
+/// allocation fails.
+fn text_in(alloc: Global, value: &Json<'_>, name: &str) -> Result<Option<String>, AllocError> {
+    match value.get(name).and_then(|member| member.as_str()) {
+        Some(text) => Ok(Some(String::from_str(alloc, text)?)),
+        None => Ok(None),
+    }
+}
+
+/// Appends a JSON value, converted to a TOML value, unless it is or contains `null`. Fails if an allocation fails.
+fn push_value(
+    alloc: Global,
+    value: &Json<'_>,
+    values: &mut Vec<Value<'static>>,
+) -> Result<(), AllocError> {
+    if let Some(value) = constant(alloc, value, DEPTH)? {
+        values.push(value)?;
+    }
+    Ok(())
+}
+
+/// Returns the notes in a schema. Fails if an allocation fails.
+pub(crate) fn read_notes(alloc: Global, value: &Json<'_>) -> Result<Notes, AllocError> {
+    let mut values = Vec::new(alloc);
+    if let Some(Json::Array(items)) = value.get("enum") {
+        for item in items.as_slice() {
+            push_value(alloc, item, &mut values)?;
+        }
+    }
+    if let Some(only) = value.get("const") {
+        push_value(alloc, only, &mut values)?;
+    }
+    let default = match value.get("default") {
+        Some(default) => constant(alloc, default, DEPTH)?,
+        None => None,
+    };
+    Ok(Notes {
+        title: text_in(alloc, value, "title")?,
+        description: text_in(alloc, value, "description")?,
+        default,
+        values,
+        is_deprecated: is_true(value, "deprecated"),
+    })
+}

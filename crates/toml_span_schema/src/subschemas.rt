@@ -1,0 +1,479 @@
+//! Finds the subschemas that apply to a value, which may be incomplete, for editors.
+
+use crate::applied::{has_key, schemas_for};
+use crate::error::CheckError;
+use crate::guide::Guide;
+use crate::keyword::{Keyword, Types};
+use crate::listed::{Part, parts};
+use crate::notes::Notes;
+use crate::schema::Schema;
+use std::alloc::{AllocError, Global};
+use std::borrow::CowStr;
+use toml_span_lex::key::Key;
+use toml_span_lex::span::Span;
+use toml_span_tree::nodes::Step;
+use toml_span_tree::{Value, ValueInner};
+
+/// The maximum number of subschemas that apply to one value. Further subschemas are left out.
+const MOST: usize = 1_000;
+
+/// The maximum number of subschemas that are tried to choose among alternatives. After that, all alternatives are
+/// chosen.
+const MOST_TRIED: u64 = 100_000;
+
+/// Subschemas that apply to a value.
+#[derive(Drop)]
+pub struct Subschemas {
+    /// Their indices in `Schema::nodes`, each once.
+    nodes: Vec<usize>,
+}
+
+/// Kinds of values that subschemas name. Dates and times count as strings.
+#[derive(Clone, Copy, Debug, PartialEq, Eq)]
+pub struct Kinds {
+    pub string: bool,
+    pub integer: bool,
+    pub float: bool,
+    pub boolean: bool,
+    pub table: bool,
+    pub array: bool,
+}
+
+impl Kinds {
+    /// No kind.
+    const NONE: Kinds = Kinds {
+        string: false,
+        integer: false,
+        float: false,
+        boolean: false,
+        table: false,
+        array: false,
+    };
+
+    /// Returns whether no kind is named.
+    pub fn is_empty(&self) -> bool {
+        *self == Kinds::NONE
+    }
+
+    /// Adds the kinds that the keyword `type` allows. A number may be an integer or a float.
+    fn add_types(&mut self, types: &Types) {
+        self.string |= types.string;
+        self.integer |= types.integer | types.number;
+        self.float |= types.number;
+        self.boolean |= types.boolean;
+        self.table |= types.object;
+        self.array |= types.array;
+    }
+
+    /// Adds the kind of a value.
+    fn add_value(&mut self, value: &Value<'_>) {
+        match value.type_str() {
+            "integer" => self.integer = true,
+            "float" => self.float = true,
+            "boolean" => self.boolean = true,
+            "table" => self.table = true,
+            "array" => self.array = true,
+            _ => self.string = true,
+        }
+    }
+
+    /// Adds the kinds that `type` allows, a table for `required` and `Keyword::Properties`, or an array for
+    /// `Keyword::Items`. Adds nothing for other keywords.
+    fn add_keyword(&mut self, keyword: &Keyword) {
+        match keyword {
+            Keyword::Type(types) => self.add_types(types),
+            Keyword::Properties(_, _, _) | Keyword::Required(_) => self.table = true,
+            Keyword::Items(_, _) => self.array = true,
+            _ => {}
+        }
+    }
+}
+
+/// Adds the index of a compiled schema, unless it is in the list, or the list has `MOST` indices. Fails if an
+/// allocation fails.
+fn push_node(nodes: &mut Vec<usize>, node: usize) -> Result<(), AllocError> {
+    if nodes.len() < MOST && !nodes.contains(&node) {
+        nodes.push(node)?;
+    }
+    Ok(())
+}
+
+/// Adds the indices of compiled schemas, as `push_node` does. Fails if an allocation fails.
+fn push_all(nodes: &mut Vec<usize>, more: &[usize]) -> Result<(), AllocError> {
+    for node in more {
+        push_node(nodes, *node)?;
+    }
+    Ok(())
+}
+
+/// Returns the verdict `found`, or true if it could not be found within the limits. Fails if an allocation failed.
+fn verdict(found: Result<bool, CheckError>) -> Result<bool, AllocError> {
+    match found {
+        Ok(holds) => Ok(holds),
+        Err(CheckError::OutOfMemory) => Err(AllocError),
+        Err(_) => Ok(true),
+    }
+}
+
+impl Guide {
+    /// Returns the subschemas that apply to the root of a document. `value` is the root as far as it can be read, or
+    /// `None` if it can't be read. An alternative of `anyOf` or `oneOf` applies if the value may become valid against
+    /// it by having more keys. If the value fits no alternative, or there is no value, all alternatives apply. Fails if
+    /// an allocation fails.
+    pub fn subschemas(
+        &self,
+        alloc: Global,
+        value: Option<&Value<'_>>,
+    ) -> Result<Subschemas, AllocError> {
+        let mut nodes = Vec::new(alloc);
+        nodes.push(0)?;
+        self.schema.closed(alloc, nodes, value)
+    }
+
+    /// Returns the subschemas that apply to the entry or element to which `step` leads from a table or array. `outer`
+    /// are the subschemas that apply to the table or array, and `value` is the value of the entry, or the element, or
+    /// `None` if there is none yet. Alternatives apply as for `subschemas`. Fails if an allocation fails.
+    pub fn subschemas_inside(
+        &self,
+        alloc: Global,
+        outer: &Subschemas,
+        step: Step<'_>,
+        value: Option<&Value<'_>>,
+    ) -> Result<Subschemas, AllocError> {
+        let mut nodes = Vec::new(alloc);
+        let any = Value::new(ValueInner::Boolean(true));
+        match step {
+            Step::Key(name) => {
+                let key = Key {
+                    name: CowStr::Borrowed(name),
+                    span: Span::default(),
+                };
+                let part = Part::Member(&key, &any);
+                self.schema.push_inside(alloc, outer, part, &mut nodes)?;
+            }
+            Step::Position(at) => {
+                let part = Part::Element(at, &any);
+                self.schema.push_inside(alloc, outer, part, &mut nodes)?;
+            }
+        }
+        if nodes.is_empty() {
+            self.schema.push_unevaluated(outer, step, &mut nodes)?;
+        }
+        self.schema.closed(alloc, nodes, value)
+    }
+
+    /// Returns the notes of each of the subschemas. Fails if an allocation fails.
+    pub fn notes_of<'s>(
+        &'s self,
+        alloc: Global,
+        subschemas: &Subschemas,
+    ) -> Result<Vec<&'s Notes>, AllocError> {
+        let mut notes = Vec::new(alloc);
+        for node in subschemas.nodes.as_slice() {
+            if let Some(note) = self.notes.get(*node) {
+                notes.push(note)?;
+            }
+        }
+        Ok(notes)
+    }
+
+    /// Returns the keys that `properties` in the subschemas names, sorted, each once. Fails if an allocation fails.
+    pub fn keys_of<'s>(
+        &'s self,
+        alloc: Global,
+        subschemas: &Subschemas,
+    ) -> Result<Vec<&'s str>, AllocError> {
+        let mut keys: Vec<&'s str> = Vec::new(alloc);
+        for node in subschemas.nodes.as_slice() {
+            for placed in self.schema.keywords(*node) {
+                if let Keyword::Properties(named, _, _) = &placed.keyword {
+                    for (name, _) in named.iter() {
+                        keys.push(name.as_str())?;
+                    }
+                }
+            }
+        }
+        keys.sort()?;
+        keys.dedup();
+        Ok(keys)
+    }
+
+    /// Returns whether `required` in one of the subschemas lists a key.
+    pub fn is_required(&self, subschemas: &Subschemas, name: &str) -> bool {
+        for node in subschemas.nodes.as_slice() {
+            for placed in self.schema.keywords(*node) {
+                if let Keyword::Required(names) = &placed.keyword {
+                    if names.iter().any(|other| other.as_str() == name) {
+                        return true;
+                    }
+                }
+            }
+        }
+        false
+    }
+
+    /// Returns the kinds of values that `type` in the subschemas allows or, if none of them has `type`, those that
+    /// their other keywords are about: tables for keywords such as `required`, arrays for keywords such as `items`, and
+    /// the kinds of the values of `enum` and `const`.
+    pub fn kinds_of(&self, subschemas: &Subschemas) -> Kinds {
+        let mut named = Kinds::NONE;
+        let mut implied = Kinds::NONE;
+        for node in subschemas.nodes.as_slice() {
+            for placed in self.schema.keywords(*node) {
+                if let Keyword::Type(types) = &placed.keyword {
+                    named.add_types(types);
+                }
+                implied.add_keyword(&placed.keyword);
+            }
+            if let Some(note) = self.notes.get(*node) {
+                for value in &note.values {
+                    implied.add_value(value);
+                }
+            }
+        }
+        if named.is_empty() { implied } else { named }
+    }
+}
+
+impl Schema {
+    /// Returns the schemas at the indices `nodes` and those that they apply to the same value, such as those in
+    /// `allOf`, up to `MOST` schemas. `value` is as for `subschemas`. Fails if an allocation fails.
+    fn closed(
+        &self,
+        alloc: Global,
+        mut nodes: Vec<usize>,
+        value: Option<&Value<'_>>,
+    ) -> Result<Subschemas, AllocError> {
+        let mut left = MOST_TRIED;
+        for at in 0..MOST {
+            let Some(node) = nodes.get(at).copied() else {
+                return Ok(Subschemas { nodes });
+            };
+            for placed in self.keywords(node) {
+                self.push_applied(alloc, &mut left, &placed.keyword, value, &mut nodes)?;
+            }
+        }
+        Ok(Subschemas { nodes })
+    }
+
+    /// Adds the indices of the subschemas that a keyword applies to the value itself. Takes 1 from `left` for each
+    /// subschema that is tried. Fails if an allocation fails.
+    fn push_applied(
+        &self,
+        alloc: Global,
+        left: &mut u64,
+        keyword: &Keyword,
+        value: Option<&Value<'_>>,
+        nodes: &mut Vec<usize>,
+    ) -> Result<(), AllocError> {
+        match keyword {
+            Keyword::AllOf(list) => push_all(nodes, list.as_slice()),
+            Keyword::AnyOf(list) | Keyword::OneOf(list) => {
+                let fitting = self.alternatives(alloc, left, list.as_slice(), value)?;
+                push_all(nodes, fitting.as_slice())
+            }
+            Keyword::If(condition, yes, no) => {
+                self.push_branches(alloc, left, *condition, (*yes, *no), value, nodes)
+            }
+            Keyword::DependentSchemas(entries) => {
+                for entry in entries.as_slice() {
+                    if value.map_or(false, |value| has_key(value, entry.0.as_str())) {
+                        push_node(nodes, entry.1)?;
+                    }
+                }
+                Ok(())
+            }
+            _ => Ok(()),
+        }
+    }
+
+    /// Adds the index of `then` if the value is valid against the schema at index `condition` or this can't be decided
+    /// within the limits, and otherwise the index of `else`. Adds both if there is no value. `branches` are the indices
+    /// of `then` and `else`. Fails if an allocation fails.
+    fn push_branches(
+        &self,
+        alloc: Global,
+        left: &mut u64,
+        condition: usize,
+        branches: (Option<usize>, Option<usize>),
+        value: Option<&Value<'_>>,
+        nodes: &mut Vec<usize>,
+    ) -> Result<(), AllocError> {
+        let (has_yes, has_no) = match value {
+            Some(value) => {
+                let found = self.is_valid(alloc, left, self.depth, condition, value);
+                let holds = verdict(found)?;
+                (holds, !holds)
+            }
+            None => (true, true),
+        };
+        if let (true, Some(node)) = (has_yes, branches.0) {
+            push_node(nodes, node)?;
+        }
+        if let (true, Some(node)) = (has_no, branches.1) {
+            push_node(nodes, node)?;
+        }
+        Ok(())
+    }
+
+    /// Returns the indices in `list` of the schemas that `may_fit` accepts for the value. Returns all indices if it
+    /// accepts none, or if there is no value. Fails if an allocation fails.
+    fn alternatives(
+        &self,
+        alloc: Global,
+        left: &mut u64,
+        list: &[usize],
+        value: Option<&Value<'_>>,
+    ) -> Result<Vec<usize>, AllocError> {
+        let mut fitting = Vec::new(alloc);
+        if let Some(value) = value {
+            for node in list {
+                let found = self.may_fit(alloc, left, self.depth, *node, value);
+                if verdict(found)? {
+                    fitting.push(*node)?;
+                }
+            }
+        }
+        if fitting.is_empty() {
+            fitting.extend_from_slice(list)?;
+        }
+        Ok(fitting)
+    }
+
+    /// Adds the indices of the subschemas that keywords of the subschemas `outer` apply to an entry or element, except
+    /// those of `unevaluatedProperties` and `unevaluatedItems`. Fails if an allocation fails.
+    fn push_inside(
+        &self,
+        alloc: Global,
+        outer: &Subschemas,
+        part: Part<'_, '_>,
+        nodes: &mut Vec<usize>,
+    ) -> Result<(), AllocError> {
+        for node in outer.nodes.as_slice() {
+            for placed in self.keywords(*node) {
+                let found = schemas_for(alloc, self, &placed.keyword, part)?;
+                push_all(nodes, found.as_slice())?;
+            }
+        }
+        Ok(())
+    }
+
+    /// Adds the indices of `unevaluatedProperties` in the subschemas `outer` or, if the step is a position, those of
+    /// `unevaluatedItems`. Fails if an allocation fails.
+    fn push_unevaluated(
+        &self,
+        outer: &Subschemas,
+        step: Step<'_>,
+        nodes: &mut Vec<usize>,
+    ) -> Result<(), AllocError> {
+        for node in outer.nodes.as_slice() {
+            for placed in self.keywords(*node) {
+                match (&placed.keyword, step) {
+                    (Keyword::UnevaluatedProperties(_, node), Step::Key(_)) => {
+                        push_node(nodes, *node)?;
+                    }
+                    (Keyword::UnevaluatedItems(_, node), Step::Position(_)) => {
+                        push_node(nodes, *node)?;
+                    }
+                    _ => {}
+                }
+            }
+        }
+        Ok(())
+    }
+
+    /// Returns whether a value may become valid against the schema at index `node` by having more keys. Checks only
+    /// `type`, `enum`, `const` and subschemas that are `false`, for the value itself and for the values of its keys, at
+    /// any depth. Fails like `is_valid`.
+    #[cycle(fit)]
+    fn may_fit(
+        &self,
+        alloc: Global,
+        left: &mut u64,
+        depth: usize,
+        node: usize,
+        value: &Value<'_>,
+    ) -> Result<bool, CheckError> {
+        *left = left.checked_sub(1).ok_or(CheckError::TooLong)?;
+        if depth == 0 {
+            return Err(CheckError::TooDeep);
+        }
+        for placed in self.keywords(node) {
+            if !self.keyword_may_fit(alloc, left, depth - 1, &placed.keyword, value)? {
+                return Ok(false);
+            }
+        }
+        Ok(true)
+    }
+
+    /// Returns whether a keyword may allow a value once the value has more keys. Returns true for keywords that
+    /// `may_fit` does not check. Fails like `is_valid`.
+    #[cycle(fit)]
+    fn keyword_may_fit(
+        &self,
+        alloc: Global,
+        left: &mut u64,
+        depth: usize,
+        keyword: &Keyword,
+        value: &Value<'_>,
+    ) -> Result<bool, CheckError> {
+        match keyword {
+            Keyword::AllOf(nodes) => {
+                let count = self.count_fitting(alloc, left, depth, nodes.as_slice(), value)?;
+                Ok(count == nodes.len())
+            }
+            Keyword::AnyOf(nodes) | Keyword::OneOf(nodes) => {
+                let count = self.count_fitting(alloc, left, depth, nodes.as_slice(), value)?;
+                Ok(count > 0)
+            }
+            Keyword::Type(_) | Keyword::Enum(_, _) | Keyword::Never => {
+                self.allows(alloc, left, depth, keyword, value)
+            }
+            Keyword::Properties(_, _, _) => {
+                let parts = parts(alloc, value)?;
+                self.parts_may_fit(alloc, left, depth, keyword, parts.as_slice())
+            }
+            _ => Ok(true),
+        }
+    }
+
+    /// Returns the number of schemas at the indices `nodes` that `may_fit` accepts for a value. Fails like `is_valid`.
+    #[cycle(fit)]
+    fn count_fitting(
+        &self,
+        alloc: Global,
+        left: &mut u64,
+        depth: usize,
+        nodes: &[usize],
+        value: &Value<'_>,
+    ) -> Result<usize, CheckError> {
+        let mut count = 0usize;
+        for node in nodes {
+            if self.may_fit(alloc, left, depth, *node, value)? {
+                count = count.saturating_add(1);
+            }
+        }
+        Ok(count)
+    }
+
+    /// Returns whether `may_fit` accepts each part of a value for all subschemas that a keyword applies to the part.
+    /// Fails like `is_valid`.
+    #[cycle(fit)]
+    fn parts_may_fit(
+        &self,
+        alloc: Global,
+        left: &mut u64,
+        depth: usize,
+        keyword: &Keyword,
+        parts: &[Part<'_, '_>],
+    ) -> Result<bool, CheckError> {
+        for part in parts {
+            for node in schemas_for(alloc, self, keyword, *part)?.as_slice() {
+                if !self.may_fit(alloc, left, depth, *node, part.value())? {
+                    return Ok(false);
+                }
+            }
+        }
+        Ok(true)
+    }
+}
