@@ -1,4 +1,4 @@
--- The answer to one file: its errors, or what to print of its document.
+-- The answer to one file: its errors, or the document or value to print.
 use Rattle.std.specs.Prelude.{◌≡◌, ◌<◌, ◌≤◌, ◌⊎◌, ℕ, ◌+◌, true, false, IsUtf8, List, [], ◌++◌, length, codes, Option, Some}
 use Rattle.std.specs.Prelude.{None, take}
 use Rattle.std.specs.List.{flat_map}
@@ -31,11 +31,11 @@ use Rattle.toml_span_places.specs.Spelled.{value_text}
 use Rattle.toml_span_read.specs.Data.{depth_limit}
 
 -- The answer to a file: the number of errors, the text of the reports or the document that is printed, and the lines
--- that say why its schema can't be used.
+-- that say why the file's schema can't be used.
 abbrev pub Answer : Type 0
 Answer = ℕ × List ℕ × List ℕ
 
--- the text of an error without a place
+-- the text of a report that marks no place in the file
 abbrev pub plain_fault : Format → List ℕ → List ℕ → List ℕ → List ℕ
 plain_fault format code message name = fault_text format (bare severity.Error code message) name []
 
@@ -68,8 +68,8 @@ abbrev pub AreReported : Format → List ℕ → List ℕ → Answer → Type 0
 AreReported format name text answer =
     (rs : List ReportContent) × Checks text rs × (answer ≡ (length rs, reports_text format name text rs, []))
 
--- A valid text: its errors are the uses of what the version lacks, those that its schema reports, and a complaint that
--- the schema can't be used. The reports of the schema come last.
+-- The answer for a valid text. Its errors are the uses of syntax that the version lacks, the errors that the schema of
+-- the file reports, and a complaint if the schema can't be used. The reports of the schema come last.
 abbrev pub AreChecked : Says → Format → Version → Chooser → List ℕ → List ℕ → Node → Answer → Type 0
 AreChecked says format version chooser name text root answer =
     (rs more : List ReportContent) × (complaint : List ℕ) × Lacks version name text rs
@@ -87,7 +87,7 @@ Given says format (Check version chooser) pointer name text n answer =
 Given says format (Show form) pointer name text n answer =
     (place : Option Node) × Locates pointer n place × (answer ≡ found format form pointer name place)
 
--- a document and its answer, or all errors of the text
+-- the answer for a text: the answer for its document or, if it is not valid TOML, all its errors
 abbrev pub IsRead : Says → Format → Task → List ℕ → List ℕ → List ℕ → Answer → Type 0
 IsRead says format task pointer name text answer =
     ((root : Value) × IsTree text depth_limit root × Given says format task pointer name text (view root) answer)
@@ -96,11 +96,11 @@ IsRead says format task pointer name text answer =
 abbrev pub too_long : Format → List ℕ → Answer
 too_long format name = (1, plain_fault format (codes "too-long") (codes "the file is larger than 16 MiB") name, [])
 
--- a file of which the bytes before this offset are UTF-8, and no more
+-- the answer for a file that is valid UTF-8 only up to this offset
 abbrev pub not_utf8 : Format → List ℕ → List ℕ → ℕ → Answer
 not_utf8 format name bytes at = (1, fault_text format (not_utf8_report bytes at) name (take at bytes), [])
 
--- The answer for the bytes of a file, which may be longer than the bound, not UTF-8, a document, or not valid TOML.
+-- The answer for the bytes of a file, which may be longer than 16 MiB, not UTF-8, a document, or not valid TOML.
 pub record IsAnswer (says : Says) (format : Format) (task : Task) (pointer : List ℕ) (name : List ℕ) (bytes : List ℕ)
     (answer : Answer) : Type 0 where
   pub long : bound < length bytes → answer ≡ too_long format name

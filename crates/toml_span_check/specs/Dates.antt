@@ -7,7 +7,7 @@ use Rattle.std.specs.List.{list_any}
 abbrev pub begins_offset : ℕ → Bool
 begins_offset byte = (byte == 90 || byte == 122) || (byte == 43 || byte == 45)
 
--- `07:32:00`
+-- whether a date text is a time alone, such as `07:32:00`
 abbrev pub is_time : List ℕ → Bool
 is_time date = slice_index date 2 == 58
 

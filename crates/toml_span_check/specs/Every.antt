@@ -32,7 +32,7 @@ pub record Progress : Type 0 where
 abbrev pub nothing : List ℕ → Progress
 nothing text = record { places = []; reports = []; kept = text }
 
--- the reports with that of an error at this offset, unless there is one for that offset already
+-- the reports, with one more for an error at this offset unless there is a report for that offset already
 abbrev pub with_new : List ReportContent → List ℕ → ReportContent → ℕ → List ReportContent
 with_new reports places report place =
     if list_any (λ other. other == place) places then reports else reports ++ report ∷ []
@@ -42,21 +42,21 @@ AddsReport report place old new =
     (new.reports ≡ with_new old.reports old.places report place) × (new.places ≡ old.places ++ place ∷ [])
     × (new.kept ≡ old.kept)
 
--- the state after one more error
+-- The second state is the first after one more error.
 pub record Adds (report : ReportContent) (place : ℕ) (old new : Progress) : Type 0 where
   pub reports : new.reports ≡ with_new old.reports old.places report place
   pub places : new.places ≡ old.places ++ place ∷ []
   pub kept : IsBlanked old.kept new.kept
 
--- What `parse` returns for a text is one more error.
+-- The error that `parse` returns for the text is added.
 abbrev pub AddsError : List ℕ → Progress → Progress → Type 0
 AddsError text old new =
     (error : Error) × IsRefusal text depth_limit (Fault error)
     × ((report : ReportContent) × ReportsError severity.Error text (content_of error) report
     × Adds report error.span.start old new)
 
--- The first error is that of `parse`. Each further one is what `parse` returns for the text with spaces up to an
--- offset, or for the text with spaces in place of the statements with errors so far.
+-- The first error is the one that `parse` returns for the text. Each further error is the one that `parse` returns for
+-- the text with spaces up to an offset, or for the text with spaces in place of the statements with errors so far.
 pub data Finds (text : List ℕ) : Progress → Type 0 where
   first : (p : Progress) → AddsError text (nothing text) p → Finds text p
   reading : (p q : Progress) (copy : List ℕ) → Finds text p → IsBlanked text copy → AddsError copy p q → Finds text q
@@ -69,9 +69,9 @@ most len = max (min (134217728 / max len 1) 100) 1
 abbrev pub too_many : ReportContent
 too_many = bare severity.Error (codes "too-many-errors") (codes "too many errors")
 
--- If the text is a document, there is no report. Otherwise there are those of the errors, and the text with spaces in
--- place of their statements is a document; or there is one more error, as many have been reported as allowed, and the
--- last report says so.
+-- If the text is a document, there is no report. Otherwise either all errors are reported, and the text with spaces in
+-- place of their statements is a document; or the maximum number of errors has been found, there is at least one more
+-- error, and the last report says so.
 pub data Checks (text : List ℕ) : List ReportContent → Type 0 where
   valid : (root : Value) → IsTree text depth_limit root → Checks text []
   all : (p : Progress) (root : Value) → Finds text p → IsTree p.kept depth_limit root → Checks text p.reports

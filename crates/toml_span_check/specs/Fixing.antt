@@ -36,8 +36,8 @@ Improves text at true =
     ⊎ ((error : Error) × IsRefusal text depth_limit (stops.Fault error) × (at ≤ error.span.start))
 Improves text at false = (error : Error) × IsRefusal text depth_limit (stops.Fault error) × (error.span.start < at)
 
--- The source with these replacements, if they are safe and its first error is then after the first of them. None if one
--- is not safe, if they don't fit the source, or if there is an error before that.
+-- The source with these replacements. `None` if the list is empty, if a replacement is not safe, if they don't fit the
+-- source, or if the first error of the result is before the end of the first replacement.
 abbrev pub Repairs : List ℕ → List Repair → Option (List ℕ) → Type 0
 Repairs text repairs (Some new) =
     (is_safe repairs ≡ true) × (first_fault text 0 0 (edits repairs) ≡ None) × (new ≡ edited text 0 (edits repairs))
@@ -46,22 +46,22 @@ Repairs text repairs None =
     (is_safe repairs ≡ false) ⊎ (¬ (first_fault text 0 0 (edits repairs) ≡ None))
     ⊎ Improves (edited text 0 (edits repairs)) (reach repairs) false
 
--- the source with this error fixed by the replacements of its report, or None if that is not possible
+-- the source with this error fixed by the replacements of its report, or `None` if they don't fix it (see `Repairs`)
 abbrev pub FixesError : List ℕ → ErrorContent → Option (List ℕ) → Type 0
 FixesError text error new =
     (report : ReportContent) × ReportsError severity.Error text error report × Repairs text report.replacements new
 
--- the source with its first error fixed, or None if it is valid or that is not possible
+-- the source with its first error fixed, or `None` if it is valid or its first error can't be fixed
 abbrev pub NextFix : List ℕ → Option (List ℕ) → Type 0
 NextFix text new =
     ((root : Value) × IsTree text depth_limit root × (new ≡ None))
     ⊎ ((error : Error) × IsRefusal text depth_limit (stops.Fault error) × FixesError text (content_of error) new)
 
--- this many fixes lead from a source to this one
+-- this many fixes, one after the other, change the first source to the second
 pub data Leads (text : List ℕ) : ℕ → List ℕ → Type 0 where
   no_fix : (new : List ℕ) → new ≡ text → Leads text 0 new
   one_more : (n : ℕ) (mid new : List ℕ) → Leads text n mid → NextFix mid (Some new) → Leads text (n + 1) new
 
--- all fixes, or the first hundred
+-- the second source is the first one after this many fixes, and either no further fix is possible or there were 100
 abbrev pub Fixes : List ℕ → ℕ → List ℕ → Type 0
 Fixes text n new = Leads text n new × ((n ≡ 100) ⊎ NextFix new None)

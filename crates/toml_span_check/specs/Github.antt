@@ -19,7 +19,8 @@ command_of Note = codes "::notice"
 
 -- ---- texts
 
--- GitHub unescapes percent signs and line ends, and in the value of a property also colons and commas.
+-- A character as it is escaped in a message. GitHub unescapes percent signs and line ends, and in the value of a
+-- property also colons and commas.
 abbrev pub message_char : ℕ → List ℕ
 message_char c =
     if c == 37 then codes "%25" else if c == 13 then codes "%0D" else if c == 10 then codes "%0A" else encode_utf8 c
@@ -42,7 +43,8 @@ property text = visible (escaped_property text)
 
 -- ---- places
 
--- the end of what a span marks: before a line feed at its end; a reversed span is empty
+-- where the mark of a span ends: before a line feed at the end of the span; a span whose end is before its start is
+-- empty
 abbrev pub marked_end : List ℕ → Span → ℕ
 marked_end text span =
     if nat_lt span.start span.end && (nat_le span.end (length text) && slice_index text (span.end - 1) == 10)
@@ -52,7 +54,7 @@ marked_end text span =
 abbrev pub line_column : List ℕ → ℕ → ℕ × ℕ
 line_column text at = (line_number text (place text at), column text (place text at))
 
--- GitHub takes no columns if the lines differ. The end is after the last character.
+-- GitHub accepts columns only if the start and the end are on the same line. The end is after the last character.
 unfoldable pub columns : ℕ × ℕ → ℕ × ℕ → List ℕ
 columns start end =
     if start.0 == end.0 then codes ",col=" ++ decimal start.1 ++ codes ",endColumn=" ++ decimal end.1 else []

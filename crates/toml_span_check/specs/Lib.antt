@@ -4,6 +4,7 @@ pub mod Encoding
 pub mod Every
 pub mod Faults
 pub mod Fixing
+pub mod Folders
 pub mod Github
 pub mod Lints
 pub mod Newer

@@ -3,11 +3,11 @@ use Rattle.std.specs.Prelude.{ℕ, ◌==◌, List, [], ◌∷◌, ◌++◌, if�
 use Rattle.toml_span_report.specs.Visible.{quoted}
 use Rattle.toml_span_check.specs.declared.lints.TheConstants.{HEAD, RESULTS, TAIL}
 
--- the text without a comma at its start
+-- the text without the comma at its start, if there is one
 abbrev pub without_comma : List ℕ → List ℕ
 without_comma [] = []
 without_comma (c ∷ cs) = if c == 44 then cs else c ∷ cs
 
--- the name of the tool, and the results
+-- the document for a tool with this name and these results
 unfoldable pub sarif_document : List ℕ → List ℕ → List ℕ
 sarif_document tool results = HEAD.now ++ quoted tool ++ RESULTS.now ++ without_comma results ++ TAIL.now

@@ -8,12 +8,12 @@ abbrev pub is_nothing : List ℕ → Bool
 is_nothing [] = true
 is_nothing (x ∷ xs) = false
 
--- whether some end of a name matches, the whole name included
+-- whether the function accepts some suffix of a name: the whole name, the empty one, or any between
 abbrev pub some_end : (List ℕ → Bool) → List ℕ → Bool
 some_end rest [] = rest []
 some_end rest (x ∷ xs) = rest (x ∷ xs) || some_end rest xs
 
--- whether the first byte matches, and the rest does
+-- whether a name begins with a byte that `?` or this byte of the pattern matches, and the function accepts the rest
 abbrev pub one_more : ℕ → (List ℕ → Bool) → List ℕ → Bool
 one_more code rest [] = false
 one_more code rest (x ∷ xs) = (code == 63 || code == x) && rest xs
@@ -30,12 +30,12 @@ abbrev pub is_root : List (List ℕ) → Bool
 is_root [] = true
 is_root (part ∷ parts) = false
 
--- whether some end of a path matches, the whole path included
+-- whether the function accepts the last parts of a path: all of them, none, or any number between
 abbrev pub some_below : (List (List ℕ) → Bool) → List (List ℕ) → Bool
 some_below rest [] = rest []
 some_below rest (part ∷ parts) = rest (part ∷ parts) || some_below rest parts
 
--- whether the first part matches, and the rest does
+-- whether this part of the pattern matches the first part of the path, and the function accepts the rest
 abbrev pub one_part : List ℕ → (List (List ℕ) → Bool) → List (List ℕ) → Bool
 one_part pattern rest [] = false
 one_part pattern rest (part ∷ parts) = name_matches pattern part && rest parts

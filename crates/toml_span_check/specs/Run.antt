@@ -1,4 +1,4 @@
--- What the program writes for the files that it reads.
+-- The output and the exit status for the files that the program reads.
 use Rattle.std.specs.Prelude.{◌≡◌, ◌↔◌, ◌≤◌, ◌⊎◌, ⊤, ℕ, ◌+◌, ◌==◌, nat_lt, max, min, Bool, true, false, ◌||◌, IsTrue}
 use Rattle.std.specs.Prelude.{List, [], ◌∷◌, ◌++◌, map, length, codes, if◌then◌else◌, Option, Some, None, Result, Ok}
 use Rattle.std.specs.Prelude.{Err}
@@ -21,8 +21,8 @@ use Rattle.toml_span_check.specs.declared.faults.Format.{Format}
 use Rattle.toml_span_check.specs.declared.faults.Format.TheVariants.{Text, Sarif}
 use Rattle.toml_span_check.specs.declared.run.Tally.{Tally}
 
--- A search: the patterns of files to leave out, the argument, and the files that were found. For a directory these are
--- files below it, otherwise the argument itself.
+-- A search: the patterns of files to leave out, the argument, and the files that were found. For a directory, these are
+-- files below the directory; otherwise, the argument itself.
 abbrev pub Search : Type 0
 Search = List (List ℕ) × List ℕ × List (List ℕ)
 
@@ -39,24 +39,25 @@ pub record Asked : Type 0 where
   pub searches : List Search
   pub readings : List Reading
 
--- What reading returned: the whole input, or more than the bound. Or a read failed, and what had been read is lost.
+-- The result of reading a file: the whole input, or more than 16 MiB of it. Or a read failed, and the result is a
+-- message.
 abbrev pub HasReadOrNot : Option (List ℕ) → Option (List ℕ) → Result (List ℕ) (List ℕ) → Type 0
 HasReadOrNot old new (Ok bytes) = HasReadAll old new bytes
 HasReadOrNot old new (Err words) = (bytes : List ℕ) × HasRead old new bytes
 
--- the message why a file can't be read: the system's, except for the most common kinds of errors
+-- the message why a file can't be read: for some common kinds of errors a fixed one, otherwise the system's
 abbrev pub IsReason : ErrorKind → List ℕ → Type 0
 IsReason kind.NotFound words = words ≡ codes "no such file"
 IsReason kind.PermissionDenied words = words ≡ codes "permission denied"
 IsReason kind.IsADirectory words = words ≡ codes "no `*.toml` file in this directory"
 IsReason _ words = ⊤
 
--- one more search, if they are known
+-- The second log is the first with one more search. Nothing is required if logs are not known.
 abbrev pub Finds : Option Asked → Option Asked → Search → Type 0
 Finds None new search = ⊤
 Finds (Some asked) new search = new ≡ Some (record asked { searches = asked.searches ++ search ∷ [] })
 
--- The files that the arguments stand for, in the order of the arguments.
+-- The files that the arguments name, also those in directories, in the order of the arguments.
 pub data FindsAll (excludes : List (List ℕ))
     : List (List ℕ) → Option Asked → Option Asked → List (List ℕ) → Type 0 where
   no_name : (log : Option Asked) → FindsAll excludes [] log log []
@@ -64,16 +65,16 @@ pub data FindsAll (excludes : List (List ℕ))
       (found : List (List ℕ)) → FindsAll excludes names old mid files → Finds mid new (excludes, name, found)
       → FindsAll excludes (names ++ name ∷ []) old new (files ++ found)
 
--- more reads, if they are known
+-- The second log is the first with these reads added. Nothing is required if logs are not known.
 abbrev pub Logs : Option Asked → Option Asked → List Reading → Type 0
 Logs None new more = ⊤
 Logs (Some asked) new more = new ≡ Some (record asked { readings = asked.readings ++ more })
 
--- the line that a file can't be read
+-- the line which reports that a file can't be read
 abbrev pub complaint : List ℕ → List ℕ → List ℕ
 complaint name reason = codes "error: cannot read `" ++ visible name ++ codes "`: " ++ reason ++ codes "\n"
 
--- how many files have errors, and how many errors there are, after one more file
+-- no errors
 abbrev pub none_wrong : Tally
 none_wrong = record { files = 0; errors = 0 }
 
@@ -85,8 +86,8 @@ abbrev pub status_of : ℕ → List ℕ → ℕ
 status_of errors complaint = if length complaint == 0 then (if errors == 0 then 0 else 1) else 2
 
 -- The output for files, one after the other: the answer to the bytes of each, and a line for each that can't be read.
--- The status is the highest of theirs: 1 for a file with errors, and 2 for one that can't be read, which counts as one
--- error, or whose schema can't be used.
+-- The exit status is the highest of all files: 0 for a file without errors, 1 for a file with errors, and 2 for a file
+-- that can't be read or whose schema can't be used. A file that can't be read counts as one error.
 pub data Gathered (says : Says) (format : Format) (task : Task) (pointer : List ℕ)
     : List Reading → List ℕ → List ℕ → ℕ → Tally → Type 0 where
   nothing : Gathered says format task pointer [] [] [] 0 none_wrong
@@ -108,8 +109,7 @@ pub record Collects (says : Says) (format : Format) (task : Task) (pointer : Lis
   pub logged : Logs old new readings
   pub gathered : Gathered says format task pointer readings out errors status wrong
 
--- the last line of a check that prints text: `3 errors in 2 of 5 files` or, without errors and on a terminal, `5 files
--- checked`
+-- a number and a noun, in the plural unless the number is 1
 abbrev pub number_of : ℕ → List ℕ → List ℕ
 number_of n word = decimal n ++ word ++ (if n == 1 then [] else codes "s")
 
@@ -121,6 +121,8 @@ found_errors files wrong =
 unfoldable pub found_none : ℕ → List ℕ
 found_none files = number_of files (codes " file") ++ codes " checked\n"
 
+-- the last line of a check that prints text: `3 errors in 2 of 5 files` or, without errors and on a terminal, `5 files
+-- checked`
 abbrev pub summary : Format → Task → Bool → ℕ → Tally → List ℕ
 summary (Text style) (Check version chooser) is_watched files wrong =
     if nat_lt 0 wrong.errors then found_errors files wrong else if is_watched then found_none files else []
@@ -135,7 +137,7 @@ abbrev pub whole : Format → Task → List ℕ → List ℕ
 whole format (Show form) stdout = stdout
 whole format (Check version chooser) stdout = together format stdout
 
--- what is written, which is nothing in a quiet run
+-- the output, or nothing in a quiet run
 abbrev pub said : Bool → List ℕ → List ℕ
 said is_quiet text = if is_quiet then [] else text
 
@@ -171,7 +173,7 @@ pub record CollectsFirst (says : Says) (format : Format) (task : Task) (pointer 
   pub prints : Collects says format task pointer first old new out complaints status wrong
   pub written : HasWritten stdout stdout' (whole format task out)
 
--- the same for a run, which is not quiet
+-- like `CollectsFirst`, for the files that the arguments name, also those in directories, in a run that is not quiet
 pub record Begins (says : Says) (format : Format) (task : Task) (pointer : List ℕ) (excludes names : List (List ℕ)) (is_quiet : Bool)
     (old new : Option Asked) (stdout stdout' : Option (List ℕ)) : Type 0 where
   pub aloud : is_quiet ≡ false
@@ -180,19 +182,21 @@ pub record Begins (says : Says) (format : Format) (task : Task) (pointer : List 
   pub found : FindsAll excludes names old mid files
   pub prints : CollectsFirst says format task pointer files mid new stdout stdout'
 
--- A run: standard output before and after, and whether a write to it failed; the same for standard error; and the exit
--- status.
+-- A run. The arguments have standard output before and after, and whether a write to it failed; the same for standard
+-- error; and the exit status.
 pub record Runs (says : Says) (format : Format) (task : Task) (pointer : List ℕ) (excludes names : List (List ℕ))
     (is_watched is_quiet : Bool)
     (old new : Option Asked) (stdout stdout' : Option (List ℕ)) (out_failed : Bool) (stderr stderr' : Option (List ℕ))
     (err_failed : Bool) (status : ℕ) : Type 0 where
   -- the status is 3 if and only if a write failed
   pub failed : (status ≡ 3) ↔ IsTrue (out_failed || err_failed)
-  -- with status 4 nothing has been written or, if documents are printed, a prefix of the output for the first files
+  -- if the status is 4, nothing has been written or, if documents are printed, a prefix of the output for the first
+  -- files
   pub silent : status ≡ 4 → Keeps stderr stderr' × (Keeps stdout stdout'
       ⊎ (Shows task × ((last : Option Asked)
       × Begins says format task pointer excludes names is_quiet old last stdout stdout')))
-  -- the same after a failed write to standard output
+  -- after a failed write to standard output, only a prefix of the output has been written, and nothing to standard
+  -- error
   pub cut : out_failed ≡ true → Keeps stderr stderr'
       × Begins says format task pointer excludes names is_quiet old new stdout stdout'
   -- before a failed write to standard error, all of standard output has been written

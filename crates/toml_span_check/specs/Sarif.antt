@@ -1,5 +1,5 @@
 -- The reports of a run as one document in the Static Analysis Results Interchange Format (SARIF), version 2.1.0. Its
--- rules are a constant text; it has a result for each report, on a line of its own.
+-- rules are a constant text. Each report is a result, on a separate line.
 use Rattle.std.specs.Prelude.{◌≡◌, ◌⊎◌, ℕ, ◌+◌, ◌/◌, ◌%◌, ◌-◌, max, min, Bool, ◌==◌, ◌&&◌, ◌||◌, nat_le, nat_lt}
 use Rattle.std.specs.Prelude.{List, [], ◌∷◌, ◌++◌, codes, drop, length, if◌then◌else◌}
 use Rattle.std.specs.Fmt.{decimal}
@@ -46,19 +46,19 @@ uri name = scheme_of name ++ flat_map uri_byte name
 unfoldable pub artifact : List ℕ → List ℕ
 artifact name = codes "{\"artifactLocation\":{\"uri\":\"" ++ uri name ++ codes "\"}"
 
--- Lines and columns are counted from 1, columns in characters. The end is after the last character, and a reversed span
--- is empty.
+-- Lines and columns are counted from 1, columns in characters. The end is after the last character. A span whose end is
+-- before its start is shown as empty.
 unfoldable pub lines : ℕ × ℕ → ℕ × ℕ → List ℕ
 lines start end =
     codes "{\"startLine\":" ++ decimal start.0 ++ codes ",\"startColumn\":" ++ decimal start.1
     ++ codes ",\"endLine\":" ++ decimal end.0 ++ codes ",\"endColumn\":" ++ decimal end.1
 
--- bytes are counted from 0
+-- the byte range of a region; offsets are counted from 0
 unfoldable pub bytes : ℕ → ℕ → List ℕ
 bytes start end =
     codes ",\"byteOffset\":" ++ decimal start ++ codes ",\"byteLength\":" ++ decimal (end - start) ++ codes "}"
 
--- a region ends no later than the source
+-- the region between two offsets, which are at most the length of the source
 abbrev pub within : List ℕ → ℕ → ℕ → List ℕ
 within text start end =
     lines (line_column text start) (line_column text (max end start)) ++ bytes start (max end start)
@@ -130,6 +130,6 @@ sarif r name text = front r ++ places name text r.labels ++ fixes name text r.re
 unfoldable pub document : List ℕ → List ℕ
 document results = HEAD.now ++ listed results ++ TAIL.now
 
--- (for private functions) Each element of a list has a comma before it.
+-- (for private functions) The list is empty or begins with a comma.
 abbrev pub BeginsWithComma : List ℕ → Type 0
 BeginsWithComma elements = (elements ≡ []) ⊎ ((rest : List ℕ) × (elements ≡ 44 ∷ rest))

@@ -1,4 +1,4 @@
--- What schemas have to say about documents.
+-- The results of checking documents against schemas.
 use Rattle.std.specs.Prelude.{◌≡◌, ◌==◌, ◌+◌, ℕ, List, [], ◌∷◌, length, if◌then◌else◌}
 use Rattle.toml_span_check.specs.declared.schemas.Chooser.{Chooser}
 use Rattle.toml_span_report.specs.Report.{ReportContent}
@@ -6,12 +6,12 @@ use Rattle.toml_span_report.specs.declared.report.Severity.{Severity}
 use Rattle.toml_span_report.specs.declared.report.Severity.TheVariants.{Error, Warning, Note}
 use Rattle.toml_span_tree.specs.Node.{Node}
 
--- What schemas say: who chooses the schema of a document, the name of the file, its text, its tree, the reports, and
--- the lines that say why the schema can't be used.
+-- A relation between who chooses the schema of a document, the name of the file, its text, its tree, the reports of the
+-- check, and the lines that say why the schema can't be used.
 abbrev pub Says : Type 1
 Says = Chooser → List ℕ → List ℕ → Node → List ReportContent → List ℕ → Type 0
 
--- there are no schemas
+-- No document has a schema: there are no reports and no complaint.
 abbrev pub no_schema : Says
 no_schema chooser name text root reports complaint = (reports ≡ []) × (complaint ≡ [])
 

@@ -29,7 +29,7 @@ scalar_text false (float x) = quoted (float_text x)
 scalar_text false (boolean b) = truth b
 scalar_text false (datetime d) = quoted d
 
--- the text of a scalar, and nothing for any other value
+-- the text of a scalar, and the empty text for an array, a table or a value that has been taken
 abbrev pub own_text : Bool → Inner → List ℕ
 own_text is_tagged taken = []
 own_text is_tagged (scalar s) = scalar_text is_tagged s
@@ -41,7 +41,8 @@ own_text is_tagged (table ms) = []
 abbrev pub comma_if : Bool → List ℕ
 comma_if later = if later then codes "," else []
 
--- the text of a value, without spaces; a value that has been taken is `null`
+-- a value as JSON without spaces, `null` for one that has been taken; the first `Bool` says whether scalars have their
+-- types
 abbrev mutual
   pub shown : Bool → Node → List ℕ
   shown is_tagged (node i span) = inner_shown is_tagged i
@@ -52,7 +53,7 @@ abbrev mutual
   inner_shown is_tagged (array ns) = codes "[" ++ items_shown is_tagged false ns
   inner_shown is_tagged (table ms) = codes "{" ++ members_shown is_tagged false ms
 
-  -- with the closing bracket
+  -- the elements with the closing bracket; the second `Bool` says whether an element precedes them
   pub items_shown : Bool → Bool → Items → List ℕ
   items_shown is_tagged later no_items = codes "]"
   items_shown is_tagged later (item n ns) = comma_if later ++ shown is_tagged n ++ items_shown is_tagged true ns

@@ -39,16 +39,17 @@ pub enum Form {
 /// What to do with a file.
 #[derive(Clone, Copy, PartialEq, Eq)]
 pub enum Task {
-    /// Report its errors, for this version of TOML, and what its schema says, which is chosen by files or arguments.
+    /// Report the errors of the file, read as this version of TOML, and where it does not match the schema that the
+    /// chooser selects.
     Check(Version, Chooser),
     /// Print the document, or a value in it, in this form.
     Show(Form),
 }
 
-/// What the reports of a file amount to.
+/// How many errors a file has, and why its schema can't be used.
 #[derive(Drop)]
 pub(crate) struct Verdict {
-    /// The number of errors.
+    /// The number of errors. A complaint counts as one error.
     pub(crate) errors: usize,
     /// Lines for standard error that say why the schema of the file can't be used. Otherwise empty.
     pub(crate) complaint: String,
@@ -101,8 +102,8 @@ fn push_reports(
     Ok(())
 }
 
-/// Returns the number of errors of a source, and the text of their reports. `error` is the one that `parse` returns.
-/// Fails if an allocation fails.
+/// Returns the number of errors of a source, and the text of their reports. `error` is the error that `parse` returns
+/// for the source. Fails if an allocation fails.
 fn errors_text(
     alloc: Global,
     format: Format,
@@ -119,8 +120,9 @@ fn errors_text(
     Ok((reports.len(), out.into_bytes()))
 }
 
-/// Returns the verdict on a source that `parse` accepts, and the text of its reports: those of syntax that this version
-/// of TOML lacks, and those of its schema. `root` is the tree of the source. Fails if an allocation fails.
+/// Returns the verdict on a source that `parse` accepts, and the text of its reports: one report for each use of syntax
+/// that this version of TOML lacks, and the reports of the schema check. `root` is the tree of the source. Fails if an
+/// allocation fails.
 fn document_text<S: Schemas>(
     alloc: Global,
     format: Format,
@@ -155,7 +157,8 @@ fn document_text<S: Schemas>(
     Ok((verdict, out.into_bytes()))
 }
 
-/// Returns the report that a path names no value. Fails if an allocation fails.
+/// Returns the text of the report that the path `pointer` names no value. `name` is the name of the file. Fails if an
+/// allocation fails.
 pub(crate) fn nothing_there(
     alloc: Global,
     format: Format,
@@ -170,7 +173,7 @@ pub(crate) fn nothing_there(
     plain_fault(alloc, format, "nothing-there", message.as_str(), name)
 }
 
-/// Returns the report that a file is longer than `BOUND`. Fails if an allocation fails.
+/// Returns the text of the report that the file `name` is longer than `BOUND`. Fails if an allocation fails.
 fn too_long(alloc: Global, format: Format, name: &str) -> Result<Vec<u8>, AllocError>
     ensures { IfOk result (λ out. (1, out.items, []) ≡ spec.too_long format name.now) }
 {
@@ -183,8 +186,8 @@ fn too_long(alloc: Global, format: Format, name: &str) -> Result<Vec<u8>, AllocE
     )
 }
 
-/// Returns the report that a file is not valid UTF-8. `at` is the offset of its first invalid byte. Fails if an
-/// allocation fails.
+/// Returns the text of the report that the file `name` is not valid UTF-8. `at` is the offset of its first invalid
+/// byte. Fails if an allocation fails.
 fn not_utf8_fault(
     alloc: Global,
     format: Format,
@@ -201,7 +204,7 @@ fn not_utf8_fault(
 
 /// The result for one file.
 pub(crate) enum Judged<'t> {
-    /// Errors, or nothing to print: the verdict, and the text of the reports.
+    /// The verdict and the text of the reports, if the file has errors or was only to be checked.
     Text(Verdict, Vec<u8>),
     /// A document to print in this form.
     Document(Form, Value<'t>),
@@ -240,8 +243,9 @@ fn judge_text<'t, S: Schemas>(
     }
 }
 
-/// Returns the result for the bytes of a file, as `judge_text` does for its text. A file that is longer than `BOUND` or
-/// not valid UTF-8 has one error. `name` is the name of the file. Fails if an allocation fails.
+/// Checks the bytes of a file. Returns the document if it is valid and `task` is to print it, otherwise the verdict and
+/// the text of the reports. A file that is longer than `BOUND` or not valid UTF-8 has one error. `name` is the name of
+/// the file, and `schemas` finds its schema. Fails if an allocation fails.
 pub(crate) fn judge<'t, S: Schemas>(
     alloc: Global,
     format: Format,

@@ -5,14 +5,14 @@ ghost use Rattle.toml_span_check.specs.Dates as spec;
 
 use std::alloc::{AllocError, Global};
 
-/// Returns whether the byte can begin an offset: `+`, `-`, `Z` or `z`.
+/// Returns whether the byte can begin a time offset: `+`, `-`, `Z` or `z`.
 fn begins_offset(byte: u8) -> bool
     ensures { result ≡ spec.begins_offset byte }
 {
     matches!(byte, b'Z' | b'z' | b'+' | b'-')
 }
 
-/// Returns whether one of the bytes can begin an offset.
+/// Returns whether one of the bytes can begin a time offset.
 fn has_offset(bytes: &[u8]) -> bool
     ensures { result ≡ list_any spec.begins_offset bytes.now }
 {

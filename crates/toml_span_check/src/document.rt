@@ -47,8 +47,8 @@ fn write_value<W: Sink>(
     write_held(writer, held)
 }
 
-/// Returns the value that a path names below the root, or `None` if it names none or can't be read. Fails if an
-/// allocation fails.
+/// Returns the value at a path, which begins at `root`, or `None` if the path names no value or can't be read. Fails if
+/// an allocation fails.
 pub(crate) fn place_of<'v, 'de>(
     alloc: Global,
     path: &str,
@@ -63,8 +63,9 @@ pub(crate) fn place_of<'v, 'de>(
     }
 }
 
-/// Writes the value at a path, or the report that there is none. The end of the output may stay in the buffer `held`.
-/// Returns the number of errors. Fails if a write or an allocation fails.
+/// Writes `place`, the value at the path `pointer` or, if it is `None`, the report that there is no value. The end of
+/// the output may stay in the buffer `held`. Returns the number of errors: 0 or 1. Fails if a write or an allocation
+/// fails.
 pub(crate) fn show<W: Sink>(
     alloc: Global,
     format: Format,

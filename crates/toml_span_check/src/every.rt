@@ -17,11 +17,11 @@ use toml_span_report::Report;
 /// The maximum number of errors to report.
 const MOST: usize = 100;
 
-/// The maximum of the number of reports times the length of the text in bytes: for each report, the text may have to be
-/// parsed once more. It does not apply to the first report.
+/// The maximum product of the number of reports and the length of the text in bytes, since each report may require
+/// another parse of the text. The first report is always made.
 const WORK: usize = 134_217_728;
 
-/// An error with its report, and with the statement in which it is.
+/// The report of an error, and the statement that contains the error.
 #[derive(Drop)]
 struct ErrorAt {
     report: Report,
@@ -42,7 +42,7 @@ struct Found {
     reports: Vec<Report>,
 }
 
-/// Returns the maximum number of errors to report for a text of this length.
+/// Returns the maximum number of errors to report for a text of `len` bytes: at least 1.
 fn most(len: usize) -> usize
     ensures { result ≡ spec.most len }
 {
@@ -64,7 +64,7 @@ fn blanked(alloc: Global, text: &str, from: usize, to: usize) -> Result<String, 
     Ok(out)
 }
 
-/// Makes the report of an error, and finds the statement in which it is. Statements are looked for from the offset
+/// Makes the report of an error, and finds the statement that contains the error. The search begins at the offset
 /// `from`, where a statement must begin. Fails if an allocation fails.
 fn error_at(
     alloc: Global,
@@ -83,7 +83,9 @@ fn error_at(
     })
 }
 
-/// Parses a text, and returns its error, if there is one, as `error_at` does. Fails if an allocation fails.
+/// Parses a text. Returns the report of its error, with the statement that contains the error, or `None` if there is no
+/// error. The search for the statement begins at the offset `from`, where a statement must begin. Fails if an
+/// allocation fails.
 fn next_error(alloc: Global, text: &str, from: usize) -> Result<Option<ErrorAt>, AllocError>
     ensures { IfOk result (Judges text.now) }
 {
@@ -97,7 +99,8 @@ fn next_error(alloc: Global, text: &str, from: usize) -> Result<Option<ErrorAt>,
     }
 }
 
-/// Adds a report of an error at the offset `place`, unless there is one for this offset. Fails if an allocation fails.
+/// Adds a report of an error at the offset `place`, unless there is a report for this offset. In either case, adds
+/// `place` to the starts of the errors. Fails if an allocation fails.
 fn push_new(found: &mut Found, report: Report, place: usize) -> Result<(), AllocError>
     ensures { OnOk result (AddsReport (report_content report) place (progress found.old) (progress found.new)) }
 {
@@ -125,7 +128,7 @@ fn with_error(alloc: Global, mut found: Found, next: ErrorAt) -> Result<Found, A
     Ok(found)
 }
 
-/// Returns whether the maximum number of errors has been reported for a text of this length.
+/// Returns whether the maximum number of errors for a text of this length has been found.
 fn is_full(found: &Found, len: usize) -> bool
     ensures { result ≡ nat_le (spec.most len) (length found.now.places.items) }
 {
@@ -133,7 +136,8 @@ fn is_full(found: &Found, len: usize) -> bool
 }
 
 /// Returns `found` with the faults of the text at or after the offset `from`, where a statement must begin. After each
-/// fault, reading continues at the next statement. Fails if an allocation fails.
+/// fault, reading continues at the next statement. Stops at a clash, or when the maximum number of errors has been
+/// found. Fails if an allocation fails.
 fn with_faults(
     alloc: Global,
     mut found: Found,
@@ -159,7 +163,7 @@ fn with_faults(
     Ok(found)
 }
 
-/// Returns the reports and one more, which says that there are more errors. Fails if an allocation fails.
+/// Returns the reports and one more report, which says that there are more errors. Fails if an allocation fails.
 fn with_too_many(alloc: Global, mut reports: Vec<Report>) -> Result<Vec<Report>, AllocError>
     ensures { IfOk result (λ more. map report_content more.items
         ≡ map report_content reports.items ++ spec.too_many ∷ []) }
@@ -169,8 +173,8 @@ fn with_too_many(alloc: Global, mut reports: Vec<Report>) -> Result<Vec<Report>,
     Ok(reports)
 }
 
-/// Returns the reports of `found`, and those of the clashes between the statements that are left. Fails if an
-/// allocation fails.
+/// Returns the reports of `found`, and the reports of the clashes between the statements that are left. If there are
+/// more errors than the maximum, the last report says so. Fails if an allocation fails.
 fn with_clashes(alloc: Global, mut found: Found, text: &str) -> Result<Vec<Report>, AllocError>
     requires { Finds text.now (progress found) }
     ensures { IfOk result (λ reports. Checks text.now (map report_content reports.items)) }
@@ -187,7 +191,8 @@ fn with_clashes(alloc: Global, mut found: Found, text: &str) -> Result<Vec<Repor
     }
 }
 
-/// Returns the reports of all errors of a text. `error` is the one that `parse` returns. Fails if an allocation fails.
+/// Returns the reports of all errors of a text. `error` is the error that `parse` returns for the text. Fails if an
+/// allocation fails.
 pub(crate) fn errors_from(
     alloc: Global,
     text: &str,
@@ -209,11 +214,11 @@ pub(crate) fn errors_from(
 }
 
 /// Returns the reports of all errors of a text. There are none if and only if `parse` returns a tree; otherwise the
-/// first one is that of the error that `parse` returns.
+/// first report is about the error that `parse` returns.
 ///
 /// After a statement that can't be read, reading continues at the next statement. If the unreadable statement is not
-/// closed, the next one is on the next line that begins a statement and is not indented further. Then the statements
-/// with errors are replaced with spaces, and the others are parsed together. Of two statements that clash, the later
+/// closed, the next one is on the next line that begins a statement and is not indented further. Then the function
+/// replaces the statements with errors with spaces, and parses the others together. If two statements clash, the later
 /// one is reported and replaced with spaces, a header together with its section, until the rest is valid.
 ///
 /// No offset is reported twice. At most 100 errors are looked for, and fewer in a text of more than 1.28 MiB: 128 MiB

@@ -86,8 +86,9 @@ fn improves(alloc: Global, text: &str, from: usize, length: usize) -> Result<boo
     }
 }
 
-/// Returns the source with the replacements of a report, or `None` if one is not safe, or if the first error of the
-/// result is not after them. Fails if an allocation fails.
+/// Returns the source with the replacements of a report. Returns `None` if the report has no replacements, if a
+/// replacement is not safe or does not fit the source, or if the first error of the result starts before the end of the
+/// first replacement. Fails if an allocation fails.
 fn repaired(alloc: Global, text: &str, report: &Report) -> Result<Option<String>, AllocError>
     ensures { IfOk result (λ new. spec.Repairs text.now (map repair_of report.now.replacements.items)
         (option_map string_bytes new)) }
@@ -123,8 +124,8 @@ fn with_error_fixed(
     Ok(new)
 }
 
-/// Returns the source with its first error fixed, or `None` if it has no error or that is not possible. Fails if an
-/// allocation fails.
+/// Returns the source with its first error fixed, or `None` if it has no error or the first one can't be fixed. Fails
+/// if an allocation fails.
 fn next_fix(alloc: Global, text: &str) -> Result<Option<String>, AllocError>
     ensures { IfOk result (λ new. NextFix text.now (option_map string_bytes new)) }
 {
@@ -140,9 +141,9 @@ fn next_fix(alloc: Global, text: &str) -> Result<Option<String>, AllocError>
 
 /// Fixes errors of a source, one after the other, and returns the result with the number of fixes.
 ///
-/// An error is fixed if its report has replacements, all of them are safe, and the first error of the result is after
-/// them. Stops at the first error that can't be fixed, or after 100 fixes. Each takes time linear in the length of the
-/// source. Fails only if an allocation fails.
+/// An error is fixed if its report has replacements, all of them are safe, and the first error of the result starts at
+/// or after the end of the first replacement. Stops at the first error that can't be fixed, or after 100 fixes. Each
+/// fix takes time linear in the length of the source. Fails only if an allocation fails.
 pub fn with_fixes(alloc: Global, text: &str) -> Result<Fixed, AllocError>
     ensures { IfOk result (λ made. Fixes text.now made.count (string_bytes made.text)) }
 {

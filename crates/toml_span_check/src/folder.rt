@@ -1,4 +1,9 @@
 //! Finds the TOML files below a directory.
+ghost use Rattle.std.specs.Prelude.{◌≡◌, IfOk, IsSorted, string_bytes};
+ghost use Rattle.std.specs.Cmp.Lexicographic.{slice_cmp};
+ghost use Rattle.std.specs.Ordering.{nat_cmp};
+ghost use Rattle.toml_span_check.specs.Folders as spec;
+
 use crate::patterns::{Pattern, ignore_patterns, last_match, pattern_of};
 use crate::words::{is_bytes, word_text};
 use std::alloc::{AllocError, Global};
@@ -30,7 +35,7 @@ struct Folder {
     ignore: Option<usize>,
 }
 
-/// A search in progress.
+/// A search for files below a directory: what has been found so far, and the patterns of files to leave out.
 #[derive(Drop)]
 struct Below {
     files: Vec<String>,
@@ -40,7 +45,8 @@ struct Below {
     excludes: Vec<Pattern>,
 }
 
-/// Returns whether there is a directory, or a link to one, at this path.
+/// Returns `true` if there is a directory, or a link to one, at this path, and `false` otherwise, also if the system
+/// reports an error.
 pub fn is_folder(rt: &HostRuntime, name: &str) -> bool {
     match fs::metadata(rt, name) {
         Ok(found) => found.is_dir(),
@@ -48,7 +54,8 @@ pub fn is_folder(rt: &HostRuntime, name: &str) -> bool {
     }
 }
 
-/// Returns whether there is a file, or a link to one, at this path. Returns true if the system reports an error.
+/// Returns `false` if there is something other than a file, or a link to one, at this path, and `true` otherwise, even
+/// if the system reports an error.
 fn may_be_file(rt: &HostRuntime, path: &str) -> bool {
     match fs::metadata(rt, path) {
         Ok(found) => found.is_file(),
@@ -61,7 +68,8 @@ fn is_dots(name: &[u8]) -> bool {
     name == b".".as_slice() || name == b"..".as_slice()
 }
 
-/// Returns the names in a directory. Fails if it can't be listed.
+/// Returns the names in a directory, except `.` and `..`. Fails if it can't be listed, and with the kind `OutOfMemory`
+/// if an allocation fails.
 fn names_in(rt: &HostRuntime, folder: &str) -> io::Result<Vec<Vec<u8>>> {
     let mut path = String::from_str(rt.alloc(), folder)?;
     path.push('/')?;
@@ -77,7 +85,9 @@ fn names_in(rt: &HostRuntime, folder: &str) -> io::Result<Vec<Vec<u8>>> {
 }
 
 /// Returns the path of the file called `name` in a directory. Fails if an allocation fails.
-fn path_of(alloc: Global, folder: &str, name: &[u8]) -> Result<String, AllocError> {
+fn path_of(alloc: Global, folder: &str, name: &[u8]) -> Result<String, AllocError>
+    ensures { IfOk result (λ path. string_bytes path ≡ spec.path_of folder.now name.now) }
+{
     let mut path = String::from_str(alloc, folder)?;
     if !folder.ends_with('/') {
         path.push('/')?;
@@ -110,9 +120,11 @@ fn last_name(path: &str) -> &str {
     }
 }
 
-/// Returns whether directories of this name are searched only if they are arguments themselves: hidden ones, `target`
-/// and `node_modules`.
-fn is_passed_over(name: &str) -> bool {
+/// Returns whether directories of this name are searched only if they are arguments themselves: hidden directories,
+/// `target` and `node_modules`.
+fn is_passed_over(name: &str) -> bool
+    ensures { result ≡ spec.is_passed_over name.now }
+{
     name.starts_with('.') || name == "target" || name == "node_modules"
 }
 
@@ -145,7 +157,8 @@ impl Below {
     }
 
     /// Returns whether to leave a path out, because of its name, a pattern of `--exclude` or a `.gitignore` file.
-    /// `ignore` is as in `is_ignored`. Fails if an allocation fails.
+    /// `ignore` is the position in `ignores` of the nearest `.gitignore` file, if there is one. Fails if an allocation
+    /// fails.
     fn is_left_out(
         &self,
         alloc: Global,
@@ -164,7 +177,8 @@ impl Below {
         self.is_ignored(alloc, path, is_directory, ignore)
     }
 
-    /// Adds a directory to those to search, unless it is left out. Fails if an allocation fails.
+    /// Adds a directory to those to search, unless it is left out. `ignore` is the position in `ignores` of the nearest
+    /// `.gitignore` file, if there is one. Fails if an allocation fails.
     fn push_folder(
         &mut self,
         alloc: Global,
@@ -177,7 +191,9 @@ impl Below {
         Ok(())
     }
 
-    /// Adds a file to those found, unless it is left out, or is not a file. Fails if an allocation fails.
+    /// Adds the path of a file to those found. Ignores paths that don't end in `.toml`, that don't name a file, or that
+    /// are left out. `ignore` is the position in `ignores` of the nearest `.gitignore` file, if there is one. Fails if
+    /// an allocation fails.
     fn push_file(
         &mut self,
         rt: &HostRuntime,
@@ -194,9 +210,10 @@ impl Below {
         Ok(())
     }
 
-    /// Adds what is at a path, if it is a directory, or a file whose name ends in `.toml`. A path that can't be
-    /// examined is added too, so that an attempt to read it reports the reason; if it is not valid UTF-8, its name must
-    /// end in `.toml`. Fails if an allocation fails.
+    /// Adds a path to the search if it names a directory, or to the result if it names a file whose name ends in
+    /// `.toml`. A path that can't be examined is added too, so that an attempt to read it reports the reason; if it is
+    /// not valid UTF-8, its name must end in `.toml`. `ignore` is the position in `ignores` of the nearest `.gitignore`
+    /// file, if there is one. Fails if an allocation fails.
     fn push(
         &mut self,
         rt: &HostRuntime,
@@ -281,14 +298,16 @@ fn patterns_of(alloc: Global, texts: &[&str]) -> Result<Vec<Pattern>, AllocError
 /// Returns the paths of the TOML files below a directory, in the order of their bytes. Does not follow links to
 /// directories.
 ///
-/// Leaves out what a pattern of `excludes` matches, what `.gitignore` files in the directory and below match, and
+/// Leaves out paths that match a pattern of `excludes` or of a `.gitignore` file in the directory or below, and
 /// directories that are hidden or named `target` or `node_modules`. Fails if an allocation fails.
 pub(crate) fn files_below(
     rt: &HostRuntime,
     alloc: Global,
     folder: &str,
     excludes: &[&str],
-) -> Result<Vec<String>, AllocError> {
+) -> Result<Vec<String>, AllocError>
+    ensures sorted { IfOk result (λ files. IsSorted (λ s t. slice_cmp nat_cmp (string_bytes s) (string_bytes t)) files.items) }
+{
     let path = String::from_str(alloc, folder)?;
     let mut below = Below {
         files: Vec::new(alloc),

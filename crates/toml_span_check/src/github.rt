@@ -83,7 +83,7 @@ fn push_property(alloc: Global, out: &mut String, text: &str) -> Result<(), Allo
     push_visible(out, escaped.as_str())
 }
 
-/// Appends a property that is a number. `title` is what precedes the number. Fails if an allocation fails.
+/// Appends `title`, and then a number in decimal digits. Fails if an allocation fails.
 pub(crate) fn push_number(out: &mut String, title: &str, number: usize) -> Result<(), AllocError>
     ensures { OnOk result (string_bytes out.new ≡ string_bytes out.old ++ title.now ++ decimal number) }
 {
@@ -91,8 +91,8 @@ pub(crate) fn push_number(out: &mut String, title: &str, number: usize) -> Resul
     write!(out, "{number}")
 }
 
-/// Returns the end of what to mark: the end of the span or, if the span ends with a line feed, the offset of that line
-/// feed.
+/// Returns where the mark of a span ends: at the end of the span or, if the span ends with a line feed, before it. If
+/// the end of the span is before its start, returns the start.
 fn marked_end(text: &str, span: Span) -> usize
     ensures { result ≡ spec.marked_end text.now span }
 {

@@ -18,8 +18,8 @@ pub trait Inputs {
     /// The searches and reads so far, if they are known.
     ghost log: { Self → Option Asked };
 
-    /// Returns the names of the files that an argument stands for: for a directory, the TOML files below it that no
-    /// pattern of `excludes` matches, otherwise the argument itself. Fails if an allocation fails.
+    /// Returns the names of the files that an argument stands for: for a directory, the TOML files below it that match
+    /// no pattern of `excludes`, otherwise the argument itself. Fails if an allocation fails.
     fn find(
         &mut self,
         alloc: Global,
@@ -35,8 +35,8 @@ pub trait Inputs {
         ensures { IfOk result (λ r. Logs (log self.old) (log self.new) ((name.now, read_of r) ∷ [])) };
 }
 
-/// Returns a message that says why a file can't be read: the system's, except for the most common reasons. Fails if an
-/// allocation fails.
+/// Returns a message that says why a file can't be read: the system's message, except for the most common reasons.
+/// Fails if an allocation fails.
 fn reason(alloc: Global, error: &io::Error) -> Result<String, AllocError>
     ensures { IfOk result (λ words. IsReason (error_kind error.now) (string_bytes words)) }
 {

@@ -55,8 +55,8 @@ pub fn sarif_result(
     sarif(alloc, report, name, text)
 }
 
-/// Returns the SARIF document, version 2.1.0, of a run of the tool `tool`. `results` is the concatenation of what
-/// `sarif_result` returned for each report. Fails only if an allocation fails.
+/// Returns the SARIF document, version 2.1.0, of a run of the tool `tool`. `results` is the concatenation of the texts
+/// that `sarif_result` returned for the reports. Fails only if an allocation fails.
 #[tactic(auto, unfolding(crate::specs::Lints::sarif_document))]
 pub fn sarif_document(alloc: Global, tool: &str, results: &str) -> Result<String, AllocError>
     ensures { IfOk result (λ out. string_bytes out ≡ spec.sarif_document tool.now results.now) }

@@ -91,7 +91,7 @@ fn parts_of<'t>(alloc: Global, path: &'t str) -> Result<Vec<&'t str>, AllocError
     Ok(parts)
 }
 
-/// Splits a pattern at its slashes, and puts `**` before it if it has none. Fails if an allocation fails.
+/// Splits a pattern at its slashes, and puts `**` before it if it has no slash. Fails if an allocation fails.
 fn pattern_parts(alloc: Global, text: &str) -> Result<Vec<String>, AllocError> {
     let mut parts = Vec::new(alloc);
     if !text.contains('/') {
@@ -119,9 +119,9 @@ fn without_slash<'t>(text: &'t str) -> (bool, &'t str) {
     }
 }
 
-/// Parses a pattern. A `!` before it negates it, and a slash at its end makes it match only directories. If there is
-/// another slash it matches whole paths, otherwise names at any depth. Returns `None` if it is empty, or contains `[`
-/// or a backslash, which are not supported. Fails if an allocation fails.
+/// Parses a pattern. A `!` at its start negates the pattern, and a slash at its end makes it match only directories. If
+/// there is another slash, the pattern matches whole paths, otherwise names at any depth. Returns `None` if the rest is
+/// empty, or contains `[` or a backslash, which are not supported. Fails if an allocation fails.
 pub fn pattern_of(alloc: Global, text: &str) -> Result<Option<Pattern>, AllocError> {
     let (is_negated, text) = without_mark(text);
     let (is_directory, text) = without_slash(text);
@@ -150,8 +150,8 @@ pub(crate) fn ignore_patterns(alloc: Global, text: &str) -> Result<Vec<Pattern>,
     Ok(patterns)
 }
 
-/// Returns whether a pattern matches a path, which is split at its slashes. `is_directory` says whether a directory is
-/// there.
+/// Returns whether a pattern matches a path, which is split at its slashes. `is_directory` says whether the path names
+/// a directory. Returns false if matching takes more than `STEPS` steps.
 fn is_match(pattern: &Pattern, path: &[&str], is_directory: bool) -> bool {
     if pattern.is_directory && !is_directory {
         return false;

@@ -30,12 +30,13 @@ struct Tally {
     errors: usize,
 }
 
-/// The output of a check, as far as it has not been written.
+/// The output that has not been written yet, the exit status and the counts, for the files so far.
 #[derive(Drop)]
 struct Collected {
     /// What remains to be written to standard output.
     held: Vec<u8>,
-    /// What to write to standard error: a line for each file that can't be read.
+    /// What to write to standard error: a line for each file that can't be read, complaints about schemas, and in the
+    /// end the line with the counts.
     errors: String,
     status: u8,
     wrong: Tally,
@@ -53,7 +54,8 @@ impl Collected {
     }
 }
 
-/// Returns the exit status for a file with this many errors, and this complaint about its schema.
+/// Returns the exit status for a file with this many errors, and this complaint about its schema: 2 if there is a
+/// complaint, otherwise 1 if there are errors, otherwise 0.
 fn status_of(errors: usize, complaint: &str) -> u8
     ensures { result ≡ spec.status_of errors complaint.now }
 {
@@ -244,7 +246,7 @@ fn push_errors(out: &mut String, files: usize, wrong: Tally) -> Result<(), Alloc
     out.push_str("\n")
 }
 
-/// Appends the line that counts files without errors: `5 files checked`. Fails if an allocation fails.
+/// Appends the line that counts the files, if none has errors: `5 files checked`. Fails if an allocation fails.
 #[tactic(auto, unfolding(crate::specs::Run::found_none))]
 fn push_checked(out: &mut String, files: usize) -> Result<(), AllocError>
     ensures { OnOk result (string_bytes out.new ≡ string_bytes out.old ++ spec.found_none files) }
@@ -254,7 +256,7 @@ fn push_checked(out: &mut String, files: usize) -> Result<(), AllocError>
 }
 
 /// Appends the last line of a check that prints text: the number of errors or, without errors and if standard error is
-/// a terminal (`is_watched`), the number of files. Fails if an allocation fails.
+/// a terminal (`is_watched`), the number of files. Appends nothing in any other case. Fails if an allocation fails.
 fn push_summary(
     out: &mut String,
     format: Format,
@@ -273,7 +275,8 @@ fn push_summary(
     }
 }
 
-/// Completes the output for all files: in SARIF, the document around the results. Fails if an allocation fails.
+/// Completes `stdout`, the output for all files: for a check with SARIF, adds the document around the results. Fails if
+/// an allocation fails.
 fn whole(alloc: Global, format: Format, task: Task, stdout: Vec<u8>) -> Result<Vec<u8>, AllocError>
     ensures { IfOk result (λ out. out.items ≡ spec.whole format task stdout.items) }
 {
@@ -318,8 +321,8 @@ fn collect_all<I: Inputs, S: Schemas, O: Sink>(
 }
 
 /// Reads the files that the arguments `names` stand for, checks or prints each, and writes the output. Returns the exit
-/// status: 0 without errors, 1 if a file has errors, 2 if a file can't be read, 3 if a write failed, 4 if an allocation
-/// failed.
+/// status: 0 without errors, 1 if a file has errors, 2 if a file can't be read or its schema can't be used, 3 if a
+/// write failed, 4 if an allocation failed.
 fn run_aloud<I: Inputs, S: Schemas, O: Sink, E: Sink>(
     alloc: Global,
     format: Format,
@@ -357,7 +360,9 @@ fn run_aloud<I: Inputs, S: Schemas, O: Sink, E: Sink>(
     }
 }
 
-/// Does the same as `run_aloud`, but writes nothing. Returns the exit status.
+/// Reads the files that the arguments `names` select, and checks or prints each, but writes nothing. Returns the exit
+/// status: 0 without errors, 1 if a file has errors, 2 if a file can't be read or its schema can't be used, 4 if an
+/// allocation failed.
 fn run_quiet<I: Inputs, S: Schemas>(
     alloc: Global,
     format: Format,
@@ -395,8 +400,8 @@ fn run_quiet<I: Inputs, S: Schemas>(
 ///
 /// `excludes` are patterns of files to leave out of directories, and `pointer` names the value to print. `is_watched`
 /// says whether standard error is a terminal, and `is_quiet` suppresses all output. Documents are checked against their
-/// `schemas`. Returns the exit status: 0 without errors, 1 if a file has errors, 2 if a file can't be read, 3 if a
-/// write failed, 4 if an allocation failed.
+/// `schemas`. Returns the exit status: 0 without errors, 1 if a file has errors, 2 if a file can't be read or its
+/// schema can't be used, 3 if a write failed, 4 if an allocation failed.
 pub fn run<I: Inputs, S: Schemas, O: Sink, E: Sink>(
     alloc: Global,
     format: Format,

@@ -48,7 +48,7 @@ const HEAD: &str = r#"{
 {"id":"schema-exclusive-minimum","shortDescription":{"text":"A number that is too small."}},
 {"id":"schema-maximum","shortDescription":{"text":"A number that is too large."}},
 {"id":"schema-exclusive-maximum","shortDescription":{"text":"A number that is too large."}},
-{"id":"schema-multiple-of","shortDescription":{"text":"A number that is no multiple of the one in the schema."}},
+{"id":"schema-multiple-of","shortDescription":{"text":"A number that is not a multiple of the one in the schema."}},
 {"id":"schema-min-length","shortDescription":{"text":"A string that is too short."}},
 {"id":"schema-max-length","shortDescription":{"text":"A string that is too long."}},
 {"id":"schema-pattern","shortDescription":{"text":"A string that the schema's regular expression does not match."}},
@@ -86,7 +86,7 @@ fn level_of(severity: Severity) -> &'static str
     }
 }
 
-/// Returns whether a byte may appear unescaped in a URI path: an unreserved one, or a slash.
+/// Returns whether a byte may appear unescaped in a URI path: an unreserved character, or a slash.
 fn is_plain(byte: u8) -> bool
     ensures { result ≡ spec.is_plain byte }
 {
@@ -156,8 +156,8 @@ fn push_artifact(out: &mut String, name: &str) -> Result<(), AllocError>
     Ok(())
 }
 
-/// Appends the lines and columns of a region, after its opening brace. `start` and `end` are each a line and a column,
-/// counted from 1. Fails if an allocation fails.
+/// Appends the lines and columns of a region whose opening brace has been appended. `start` and `end` are each a line
+/// and a column, counted from 1. Fails if an allocation fails.
 fn push_lines(
     out: &mut String,
     start: (usize, usize),
@@ -244,7 +244,7 @@ fn push_place(
     push_file(out, name)
 }
 
-/// Appends the location of a label after a comma, if it is secondary. Fails if an allocation fails.
+/// Appends a comma and the location of a label, if the label is secondary. Fails if an allocation fails.
 fn push_other(
     alloc: Global,
     out: &mut String,

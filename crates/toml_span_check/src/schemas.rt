@@ -1,4 +1,4 @@
-//! What schemas have to say about documents.
+//! The trait by which documents are checked against schemas. This crate has no schema checker; callers provide one.
 ghost use Rattle.std.specs.Prelude.{◌≡◌, ◌+◌, ℕ, List, [], IfOk, map, string_bytes};
 ghost use Rattle.toml_span_check.specs.Schemas as spec;
 ghost use Rattle.toml_span_check.specs.Schemas.{Says, no_schema};
@@ -14,13 +14,13 @@ use toml_span_report::{Report, Severity};
 /// Who chooses the schemas of files.
 #[derive(Clone, Copy, PartialEq, Eq)]
 pub enum Chooser {
-    /// The files themselves, by directives.
+    /// The files themselves, by directives: comments such as `#:schema ./app.schema.json`.
     Files,
     /// Arguments of the command line, and directives.
     Arguments,
 }
 
-/// What a schema has to say about a document.
+/// The result of checking a document against its schema.
 #[derive(Drop)]
 pub struct SchemaReports {
     /// The reports, in the order of the text.
@@ -51,7 +51,7 @@ pub trait Schemas {
             (map report_content made.reports.items) (string_bytes made.complaint)) };
 }
 
-/// No schemas.
+/// A source without any schemas: it reports nothing.
 #[derive(Drop)]
 pub struct NoSchemas;
 
@@ -73,7 +73,7 @@ impl Schemas for NoSchemas {
     }
 }
 
-/// Returns how many errors a report of this severity counts as.
+/// Returns how many errors a report of this severity counts as: 1 for an error, otherwise 0.
 fn weight(severity: Severity) -> usize
     ensures { result ≡ spec.weight severity }
 {
@@ -94,7 +94,7 @@ pub(crate) fn with_errors(count: usize, reports: &[Report]) -> Result<usize, All
     Ok(sum)
 }
 
-/// Returns how many errors a complaint counts as: one, unless it is empty.
+/// Returns how many errors a complaint counts as: 1, or 0 if it is empty.
 pub(crate) fn complaint_weight(complaint: &str) -> usize
     ensures { result ≡ spec.complaint_weight complaint.now }
 {

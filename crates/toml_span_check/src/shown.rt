@@ -15,7 +15,7 @@ pub(crate) fn truth(is_true: bool) -> &'static str
     if is_true { "true" } else { "false" }
 }
 
-/// Appends a comma if `later`, that is, before any element but the first. Fails if an allocation fails.
+/// Appends a comma if `later`, that is, before each element except the first. Fails if an allocation fails.
 pub(crate) fn push_comma(out: &mut String, later: bool) -> Result<(), AllocError>
     ensures { OnOk result (string_bytes out.new ≡ string_bytes out.old ++ spec.comma_if later) }
 {

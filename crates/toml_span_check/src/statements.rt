@@ -1,4 +1,4 @@
-//! Finds the statement in which an error is, that is, a header or an assignment, and where the next one begins.
+//! Finds the statement (a header or an assignment) in which an error is, and where the next statement begins.
 use toml_span::ErrorKind;
 
 /// What is open at an offset in a statement.
@@ -10,7 +10,7 @@ pub(crate) struct Open {
     quote: u8,
     /// Whether the open string has three quotes on each side.
     is_long: bool,
-    /// The number of bytes from this offset that belong to quotes or an escape that began before it.
+    /// The number of bytes from the current offset that belong to quotes or an escape that began before it.
     skip: usize,
     /// Whether the statement is a header, which ends at the end of its line.
     is_header: bool,
@@ -23,8 +23,8 @@ pub(crate) struct Statement {
     pub(crate) start: usize,
     /// The start of the next statement.
     pub(crate) next: usize,
-    /// The end of what has no meaning without the statement: for a header, the end of its section; for an assignment,
-    /// `next`.
+    /// The end of the text to ignore if the statement has an error: for a header, the end of its section; for an
+    /// assignment, `next`.
     pub(crate) end: usize,
 }
 
@@ -45,7 +45,7 @@ fn blanks_end(text: &str, from: usize) -> usize {
     bytes.len()
 }
 
-/// Returns whether there are three equal quotes at the offset.
+/// Returns whether the quote at the offset `at` is the first of three equal quotes.
 fn is_long(text: &str, at: usize) -> bool {
     let quote = byte_at(text, at);
     quote == byte_at(text, at.saturating_add(1)) && quote == byte_at(text, at.saturating_add(2))
@@ -80,7 +80,7 @@ fn outside(text: &str, open: Open, at: usize) -> Open {
     next
 }
 
-/// Returns what is open after the byte at `at`, which is in a string.
+/// Returns what is open after the byte at `at`, which is in a string. `open` is what is open before it.
 fn inside(text: &str, open: Open, at: usize) -> Open {
     let mut next = open;
     let byte = byte_at(text, at);
@@ -180,7 +180,7 @@ fn bare_end(text: &str, from: usize) -> usize {
     bytes.len()
 }
 
-/// Returns the end of the key that begins at `from`, and of the blanks after it, or `from` if there is no key.
+/// Returns the offset after the key that begins at `from` and the blanks after this key, or `from` if there is no key.
 fn part_end(text: &str, from: usize) -> usize {
     let end = match byte_at(text, from) {
         b'"' | b'\'' => quoted_end(text, from),
@@ -193,7 +193,8 @@ fn part_end(text: &str, from: usize) -> usize {
     }
 }
 
-/// Returns the end of the dotted key that begins at `from`, and of the blanks after it, or `None` if there is no key.
+/// Returns the offset after the dotted key that begins at `from` and the blanks after this key, or `None` if there is
+/// no key.
 fn key_end(text: &str, from: usize) -> Option<usize> {
     let mut at = from;
     for _ in from..text.len() {
@@ -245,9 +246,9 @@ fn indentation(text: &str, line: usize) -> usize {
     blanks_end(text, line).saturating_sub(line)
 }
 
-/// Returns whether a statement begins on the line at the offset `line`, although the one that begins at `start` and has
-/// an error at `place` is not closed. The line must not be indented further than that statement, and its own head must
-/// end after `place`.
+/// Returns whether a new statement begins on the line at the offset `line`, although brackets or a string of the
+/// statement at `start`, which has an error at `place`, are still open. It does if the line has the head of a
+/// statement, the head ends after `place`, and the line is not indented further than the open statement.
 fn resumes(text: &str, line: usize, start: usize, place: usize) -> bool {
     match head_end(text, line) {
         Some(end) => end > place && indentation(text, line) <= indentation(text, start),
@@ -256,7 +257,8 @@ fn resumes(text: &str, line: usize, start: usize, place: usize) -> bool {
 }
 
 /// Returns whether the line at the offset `line` belongs to a statement that begins at `start` and can't be read. It
-/// does if it is indented further, has more than a comment, and does not begin a statement.
+/// does if the line is indented further than the start of that statement, is neither blank nor only a comment, and does
+/// not begin a statement.
 fn continues(text: &str, line: usize, start: usize) -> bool {
     let is_blank = matches!(
         byte_at(text, blanks_end(text, line)),
@@ -280,7 +282,7 @@ fn next_head(text: &str, start: usize, place: usize) -> usize {
 
 /// Returns the start of the statement after the one that begins at `start` and has an error at `place`. If the
 /// statement at `start` can't be read (`is_broken`), lines that continue it are skipped. If it is not closed either,
-/// the next statement begins on the first line that `resumes` accepts.
+/// the next statement begins on the first line after `place` that begins a statement and is not indented further.
 fn next_of(text: &str, start: usize, place: usize, is_broken: bool) -> usize {
     let mut open = begin(text, start);
     for at in start..text.len() {
@@ -303,8 +305,8 @@ fn next_of(text: &str, start: usize, place: usize, is_broken: bool) -> usize {
     }
 }
 
-/// Returns the start of the line of the first header at or after `from`, the start of a line, or the length of the
-/// text.
+/// Returns the start of the line of the first header at or after `from`, which must be the start of a line. Returns the
+/// length of the text if no header follows.
 fn next_header(text: &str, from: usize) -> usize {
     let mut open = begin(text, from);
     if open.is_header {
@@ -333,8 +335,8 @@ pub(crate) fn is_clash(kind: &ErrorKind<'_>) -> bool {
     )
 }
 
-/// Returns whether the line that begins at `line` is a marker of a merge conflict that begins with this byte, seven
-/// times.
+/// Returns whether the line that begins at `line` is a marker of a merge conflict: a line that begins with seven times
+/// this byte.
 fn is_marker(text: &str, line: usize, byte: u8) -> bool {
     (0..7usize).all(|at| byte_at(text, line.saturating_add(at)) == byte)
 }
@@ -369,8 +371,8 @@ fn other_side_end(text: &str, line: usize) -> Option<usize> {
 }
 
 /// Returns the statement that contains the offset `place`, where an error is. A statement must begin at `from`.
-/// `is_clash` says that the error is a clash, so that the statement can be read. A marker of a merge conflict includes
-/// the side after it, unless that is the first side.
+/// `is_clash` says that the error is a clash, so that the statement can be read. A statement that is a marker of a
+/// merge conflict includes the side after the marker, unless that is the first side.
 pub(crate) fn statement_of(text: &str, from: usize, place: usize, is_clash: bool) -> Statement {
     let start = start_of(text, from, place);
     let next = match other_side_end(text, start) {

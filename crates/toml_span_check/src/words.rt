@@ -26,7 +26,8 @@ fn push_byte(text: &mut String, byte: u8) -> Result<(), AllocError>
     push_digit(text, byte % 16)
 }
 
-/// Returns the bytes of an argument, each as `push_byte` appends it. Fails if an allocation fails.
+/// Returns the bytes of an argument as a text: an ASCII byte as it is, any other as NUL, `x` and two hexadecimal
+/// digits. Fails if an allocation fails.
 fn bytes_text(alloc: Global, word: &[u8]) -> Result<String, AllocError>
     ensures { IfOk result (λ text. string_bytes text ≡ spec.bytes_text word.now) }
 {

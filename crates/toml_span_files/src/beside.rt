@@ -14,7 +14,7 @@ use std::{fs, io, thread};
 /// How many times per second to try to get a lock.
 const TRIES: u64 = 100;
 
-/// The mode of the new file, until it gets that of the file that it replaces.
+/// The mode of the new file, until it gets the mode of the file that it replaces.
 const OWN_MODE: u32 = 0o600;
 
 /// The new file, which this run has created and locked.
@@ -40,7 +40,7 @@ pub(crate) fn is_same(one: &Metadata, other: &Metadata) -> bool {
     one.dev() == other.dev() && one.ino() == other.ino()
 }
 
-/// Returns whether this open file is at the path `name`, and not just a link to it.
+/// Returns whether the path `name` names this open file itself, not a link to it.
 fn is_at(rt: &HostRuntime, name: &str, file: &File) -> bool {
     match (fs::symlink_metadata(rt, name), file.metadata()) {
         (Ok(named), Ok(open)) => is_same(&named, &open),
@@ -68,14 +68,15 @@ fn claim(rt: &HostRuntime, name: &str, file: File) -> Try {
     }
 }
 
-/// Returns whether a file looks like one that a run has created.
+/// Returns whether a file looks as if a run has created it.
 fn is_own(found: &Metadata) -> bool {
     found.is_file() && found.mode() & 0o7777 == OWN_MODE && found.nlink() == 1
 }
 
 /// Removes the file with the path `name` if a killed run has left it, that is, if it looks like a file that a run has
-/// created, and is not locked. Returns `Busy` after that, or if it is locked or can't be found. Returns `Left` if
-/// it does not look like such a file, can't be opened, or can't be tested for a lock. Fails if it can't be removed.
+/// created, and is not locked. Returns `Busy` after the removal, or if the file is locked or can't be found. Returns
+/// `Left` if it does not look like such a file, can't be opened, or can't be tested for a lock. Fails if it can't be
+/// removed.
 fn clear(rt: &HostRuntime, name: &str) -> io::Result<Try> {
     let Ok(found) = fs::symlink_metadata(rt, name) else {
         return Ok(Try::Busy);
@@ -113,8 +114,9 @@ fn rest(rt: &HostRuntime) {
     thread::sleep(rt, Duration::from_millis(1000 / TRIES));
 }
 
-/// Locks an open file, and waits up to `wait` seconds if another run has locked it. Returns whether it was locked; if
-/// the system has no locks, returns true.
+/// Locks an open file, and waits up to `wait` seconds if another run has locked it. Returns `false` if the other run
+/// still holds the lock then, and `true` otherwise, even if locking fails for another reason, such as a system without
+/// locks.
 pub(crate) fn waited(rt: &HostRuntime, file: &File, wait: u64) -> bool {
     for _ in 0..wait.saturating_mul(TRIES).saturating_add(1) {
         match file.try_lock() {
@@ -126,7 +128,8 @@ pub(crate) fn waited(rt: &HostRuntime, file: &File, wait: u64) -> bool {
 }
 
 /// Creates and locks the new file with the path `name`, and waits up to `wait` seconds if another run has locked it.
-/// Fails with `Busy` or `Left` after this time, or if the file can't be created.
+/// Fails with `Busy` or `Left` after this time, with `Unwritten` if the file can't be created or a file that a killed
+/// run has left can't be removed, and with `Memory` if an allocation fails.
 pub(crate) fn lock(rt: &HostRuntime, name: String, wait: u64) -> Result<Beside, Failure> {
     let mut is_left = false;
     for _ in 0..wait.saturating_mul(TRIES).saturating_add(1) {

@@ -83,9 +83,12 @@ fn go_on_alike(old: &[&str], new: &[&str]) -> bool {
     }
 }
 
-/// Returns how many lines of each text to skip until both continue with the same line, or `None` if that is not within
-/// the window. The sum of both numbers is the lowest possible.
+/// Returns how many lines of each text to skip until both continue with the same line. The sum of both numbers is the
+/// lowest possible. Returns `None` if it would be more than `WINDOW`.
 fn next_alike(old: &[&str], new: &[&str]) -> Option<(usize, usize)> {
+    if old.is_empty() || new.is_empty() {
+        return None;
+    }
     for passed in 1..=WINDOW {
         for of_old in 0..=passed {
             let of_new = passed.saturating_sub(of_old);

@@ -19,9 +19,9 @@ pub struct Options {
     pub wait: u64,
     /// Whether to edit a read-only file, and a file whose owner or group can't be kept.
     pub is_forced: bool,
-    /// Whether to write into the file itself. It then keeps its owner, its hard links, its access control list and its
-    /// extended attributes, and its directory need not be writable. But a run that is killed while it writes leaves a
-    /// part of the old text and a part of the new one.
+    /// Whether to write into the file itself. The file then keeps its owner, its hard links, its access control list
+    /// and its extended attributes, and its directory need not be writable. But a run that is killed while it writes
+    /// leaves a part of the old text and a part of the new one.
     pub is_in_place: bool,
 }
 
@@ -106,8 +106,8 @@ fn beside_or_none(
 }
 
 /// Gives the new file `file` the owner and group of the old one, whose metadata is `found`. Returns the mode to give
-/// it. If the owner or group can't be kept, fails with `Owner` or, with `is_forced`, returns the mode without set-id
-/// bits.
+/// it. If the owner or group can't be kept, fails with `Owner` or, if `is_forced` is set, returns the mode without
+/// set-id bits. Fails with `Unwritten` if the metadata of `file` can't be read.
 fn keep_owner(file: &File, found: &Metadata, is_forced: bool) -> Result<u32, Failure> {
     let new = file.metadata().map_err(unwritten)?;
     let mode = found.permissions().mode();
@@ -122,7 +122,8 @@ fn keep_owner(file: &File, found: &Metadata, is_forced: bool) -> Result<u32, Fai
 }
 
 /// Writes the text to a new file, and gives it the owner, group and mode of the old one, whose metadata is `found`.
-/// Fails with `Unwritten` or, unless `is_forced`, `Owner`.
+/// Fails with `Unwritten` if the text can't be written or the mode can't be set and, unless `is_forced`, with `Owner`
+/// if the owner or group can't be kept.
 fn fill(file: &mut File, found: &Metadata, text: &[u8], is_forced: bool) -> Result<(), Failure> {
     file.write_all(text).map_err(unwritten)?;
     file.sync_all().map_err(unwritten)?;
@@ -131,8 +132,8 @@ fn fill(file: &mut File, found: &Metadata, text: &[u8], is_forced: bool) -> Resu
         .map_err(unwritten)
 }
 
-/// Reads a file, up to its end or until more than `LIMIT` bytes have been read. Fails with `Unread`, or if an
-/// allocation fails.
+/// Reads a file, up to its end or until more than `LIMIT` bytes have been read. Fails with `Unread` if a read fails,
+/// and with `Memory` if an allocation fails.
 fn front_of(alloc: Global, file: &mut File) -> Result<Vec<u8>, Failure> {
     let mut bytes = Vec::new(alloc);
     let mut buf = [0u8; 8192];
@@ -151,22 +152,26 @@ fn front_of(alloc: Global, file: &mut File) -> Result<Vec<u8>, Failure> {
 }
 
 /// If the text is longer than the file, appends the bytes of the text beyond the file's length to the file, so that a
-/// full disk is noticed while the file still has its old bytes. After an error, the file is as before.
-fn extend(file: &mut File, text: &[u8]) -> io::Result<()> {
-    let length = file.metadata()?.len();
+/// full disk is noticed while the file still has its old bytes. If the file can't be examined or written, cuts it to its
+/// old length and fails with `Memory` if an allocation failed, otherwise with `Unwritten`. Fails with `Damaged` if the
+/// file can't be cut.
+fn extend(file: &mut File, text: &[u8]) -> Result<(), Failure> {
+    let length = file.metadata().map_err(unwritten)?.len();
     let tail = text
         .get(usize::try_from(length).unwrap_or(usize::MAX)..)
         .unwrap_or(&[]);
-    file.seek(SeekFrom::Start(length))?;
-    let written = file.write_all(tail);
-    if written.is_err() {
-        file.set_len(length)?;
+    file.seek(SeekFrom::Start(length)).map_err(unwritten)?;
+    match file.write_all(tail) {
+        Ok(()) => Ok(()),
+        Err(error) => match file.set_len(length) {
+            Ok(()) => Err(unwritten(error)),
+            Err(error) => Err(Failure::Damaged(error)),
+        },
     }
-    written
 }
 
-/// Overwrites a file with a text that is not longer than the file. After an error, the file may have a part of the new
-/// text and a part of the old one.
+/// Overwrites a file with a text that is not longer than the file. Fails if the file can't be written. The file may
+/// then have a part of the new text and a part of the old one.
 fn overwrite(file: &mut File, text: &[u8]) -> io::Result<()> {
     file.seek(SeekFrom::Start(0))?;
     file.write_all(text)?;
@@ -189,8 +194,9 @@ impl<'r> Disk<'r> {
         })
     }
 
-    /// Opens the file to write it in place, and locks it, since there may be no new file to lock. Fails if it can't be
-    /// opened, or with `Busy` if another run keeps it locked.
+    /// Opens the file to write it in place, and locks it, since there may be no new file to lock. Fails with
+    /// `Unwritten` if the file can't be opened, with `Busy` if another run keeps it locked, and with `Memory` if an
+    /// allocation fails.
     fn open_in_place(&mut self) -> Result<(), Failure> {
         let mut options = OpenOptions::new();
         let open = options
@@ -254,7 +260,7 @@ impl Steps for Disk<'_> {
 
     fn replace(&mut self) -> Result<(), Failure> {
         if let Some(file) = &mut self.open {
-            extend(file, self.ready.as_slice()).map_err(unwritten)?;
+            extend(file, self.ready.as_slice())?;
             return overwrite(file, self.ready.as_slice()).map_err(Failure::Damaged);
         }
         let Some(beside) = &self.beside else {

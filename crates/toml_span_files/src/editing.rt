@@ -23,8 +23,8 @@ fn replace<S: Steps>(steps: &mut S, bytes: &[u8], text: &[u8]) -> Result<(), Fai
 }
 
 /// Reads the file, calls `make` on its bytes, and replaces the content with the result. Returns whether the result
-/// differs from the bytes. Fails with the error of `make`, with the failure of a step, or if one of the texts is longer
-/// than `LIMIT`.
+/// differs from the bytes. Fails with the error of `make`, with the failure of a step, with `TooLong` if the file is
+/// longer than `LIMIT`, or with `ResultTooLong` if the result is.
 fn attempt<S: Steps, X, F: FnOnce(&[u8]) -> Result<String, X>>(
     steps: &mut S,
     make: F,
@@ -53,8 +53,8 @@ fn attempt<S: Steps, X, F: FnOnce(&[u8]) -> Result<String, X>>(
     }
 }
 
-/// Replaces the content of a file with a text, if the content is still `bytes`. Fails with `ResultTooLong`, with
-/// `Changed` if the content is not `bytes`, or with the failure of a step.
+/// Replaces the content of a file with a text, if the content is still `bytes`. Fails with `ResultTooLong` if the text
+/// is longer than `LIMIT`, with `Changed` if the content is not `bytes`, or with the failure of a step.
 fn put_read<S: Steps>(steps: &mut S, bytes: &[u8], text: &str) -> Result<(), Failure>
     ensures ok { OnOk result (Replaces (S.past steps.old) (S.past steps.new) bytes.now text.now) }
     ensures err { OnErr result (Keeps (S.past steps.old) (S.past steps.new)) }
@@ -91,7 +91,8 @@ pub fn edit<S: Steps, X, F: FnOnce(&[u8]) -> Result<String, X>>(
     result
 }
 
-/// Edits the file with this path, as `edit` does: `edit_file(&rt, "a.toml", options, |bytes| ..)`.
+/// Edits the file with this path: `edit_file(&rt, "a.toml", options, |bytes| ..)` calls the function on the bytes of
+/// the file, replaces the content with the result, and returns whether the two differ. Fails as `edit` does.
 pub fn edit_file<X, F: FnOnce(&[u8]) -> Result<String, X>>(
     rt: &HostRuntime,
     name: &str,
@@ -121,7 +122,8 @@ pub fn put<S: Steps>(steps: &mut S, bytes: &[u8], text: &str) -> Result<(), Fail
     result
 }
 
-/// Replaces the content of the file with this path, as `put` does.
+/// Replaces the content of the file with this path with a text, if the content is still `bytes`, which were read
+/// earlier. Fails as `put` does.
 pub fn put_file(
     rt: &HostRuntime,
     name: &str,

@@ -56,7 +56,7 @@ impl Range {
 }
 
 impl<'t> Hunks<'t> {
-    /// Appends a line to the hunk, after its mark: `-`, `+` or a space. Fails if an allocation fails.
+    /// Appends a line to the hunk, with its mark (`-`, `+` or a space) before it. Fails if an allocation fails.
     fn push(&mut self, mark: char, line: &str) -> Result<(), AllocError> {
         if mark != '+' {
             self.old.count();

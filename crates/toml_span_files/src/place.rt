@@ -4,13 +4,13 @@ use std::alloc::{AllocError, Global};
 use std::io::ErrorKind;
 use std::{fs, io};
 
-/// How many paths to look at, at most: those of 40 links, as on Linux, and that of the file.
+/// The maximum number of paths to look at: the paths of 40 links, as on Linux, and the path of the file.
 const PATHS: usize = 41;
 
 /// The suffix of the name of a new file.
 const ENDING: &str = ".toml-span";
 
-/// The maximum number of bytes of the file's name with which the name of the new file begins.
+/// The name of the new file begins with at most this many bytes of the file's name.
 const KEPT: usize = 128;
 
 /// Splits a path after its last slash: returns the directory with its slash, or an empty text, and the name.
@@ -32,8 +32,8 @@ pub(crate) fn folder(place: &str) -> &str {
     }
 }
 
-/// Returns the path that a link leads to, given the path of the link and what it contains. Fails if an allocation
-/// fails.
+/// Returns the path that a link leads to. `link` is the path of the link, and `target` the path that the link contains.
+/// Fails if an allocation fails.
 fn led_to(alloc: Global, link: &str, target: &str) -> Result<String, AllocError> {
     if target.starts_with('/') {
         return String::from_str(alloc, target);
@@ -43,8 +43,8 @@ fn led_to(alloc: Global, link: &str, target: &str) -> Result<String, AllocError>
     Ok(place)
 }
 
-/// Follows the links of a path, and returns the path of what they finally lead to. Fails if a path can't be examined,
-/// if it leads through more than 40 links, or if an allocation fails.
+/// Follows the links of a path, and returns the path of the file or directory to which they finally lead. Fails if a
+/// path can't be examined, if `name` leads through more than 40 links, or if an allocation fails.
 pub(crate) fn place_of(rt: &HostRuntime, name: &str) -> Result<String, Failure> {
     let mut place = String::from_str(rt.alloc(), name)?;
     for _ in 0..PATHS {

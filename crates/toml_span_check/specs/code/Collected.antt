@@ -29,8 +29,8 @@ Begun says format task pointer name bytes old new held =
     Shows task × ((answer : Answer) × IsAnswer says format task pointer name bytes answer
     × HasWritten old new (held ++ answer.1))
 
--- If the result is `Ok` with the verdict, what was in the buffer and the answer have been written, except for
--- what is in the buffer now. Something is written only if a document is printed.
+-- If the result is `Ok` with the verdict, the buffered text and the answer have been written, except for the text that
+-- is in the buffer now. Something is written only if a document is printed.
 abbrev pub CollectsBytes : Says → Format → Task → List ℕ → List ℕ → List ℕ → Result Verdict Unwritten → Option (List ℕ)
     → Option (List ℕ) → Bool → List ℕ → List ℕ → Type 0
 CollectsBytes says format task pointer name bytes (Ok verdict) old new failed held held' =
@@ -48,7 +48,7 @@ CollectsBytes says format task pointer name bytes (Err Failed) old new failed he
 abbrev pub TextsOf : Type 0
 TextsOf = List ℕ × List ℕ × ℕ × Tally
 
--- what one more file adds
+-- The second texts are the first with the output for one more file.
 abbrev pub Adds : Says → Format → Task → List ℕ → List ℕ → Result (List ℕ) (List ℕ) → TextsOf → TextsOf → Type 0
 Adds says format task pointer name (Ok bytes) old new =
     (answer : Answer) × IsAnswer says format task pointer name bytes answer
@@ -64,7 +64,8 @@ abbrev pub BegunOne : Says → Format → Task → List ℕ → List ℕ → Res
 BegunOne says format task pointer name reading old new held =
     Shows task × ((all : TextsOf) × Adds says format task pointer name reading held all × HasWritten old new all.0)
 
--- before and after: what is in the buffer of the first text, and the others
+-- One more file is checked or printed. The two `TextsOf` are the output before and after, where the first text is only
+-- the part that is in the buffer.
 abbrev pub CollectsOne : Says → Format → Task → List ℕ → List ℕ → Result (List ℕ) (List ℕ) → Result (Unit {0}) Unwritten
     → Option (List ℕ) → Option (List ℕ) → Bool → TextsOf → TextsOf → Type 0
 CollectsOne says format task pointer name reading (Ok done) old new failed held held' =

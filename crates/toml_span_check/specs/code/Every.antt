@@ -20,13 +20,13 @@ progress f = record {
   kept = string_bytes f.kept;
 }
 
--- the report of this error, and its offset
+-- `made` has the report of this error, and the start of its span.
 abbrev pub IsErrorOf : List ℕ → Error → ErrorAt → Type 0
 IsErrorOf text error made =
     ReportsError severity.Error text (content_of error) (report_content made.report)
     × (made.place ≡ error.span.start)
 
--- the error of a text, or None if there is none
+-- the error of a text, or `None` if the text is a document
 abbrev pub Judges : List ℕ → Option ErrorAt → Type 0
 Judges text None = (root : Value) × IsTree text depth_limit root
 Judges text (Some made) = (error : Error) × IsRefusal text depth_limit (Fault error) × IsErrorOf text error made
